@@ -1,0 +1,6 @@
+pub mod Faults
+pub mod Told
+pub mod Clocks
+pub mod EventLine
+pub mod Lent
+pub mod Stream

@@ -1,0 +1,23 @@
+//! What every other crate stands on: the traits of the outside with their forms in memory and over the real
+//! things, the types that crates share, and the text of an event.
+#![tactic(auto)]
+
+mod clocks;
+mod counter;
+mod events;
+mod faults;
+mod files;
+// mod lines;
+mod sequences;
+mod sinks;
+mod sources;
+
+pub use clocks::{Clock, HostClock, MemClock};
+pub use counter::Steps;
+pub use events::{ChannelMeta, Event, EventRef, Range, Spot};
+pub use faults::{BadRecord, FailPlan, Failed, NoMemory};
+pub use files::{Area, File};
+// pub use lines::write_line;
+pub use sequences::{Bytes, Names, NumberList, Sequence, Text};
+pub use sinks::{MemSink, Sink, StdSink};
+pub use sources::{MemSource, Source, StdSource};
