@@ -1,18 +1,25 @@
 -- The text of an event: one line of seven fields.
-use Rattle.std.specs.Prelude.{◌+◌, ◌/◌, ◌%◌, ◌==◌, ◌||◌, nat_lt, if◌then◌else◌, ℕ, ℤ, pos, negsuc, suc, List, [], ◌∷◌, ◌++◌, map, codes, decimal}
+use Rattle.std.specs.Prelude.{◌+◌, ◌/◌, ◌%◌, ◌==◌, ◌&&◌, nat_le, not, Bool, if◌then◌else◌, ℕ, ℤ, pos, negsuc, List, [], ◌∷◌, ◌++◌, map, codes, decimal, unsigned_abs}
 use Rattle.std.specs.List.{flat_map}
 use Rattle.hex.specs.Hex.{encode_lower}
 use Rattle.ix_base.specs.declared.events.Event.{Event}
 
--- a byte as it stands in a field: a letter behind a backslash, two hexadecimal digits where it is no printing ASCII, or itself
-abbrev pub escaped : ℕ → List ℕ
-escaped b =
+-- printing ASCII, but for the backslash
+abbrev pub is_plain : ℕ → Bool
+is_plain b = nat_le 0x20 b && nat_le b 0x7E && not (b == 92)
+
+-- a byte that is not plain: a letter behind a backslash, or two hexadecimal digits
+abbrev pub escape : ℕ → List ℕ
+escape b =
     if b == 92 then codes "\\\\"
     else if b == 10 then codes "\\n"
     else if b == 13 then codes "\\r"
     else if b == 9 then codes "\\t"
-    else if nat_lt b 0x20 || nat_lt 0x7E b then codes "\\x" ++ encode_lower (b ∷ [])
-    else b ∷ []
+    else codes "\\x" ++ encode_lower (b ∷ [])
+
+-- a byte as it stands in a field
+abbrev pub escaped : ℕ → List ℕ
+escaped b = if is_plain b then b ∷ [] else escape b
 
 abbrev pub field : List ℕ → List ℕ
 field bytes = flat_map escaped bytes
@@ -24,10 +31,13 @@ six_digits n = map (λ power. 48 + n / power % 10) (100000 ∷ 10000 ∷ 1000 �
 abbrev pub seconds_text : ℕ → List ℕ
 seconds_text micros = decimal (micros / 1000000) ++ 46 ∷ six_digits (micros % 1000000)
 
--- microseconds since 1970, with a minus sign before the magnitude of one before
+abbrev pub sign_text : ℤ → List ℕ
+sign_text (pos micros) = []
+sign_text (negsuc below) = 45 ∷ []
+
+-- microseconds since 1970: a minus sign before 1970, and the magnitude
 abbrev pub time_text : ℤ → List ℕ
-time_text (pos micros) = seconds_text micros
-time_text (negsuc below) = 45 ∷ seconds_text (suc below)
+time_text micros = sign_text micros ++ seconds_text (unsigned_abs micros)
 
 -- index, time, host, source, sourcetype, meta and raw text with tabs between, and a newline
 abbrev pub line : Event → List ℕ

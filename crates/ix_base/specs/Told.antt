@@ -26,3 +26,11 @@ pub record Began (bytes old new : List ℕ) : Type 0 where
   pub part : List ℕ
   pub is_front : IsFrontOf part bytes
   pub written : new ≡ old ++ part
+
+-- What is written stands behind what stood there, where that is told.
+pub record HasWritten (bytes : List ℕ) (old new : Option (List ℕ)) : Type 0 where
+  pub told : Told (Wrote bytes) old new
+
+-- A front of it does.
+pub record HasBegun (bytes : List ℕ) (old new : Option (List ℕ)) : Type 0 where
+  pub told : Told (Began bytes) old new

@@ -2,7 +2,7 @@
 
 ghost use Rattle.std.specs.Prelude.{◌≡◌, ◌≤◌, ◌<◌, ℕ, List, [], ◌++◌, Option, Some, None, length, take, drop, OnOk, OnErr};
 ghost use Rattle.ix_base.specs.Faults.{HasCause, Rose};
-ghost use Rattle.ix_base.specs.Told.{Told, Wrote, Began};
+ghost use Rattle.ix_base.specs.Told.{Began, HasWritten, HasBegun};
 
 use crate::faults::{FailPlan, Failed};
 use crate::sequences::Bytes;
@@ -19,8 +19,8 @@ pub trait Sink {
 
     /// Writes the whole piece; where it fails, a front of it.
     fn put(&mut self, bytes: &[u8]) -> Result<(), Failed>
-        ensures written { OnOk result (Told (Wrote bytes.now) (given self.old) (given self.new)) }
-        ensures begun { OnErr result (Told (Began bytes.now) (given self.old) (given self.new)) }
+        ensures written { OnOk result (HasWritten bytes.now (given self.old) (given self.new)) }
+        ensures begun { OnErr result (HasBegun bytes.now (given self.old) (given self.new)) }
         ensures cause { HasCause (faults self.old) (faults self.new) result };
 }
 
