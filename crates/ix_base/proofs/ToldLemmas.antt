@@ -1,5 +1,5 @@
 -- Laws of what is told.
-use Rattle.std.proofs.Common.{◌≡◌, ℕ, ◌/◌, List, [], ◌++◌, take, drop, refl, sym, ◌∙◌, ap, append_assoc, Result, Ok, Err, length}
+use Rattle.std.proofs.Common.{◌≡◌, ℕ, List, [], ◌++◌, take, drop, refl, sym, ◌∙◌, ap, append_assoc, Result, Ok, Err}
 use Rattle.std.specs.Prelude.{Option, Some, None, OnOk, OnErr}
 use Rattle.std.proofs.lemmas.List.{take-append-drop, append-nil}
 use Rattle.ix_base.specs.Told.{Told, IsFrontOf, Wrote, Began, HasWritten, HasBegun}
@@ -46,7 +46,7 @@ told-wrote-began a b (Some x) (Some y) (Some z) p q =
     record {
       part = a ++ q.part;
       is_front = record { rest = q.is_front.rest; whole_is = ap (λ l. a ++ l) q.is_front.whole_is ∙ sym (append_assoc a q.part q.is_front.rest) };
-      written = q.written ∙ ap (λ l. l ++ q.part) p ∙ append_assoc x a q.part
+      written = q.written ∙ ap (λ l. l ++ q.part) p ∙ append_assoc x a q.part;
     }
 
 told-began-more : (a b : List ℕ) (x y : Option (List ℕ)) → Told (Began a) x y → Told (Began (a ++ b)) x y
@@ -58,9 +58,9 @@ told-began-more a b (Some x) (Some y) p =
       part = p.part;
       is_front = record {
         rest = p.is_front.rest ++ b;
-        whole_is = ap (λ l. l ++ b) p.is_front.whole_is ∙ append_assoc p.part p.is_front.rest b
+        whole_is = ap (λ l. l ++ b) p.is_front.whole_is ∙ append_assoc p.part p.is_front.rest b;
       };
-      written = p.written
+      written = p.written;
     }
 
 told-wrote-is-begun : (a : List ℕ) (x y : Option (List ℕ)) → Told (Wrote a) x y → Told (Began a) x y

@@ -1,5 +1,5 @@
 -- The text of an event: one line of seven fields.
-use Rattle.std.specs.Prelude.{◌+◌, ◌/◌, ◌%◌, ◌==◌, ◌&&◌, nat_le, not, Bool, if◌then◌else◌, ℕ, ℤ, pos, negsuc, List, [], ◌∷◌, ◌++◌, map, codes, decimal, unsigned_abs}
+use Rattle.std.specs.Prelude.{◌+◌, ◌/◌, ◌%◌, ◌==◌, ◌&&◌, nat_le, not, Bool, if◌then◌else◌, ℕ, ℤ, pos, List, [], ◌∷◌, ◌++◌, map, codes, decimal, unsigned_abs, int_lt}
 use Rattle.std.specs.List.{flat_map}
 use Rattle.hex.specs.Hex.{encode_lower}
 use Rattle.ix_base.specs.declared.events.Event.{Event}
@@ -31,13 +31,12 @@ six_digits n = map (λ power. 48 + n / power % 10) (100000 ∷ 10000 ∷ 1000 �
 abbrev pub seconds_text : ℕ → List ℕ
 seconds_text micros = decimal (micros / 1000000) ++ 46 ∷ six_digits (micros % 1000000)
 
-abbrev pub sign_text : ℤ → List ℕ
-sign_text (pos micros) = []
-sign_text (negsuc below) = 45 ∷ []
+abbrev pub sign_text : Bool → List ℕ
+sign_text negative = if negative then 45 ∷ [] else []
 
 -- microseconds since 1970: a minus sign before 1970, and the magnitude
 abbrev pub time_text : ℤ → List ℕ
-time_text micros = sign_text micros ++ seconds_text (unsigned_abs micros)
+time_text micros = sign_text (int_lt micros (pos 0)) ++ seconds_text (unsigned_abs micros)
 
 -- index, time, host, source, sourcetype, meta and raw text with tabs between, and a newline
 abbrev pub line : Event → List ℕ

@@ -7,7 +7,8 @@ mod counter;
 mod events;
 mod faults;
 mod files;
-// mod lines;
+#[tactic(auto, using(crate::proofs::ToldLemmas::puts))]
+mod lines;
 mod sequences;
 mod sinks;
 mod sources;
@@ -17,7 +18,7 @@ pub use counter::Steps;
 pub use events::{ChannelMeta, Event, EventRef, Range, Spot};
 pub use faults::{BadRecord, FailPlan, Failed, NoMemory};
 pub use files::{Area, File};
-// pub use lines::write_line;
+pub use lines::write_line;
 pub use sequences::{Bytes, Names, NumberList, Sequence, Text};
 pub use sinks::{MemSink, Sink, StdSink};
 pub use sources::{MemSource, Source, StdSource};
