@@ -1,0 +1,9 @@
+pub mod ListLemmas
+pub mod WalkLemmas
+pub mod SeekLemmas
+pub mod Stable
+pub mod RunLemmas
+pub mod KeptLemmas
+pub mod Answering
+pub mod Settling
+pub mod Feeding

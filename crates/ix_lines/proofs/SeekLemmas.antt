@@ -1,0 +1,192 @@
+-- The first break, and the walk to it.
+use Rattle.std.proofs.Common.{◌≡◌, ℕ, zero, suc, ◌+◌, ◌-◌, ◌<◌, ◌≤◌, Bool, true, false, List, [], ◌∷◌, ◌++◌, length, take, drop, get_or, Option, Some, None, refl, sym, ◌∙◌, ap, subst, arith, append_assoc}
+use Rattle.std.specs.Prelude.{slice_index}
+use Rattle.std.proofs.lemmas.List.{append-nil, length-drop, length-take}
+use Rattle.ix_base.specs.Stream.{Dated, bytes_of}
+use Rattle.ix_lines.specs.Walk.{Look, match, no_match, more, Looker, Walked, preceded, after, walk}
+use Rattle.ix_lines.specs.Laws.{IsStable, BeginsBy, WaitsWithin}
+use Rattle.ix_lines.specs.Seek.{byte_before, past_one, past, found_by, seek, IsWithin}
+use Rattle.ix_lines.specs.declared.breaks.Found.{Found}
+use Rattle.ix_lines.specs.declared.breaks.Found.TheVariants.{Break, Stop}
+use Rattle.ix_lines.proofs.ListLemmas.{take-drop-swap, take-add, drop-drop, drop-past, take-past}
+use Rattle.ix_lines.proofs.WalkLemmas.{length-bytes_of}
+
+-- the bytes within a match are walked past
+pub walk-within : (look : Looker) (u : Bool) (before : Option ℕ) (rest : List Dated) (n : ℕ) (stream : List Dated) → n ≤ length stream →
+    walk look u before rest n stream ≡ walk look u (byte_before before (bytes_of (take n stream))) rest 0 (drop n stream)
+walk-within look u before rest zero stream h = refl
+walk-within look u before rest (suc n) [] h = absurd (omega arith)
+walk-within look u before rest (suc n) (d ∷ stream) h = walk-within look u (Some d.0) rest n stream (omega arith)
+
+-- the walk, by the first break from here on
+abbrev pub by_found : Looker → Bool → Option ℕ → List Dated → List Dated → Found → Walked
+by_found look u before rest left (Break from to n) =
+    preceded ((rest ++ take from left) ∷ []) (walk look u (byte_before before (bytes_of (take n left))) (drop to (take n left)) 0 (drop n left))
+by_found look u before rest left (Stop at) =
+    record { done = []; rest = rest ++ take at left; before = byte_before before (bytes_of (take at left)); pending = drop at left }
+
+by_found-past : (look : Looker) (u : Bool) (before : Option ℕ) (rest : List Dated) (d : Dated) (left : List Dated) (f : Found) →
+    by_found look u (Some d.0) (rest ++ d ∷ []) left f ≡ by_found look u before rest (d ∷ left) (past_one f)
+by_found-past look u before rest d left (Break from to n) =
+    ap (λ s. preceded (s ∷ []) (walk look u (byte_before (Some d.0) (bytes_of (take n left))) (drop to (take n left)) 0 (drop n left)))
+    (append_assoc rest (d ∷ []) (take from left))
+by_found-past look u before rest d left (Stop at) =
+    λ i. record { done = []; rest = append_assoc rest (d ∷ []) (take at left) i; before = byte_before (Some d.0) (bytes_of (take at left)); pending = drop at left }
+
+walk-match : (look : Looker) (u : Bool) (before : Option ℕ) (rest : List Dated) (d : Dated) (left : List Dated) (from to n : ℕ) → to ≤ n → 0 < n → n ≤ suc (length left) →
+    after before rest (d ∷ left) (λ since within. walk look u (Some d.0) since within left) (match from to n)
+    ≡ by_found look u before rest (d ∷ left) (Break from to n)
+walk-match look u before rest d left from to zero tn some h = absurd (omega arith)
+walk-match look u before rest d left from to (suc n) tn some h =
+    let one : suc n - 1 ≡ n = omega arith in
+    ap (λ k. preceded ((rest ++ take from (d ∷ left)) ∷ []) (walk look u (Some d.0) (take (suc n - to) (drop to (d ∷ left))) k left)) one
+    ∙ ap (λ s. preceded ((rest ++ take from (d ∷ left)) ∷ []) (walk look u (Some d.0) s n left)) (take-drop-swap (suc n) to (d ∷ left) tn)
+    ∙ ap (preceded ((rest ++ take from (d ∷ left)) ∷ [])) (walk-within look u (Some d.0) (drop to (take (suc n) (d ∷ left))) n left (omega arith))
+
+pub walk-seek : (look : Looker) → IsStable look → (u : Bool) (before : Option ℕ) (rest left : List Dated) →
+    walk look u before rest 0 left ≡ by_found look u before rest left (seek look u before (bytes_of left))
+walk-seek look stable u before rest [] = λ i. record { done = []; rest = sym (append-nil rest) i; before = before; pending = [] }
+walk-seek look stable u before rest (d ∷ left) =
+    by (look before (bytes_of (d ∷ left)) u) refl (walk-seek look stable u (Some d.0) (rest ++ d ∷ []) left)
+  where
+    by : (l : Look) → look before (bytes_of (d ∷ left)) u ≡ l →
+        walk look u (Some d.0) (rest ++ d ∷ []) 0 left ≡ by_found look u (Some d.0) (rest ++ d ∷ []) left (seek look u (Some d.0) (bytes_of left)) →
+        after before rest (d ∷ left) (λ since within. walk look u (Some d.0) since within left) l
+        ≡ by_found look u before rest (d ∷ left) (found_by (seek look u (Some d.0) (bytes_of left)) l)
+    by more e ih = λ i. record { done = []; rest = sym (append-nil rest) i; before = before; pending = d ∷ left }
+    by no_match e ih = ih ∙ by_found-past look u before rest d left (seek look u (Some d.0) (bytes_of left))
+    by (match from to n) e ih =
+        let sized = stable.sized before (bytes_of (d ∷ left)) u from to n e in
+        walk-match look u before rest d left from to n sized.1 sized.2 (omega (arith, sized.3, length-bytes_of left))
+
+-- what is found lies within the bytes
+within-past : (f : Found) (len most : ℕ) → IsWithin f len most → IsWithin (past_one f) (suc len) most
+within-past (Break from to n) len most h = (omega (arith, h.0), omega (arith, h.1), omega arith, omega (arith, h.3))
+within-past (Stop at) len most h = (omega (arith, h.0), omega (arith, h.1))
+
+pub seek-within : (look : Looker) → IsStable look → (most : ℕ) → WaitsWithin look most → 0 < most → (u : Bool) (before : Option ℕ) (bytes : List ℕ) →
+    IsWithin (seek look u before bytes) (length bytes) most
+seek-within look stable most waits some u before [] = (omega arith, omega arith)
+seek-within look stable most waits some u before (b ∷ bytes) =
+    by (look before (b ∷ bytes) u) refl (seek-within look stable most waits some u (Some b) bytes)
+  where
+    by : (l : Look) → look before (b ∷ bytes) u ≡ l → IsWithin (seek look u (Some b) bytes) (length bytes) most →
+        IsWithin (found_by (seek look u (Some b) bytes) l) (suc (length bytes)) most
+    by more e ih = (omega arith, omega (arith, waits before (b ∷ bytes) u e))
+    by no_match e ih = within-past (seek look u (Some b) bytes) (length bytes) most ih
+    by (match from to n) e ih = stable.sized before (b ∷ bytes) u from to n e
+
+-- places that are passed over
+past-zero : (f : Found) → f ≡ past 0 f
+past-zero (Break from to n) = λ i. Break (plus from i) (plus to i) (plus n i)
+  where
+    plus : (k : ℕ) → k ≡ 0 + k
+    plus k = omega arith
+past-zero (Stop at) = let e : at ≡ 0 + at = omega arith in ap Stop e
+
+past-suc : (n : ℕ) (f : Found) → past_one (past n f) ≡ past (suc n) f
+past-suc n (Break from to m) = λ i. Break (suc-plus n from i) (suc-plus n to i) (suc-plus n m i)
+  where
+    suc-plus : (n k : ℕ) → suc (n + k) ≡ suc n + k
+    suc-plus n k = omega arith
+past-suc n (Stop at) = let e : suc (n + at) ≡ suc n + at = omega arith in ap Stop e
+
+past-past : (m n : ℕ) (f : Found) → past m (past n f) ≡ past (m + n) f
+past-past m n (Break from to e) = λ i. Break (plus m n from i) (plus m n to i) (plus m n e i)
+  where
+    plus : (m n k : ℕ) → m + (n + k) ≡ m + n + k
+    plus m n k = omega arith
+past-past m n (Stop at) = let e : m + (n + at) ≡ m + n + at = omega arith in ap Stop e
+
+pub byte_before-append : (before : Option ℕ) (xs ys : List ℕ) → byte_before (byte_before before xs) ys ≡ byte_before before (xs ++ ys)
+byte_before-append before [] ys = refl
+byte_before-append before (x ∷ xs) ys = byte_before-append (Some x) xs ys
+
+pub byte_before-on : (before : Option ℕ) (i n : ℕ) (xs : List ℕ) → byte_before (byte_before before (take i xs)) (take n (drop i xs)) ≡ byte_before before (take (i + n) xs)
+byte_before-on before i n xs = byte_before-append before (take i xs) (take n (drop i xs)) ∙ ap (byte_before before) (take-add i n xs)
+
+-- no break begins with a byte that fails the test
+pub seek-past : (look : Looker) (test : ℕ → Bool) → BeginsBy look test → (u : Bool) (before : Option ℕ) (n : ℕ) (bytes : List ℕ) → n ≤ length bytes →
+    ((k : ℕ) → k < n → ¬ (test (slice_index bytes k) ≡ true)) →
+    seek look u before bytes ≡ past n (seek look u (byte_before before (take n bytes)) (drop n bytes))
+seek-past look test begins u before zero bytes h fails = past-zero (seek look u before bytes)
+seek-past look test begins u before (suc n) [] h fails = absurd (omega arith)
+seek-past look test begins u before (suc n) (b ∷ bytes) h fails =
+    ap (found_by (seek look u (Some b) bytes)) (begins before b bytes u (fails 0 (omega arith)))
+    ∙ ap past_one (seek-past look test begins u (Some b) n bytes (omega arith) (λ k l. fails (suc k) (omega arith)))
+    ∙ past-suc n (seek look u (byte_before (Some b) (take n bytes)) (drop n bytes))
+
+-- the search has come to this place
+abbrev pub Sought : Looker → Bool → Option ℕ → List ℕ → ℕ → Type 0
+Sought look u before bytes at = seek look u before bytes ≡ past at (seek look u (byte_before before (take at bytes)) (drop at bytes))
+
+pub sought-on : (look : Looker) (u : Bool) (before : Option ℕ) (bytes : List ℕ) (at n : ℕ) → Sought look u before bytes at →
+    Sought look u (byte_before before (take at bytes)) (drop at bytes) n → Sought look u before bytes (at + n)
+sought-on look u before bytes at n s h =
+    s ∙ ap (past at) h ∙ past-past at n (seek look u (byte_before (byte_before before (take at bytes)) (take n (drop at bytes))) (drop n (drop at bytes)))
+    ∙ ap (λ b. past (at + n) (seek look u b (drop n (drop at bytes)))) (byte_before-on before at n bytes)
+    ∙ ap (λ l. past (at + n) (seek look u (byte_before before (take (at + n) bytes)) l)) (drop-drop at n bytes)
+
+seek-none : (look : Looker) (u : Bool) (before : Option ℕ) (bytes : List ℕ) → 0 < length bytes → look before bytes u ≡ no_match → Sought look u before bytes 1
+seek-none look u before [] h e = absurd (omega arith)
+seek-none look u before (b ∷ bytes) h e =
+    ap (found_by (seek look u (Some b) bytes)) e ∙ ap past_one (past-zero (seek look u (Some b) bytes)) ∙ past-suc 0 (seek look u (Some b) bytes)
+
+seek-found : (look : Looker) (u : Bool) (before : Option ℕ) (bytes : List ℕ) (l : Look) (f : Found) → 0 < length bytes → look before bytes u ≡ l →
+    ((later : Found) → found_by later l ≡ f) → seek look u before bytes ≡ f
+seek-found look u before [] l f h e by = absurd (omega arith)
+seek-found look u before (b ∷ bytes) l f h e by = ap (found_by (seek look u (Some b) bytes)) e ∙ by (seek look u (Some b) bytes)
+
+-- the steps of the search
+pub sought-none : (look : Looker) (u : Bool) (before : Option ℕ) (bytes : List ℕ) (at : ℕ) → Sought look u before bytes at → at < length bytes →
+    look (byte_before before (take at bytes)) (drop at bytes) u ≡ no_match → Sought look u before bytes (at + 1)
+sought-none look u before bytes at s h e =
+    sought-on look u before bytes at 1 s (seek-none look u (byte_before before (take at bytes)) (drop at bytes) (omega (arith, length-drop at bytes)) e)
+
+pub sought-more : (look : Looker) (u : Bool) (before : Option ℕ) (bytes : List ℕ) (at : ℕ) → Sought look u before bytes at → at < length bytes →
+    look (byte_before before (take at bytes)) (drop at bytes) u ≡ more → seek look u before bytes ≡ Stop at
+sought-more look u before bytes at s h e =
+    s ∙ ap (past at) (seek-found look u (byte_before before (take at bytes)) (drop at bytes) more (Stop 0) (omega (arith, length-drop at bytes)) e (λ later. refl))
+    ∙ plus-zero at
+  where
+    plus-zero : (k : ℕ) → Stop (k + 0) ≡ Stop k
+    plus-zero k = let z : k + 0 ≡ k = omega arith in ap Stop z
+
+pub sought-match : (look : Looker) (u : Bool) (before : Option ℕ) (bytes : List ℕ) (at from to n : ℕ) → Sought look u before bytes at → at < length bytes →
+    look (byte_before before (take at bytes)) (drop at bytes) u ≡ match from to n → seek look u before bytes ≡ Break (at + from) (at + to) (at + n)
+sought-match look u before bytes at from to n s h e =
+    s ∙ ap (past at) (seek-found look u (byte_before before (take at bytes)) (drop at bytes) (match from to n) (Break from to n) (omega (arith, length-drop at bytes)) e (λ later. refl))
+
+pub sought-end : (look : Looker) (u : Bool) (before : Option ℕ) (bytes : List ℕ) (at : ℕ) → Sought look u before bytes at → length bytes ≤ at →
+    seek look u before bytes ≡ Stop at
+sought-end look u before bytes at s h =
+    s ∙ ap (λ l. past at (seek look u (byte_before before (take at bytes)) l)) (drop-past at bytes h) ∙ plus-zero at
+  where
+    plus-zero : (k : ℕ) → Stop (k + 0) ≡ Stop k
+    plus-zero k = let z : k + 0 ≡ k = omega arith in ap Stop z
+
+-- the code's slices and its search for a byte
+pub rest-is : (bytes : List ℕ) (at : ℕ) → take (length bytes - at) (drop at bytes) ≡ drop at bytes
+rest-is bytes at = take-past (length bytes - at) (drop at bytes) (omega (arith, length-drop at bytes))
+
+pub sought-first : (look : Looker) (test : ℕ → Bool) → BeginsBy look test → (u : Bool) (before : Option ℕ) (bytes : List ℕ) (at n : ℕ) (hay : List ℕ) →
+    hay ≡ drop at bytes → Sought look u before bytes at → n ≤ length hay → ((k : ℕ) → 0 ≤ k → k < n → ¬ (test (slice_index hay k) ≡ true)) →
+    Sought look u before bytes (at + n)
+sought-first look test begins u before bytes at n hay is s h fails =
+    sought-on look u before bytes at n s
+    (seek-past look test begins u (byte_before before (take at bytes)) n (drop at bytes) (omega (arith, ap length is))
+    (λ k l. subst (λ (xs : List ℕ). ¬ (test (slice_index xs k) ≡ true)) is (fails k (omega arith) l)))
+
+pub looked-at : (look : Looker) (u : Bool) (before r : Option ℕ) (bytes slice : List ℕ) (place : ℕ) (l : Look) → r ≡ byte_before before (take place bytes) →
+    slice ≡ drop place bytes → l ≡ look r slice u → look (byte_before before (take place bytes)) (drop place bytes) u ≡ l
+looked-at look u before r bytes slice place l p q e =
+    ap (λ b. look b (drop place bytes) u) (sym p) ∙ ap (λ s. look r s u) (sym q) ∙ sym e
+
+pub byte_before-last : (before : Option ℕ) (n : ℕ) (bytes : List ℕ) → 0 < n → n ≤ length bytes → Some (get_or bytes (n - 1) 0) ≡ byte_before before (take n bytes)
+byte_before-last before zero bytes some h = absurd (omega arith)
+byte_before-last before (suc n) [] some h = absurd (omega arith)
+byte_before-last before (suc zero) (b ∷ bytes) some h = refl
+byte_before-last before (suc (suc n)) (b ∷ bytes) some h =
+    let a : suc (suc n) - 1 ≡ suc n = omega arith in
+    let b' : suc n - 1 ≡ n = omega arith in
+    ap (λ k. Some (get_or (b ∷ bytes) k 0)) a ∙ ap (λ k. Some (get_or bytes k 0)) (sym b') ∙ byte_before-last (Some b) (suc n) bytes (omega arith) (omega arith)

@@ -1,0 +1,148 @@
+-- The loop of the walk.
+use Rattle.std.proofs.Common.{◌≡◌, ℕ, zero, suc, ◌+◌, ◌-◌, ◌<◌, ◌≤◌, ℤ, pos, Bool, List, [], ◌∷◌, ◌++◌, length, take, drop, get_or, Option, Some, None, refl, sym, ◌∙◌, ap, subst, arith, rules, append_assoc}
+use Rattle.std.specs.Prelude.{IfSome}
+use Rattle.std.specs.List.{flat_map, zip}
+use Rattle.std.proofs.lemmas.List.{append-nil, length-drop, length-take}
+use Rattle.std.proofs.lemmas.Grind.{flat_map-append}
+use Rattle.std.proofs.lemmas.Slice.Zip.{length-zip}
+use Rattle.ix_base.specs.Stream.{Dated, bytes_of}
+use Rattle.ix_lines.specs.Walk.{Looker, Walked, preceded, walk}
+use Rattle.ix_lines.specs.Lines.{line_of}
+use Rattle.ix_lines.specs.Laws.{IsStable}
+use Rattle.ix_lines.specs.Kept.{Keeps, IsPart, AddsSome, first_moment}
+use Rattle.ix_lines.specs.Seek.{byte_before, seek}
+use Rattle.ix_lines.specs.Settle.{CameTo, Settles, part}
+use Rattle.ix_lines.specs.declared.kept.Kept.{Kept}
+use Rattle.ix_lines.specs.declared.kept.Line.{Line}
+use Rattle.ix_lines.specs.declared.breaks.Found.{Found}
+use Rattle.ix_lines.specs.declared.breaks.Found.TheVariants.{Break, Stop}
+use Rattle.ix_lines.proofs.ListLemmas.{take-add, drop-drop, part-on, part-behind, bytes_of-zip, bytes_of-take, bytes_of-drop, take-past}
+use Rattle.ix_lines.proofs.WalkLemmas.{preceded-preceded, bytes_of-append}
+use Rattle.ix_lines.proofs.SeekLemmas.{by_found, walk-seek, byte_before-append}
+
+-- a part of bytes and moments side by side
+first-part : (k s : ℕ) (bs : List ℕ) (ms : List ℤ) (m : ℤ) → (s < length ms → m ≡ get_or ms s (pos 0)) →
+    IfSome (first_moment (take k (drop s (zip bs ms)))) (λ x. x ≡ m)
+first-part zero s bs ms m h = search rules
+first-part (suc k) zero [] ms m h = search rules
+first-part (suc k) zero (b ∷ bs) [] m h = search rules
+first-part (suc k) zero (b ∷ bs) (x ∷ ms) m h = sym (h (omega arith))
+first-part (suc k) (suc s) [] ms m h = search rules
+first-part (suc k) (suc s) (b ∷ bs) [] m h = search rules
+first-part (suc k) (suc s) (b ∷ bs) (x ∷ ms) m h = first-part (suc k) s bs ms m (λ l. h (omega arith))
+
+pub part-is : (bs : List ℕ) (ms : List ℤ) (start end : ℕ) (m : ℤ) → length bs ≡ length ms → (start < length ms → m ≡ get_or ms start (pos 0)) →
+    IsPart (part start end bs) m (part start end (zip bs ms))
+part-is bs ms start end m same h = record {
+  bytes_are = bytes_of-take (end - start) (drop start (zip bs ms)) ∙ ap (take (end - start)) (bytes_of-drop start (zip bs ms) ∙ ap (drop start) (bytes_of-zip bs ms same));
+  moment_is = first-part (end - start) start bs ms m h;
+}
+
+pub bytes-taken : (bs : List ℕ) (ms : List ℤ) (n : ℕ) → length bs ≡ length ms → bytes_of (take n (zip bs ms)) ≡ take n bs
+bytes-taken bs ms n same = bytes_of-take n (zip bs ms) ∙ ap (take n) (bytes_of-zip bs ms same)
+
+-- the code's search, at the place that the walk has come to
+pub sought : (look : Looker) (u : Bool) (first r : Option ℕ) (bs slice : List ℕ) (ms : List ℤ) (at : ℕ) (f : Found) → length bs ≡ length ms →
+    r ≡ byte_before first (take at bs) → slice ≡ drop at bs → f ≡ seek look u r slice →
+    seek look u (byte_before first (bytes_of (take at (zip bs ms)))) (bytes_of (drop at (zip bs ms))) ≡ f
+sought look u first r bs slice ms at f same p q e =
+    ap (λ l. seek look u (byte_before first l) (bytes_of (drop at (zip bs ms)))) (bytes-taken bs ms at same)
+    ∙ ap (λ b. seek look u b (bytes_of (drop at (zip bs ms)))) (sym p)
+    ∙ ap (seek look u r) (bytes_of-drop at (zip bs ms) ∙ ap (drop at) (bytes_of-zip bs ms same) ∙ sym q)
+    ∙ sym e
+
+before-on : (first : Option ℕ) (all : List Dated) (at n : ℕ) →
+    byte_before (byte_before first (bytes_of (take at all))) (bytes_of (take n (drop at all))) ≡ byte_before first (bytes_of (take (at + n) all))
+before-on first all at n =
+    byte_before-append first (bytes_of (take at all)) (bytes_of (take n (drop at all)))
+    ∙ ap (byte_before first) (sym (bytes_of-append (take at all) (take n (drop at all))))
+    ∙ ap (λ l. byte_before first (bytes_of l)) (take-add at n all)
+
+rest-on : (stretch all : List Dated) (start at n : ℕ) → start ≤ at → (stretch ++ part start at all) ++ take n (drop at all) ≡ stretch ++ part start (at + n) all
+rest-on stretch all start at n h =
+    append_assoc stretch (part start at all) (take n (drop at all)) ∙ ap (λ l. stretch ++ l) (part-on start at n all h)
+
+pub came-start : (look : Looker) (u : Bool) (t : ℕ) (first : Option ℕ) (all stretch : List Dated) (kept : Kept) (out : List Line) → Keeps t stretch kept →
+    CameTo look u t (walk look u first stretch 0 all) first all 0 0 kept out out
+came-start look u t first all stretch kept out keeps = record {
+  stretch = stretch;
+  done = [];
+  keeps = keeps;
+  written = sym (append-nil out);
+  walk_on = ap (λ l. walk look u first l 0 all) (sym (append-nil stretch));
+}
+
+pub came-break : (look : Looker) → IsStable look → (u : Bool) (t : ℕ) (whole : Walked) (first : Option ℕ) (all : List Dated) (start at from to n : ℕ)
+    (kept kept' : Kept) (old out out' : List Line) (bytes : List ℕ) (m : ℤ) →
+    CameTo look u t whole first all start at kept old out → start ≤ at → to ≤ n →
+    seek look u (byte_before first (bytes_of (take at all))) (bytes_of (drop at all)) ≡ Break from to n →
+    IsPart bytes m (part start (at + from) all) →
+    ((stretch part : List Dated) → Keeps t stretch kept → IsPart bytes m part → Keeps t [] kept' × (out' ≡ out ++ line_of t (stretch ++ part))) →
+    CameTo look u t whole first all (at + to) (at + n) kept' old out'
+came-break look stable u t whole first all start at from to n kept kept' old out out' bytes m c sa tn f is ends =
+    let b : Option ℕ = byte_before first (bytes_of (take at all)) in
+    let rest : List Dated = c.stretch ++ part start at all in
+    let left : List Dated = drop at all in
+    let x : List Dated = c.stretch ++ part start (at + from) all in
+    let both = ends c.stretch (part start (at + from) all) c.keeps is in
+    record {
+      stretch = [];
+      done = c.done ++ x ∷ [];
+      keeps = both.0;
+      written = both.1 ∙ ap (λ l. l ++ line_of t x) c.written
+          ∙ append_assoc old (flat_map (line_of t) c.done) (line_of t x)
+          ∙ ap (λ l. old ++ (flat_map (line_of t) c.done ++ l)) (sym (append-nil (line_of t x)))
+          ∙ ap (λ l. old ++ l) (sym (flat_map-append (line_of t) c.done (x ∷ [])));
+      walk_on = c.walk_on
+          ∙ ap (preceded c.done) (walk-seek look stable u b rest left ∙ ap (by_found look u b rest left) f)
+          ∙ preceded-preceded c.done ((rest ++ take from left) ∷ [])
+          (walk look u (byte_before b (bytes_of (take n left))) (drop to (take n left)) 0 (drop n left))
+          ∙ ap (λ y. preceded (c.done ++ y ∷ []) (walk look u (byte_before b (bytes_of (take n left))) (drop to (take n left)) 0 (drop n left)))
+          (rest-on c.stretch all start at from sa)
+          ∙ ap (λ q. preceded (c.done ++ x ∷ []) (walk look u q (drop to (take n left)) 0 (drop n left))) (before-on first all at n)
+          ∙ ap (λ s. preceded (c.done ++ x ∷ []) (walk look u (byte_before first (bytes_of (take (at + n) all))) s 0 (drop n left))) (part-behind at to n all tn)
+          ∙ ap (λ l. preceded (c.done ++ x ∷ []) (walk look u (byte_before first (bytes_of (take (at + n) all))) (part (at + to) (at + n) all) 0 l)) (drop-drop at n all);
+    }
+
+pub came-stop : (look : Looker) → IsStable look → (u : Bool) (t : ℕ) (whole : Walked) (first : Option ℕ) (all : List Dated) (start at n : ℕ)
+    (kept kept' : Kept) (old out : List Line) (bytes : List ℕ) (m : ℤ) →
+    CameTo look u t whole first all start at kept old out → start ≤ at →
+    seek look u (byte_before first (bytes_of (take at all))) (bytes_of (drop at all)) ≡ Stop n →
+    IsPart bytes m (part start (at + n) all) →
+    ((stretch part : List Dated) → Keeps t stretch kept → IsPart bytes m part → Keeps t (stretch ++ part) kept') →
+    Settles t whole (byte_before first (bytes_of (take (at + n) all))) kept' (drop (at + n) all) old out
+came-stop look stable u t whole first all start at n kept kept' old out bytes m c sa f is adds =
+    let b : Option ℕ = byte_before first (bytes_of (take at all)) in
+    let rest : List Dated = c.stretch ++ part start at all in
+    let left : List Dated = drop at all in
+    let x : List Dated = c.stretch ++ part start (at + n) all in
+    let e : whole ≡ record { done = c.done ++ []; rest = x; before = byte_before first (bytes_of (take (at + n) all)); pending = drop (at + n) all } =
+    c.walk_on ∙ ap (preceded c.done) (walk-seek look stable u b rest left ∙ ap (by_found look u b rest left) f)
+    ∙ (λ i. record { done = c.done ++ []; rest = rest-on c.stretch all start at n sa i; before = before-on first all at n i; pending = drop-drop at n all i }) in
+    let P : Walked → Type 0 = λ w. Settles t w (byte_before first (bytes_of (take (at + n) all))) kept' (drop (at + n) all) old out in
+    subst P (sym e) (record {
+      keeps = adds c.stretch (part start (at + n) all) c.keeps is;
+      before_is = refl;
+      left_is = refl;
+      written = c.written ∙ ap (λ d. old ++ flat_map (line_of t) d) (sym (append-nil c.done));
+    })
+
+-- what was written is the first part of what the walk settles
+pub came-some : (look : Looker) (u : Bool) (t : ℕ) (whole : Walked) (first : Option ℕ) (all : List Dated) (start at : ℕ) (kept : Kept) (old out : List Line) →
+    CameTo look u t whole first all start at kept old out → AddsSome (flat_map (line_of t) whole.done) old out
+came-some look u t whole first all start at kept old out c =
+    let v : Walked = walk look u (byte_before first (bytes_of (take at all))) (c.stretch ++ part start at all) 0 (drop at all) in
+    record {
+      first = flat_map (line_of t) c.done;
+      others = flat_map (line_of t) v.done;
+      lines_are = ap (λ w. flat_map (line_of t) w.done) c.walk_on ∙ flat_map-append (line_of t) c.done v.done;
+      written = c.written;
+    }
+
+-- the part up to the end
+pub rest-part : (bs : List ℕ) (ms : List ℤ) (start : ℕ) (m : ℤ) → length bs ≡ length ms → (start < length ms → m ≡ get_or ms start (pos 0)) →
+    IsPart (take (length bs - start) (drop start bs)) m (drop start (zip bs ms))
+rest-part bs ms start m same h =
+    subst (λ (l : List Dated). IsPart (take (length bs - start) (drop start bs)) m l)
+    (take-past (length bs - start) (drop start (zip bs ms)) (omega (arith, length-drop start (zip bs ms), length-zip bs ms)))
+    (part-is bs ms start (length bs) m same h)

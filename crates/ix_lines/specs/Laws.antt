@@ -1,0 +1,30 @@
+-- What a continuation leaves as it was.
+use Rattle.std.specs.Prelude.{◌≡◌, ℕ, ◌<◌, ◌≤◌, Bool, true, List, ◌∷◌, ◌++◌, length, Option}
+use Rattle.ix_base.specs.Stream.{Dated}
+use Rattle.ix_lines.specs.Walk.{match, no_match, more, Looker}
+use Rattle.ix_lines.specs.Lines.{settled, all_lines}
+use Rattle.ix_lines.specs.Newlines.{reach}
+use Rattle.ix_lines.specs.declared.kept.Line.{Line}
+
+-- an answer other than `more` stays as it is when more bytes come or the end does
+pub record IsStable (look : Looker) : Type 0 where
+  pub sized : (before : Option ℕ) (bytes : List ℕ) (u : Bool) (from to n : ℕ) → look before bytes u ≡ match from to n →
+      (from ≤ to) × (to ≤ n) × (0 < n) × (n ≤ length bytes)
+  pub match_stays : (before : Option ℕ) (bytes later : List ℕ) (u : Bool) (from to n : ℕ) → look before bytes true ≡ match from to n →
+      look before (bytes ++ later) u ≡ match from to n
+  pub none_stays : (before : Option ℕ) (bytes later : List ℕ) (u : Bool) → 0 < length bytes → look before bytes true ≡ no_match →
+      look before (bytes ++ later) u ≡ no_match
+
+-- a match begins with a byte that passes the test
+abbrev pub BeginsBy : Looker → (ℕ → Bool) → Type 0
+BeginsBy look test = (before : Option ℕ) (b : ℕ) (bytes : List ℕ) (u : Bool) → ¬ (test b ≡ true) → look before (b ∷ bytes) u ≡ no_match
+
+-- an attempt that waits has fewer bytes than it can see
+abbrev pub WaitsWithin : Looker → ℕ → Type 0
+WaitsWithin look most = (before : Option ℕ) (bytes : List ℕ) (u : Bool) → look before bytes u ≡ more → length bytes < most
+
+-- the lines of an open stream are the first of each continuation's, open or closed
+abbrev pub LinesStay : Looker → Type 0
+LinesStay look = (t : ℕ) (stream later : List Dated) →
+    ((added : List Line) × (settled look t (stream ++ later) ≡ settled look t stream ++ added))
+    × ((added : List Line) × (all_lines look t (stream ++ later) ≡ settled look t stream ++ added))

@@ -1,0 +1,9 @@
+pub mod Walk
+pub mod Lines
+pub mod Newlines
+pub mod Laws
+pub mod Runs
+pub mod Kept
+pub mod Seek
+pub mod Settle
+pub mod Parts

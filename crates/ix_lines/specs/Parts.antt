@@ -1,0 +1,60 @@
+-- What a value keeps of a stream.
+use Rattle.std.specs.Prelude.{◌≡◌, ℕ, ◌+◌, ℤ, Bool, true, false, List, ◌++◌, Option, take}
+use Rattle.ix_base.specs.Stream.{Dated, bytes_of}
+use Rattle.ix_lines.specs.Walk.{Looker, walk_of}
+use Rattle.ix_lines.specs.Lines.{settled, all_lines}
+use Rattle.ix_lines.specs.Kept.{first_moment, AddsSome}
+use Rattle.ix_lines.specs.declared.kept.Line.{Line}
+
+pub record Parts : Type 0 where
+  -- the length at which lines are cut
+  pub truncate : ℕ
+  -- the byte before the scan place, and the bytes from there on with their moments
+  pub before : Option ℕ
+  pub pending : List Dated
+  -- the open line: as many of its bytes as a cut needs, and its moment
+  pub kept : List ℕ
+  pub moment : Option ℤ
+  -- a call found no room, and the value stands for no stream
+  pub broken : Bool
+
+-- the parts of a stream
+abbrev pub parts_of : Looker → ℕ → List Dated → Parts
+parts_of look t stream =
+    let w = walk_of look true stream in
+    record {
+      truncate = t;
+      before = w.before;
+      pending = w.pending;
+      kept = take (t + 1) (bytes_of w.rest);
+      moment = first_moment w.rest;
+      broken = false;
+    }
+
+-- the value stands for the stream
+abbrev pub StandsFor : Looker → ℕ → List Dated → Parts → Type 0
+StandsFor look t stream parts = parts ≡ parts_of look t stream
+
+-- the lines that the later bytes settle were added
+pub record Adds (look : Looker) (t : ℕ) (stream later : List Dated) (old new : List Line) : Type 0 where
+  pub added : List Line
+  pub settles : settled look t (stream ++ later) ≡ settled look t stream ++ added
+  pub written : new ≡ old ++ added
+
+-- some of the lines that the later bytes settle were added, the first ones
+pub record AddsPart (look : Looker) (t : ℕ) (stream later : List Dated) (old new : List Line) : Type 0 where
+  pub added : List Line
+  pub settles : settled look t (stream ++ later) ≡ settled look t stream ++ added
+  pub written : AddsSome added old new
+
+-- the lines that the end of the stream settles were added
+pub record Ends (look : Looker) (t : ℕ) (stream : List Dated) (old new : List Line) : Type 0 where
+  pub added : List Line
+  pub settles : all_lines look t stream ≡ settled look t stream ++ added
+  pub written : new ≡ old ++ added
+
+-- some of them were added, the first ones
+pub record EndsPart (look : Looker) (t : ℕ) (stream : List Dated) (old new : List Line) : Type 0 where
+  pub added : List Line
+  pub settles : all_lines look t stream ≡ settled look t stream ++ added
+  pub written : AddsSome added old new

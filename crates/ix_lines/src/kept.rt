@@ -1,0 +1,147 @@
+//! Lines, and the line that is open.
+
+ghost use Rattle.std.specs.Prelude.{◌≡◌, ℕ, ◌+◌, ◌<◌, ◌≤◌, List, [], ◌∷◌, ◌++◌, ◌-◌, length, OnOk, OnErr, IfOk, None};
+ghost use Rattle.ix_base.specs.Stream.{Dated};
+ghost use Rattle.ix_lines.specs.Lines.{line_of, goes_on, step_back, cut, unless_empty};
+ghost use Rattle.ix_lines.specs.Kept.{Keeps, IsPart};
+
+use crate::breaks::first;
+use ix_base::{Bytes, NoMemory, Sequence};
+use std::alloc::Global;
+
+/// A line of a stream, without the break that ended it. It is not empty.
+#[derive(Drop)]
+pub struct Line {
+    /// Its bytes.
+    pub bytes: Bytes,
+    /// When its first byte came, in microseconds since 1970-01-01T00:00:00Z.
+    pub moment: i64,
+}
+
+/// Lines, the first one first.
+pub type LineList = Sequence<Line>;
+
+/// What is kept of the line that is open: as many of its first bytes as a cut needs.
+#[derive(Drop)]
+pub struct Kept {
+    pub bytes: Bytes,
+    /// The moment of its first byte, if there is one.
+    pub moment: Option<i64>,
+}
+
+fn goes_on(b: u8) -> bool
+    ensures { result ≡ goes_on b }
+{
+    b >= 0x80 && b <= 0xBF
+}
+
+/// How many bytes of a line that is too long are left.
+fn cut_at(bytes: &[u8], truncate: usize) -> usize
+    requires { truncate < length bytes.now }
+    ensures { result ≡ truncate - step_back truncate bytes.now }
+{
+    if !goes_on(bytes[truncate]) {
+        return truncate;
+    }
+    if truncate >= 1 && !goes_on(bytes[truncate - 1]) {
+        return truncate - 1;
+    }
+    if truncate >= 2 && !goes_on(bytes[truncate - 2]) {
+        return truncate - 2;
+    }
+    if truncate >= 3 && !goes_on(bytes[truncate - 3]) {
+        return truncate - 3;
+    }
+    truncate
+}
+
+/// The bytes of a line, cut so that no character of UTF-8 is.
+fn cut(bytes: &[u8], truncate: usize) -> &[u8]
+    ensures { result.now ≡ cut truncate bytes.now }
+{
+    if bytes.len() <= truncate {
+        return bytes;
+    }
+    let n = cut_at(bytes, truncate);
+    &bytes[..n]
+}
+
+/// Adds a line, unless nothing is left of it.
+fn write(
+    alloc: Global,
+    truncate: usize,
+    bytes: &[u8],
+    moment: i64,
+    out: &mut LineList,
+) -> Result<(), NoMemory>
+    ensures ok { OnOk result (out.new ≡ out.old ++ unless_empty (cut truncate bytes.now) moment) }
+    ensures err { OnErr result (out.new ≡ out.old) }
+{
+    let bytes = cut(bytes, truncate);
+    if bytes.is_empty() {
+        return Ok(());
+    }
+    let bytes = Bytes::copy_of(alloc, bytes)?;
+    out.push(Line { bytes, moment })
+}
+
+impl Kept {
+    /// Nothing is kept. It takes no memory.
+    pub fn new(alloc: Global) -> Kept
+        ensures bytes { result.bytes ≡ [] }
+        ensures moment { result.moment ≡ None }
+    {
+        Kept {
+            bytes: Bytes::new(alloc),
+            moment: None,
+        }
+    }
+
+    /// Keeps bytes that come next, the first of which has this moment.
+    pub fn add(&mut self, truncate: usize, bytes: &[u8], moment: i64) -> Result<(), NoMemory>
+        requires { truncate ≤ 1048576 }
+        ensures { OnOk result ((stretch part : List Dated) → Keeps truncate stretch self.old → IsPart bytes.now moment part →
+            Keeps truncate (stretch ++ part) self.new) }
+    {
+        if bytes.is_empty() {
+            return Ok(());
+        }
+        self.moment = Some(self.moment.unwrap_or(moment));
+        let room = (truncate + 1).saturating_sub(self.bytes.len());
+        self.bytes.extend(first(bytes, room))
+    }
+
+    /// Writes the line, which ends with these bytes, and begins the next one.
+    pub fn end(
+        &mut self,
+        alloc: Global,
+        truncate: usize,
+        bytes: &[u8],
+        moment: i64,
+        out: &mut LineList,
+    ) -> Result<(), NoMemory>
+        requires { truncate ≤ 1048576 }
+        ensures ok { OnOk result ((stretch part : List Dated) → Keeps truncate stretch self.old → IsPart bytes.now moment part →
+            Keeps truncate [] self.new × (out.new ≡ out.old ++ line_of truncate (stretch ++ part))) }
+        ensures err { OnErr result (out.new ≡ out.old) }
+    {
+        let Some(begun) = self.moment else {
+            return write(alloc, truncate, bytes, moment, out);
+        };
+        self.add(truncate, bytes, moment)?;
+        write(alloc, truncate, self.bytes.as_slice(), begun, out)?;
+        self.bytes.clear();
+        self.moment = None;
+        Ok(())
+    }
+
+    /// A copy of it.
+    pub fn copy(&self) -> Result<Kept, NoMemory>
+        ensures { IfOk result (λ copy. copy ≡ self.now) }
+    {
+        Ok(Kept {
+            bytes: self.bytes.copy()?,
+            moment: self.moment,
+        })
+    }
+}
