@@ -1,0 +1,28 @@
+//! The program `indexd`: the real input, output and clock, handed to the library that does all the work.
+#![tactic(auto)]
+
+use indexd_core::top;
+use ix_base::{HostClock, StdSink, StdSource, Text};
+use std::env;
+use std::io;
+use std::process::ExitCode;
+use std::rt::Env;
+
+/// The words of the command line behind the program's name.
+fn read_words<R: Env + AllocGlobal>(rt: &R) -> io::Result<Vec<Text>> {
+    let mut words = Vec::new(rt.alloc());
+    for word in env::args(rt)?.skip(1) {
+        words.push(Text::from_string(word))?;
+    }
+    Ok(words)
+}
+
+fn main(rt: HostRuntime) -> ExitCode {
+    // Words that are no text are none, so they are refused as any other wrong ones.
+    let words = read_words(&rt).unwrap_or(Vec::new(rt.alloc()));
+    let mut input = StdSource::new(rt.reader());
+    let mut output = StdSink::new(io::writer(&rt));
+    let mut clock = HostClock::new(&rt);
+    let status = top(rt.alloc(), &words, &mut input, &mut output, &mut clock);
+    ExitCode::from(status.code())
+}

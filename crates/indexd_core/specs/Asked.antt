@@ -1,0 +1,9 @@
+-- A command and its words.
+use Rattle.std.specs.Prelude.{ℕ, List}
+use Rattle.indexd_core.specs.Words.{AsksPreview}
+use Rattle.indexd_core.specs.declared.words.Command.{Command}
+use Rattle.indexd_core.specs.declared.words.Command.TheVariants.{Preview}
+
+-- the command is spelled so
+abbrev pub Asks : Command → List (List ℕ) → Type 0
+Asks (Preview host source) words = AsksPreview words host.now source.now

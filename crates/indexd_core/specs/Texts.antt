@@ -1,0 +1,42 @@
+-- What a run writes.
+use Rattle.std.specs.Prelude.{◌≡◌, ◌⊎◌, ℕ, ℤ, Bool, List, [], ◌∷◌, ◌++◌, map, codes, Option, Some, None}
+use Rattle.ix_base.specs.Faults.{Rose}
+use Rattle.ix_base.specs.Stream.{dated}
+use Rattle.ix_base.specs.Told.{HasWritten, HasBegun}
+use Rattle.ix_base.specs.EventLine as event
+use Rattle.ix_base.specs.declared.events.Event.{Event}
+use Rattle.ix_base.specs.declared.events.ChannelMeta.{ChannelMeta}
+use Rattle.ix_lines.specs.Lines.{effective}
+use Rattle.ix_parse.specs.declared.routed.Routed.{Routed}
+use Rattle.ix_parse.specs.declared.routed.Routed.TheVariants.{To}
+use Rattle.ix_parse.specs.Settled.{settled}
+use Rattle.indexd_core.specs.declared.status.Status.{Status}
+use Rattle.indexd_core.specs.declared.status.Status.TheVariants.{Done, Memory, Usage, Input, Output, Endless}
+
+abbrev pub event_in : Routed → Event
+event_in (To event) = event
+
+-- the lines of events
+abbrev pub lines_of : List Routed → List ℕ
+lines_of routed = event.lines (map event_in routed)
+
+-- what is known of previewed bytes: the index is `main`, and the source type is not stated
+abbrev pub preview_meta : List ℕ → List ℕ → ChannelMeta
+preview_meta host source = record { host = host; source = source; sourcetype = None; index = Some (codes "main") }
+
+-- the lines of the events that are settled of bytes which all come at one moment; a line is cut at 10,000 bytes
+abbrev pub preview_text : ChannelMeta → ℤ → List ℕ → Bool → List ℕ
+preview_text meta moment bytes closed = lines_of (settled (effective 10000) meta (dated bytes moment) closed)
+
+-- the line of a status, which stands behind the output
+abbrev pub status_text : Status → List ℕ
+status_text Done = []
+status_text Memory = codes "indexd: want of memory\n"
+status_text Usage = codes "indexd: usage\n"
+status_text Input = codes "indexd: input fault\n"
+status_text Output = []
+status_text Endless = codes "indexd: endless input\n"
+
+-- the text stands behind what stood there, or a front of it where the output failed
+abbrev pub Said : List ℕ → ℕ → ℕ → Option (List ℕ) → Option (List ℕ) → Type 0
+Said text faults faults' given given' = HasWritten text given given' ⊎ (Rose faults faults' × HasBegun text given given')

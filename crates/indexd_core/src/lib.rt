@@ -1,0 +1,10 @@
+//! The whole of the program over the traits of the outside.
+#![tactic(auto)]
+
+mod preview;
+mod program;
+mod status;
+mod words;
+
+pub use program::top;
+pub use status::Status;

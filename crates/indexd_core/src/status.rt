@@ -1,0 +1,62 @@
+//! How a run ends.
+
+ghost use Rattle.std.specs.Prelude.{◌≡◌, ◌≤◌};
+ghost use Rattle.ix_base.specs.Faults.{HasCause};
+ghost use Rattle.indexd_core.specs.Texts.{status_text, Said};
+
+use ix_base::Sink;
+
+/// How a run ended. Its number is the exit status of the program.
+#[derive(Clone, Copy, Debug, PartialEq, Eq)]
+pub enum Status {
+    /// 0: the input was read to its end, and all was written.
+    Done,
+    /// 1: there was no room in memory. `indexd: want of memory`
+    Memory,
+    /// 2: the words are no command. `indexd: usage`
+    Usage,
+    /// 4: reading the input failed. `indexd: input fault`
+    Input,
+    /// 7: writing the output failed.
+    Output,
+    /// 13: the input has 2^40 bytes or more. `indexd: endless input`
+    Endless,
+}
+
+impl Status {
+    /// The exit status of the program.
+    pub fn code(self) -> u8 {
+        match self {
+            Status::Done => 0,
+            Status::Memory => 1,
+            Status::Usage => 2,
+            Status::Input => 4,
+            Status::Output => 7,
+            Status::Endless => 13,
+        }
+    }
+
+    /// The line that is written behind the output, with its newline.
+    fn text(self) -> &'static [u8]
+        ensures { result.now ≡ status_text self }
+    {
+        match self {
+            Status::Done | Status::Output => b"",
+            Status::Memory => b"indexd: want of memory\n",
+            Status::Usage => b"indexd: usage\n",
+            Status::Input => b"indexd: input fault\n",
+            Status::Endless => b"indexd: endless input\n",
+        }
+    }
+}
+
+/// Writes the line of a status, if it has one. Where that fails the status stays.
+pub fn say<W: Sink>(status: Status, output: &mut W)
+    ensures said { Said (status_text status) (W.faults output.old) (W.faults output.new) (W.given output.old) (W.given output.new) }
+    ensures later { W.faults output.old ≤ W.faults output.new }
+{
+    let text = status.text();
+    if !text.is_empty() {
+        let _ = output.put(text);
+    }
+}

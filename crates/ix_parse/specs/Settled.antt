@@ -1,0 +1,38 @@
+-- What the bytes of a channel come to.
+use Rattle.std.specs.Prelude.{◌≡◌, ℕ, Bool, true, false, List, [], ◌++◌, map, unwrap_or, codes}
+use Rattle.ix_base.specs.Stream.{Dated}
+use Rattle.ix_base.specs.declared.events.ChannelMeta.{ChannelMeta}
+use Rattle.ix_base.specs.declared.events.Event.{Event}
+use Rattle.ix_lines.specs.declared.kept.Line.{Line}
+use Rattle.ix_lines.specs.Newlines.{newlines}
+use Rattle.ix_lines.specs.Lines as lines
+use Rattle.ix_parse.specs.declared.routed.Routed.{Routed}
+use Rattle.ix_parse.specs.declared.routed.Routed.TheVariants.{To}
+
+-- the source type that is stated, or `unknown`
+abbrev pub sourcetype_of : ChannelMeta → List ℕ
+sourcetype_of meta = unwrap_or meta.sourcetype (codes "unknown")
+
+-- a line as an event, which has the time of its first byte's arrival
+abbrev pub event_of : ChannelMeta → Line → Event
+event_of meta line = record {
+    time = line.moment; arrival = line.moment; index = unwrap_or meta.index []; host = meta.host; source = meta.source;
+    sourcetype = sourcetype_of meta; meta = []; raw = line.bytes
+  }
+
+abbrev pub outcome_of : ChannelMeta → Line → Routed
+outcome_of meta line = To (event_of meta line)
+
+-- the lines of a stream, those of an open one that later bytes cannot change or all of a closed one, each cut at t bytes
+abbrev pub lines_of : ℕ → List Dated → Bool → List Line
+lines_of t stream false = lines.settled newlines t stream
+lines_of t stream true = lines.all_lines newlines t stream
+
+-- what is settled of a stream
+abbrev pub settled : ℕ → ChannelMeta → List Dated → Bool → List Routed
+settled t meta stream closed = map (outcome_of meta) (lines_of t stream closed)
+
+-- what is settled of an open stream is the front of what is of each continuation, open or closed
+abbrev pub SettledStays : Type 0
+SettledStays = (t : ℕ) (meta : ChannelMeta) (stream later : List Dated) (closed : Bool) →
+    (added : List Routed) × (settled t meta (stream ++ later) closed ≡ settled t meta stream false ++ added)
