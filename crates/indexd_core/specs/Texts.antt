@@ -28,6 +28,15 @@ preview_meta host source = record { host = host; source = source; sourcetype = N
 abbrev pub preview_text : ChannelMeta → ℤ → List ℕ → Bool → List ℕ
 preview_text meta moment bytes closed = lines_of (settled (effective 10000) meta (dated bytes moment) closed)
 
+-- the exit status of the program
+abbrev pub status_code : Status → ℕ
+status_code Done = 0
+status_code Memory = 1
+status_code Usage = 2
+status_code Input = 4
+status_code Output = 7
+status_code Endless = 13
+
 -- the line of a status, which stands behind the output
 abbrev pub status_text : Status → List ℕ
 status_text Done = []

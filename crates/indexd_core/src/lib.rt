@@ -4,6 +4,8 @@
 mod preview;
 mod program;
 mod status;
+#[cfg(test)]
+mod tests;
 mod words;
 
 pub use program::top;

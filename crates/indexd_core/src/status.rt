@@ -1,8 +1,7 @@
 //! How a run ends.
 
 ghost use Rattle.std.specs.Prelude.{◌≡◌, ◌≤◌};
-ghost use Rattle.ix_base.specs.Faults.{HasCause};
-ghost use Rattle.indexd_core.specs.Texts.{status_text, Said};
+ghost use Rattle.indexd_core.specs.Texts.{status_code, status_text, Said};
 
 use ix_base::Sink;
 
@@ -25,7 +24,9 @@ pub enum Status {
 
 impl Status {
     /// The exit status of the program.
-    pub fn code(self) -> u8 {
+    pub fn code(self) -> u8
+        ensures { result ≡ status_code self }
+    {
         match self {
             Status::Done => 0,
             Status::Memory => 1,

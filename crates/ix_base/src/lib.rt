@@ -12,6 +12,8 @@ mod lines;
 mod sequences;
 mod sinks;
 mod sources;
+#[cfg(test)]
+mod tests;
 
 pub use clocks::{Clock, HostClock, MemClock};
 pub use counter::Steps;
