@@ -1,7 +1,7 @@
 -- How runs of a disk's calls are put together.
-use Rattle.std.proofs.Common.{◌≡◌, ◌≢◌, ◌≤◌, ℕ, List, Option, None, Some, refl, inl, inr, ⊎_elim, ◌∙◌, ap, subst, sym, arith}
+use Rattle.std.proofs.Common.{◌≡◌, ◌≢◌, ◌≤◌, ℕ, List, [], Option, None, Some, refl, inl, inr, ⊎_elim, ◌∙◌, ap, subst, sym, arith}
 use Rattle.ix_base.specs.declared.files.File.{File}
-use Rattle.ix_disk.specs.Image.{Image, content, bytes_in, Torn, overwritten, MayWrite, Writes, Reached, Stays}
+use Rattle.ix_disk.specs.Image.{Image, content, bytes_in, Torn, overwritten, MayWrite, Writes, MayRemove, Removes, Reached, Stays}
 use Rattle.ix_base.specs.Told.{Told}
 use Rattle.ix_base.specs.Faults.{Rose}
 use Rattle.ix_disk.specs.Moments.{Goes, InFile, Holds, Reads, Always}
@@ -156,3 +156,106 @@ module _ {D : Type 0} (g : Ghosts D) where
   -- a read gives what each image holds
   pub holds_reads : ((image : Image) (disk : D) → g.seen disk ≡ Some image → g.may_leave disk image) → (disk : D) (file : File) (P : List ℕ → Type 0) → Holds g disk file P → Reads g disk file P
   holds_reads may_stay disk file P holds image is = holds image (may_stay image disk is)
+
+  -- no call at all
+  pub nowhere : (disk : D) → Goes g disk disk Stays
+  nowhere disk = record {
+    later = omega arith;
+    now = λ image left. (image, left, refl);
+    since = λ t image le left. inl left;
+    keeps = λ t image le left. left;
+  }
+
+  -- one run behind another, each with a step of its own
+  pub joined : (old mid new : D) (first second whole : Image → Image → Type 0) → ((a b : Image) → first a b → whole a b) → ((a b c : Image) → first a b → second b c → whole a c)
+      → Goes g old mid first → Goes g mid new second → Goes g old new whole
+  joined old mid new first second whole part both run then_ = record {
+    later = omega (arith, run.later, then_.later);
+    now = λ image left. behind image (then_.now image left);
+    since = λ t image le left. ⊎_elim
+        (λ (past : g.left_since mid t image). ⊎_elim (λ past. inl past) (λ reached. inr (reached.0, reached.1, part _ _ reached.2)) (run.since t image le past))
+        (λ (reached : Reached (g.may_leave mid) second image). inr (behind image reached))
+        (then_.since t image (omega (arith, le, run.later)) left);
+    keeps = λ t image le left. then_.keeps t image (omega (arith, le, run.later)) (run.keeps t image le left);
+  }
+    where
+      behind : (image : Image) → Reached (g.may_leave mid) second image → Reached (g.may_leave old) whole image
+      behind image reached =
+          let origin = run.now reached.0 reached.1 in
+          (origin.0, origin.1, both _ _ _ origin.2 reached.2)
+
+  -- calls that change nothing, one behind the other
+  pub stays_on : (old mid new : D) → Goes g old mid Stays → Goes g mid new Stays → Goes g old new Stays
+  stays_on old mid new first second = record {
+    later = omega (arith, first.later, second.later);
+    now = λ image left. still_there image (second.now image left);
+    since = λ t image le left. ⊎_elim (first.since t image le) (λ reached. inr (still_there image reached)) (second.since t image (omega (arith, le, first.later)) left);
+    keeps = λ t image le left. second.keeps t image (omega (arith, le, first.later)) (first.keeps t image le left);
+  }
+    where
+      still_there : (image : Image) → Reached (g.may_leave mid) Stays image → Reached (g.may_leave old) Stays image
+      still_there image reached =
+          let origin = first.now reached.0 reached.1 in
+          (origin.0, origin.1, reached.2 ∙ origin.2)
+
+  -- what all images have, they have after calls that change nothing
+  pub still_all : (old new : D) (P : Image → Type 0) → Goes g old new Stays → ((image : Image) → g.may_leave old image → P image) → (image : Image) → g.may_leave new image → P image
+  still_all old new P stays at_start image left =
+      let from = stays.now image left in
+      subst P (sym from.2) (at_start from.0 from.1)
+
+  module _ (mid new : D) (file : File) (N P : List ℕ → Type 0) (remove : Goes g mid new (MayRemove file)) (holds : Holds g mid file N) (stay : (a : List ℕ) → N a → P a) (gone : P []) where
+    removal : (a b : Image) → g.may_leave mid a → MayRemove file a b → InFile file P a b
+    removal a b left step = record {
+      others = step.others;
+      holds = ⊎_elim
+          (λ (same : b file ≡ a file). subst P (sym (ap content same)) (stay _ (holds a left)))
+          (λ (none : b file ≡ None). subst P (sym (ap content none)) gone)
+          step.either;
+    }
+
+    -- a removal in a run over the file
+    pub remove_on : (old : D) → Goes g old mid (InFile file P) → Goes g old new (InFile file P)
+    remove_on old first = goes_on old mid new file P (MayRemove file) first remove removal
+
+    -- a removal as the first call of a run
+    pub remove_first : Goes g mid new (InFile file P)
+    remove_first = record {
+      later = remove.later;
+      now = λ image left. step image (remove.now image left);
+      since = λ t image le left. ⊎_elim (λ past. inl past) (λ from. inr (step image from)) (remove.since t image le left);
+      keeps = remove.keeps;
+    }
+      where
+        step : (image : Image) → Reached (g.may_leave mid) (MayRemove file) image → Reached (g.may_leave mid) (InFile file P) image
+        step image from = (from.0, from.1, removal from.0 image from.1 from.2)
+
+    -- what each image holds after it
+    pub remove_holds : Holds g new file P
+    remove_holds image left = let from = remove.now image left in (removal from.0 image from.1 from.2).holds
+
+  -- what a read gives after a removal
+  pub remove_reads : (old new : D) (file : File) (P : List ℕ → Type 0) → Told (Removes file) (g.seen old) (g.seen new) → P [] → Reads g new file P
+  remove_reads old new file P told gone image is =
+      let from = seen_before (Removes file) (g.seen old) (g.seen new) told image is in
+      subst P (sym (ap content from.2.gone)) gone
+
+  -- what all images have, they have always while no call is made
+  pub always_begins : (disk : D) (P : Image → Type 0) → ((image : Image) → g.may_leave disk image → P image) → Always g disk disk P
+  always_begins disk P at_start = record {
+    later = omega arith;
+    now = at_start;
+    since = λ t image le left. inl left;
+  }
+
+  -- calls that change nothing
+  pub always_still : (old new : D) (P : Image → Type 0) → Goes g old new Stays → ((image : Image) → g.may_leave old image → P image) → Always g old new P
+  always_still old new P stays at_start = always old new Stays P P stays at_start (λ a b p is. subst P (sym is) p)
+
+  -- what is always so may be said more weakly
+  pub always_weaker : (old new : D) (P Q : Image → Type 0) → ((image : Image) → P image → Q image) → Always g old new P → Always g old new Q
+  always_weaker old new P Q so run = record {
+    later = run.later;
+    now = λ image left. so image (run.now image left);
+    since = λ t image le left. ⊎_elim (λ past. inl past) (λ p. inr (so image p)) (run.since t image le left);
+  }

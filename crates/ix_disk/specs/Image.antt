@@ -6,6 +6,7 @@ use Rattle.ix_base.specs.declared.files.File.{File}
 abbrev pub Image : Type 0
 Image = File → Option (List ℕ)
 
+-- the bytes of a file; a missing one has none
 abbrev pub content : Option (List ℕ) → List ℕ
 content None = []
 content (Some bytes) = bytes
@@ -18,14 +19,15 @@ bytes_in image file = content (image file)
 abbrev pub Apart : File → Image → Image → Type 0
 Apart file old new = (other : File) → other ≢ file → new other ≡ old other
 
--- after a write of n bytes that a crash may cut short: any bytes in the range and past the old end, the same elsewhere
+-- What a write of n bytes that was begun may make of a file: any bytes in the range and past the old end, the same
+-- elsewhere, and an end anywhere from the old one to that of the write.
 pub record Torn (at n : ℕ) (old new : List ℕ) : Type 0 where
   pub before : take at new ≡ take at old
   pub after : drop (at + n) new ≡ drop (at + n) old
   pub no_shorter : length old ≤ length new
   pub no_longer : length new ≤ max (length old) (at + n)
 
--- the file with these bytes at this place
+-- these bytes with others over them at a place, past the end too
 abbrev pub overwritten : ℕ → List ℕ → List ℕ → List ℕ
 overwritten at bytes old = take at old ++ bytes ++ drop (at + length bytes) old
 
@@ -50,7 +52,7 @@ pub record Removes (file : File) (old new : Image) : Type 0 where
   pub others : Apart file old new
   pub gone : new file ≡ None
 
--- nothing has changed
+-- a call that changes no file
 abbrev pub Stays : Image → Image → Type 0
 Stays old new = new ≡ old
 

@@ -1,4 +1,4 @@
--- What is said of a run of a disk's calls.
+-- What is said of a run of a disk's calls. Each word takes the disk's ghost members first, as `D.Disk` under `D: Disk`.
 use Rattle.std.specs.Prelude.{◌≡◌, ◌⊎◌, ◌≤◌, ℕ, List, Some}
 use Rattle.ix_base.specs.declared.files.File.{File}
 use Rattle.ix_disk.specs.Image.{Image, bytes_in, Apart, Passes}
