@@ -61,6 +61,11 @@ seen_after calls f = see_all calls f None
 abbrev pub torn_after : List Call → Image
 torn_after calls f = tear_all calls f None None
 
+-- what a crash leaves where it tears the files, or else as a read gives them
+abbrev pub crashed : Bool → List Call → Image
+crashed true calls = torn_after calls
+crashed false calls = seen_after calls
+
 abbrev pub LeftBy : List Call → Image → Type 0
 LeftBy calls image = (f : File) → left_all calls f None (λ old. old ≡ None) (image f)
 

@@ -91,9 +91,9 @@ impl Past {
 pub struct MemDisk {
     alloc: Global,
     past: Past,
-    now: Contents,
+    held: Contents,
     torn: Contents,
-    ghost now_is: { (file : File) → present now.files.items file ≡ seen_after past.calls.items file } by { Prim.hlevel props },
+    ghost held_is: { (file : File) → present held.files.items file ≡ seen_after past.calls.items file } by { Prim.hlevel props },
     ghost torn_is: { (file : File) → present torn.files.items file ≡ torn_after past.calls.items file } by { Prim.hlevel props },
 }
 
@@ -126,9 +126,61 @@ impl MemDisk {
                 calls: Vec::new(alloc),
                 plan,
             },
-            now: Contents::new(alloc),
+            held: Contents::new(alloc),
             torn: Contents::new(alloc),
         }
+    }
+}
+
+impl MemDisk {
+    ghost use Rattle.ix_disk.specs.Memory.{crashed, LeftBy};
+
+    /// How many calls the record has, which is the moment of the disk's clock.
+    pub fn calls(&self) -> usize
+        ensures { result ≡ ⟦<MemDisk as Disk>⟧.moment self.now }
+    {
+        self.past.calls.len()
+    }
+
+    /// A new disk as a crash now may leave this one, with no calls that are to fail. Where `torn` is false it holds what a
+    /// read gives. Where it is true each file ends where it did at its last sync, the bytes before that end which were
+    /// written since, also by a call that failed, are 1, and each removal since then is undone.
+    pub fn crash(&self, torn: bool) -> Result<MemDisk, NoMemory>
+        ensures seen { IfOk result (λ disk. ⟦<MemDisk as Disk>⟧.seen disk ≡ Some (crashed torn self.now.past.calls.items)) }
+        ensures one { IfOk result (λ disk. (image : Image) → ⟦<MemDisk as Disk>⟧.may_leave disk image → ⟦<MemDisk as Disk>⟧.seen disk ≡ Some image) }
+        ensures left { IfOk result (λ disk. (image : Image) → ⟦<MemDisk as Disk>⟧.may_leave disk image → ⟦<MemDisk as Disk>⟧.may_leave self.now image) }
+        ensures faults { IfOk result (λ disk. ⟦<MemDisk as Disk>⟧.faults disk ≡ 0) }
+    {
+        let disk = MemDisk::made(self.alloc, self.left(torn))?;
+        Ok(disk)
+    }
+
+    /// The files that a crash leaves.
+    fn left(&self, torn: bool) -> &Contents
+        ensures { (file : File) → present result.now.files.items file ≡ crashed torn self.now.past.calls.items file }
+    {
+        if torn { &self.torn } else { &self.held }
+    }
+
+    /// A disk with these files and no calls that are to fail.
+    fn made(alloc: Global, contents: &Contents) -> Result<MemDisk, NoMemory>
+        ensures seen { IfOk result (λ disk. (file : File) → seen_after disk.past.calls.items file ≡ present contents.now.files.items file) }
+        ensures one { IfOk result (λ disk. (image : Image) → LeftBy disk.past.calls.items image → (file : File) → image file ≡ present contents.now.files.items file) }
+        ensures faults { IfOk result (λ disk. disk.past.plan.faults ≡ 0) }
+    {
+        let mut calls = Vec::new(alloc);
+        calls.push(Call::Made {
+            contents: contents.copy()?,
+        })?;
+        Ok(MemDisk {
+            alloc,
+            past: Past {
+                calls,
+                plan: FailPlan::none(alloc),
+            },
+            held: contents.copy()?,
+            torn: contents.copy()?,
+        })
     }
 }
 
@@ -153,7 +205,7 @@ impl Disk for MemDisk {
 
     fn length(&mut self, file: File) -> Result<u64, Failed> {
         self.past.ask()?;
-        let len = self.now.bytes(file).len() as u64;
+        let len = self.held.bytes(file).len() as u64;
         if len >= MAX_LENGTH {
             return Err(self.past.plan.fail());
         }
@@ -162,7 +214,7 @@ impl Disk for MemDisk {
 
     fn read(&mut self, file: File, at: u64, buf: &mut [u8]) -> Result<usize, Failed> {
         self.past.ask()?;
-        Ok(copy_from(self.now.bytes(file), at, buf))
+        Ok(copy_from(self.held.bytes(file), at, buf))
     }
 
     fn write_at(&mut self, file: File, at: u64, bytes: &[u8]) -> Result<(), Failed> {
@@ -187,7 +239,7 @@ impl Disk for MemDisk {
             bytes: copy,
             done: true,
         })?;
-        let Ok(()) = self.now.write(file, at as usize, bytes) else {
+        let Ok(()) = self.held.write(file, at as usize, bytes) else {
             return Err(self.past.take_back());
         };
         self.torn.mark(file, at as usize, bytes.len());
@@ -201,7 +253,7 @@ impl Disk for MemDisk {
             return Err(self.past.plan.fail());
         }
         self.past.keep(Call::Settled { file })?;
-        let Ok(()) = self.torn.take_over(&self.now, file) else {
+        let Ok(()) = self.torn.take_over(&self.held, file) else {
             return Err(self.past.take_back());
         };
         Ok(())
@@ -214,7 +266,7 @@ impl Disk for MemDisk {
             return Err(self.past.plan.fail());
         }
         self.past.keep(Call::Removed { file, done: true })?;
-        self.now.remove(file);
+        self.held.remove(file);
         Ok(())
     }
 }
