@@ -1,4 +1,4 @@
-//! A disk in memory.
+//! A disk in memory, which can crash.
 
 ghost use Rattle.std.specs.Prelude.{◌≡◌, ◌≤◌, ◌-◌, ◌⊎◌, ◌++◌, [], ◌∷◌, ℕ, List, length, take, drop, min, Option, Some, None, true, false, if◌then◌else◌, OnOk, OnErr, IfOk};
 ghost use Rattle.std.proofs.Props.{props};
@@ -144,7 +144,8 @@ impl MemDisk {
 
     /// A new disk as a crash now may leave this one, with no calls that are to fail. Where `torn` is false it holds what a
     /// read gives. Where it is true each file ends where it did at its last sync, the bytes before that end which were
-    /// written since, also by a call that failed, are 1, and each removal since then is undone.
+    /// written since, also by a call that failed, are 1, and each removal since then is undone. It fails where there is no
+    /// room for the new disk.
     pub fn crash(&self, torn: bool) -> Result<MemDisk, NoMemory>
         ensures seen { IfOk result (λ disk. ⟦<MemDisk as Disk>⟧.seen disk ≡ Some (crashed torn self.now.past.calls.items)) }
         ensures one { IfOk result (λ disk. (image : Image) → ⟦<MemDisk as Disk>⟧.may_leave disk image → ⟦<MemDisk as Disk>⟧.seen disk ≡ Some image) }
@@ -239,10 +240,11 @@ impl Disk for MemDisk {
             bytes: copy,
             done: true,
         })?;
-        let Ok(()) = self.held.write(file, at as usize, bytes) else {
+        let place = at as usize;
+        let Ok(()) = self.held.write(file, place, bytes) else {
             return Err(self.past.take_back());
         };
-        self.torn.mark(file, at as usize, bytes.len());
+        self.torn.mark(file, place, bytes.len());
         Ok(())
     }
 
