@@ -1,13 +1,13 @@
 -- What a crash that tears the files leaves is one of the images.
-use Rattle.std.proofs.Common.{◌≡◌, ◌⊎◌, inl, inr, ⊎_elim, ℕ, ◌+◌, ◌-◌, ◌<◌, ◌≤◌, min, List, [], ◌∷◌, ◌++◌, length, take, drop, replicate, Bool, true, false, if◌then◌else◌, Option, None, Some, refl, sym, ◌∙◌, ap, subst, arith, append_assoc, length-append, length-take, length-drop}
+use Rattle.std.proofs.Common.{◌≡◌, ◌⊎◌, inl, inr, ⊎_elim, ℕ, ◌+◌, ◌-◌, ◌<◌, ◌≤◌, min, List, [], ◌∷◌, ◌++◌, length, take, drop, replicate, Bool, true, false, if◌then◌else◌, Option, None, Some, refl, sym, ◌∙◌, ap, arith, append_assoc, length-append, length-take, length-drop}
 use Rattle.std.proofs.lemmas.List.{length-replicate, take_all, take_at, drop_at, drop_all, append-nil}
 use Rattle.ix_base.specs.declared.files.File.{File}
 use Rattle.ix_disk.specs.Files.{is_same, same_file, other_file, is_it}
-use Rattle.ix_disk.specs.Image.{Image, content, Torn}
-use Rattle.ix_disk.specs.Contents.{changed, ones, ones_in, become}
+use Rattle.ix_disk.specs.Image.{Torn}
+use Rattle.ix_disk.specs.Contents.{ones, ones_in}
 use Rattle.ix_disk.specs.declared.memory.Call.{Call}
 use Rattle.ix_disk.specs.declared.memory.Call.TheVariants.{Made, Wrote, Settled, Removed, Asked}
-use Rattle.ix_disk.specs.Memory.{see, Tears, Leaves, left_all, tear, tear_all, torn_after, seen_after, crashed, LeftBy, Torn-refl, seen_all}
+use Rattle.ix_disk.specs.Memory.{see, Tears, Leaves, left_all, tear, tear_all, crashed, LeftBy, Torn-refl, seen_all}
 
 module _ (at n : ℕ) (old : List ℕ) where
   front : List ℕ

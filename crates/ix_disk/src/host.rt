@@ -180,7 +180,9 @@ fn remove_file<R: Files + AllocGlobal>(rt: &R, file: File) -> io::Result<()> {
 
 impl<R: Files + AllocGlobal + Drop> HostDisk<R> {
     /// The disk of the current folder, by this runtime.
-    pub fn new(rt: R) -> Self {
+    pub fn new(rt: R) -> Self
+        ensures { ⟦<HostDisk<R> as Disk>⟧.faults result ≡ 0 }
+    {
         HostDisk { rt, faults: 0 }
     }
 

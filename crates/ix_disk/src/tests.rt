@@ -41,6 +41,30 @@ fn holds<D: Disk>(rt: &impl Abort, disk: &mut D, file: File, want: &[u8]) -> Res
     Ok(())
 }
 
+/// Each file holds these bytes.
+fn all_hold<D: Disk>(rt: &impl Abort, disk: &mut D, want: &[(File, &[u8])]) -> Result<(), Failed> {
+    for (file, bytes) in want {
+        holds(rt, disk, *file, bytes)?;
+    }
+    Ok(())
+}
+
+/// What `run` leaves to be read.
+const READ: [(File, &[u8]); 4] = [
+    (LOG, b"abXYefZ"),
+    (BUCKET, b"new"),
+    (KEPT, b""),
+    (GONE, b""),
+];
+
+/// What it leaves where a crash tears the files.
+const TORN: [(File, &[u8]); 4] = [
+    (LOG, b"ab\x01\x01ef"),
+    (BUCKET, b""),
+    (KEPT, b"old"),
+    (GONE, b""),
+];
+
 /// One file with a part written anew and one byte more, one that no sync settled, and two that were removed.
 fn run<D: Disk>(disk: &mut D) -> Result<(), Failed> {
     write(disk, LOG, 0, b"abcdef")?;
@@ -60,28 +84,11 @@ fn run<D: Disk>(disk: &mut D) -> Result<(), Failed> {
 fn a_crash_leaves_what_was_read_or_tears_it(rt: HostRuntime) -> Result<(), Fail> {
     let mut disk = MemDisk::new(rt.alloc(), FailPlan::none(rt.alloc()));
     run(&mut disk)?;
-    let mut whole = disk.crash(false)?;
-    for (file, want) in [
-        (LOG, b"abXYefZ".as_slice()),
-        (BUCKET, b"new".as_slice()),
-        (KEPT, b"".as_slice()),
-        (GONE, b"".as_slice()),
-    ] {
-        holds(&rt, &mut disk, file, want)?;
-        holds(&rt, &mut whole, file, want)?;
-    }
+    all_hold(&rt, &mut disk, &READ)?;
+    all_hold(&rt, &mut disk.crash(false)?, &READ)?;
     let mut torn = disk.crash(true)?;
-    for (file, want) in [
-        (LOG, b"ab\x01\x01ef".as_slice()),
-        (BUCKET, b"".as_slice()),
-        (KEPT, b"old".as_slice()),
-        (GONE, b"".as_slice()),
-    ] {
-        holds(&rt, &mut torn, file, want)?;
-    }
-    let mut again = torn.crash(true)?;
-    holds(&rt, &mut again, LOG, b"ab\x01\x01ef")?;
-    holds(&rt, &mut again, KEPT, b"old")?;
+    all_hold(&rt, &mut torn, &TORN)?;
+    all_hold(&rt, &mut torn.crash(true)?, &TORN)?;
     Ok(())
 }
 
@@ -168,15 +175,7 @@ fn the_disk_of_the_machine_keeps_files(rt: HostRuntime) -> Result<(), Fail> {
     disk.sync(LOG)?;
     disk.remove(LOG)?;
     run(&mut disk)?;
-    let mut again = HostDisk::new(&rt);
-    for (file, want) in [
-        (LOG, b"abXYefZ".as_slice()),
-        (BUCKET, b"new".as_slice()),
-        (KEPT, b"".as_slice()),
-        (GONE, b"".as_slice()),
-    ] {
-        holds(&rt, &mut again, file, want)?;
-    }
+    all_hold(&rt, &mut HostDisk::new(&rt), &READ)?;
     assert_eq!(rt;
         std::fs::read_to_string(&rt, "var/meta/1")?.as_str(),
         "abXYefZ"
