@@ -1,6 +1,6 @@
 //! Lists that contracts see as lists.
 
-ghost use Rattle.std.specs.Prelude.{◌≡◌, ◌++◌, ◌∷◌, [], length, OnOk, OnErr, IfOk, ◌==◌, string_bytes};
+ghost use Rattle.std.specs.Prelude.{◌≡◌, ◌++◌, ◌∷◌, [], length, take, OnOk, OnErr, IfOk, ◌==◌, string_bytes};
 ghost use Rattle.std.specs.Str.{IsUtf8};
 
 use crate::faults::NoMemory;
@@ -93,6 +93,13 @@ impl<T: Drop> Sequence<T> {
         ensures { self.new ≡ [] }
     {
         self.items.clear();
+    }
+
+    /// Drops the values from this place on. The room that they had is kept for others.
+    pub fn truncate(&mut self, len: usize)
+        ensures { self.new ≡ take len self.old }
+    {
+        self.items.truncate(len);
     }
 }
 
