@@ -9,7 +9,7 @@ ghost use Rattle.ix_bucket.specs.Reading.{Gives, number_at, moment_at, string_at
 
 use ix_base::{BadRecord, EventRef};
 
-fn length_at(bytes: &[u8]) -> Result<(u32, &[u8]), BadRecord>
+pub(crate) fn length_at(bytes: &[u8]) -> Result<(u32, &[u8]), BadRecord>
     ensures { Gives (λ x. (x.0, x.1.now)) result (number_at w32 bytes.now) }
 {
     if bytes.len() < 4 {
