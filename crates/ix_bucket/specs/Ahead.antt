@@ -1,12 +1,13 @@
 -- What a reader of bucket files holds.
-use Rattle.std.specs.Prelude.{◌≡◌, ◌<◌, ◌≤◌, ◌+◌, ◌-◌, ℕ, List, length, take, drop, Option, Some, None}
+use Rattle.std.specs.Prelude.{◌≡◌, ◌≤◌, ◌+◌, ◌-◌, ℕ, List, length, take, drop, Option, Some, None}
 use Rattle.std.specs.Int.{w32}
 use Rattle.ix_base.specs.Told.{IsFrontOf}
-use Rattle.ix_base.specs.declared.files.File.{File}
 use Rattle.ix_base.specs.declared.events.Event.{Event}
 use Rattle.ix_disk.specs.Image.{Image, bytes_in}
 use Rattle.ix_disk.specs.declared.disk.Disk.{Ghosts}
 use Rattle.ix_bucket.specs.declared.ahead.Reader.{Reader}
+use Rattle.ix_bucket.specs.declared.ahead.ReadFault.{ReadFault}
+use Rattle.ix_bucket.specs.declared.ahead.ReadFault.TheVariants.{Disk, BadRecord, NoMemory}
 use Rattle.ix_bucket.specs.Record.{IsRecordOf}
 use Rattle.ix_bucket.specs.Reading.{number_at}
 
@@ -30,7 +31,17 @@ size_by (Some n) = 4 + n.0
 abbrev pub needed : List ℕ → ℕ
 needed bytes = size_by (number_at w32 bytes)
 
--- a front of the bytes that is all of them or as long as the record that they begin with
+-- a front of the bytes that is as long as the record that they begin with
 pub record Shows (view bytes : List ℕ) : Type 0 where
   pub front : IsFrontOf view bytes
-  pub enough : length view < needed view → length view ≡ length bytes
+  pub enough : needed view ≤ length view
+
+-- the bytes that the reader holds from one place to another
+abbrev pub view_of : Reader → ℕ → ℕ → List ℕ
+view_of reader at until = take (until - at) (drop (at - reader.start) reader.held.items)
+
+-- what is so of the place of a bad record
+abbrev pub OnBadRecord : ReadFault → (ℕ → Type 0) → Type 0
+OnBadRecord Disk P = Unit {0}
+OnBadRecord (BadRecord at) P = P at
+OnBadRecord NoMemory P = Unit {0}
