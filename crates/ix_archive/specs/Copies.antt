@@ -1,5 +1,5 @@
 -- What a copy of a file's first bytes is.
-use Rattle.std.specs.Prelude.{◌≡◌, ◌≤◌, ℕ, List, length, take, Option, Some}
+use Rattle.std.specs.Prelude.{◌≡◌, ◌≤◌, ℕ, List, length, take, Some}
 use Rattle.ix_base.specs.declared.files.File.{File}
 use Rattle.ix_disk.specs.Image.{Image, bytes_in}
 use Rattle.ix_disk.specs.declared.disk.Disk.{Ghosts}

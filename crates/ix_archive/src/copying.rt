@@ -16,9 +16,7 @@ pub enum CopyFault {
     /// The disk has failed.
     Disk,
     /// The file to be copied has fewer bytes: so many.
-    Short {
-        at: u64,
-    },
+    Short { at: u64 },
 }
 
 impl From<Failed> for CopyFault {
