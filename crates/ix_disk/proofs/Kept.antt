@@ -1,14 +1,16 @@
 -- What one more call in the record of a disk in memory changes.
-use Rattle.std.proofs.Common.{◌≡◌, ◌≢◌, ◌⊎◌, inl, inr, ⊎_elim, ℕ, ◌+◌, ◌<◌, ◌≤◌, List, [], ◌∷◌, ◌++◌, length, take, Bool, true, false, Option, None, Some, if◌then◌else◌, ◌&&◌, nat_le, refl, sym, ◌∙◌, ap, subst, arith, length-append}
+use Rattle.std.proofs.Common.{◌≡◌, ◌≢◌, ◌⊎◌, inl, inr, ⊎_elim, ℕ, ◌+◌, ◌<◌, ◌≤◌, List, [], ◌∷◌, ◌++◌, length, take, Bool, true, false, Option, None, if◌then◌else◌, nat_le, refl, sym, ◌∙◌, ap, subst, arith, length-append}
 use Rattle.std.proofs.lemmas.Bool.Decides.{nat_tests}
 use Rattle.std.proofs.lemmas.List.{take_all, take-append-le}
 use Rattle.ix_base.specs.declared.files.File.{File}
-use Rattle.ix_disk.specs.Image.{Image, content, bytes_in, overwritten, MayWrite, Writes, MayRemove, Removes, Stays, Reached, Passes}
+use Rattle.ix_disk.specs.Image.{Image, content, bytes_in, MayWrite, Writes, MayRemove, Removes, Stays, Reached, Passes}
 use Rattle.ix_disk.specs.declared.memory.Call.{Call}
 use Rattle.ix_disk.specs.declared.memory.Call.TheVariants.{Wrote, Settled, Removed, Asked}
-use Rattle.ix_disk.specs.Memory.{see, see_all, seen_after, Leaves, left_all, LeftBy, LeftSince, Torn-refl, told_same, told_other, seen_all}
+use Rattle.ix_disk.specs.Files.{is_same, same_file, told_same, told_other}
+use Rattle.ix_disk.specs.Contents.{changed, over, ones_in, become}
+use Rattle.ix_disk.specs.Memory.{see, see_all, seen_after, tear, tear_all, torn_after, Leaves, left_all, LeftBy, LeftSince, Torn-refl, seen_all}
 
-see_push : (calls : List Call) (call : Call) (f : File) (seen : Option (List ℕ)) → see_all (calls ++ call ∷ []) f seen ≡ see call f (see_all calls f seen)
+pub see_push : (calls : List Call) (call : Call) (f : File) (seen : Option (List ℕ)) → see_all (calls ++ call ∷ []) f seen ≡ see call f (see_all calls f seen)
 see_push [] call f seen = refl
 see_push (c ∷ calls) call f seen = see_push calls call f (see c f seen)
 
@@ -74,7 +76,7 @@ here : (file : File) (A B : Type 0) → ((file ≡ file) × A) ⊎ ((file ≢ fi
 here file A B (inl is) = is.1
 here file A B (inr not) = absurd (not.0 refl)
 
-pub wrote : (calls : List Call) (file : File) (at : ℕ) (bytes : _) (done : Bool) → Grows calls (calls ++ Wrote file at bytes done ∷ []) (MayWrite file at (length bytes.items))
+pub wrote : (calls : List Call) (file : File) (at : ℕ) (bytes : _) (done : Bool) → Grows calls (calls ++ Wrote file at bytes done ∷ []) (MayWrite file at (length bytes))
 wrote calls file at bytes done = is_kept calls (Wrote file at bytes done) _ (by_file calls (Wrote file at bytes done) _ (λ old new each.
     let tears = here file _ _ (each file) in
     record { others = λ f ne. elsewhere f file _ _ _ ne (each f); torn = tears.torn; missing = tears.missing }))
@@ -114,23 +116,47 @@ as_it_was at n file image = record { others = λ f ne. refl; torn = Torn-refl at
 pub not_removed : (file : File) (image : Image) → MayRemove file image image
 not_removed file image = record { others = λ f ne. refl; either = inl refl }
 
-pub wrote_seen : (calls : List Call) (file : File) (at : ℕ) (bytes : _) → at ≤ length (bytes_in (seen_after calls) file) → Writes file at bytes.items (seen_after calls) (seen_after (calls ++ Wrote file at bytes true ∷ []))
-wrote_seen calls file at bytes le =
-    let fits : nat_le at (length (bytes_in (seen_after calls) file)) ≡ true = grind (arith, nat_tests) in
-    record {
-      others = λ f ne. see_push calls (Wrote file at bytes true) f None ∙ ap (λ (b : Bool). if b && nat_le at (length (content (seen_after calls f))) then Some (overwritten at bytes.items (content (seen_after calls f))) else seen_after calls f) (told_other f file ne);
-      written = see_push calls (Wrote file at bytes true) file None
-          ∙ ap (λ (b : Bool). if b && nat_le at (length (content (seen_after calls file))) then Some (overwritten at bytes.items (content (seen_after calls file))) else seen_after calls file) (told_same file file refl)
-          ∙ ap (λ (b : Bool). if b then Some (overwritten at bytes.items (content (seen_after calls file))) else seen_after calls file) fits;
-    }
+-- what a read of each file gives after a write that begins within the file
+pub wrote_now : (calls : List Call) (file : File) (at : ℕ) (bytes : List ℕ) → at ≤ length (bytes_in (seen_after calls) file)
+    → (f : File) → seen_after (calls ++ Wrote file at bytes true ∷ []) f ≡ changed file (over at bytes) f (seen_after calls f)
+wrote_now calls file at bytes le f = see_push calls (Wrote file at bytes true) f None ∙ go (is_same f file) refl
+  where
+    seen : Option (List ℕ)
+    seen = seen_after calls f
+
+    both : (fits : Bool) → (if fits then seen else seen) ≡ seen
+    both true = refl
+    both false = refl
+
+    here : is_same f file ≡ true → nat_le at (length (content (seen_after calls f))) ≡ true
+    here is =
+        let le_here : at ≤ length (content (seen_after calls f)) = subst (λ (g : File). at ≤ length (content (seen_after calls g))) (sym (same_file f file is)) le in
+        grind (arith, nat_tests)
+
+    go : (told : Bool) → is_same f file ≡ told
+        → (if nat_le at (length (content seen)) then (if is_same f file then over at bytes seen else seen) else seen) ≡ (if is_same f file then over at bytes seen else seen)
+    go true is = ap (λ (b : Bool). if b then (if is_same f file then over at bytes seen else seen) else seen) (here is)
+    go false is =
+        ap (λ (b : Bool). if nat_le at (length (content seen)) then (if b then over at bytes seen else seen) else seen) is
+        ∙ both (nat_le at (length (content seen)))
+        ∙ sym (ap (λ (b : Bool). if b then over at bytes seen else seen) is)
+
+pub wrote_seen : (calls : List Call) (file : File) (at : ℕ) (bytes : List ℕ) → at ≤ length (bytes_in (seen_after calls) file) → Writes file at bytes (seen_after calls) (seen_after (calls ++ Wrote file at bytes true ∷ []))
+wrote_seen calls file at bytes le = record {
+  others = λ f ne. wrote_now calls file at bytes le f ∙ ap (λ (b : Bool). if b then over at bytes (seen_after calls f) else seen_after calls f) (told_other f file ne);
+  written = wrote_now calls file at bytes le file ∙ ap (λ (b : Bool). if b then over at bytes (seen_after calls file) else seen_after calls file) (told_same file file refl);
+}
 
 pub unwritten_seen : (calls : List Call) (file : File) (at : ℕ) (bytes : _) → seen_after (calls ++ Wrote file at bytes false ∷ []) ≡ seen_after calls
 unwritten_seen calls file at bytes = same_seen calls (Wrote file at bytes false) (λ f. refl)
 
+pub removed_now : (calls : List Call) (file : File) → (f : File) → seen_after (calls ++ Removed file true ∷ []) f ≡ changed file (become None) f (seen_after calls f)
+removed_now calls file f = see_push calls (Removed file true) f None
+
 pub removed_seen : (calls : List Call) (file : File) → Removes file (seen_after calls) (seen_after (calls ++ Removed file true ∷ []))
 removed_seen calls file = record {
-  others = λ f ne. see_push calls (Removed file true) f None ∙ ap (λ (b : Bool). if b then None else seen_after calls f) (told_other f file ne);
-  gone = see_push calls (Removed file true) file None ∙ ap (λ (b : Bool). if b then None else seen_after calls file) (told_same file file refl);
+  others = λ f ne. removed_now calls file f ∙ ap (λ (b : Bool). if b then None else seen_after calls f) (told_other f file ne);
+  gone = removed_now calls file file ∙ ap (λ (b : Bool). if b then None else seen_after calls file) (told_same file file refl);
 }
 
 pub unremoved_seen : (calls : List Call) (file : File) → seen_after (calls ++ Removed file false ∷ []) ≡ seen_after calls
@@ -146,3 +172,54 @@ asked_seen calls = same_seen calls Asked (λ f. refl)
 pub either : (calls later : List Call) (call : Call) (P : List Call → Type 0) → P (calls ++ call ∷ []) → P calls → (later ≡ calls ++ call ∷ []) ⊎ (later ≡ calls) → P later
 either calls later call P kept not (inl is) = subst P (sym is) kept
 either calls later call P kept not (inr is) = subst P (sym is) not
+
+-- what the worst of crashes leaves after one call more
+tear_push : (calls : List Call) (call : Call) (f : File) (seen torn : Option (List ℕ))
+    → tear_all (calls ++ call ∷ []) f seen torn ≡ tear call f (see_all calls f seen) (tear_all calls f seen torn)
+tear_push [] call f seen torn = refl
+tear_push (c ∷ calls) call f seen torn = tear_push calls call f (see c f seen) (tear c f seen torn)
+
+pub wrote_torn : (calls : List Call) (file : File) (at : ℕ) (bytes : List ℕ) (done : Bool) (f : File)
+    → torn_after (calls ++ Wrote file at bytes done ∷ []) f ≡ changed file (ones_in at (length bytes)) f (torn_after calls f)
+wrote_torn calls file at bytes done f = tear_push calls (Wrote file at bytes done) f None None
+
+pub settled_torn : (calls : List Call) (file f : File) → torn_after (calls ++ Settled file ∷ []) f ≡ changed file (become (seen_after calls f)) f (torn_after calls f)
+settled_torn calls file f = tear_push calls (Settled file) f None None
+
+pub removed_torn : (calls : List Call) (file : File) (done : Bool) (f : File) → torn_after (calls ++ Removed file done ∷ []) f ≡ torn_after calls f
+removed_torn calls file done f = tear_push calls (Removed file done) f None None
+
+pub asked_torn : (calls : List Call) (f : File) → torn_after (calls ++ Asked ∷ []) f ≡ torn_after calls f
+asked_torn calls f = tear_push calls Asked f None None
+
+-- a sync gives the file what a read gives of it
+pub settled_here : (image : Image) (file f : File) (old : Option (List ℕ)) → changed file (become (image file)) f old ≡ changed file (become (image f)) f old
+settled_here image file f old = go (is_same f file) refl
+  where
+    go : (told : Bool) → is_same f file ≡ told → (if told then image file else old) ≡ (if told then image f else old)
+    go true is = ap image (sym (same_file f file is))
+    go false is = refl
+
+-- A disk that is a record of calls goes as the record grows.
+pub passes : {D : Type 0} (calls_of : D → List Call) (old new : D) (step : Image → Image → Type 0) → Grows (calls_of old) (calls_of new) step
+    → Passes (λ d. LeftBy (calls_of d)) (λ d. length (calls_of d)) (λ d. LeftSince (calls_of d)) old new step
+passes calls_of old new step k = record { later = k.later; now = k.now; since = k.since; keeps = k.keeps }
+
+pub grown : (calls now later : List Call) (step : Image → Image → Type 0) → now ≡ later → Grows calls later step → Grows calls now step
+grown calls now later step is grows = subst (λ (l : List Call). Grows calls l step) (sym is) grows
+
+pub seen_in : (now later : List Call) → now ≡ later → (f : File) → seen_after now f ≡ seen_after later f
+seen_in now later is f = ap (λ (l : List Call). seen_after l f) is
+
+pub torn_in : (now later : List Call) → now ≡ later → (f : File) → torn_after now f ≡ torn_after later f
+torn_in now later is f = ap (λ (l : List Call). torn_after l f) is
+
+module _ (calls now : List Call) (kept : (now ≡ calls ++ Asked ∷ []) ⊎ (now ≡ calls)) where
+  pub ask_grows : Grows calls now Stays
+  ask_grows = either calls now Asked (λ (l : List Call). Grows calls l Stays) (asked calls) (not_kept calls Stays (λ image. refl)) kept
+
+  pub ask_seen : (f : File) → seen_after now f ≡ seen_after calls f
+  ask_seen f = either calls now Asked (λ (l : List Call). seen_after l f ≡ seen_after calls f) (see_push calls Asked f None) refl kept
+
+  pub ask_torn : (f : File) → torn_after now f ≡ torn_after calls f
+  ask_torn f = either calls now Asked (λ (l : List Call). torn_after l f ≡ torn_after calls f) (asked_torn calls f) refl kept

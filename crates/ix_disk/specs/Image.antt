@@ -15,6 +15,10 @@ content (Some bytes) = bytes
 abbrev pub bytes_in : Image → File → List ℕ
 bytes_in image file = content (image file)
 
+-- every file is missing
+abbrev pub nothing : Image
+nothing file = None
+
 -- every other file is as it was
 abbrev pub Apart : File → Image → Image → Type 0
 Apart file old new = (other : File) → other ≢ file → new other ≡ old other

@@ -1,37 +1,22 @@
 -- A disk in memory: what its record of calls says of each file, and what a crash may leave of it.
-use Rattle.std.specs.Prelude.{◌≡◌, ◌≢◌, ◌⊎◌, ◌≤◌, ◌+◌, ◌-◌, ◌==◌, ◌&&◌, ℕ, zero, suc, List, [], ◌∷◌, ◌++◌, length, take, drop, Bool, true, false, if◌then◌else◌, Option, None, Some, Vec, nat_le, refl}
+use Rattle.std.specs.Prelude.{◌≡◌, ◌≢◌, ◌⊎◌, ◌≤◌, ◌+◌, ◌-◌, ℕ, List, [], ◌∷◌, ◌++◌, length, take, drop, Bool, true, false, if◌then◌else◌, Option, None, Some, nat_le, refl}
 use Rattle.std.proofs.Common.{inl, inr, ⊎_elim, sym, ◌∙◌, ap, subst, arith, append_assoc, length-append, length-take, length-drop}
 use Rattle.std.proofs.lemmas.Bool.Decides.{nat_tests}
 use Rattle.std.proofs.lemmas.List.{take_all, take_at, drop_at}
-use Rattle.std.specs.declared.alloc.Global.{Global}
-use Rattle.ix_base.specs.declared.files.Area.{Area}
-use Rattle.ix_base.specs.declared.files.Area.TheVariants.{Meta, Home, Cold, Frozen, Thawed}
 use Rattle.ix_base.specs.declared.files.File.{File}
+use Rattle.ix_disk.specs.Files.{is_same, same_file, other_file, is_it}
 use Rattle.ix_disk.specs.Image.{Image, content, Torn, overwritten}
+use Rattle.ix_disk.specs.Contents.{present, changed, over, ones_in, become}
 use Rattle.ix_disk.specs.declared.memory.Call.{Call}
-use Rattle.ix_disk.specs.declared.memory.Call.TheVariants.{Wrote, Settled, Removed, Asked}
+use Rattle.ix_disk.specs.declared.memory.Call.TheVariants.{Made, Wrote, Settled, Removed, Asked}
 
-abbrev pub area_number : Area → ℕ
-area_number Meta = 0
-area_number Home = 1
-area_number Cold = 2
-area_number Frozen = 3
-area_number Thawed = 4
-
-abbrev pub is_same : File → File → Bool
-is_same a b = (area_number a.area == area_number b.area) && (a.number == b.number)
-
--- what is held of a file
-abbrev pub held : Option (Vec ℕ Global) → Option (List ℕ)
-held None = None
-held (Some v) = Some v.items
-
--- the file in hand after a call, as a read gives it
+-- the file in hand after a call, as a read gives it; no write begins past its end
 abbrev pub see : Call → File → Option (List ℕ) → Option (List ℕ)
-see (Wrote file at bytes true) f now = if is_same f file && nat_le at (length (content now)) then Some (overwritten at bytes.items (content now)) else now
+see (Made contents) f now = present contents.files.items f
+see (Wrote file at bytes true) f now = if nat_le at (length (content now)) then changed file (over at bytes) f now else now
 see (Wrote file at bytes false) f now = now
 see (Settled file) f now = now
-see (Removed file true) f now = if is_same f file then None else now
+see (Removed file true) f now = changed file (become None) f now
 see (Removed file false) f now = now
 see Asked f now = now
 
@@ -46,77 +31,46 @@ pub record Tears (at n : ℕ) (old new : Option (List ℕ)) : Type 0 where
 
 -- what a crash may leave of a file after a call, where it might have left old before; seen is what a read gave before
 abbrev pub Leaves : Call → File → Option (List ℕ) → Option (List ℕ) → Option (List ℕ) → Type 0
-Leaves (Wrote file at bytes ok) f seen old new = ((f ≡ file) × Tears at (length bytes.items) old new) ⊎ ((f ≢ file) × (new ≡ old))
+Leaves (Made contents) f seen old new = new ≡ present contents.files.items f
+Leaves (Wrote file at bytes done) f seen old new = ((f ≡ file) × Tears at (length bytes) old new) ⊎ ((f ≢ file) × (new ≡ old))
 Leaves (Settled file) f seen old new = ((f ≡ file) × (new ≡ seen)) ⊎ ((f ≢ file) × (new ≡ old))
-Leaves (Removed file ok) f seen old new = ((f ≡ file) × ((new ≡ old) ⊎ (new ≡ None))) ⊎ ((f ≢ file) × (new ≡ old))
+Leaves (Removed file done) f seen old new = ((f ≡ file) × ((new ≡ old) ⊎ (new ≡ None))) ⊎ ((f ≢ file) × (new ≡ old))
 Leaves Asked f seen old new = new ≡ old
 
 abbrev pub left_all : List Call → File → Option (List ℕ) → (Option (List ℕ) → Type 0) → Option (List ℕ) → Type 0
 left_all [] f seen images new = images new
 left_all (call ∷ calls) f seen images new = left_all calls f (see call f seen) (λ next. (old : Option (List ℕ)) × images old × Leaves call f seen old next) new
 
+-- A crash that leaves as little as it may of each file: what its last sync settled, as long as it was then, with the
+-- bytes that were written since, also by a call that failed, as 1. A removal since then is undone.
+abbrev pub tear : Call → File → Option (List ℕ) → Option (List ℕ) → Option (List ℕ)
+tear (Made contents) f seen torn = present contents.files.items f
+tear (Wrote file at bytes done) f seen torn = changed file (ones_in at (length bytes)) f torn
+tear (Settled file) f seen torn = changed file (become seen) f torn
+tear (Removed file done) f seen torn = torn
+tear Asked f seen torn = torn
+
+abbrev pub tear_all : List Call → File → Option (List ℕ) → Option (List ℕ) → Option (List ℕ)
+tear_all [] f seen torn = torn
+tear_all (call ∷ calls) f seen torn = tear_all calls f (see call f seen) (tear call f seen torn)
+
 -- what a read gives, and what a crash may leave, of each file after these calls on an empty disk
 abbrev pub seen_after : List Call → Image
 seen_after calls f = see_all calls f None
+
+abbrev pub torn_after : List Call → Image
+torn_after calls f = tear_all calls f None None
+
+-- what a crash leaves where it tears the files, or else as a read gives them
+abbrev pub crashed : Bool → List Call → Image
+crashed true calls = torn_after calls
+crashed false calls = seen_after calls
 
 abbrev pub LeftBy : List Call → Image → Type 0
 LeftBy calls image = (f : File) → left_all calls f None (λ old. old ≡ None) (image f)
 
 abbrev pub LeftSince : List Call → ℕ → Image → Type 0
 LeftSince calls t image = (k : ℕ) × (t ≤ k) × (k ≤ length calls) × LeftBy (take k calls) image
-
--- files that are told to be the same are
-area_of : ℕ → Area
-area_of zero = Meta
-area_of (suc zero) = Home
-area_of (suc (suc zero)) = Cold
-area_of (suc (suc (suc zero))) = Frozen
-area_of (suc (suc (suc (suc n)))) = Thawed
-
-area_back : (a : Area) → area_of (area_number a) ≡ a
-unfolding area_of
-area_back Meta = refl
-area_back Home = refl
-area_back Cold = refl
-area_back Frozen = refl
-area_back Thawed = refl
-
-same_area : (a b : Area) → area_number a ≡ area_number b → a ≡ b
-same_area a b is = sym (area_back a) ∙ ap area_of is ∙ area_back b
-
-pub same_file : (a b : File) → is_same a b ≡ true → a ≡ b
-same_file a b is =
-    let areas : area_number a.area ≡ area_number b.area = grind (arith, nat_tests) in
-    let numbers : a.number ≡ b.number = grind (arith, nat_tests) in
-    λ i. record { area = same_area a.area b.area areas i; number = numbers i }
-
-pub other_file : (a b : File) → is_same a b ≡ false → a ≢ b
-other_file a b is same =
-    let areas : area_number a.area ≡ area_number b.area = ap (λ (f : File). area_number f.area) same in
-    let numbers : a.number ≡ b.number = ap (λ (f : File). f.number) same in
-    let none : true ≡ false = grind (arith, nat_tests) in
-    absurd (cc none)
-
-pub is_it : (a b : File) → (a ≡ b) ⊎ (a ≢ b)
-is_it a b = go (is_same a b) refl
-  where
-    go : (told : Bool) → is_same a b ≡ told → (a ≡ b) ⊎ (a ≢ b)
-    go true is = inl (same_file a b is)
-    go false is = inr (other_file a b is)
-
-pub told_same : (a b : File) → a ≡ b → is_same a b ≡ true
-told_same a b same = go (is_same a b) refl
-  where
-    go : (told : Bool) → is_same a b ≡ told → is_same a b ≡ true
-    go true is = is
-    go false is = absurd (other_file a b is same)
-
-pub told_other : (a b : File) → a ≢ b → is_same a b ≡ false
-told_other a b ne = go (is_same a b) refl
-  where
-    go : (told : Bool) → is_same a b ≡ told → is_same a b ≡ false
-    go true is = absurd (ne (same_file a b is))
-    go false is = is
 
 pub Torn-refl : (at n : ℕ) (file : List ℕ) → Torn at n file file
 Torn-refl at n file = record { before = refl; after = refl; no_shorter = omega arith; no_longer = omega arith }
@@ -136,13 +90,15 @@ Torn-whole at bytes old le =
 
 -- what a read gives is one of the things that a crash may leave
 sees_a_leaving : (call : Call) (f : File) (seen : Option (List ℕ)) → Leaves call f seen seen (see call f seen)
+sees_a_leaving (Made contents) f seen = refl
 sees_a_leaving (Wrote file at bytes true) f seen = go (is_same f file) refl (nat_le at (length (content seen))) refl
   where
-    go : (told : Bool) → is_same f file ≡ told → (fits : Bool) → nat_le at (length (content seen)) ≡ fits → Leaves (Wrote file at bytes true) f seen seen (if told && fits then Some (overwritten at bytes.items (content seen)) else seen)
-    go true is true fits = inl (same_file f file is, record { torn = Torn-whole at bytes.items (content seen) (grind (arith, nat_tests)); missing = λ e. absurd (cc e) })
-    go true is false fits = inl (same_file f file is, record { torn = Torn-refl at (length bytes.items) (content seen); missing = λ e. e })
-    go false is fits why = inr (other_file f file is, refl)
-sees_a_leaving (Wrote file at bytes false) f seen = ⊎_elim (λ is. inl (is, record { torn = Torn-refl at (length bytes.items) (content seen); missing = λ e. e })) (λ ne. inr (ne, refl)) (is_it f file)
+    go : (told : Bool) → is_same f file ≡ told → (fits : Bool) → nat_le at (length (content seen)) ≡ fits → Leaves (Wrote file at bytes true) f seen seen (if fits then (if told then over at bytes seen else seen) else seen)
+    go true is true fits = inl (same_file f file is, record { torn = Torn-whole at bytes (content seen) (grind (arith, nat_tests)); missing = λ e. absurd (cc e) })
+    go true is false fits = inl (same_file f file is, record { torn = Torn-refl at (length bytes) (content seen); missing = λ e. e })
+    go false is true why = inr (other_file f file is, refl)
+    go false is false why = inr (other_file f file is, refl)
+sees_a_leaving (Wrote file at bytes false) f seen = ⊎_elim (λ is. inl (is, record { torn = Torn-refl at (length bytes) (content seen); missing = λ e. e })) (λ ne. inr (ne, refl)) (is_it f file)
 sees_a_leaving (Settled file) f seen = ⊎_elim (λ is. inl (is, refl)) (λ ne. inr (ne, refl)) (is_it f file)
 sees_a_leaving (Removed file true) f seen = go (is_same f file) refl
   where
