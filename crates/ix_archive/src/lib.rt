@@ -6,3 +6,6 @@ mod copying;
 
 pub use checking::check;
 pub use copying::{CopyFault, copy};
+
+#[cfg(test)]
+mod tests;

@@ -10,3 +10,6 @@ pub use ahead::{ReadFault, Reader};
 pub use appending::append;
 pub use reading::{decode, unique_reading};
 pub use writing::encode;
+
+#[cfg(test)]
+mod tests;
