@@ -94,6 +94,13 @@ impl<T: Drop> Sequence<T> {
     {
         self.items.clear();
     }
+
+    /// Drops the values from this place on. The room that they had is kept for others.
+    pub fn truncate(&mut self, len: usize)
+        ensures { self.new ≡ take len self.old }
+    {
+        self.items.truncate(len);
+    }
 }
 
 impl Sequence<u8> {

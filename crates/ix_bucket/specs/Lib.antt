@@ -1,0 +1,4 @@
+pub mod Record
+pub mod Reading
+pub mod Append
+pub mod Ahead
