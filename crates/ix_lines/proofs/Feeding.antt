@@ -1,5 +1,5 @@
 -- A value that stands for a stream, and the next bytes or the end.
-use Rattle.std.proofs.Common.{◌≡◌, ℕ, ◌+◌, ℤ, Bool, true, false, List, [], ◌∷◌, ◌++◌, length, take, drop, replicate, Option, refl, sym, ◌∙◌, ap, subst, arith, append_assoc}
+use Rattle.std.proofs.Common.{◌≡◌, ℕ, ◌+◌, ℤ, Bool, true, false, List, [], ◌++◌, length, take, drop, replicate, Option, refl, sym, ◌∙◌, ap, subst, append_assoc}
 use Rattle.std.specs.List.{flat_map, zip}
 use Rattle.std.proofs.lemmas.List.{append-nil}
 use Rattle.std.proofs.lemmas.Grind.{flat_map-append}
@@ -13,7 +13,7 @@ use Rattle.ix_lines.specs.Parts.{Parts, StandsFor, Adds, AddsPart, Ends, EndsPar
 use Rattle.ix_lines.specs.declared.kept.Kept.{Kept}
 use Rattle.ix_lines.specs.declared.kept.Line.{Line}
 use Rattle.ix_lines.proofs.ListLemmas.{drop-zip, zip-append}
-use Rattle.ix_lines.proofs.WalkLemmas.{on_from, walk_of-append}
+use Rattle.ix_lines.proofs.WalkLemmas.{walk_of-append}
 
 -- what is kept of the open line of a stream
 pub kept-is : (look : Looker) (t : ℕ) (stream : List Dated) (old : Parts) (kept : Kept) → StandsFor look t stream old →

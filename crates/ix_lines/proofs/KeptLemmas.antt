@@ -1,13 +1,12 @@
 -- The open line.
-use Rattle.std.proofs.Common.{◌≡◌, ℕ, zero, suc, ◌+◌, ◌-◌, ◌<◌, ◌≤◌, ℤ, Bool, true, false, List, [], ◌∷◌, ◌++◌, length, take, drop, get_or, Option, Some, None, refl, sym, ◌∙◌, ap, subst, arith}
-use Rattle.std.specs.Prelude.{find, unwrap_or, nat_le, not, ◌&&◌, IfSome}
-use Rattle.std.proofs.lemmas.List.{length-take-le, get_or-take, append-nil}
+use Rattle.std.proofs.Common.{◌≡◌, ℕ, ◌+◌, ◌-◌, ◌<◌, ◌≤◌, ℤ, Bool, true, false, List, [], ◌∷◌, ◌++◌, length, take, Some, None, refl, sym, ◌∙◌, ap, arith}
+use Rattle.std.specs.Prelude.{find, unwrap_or, nat_le, not, ◌&&◌}
+use Rattle.std.proofs.lemmas.List.{length-take-le, get_or-take}
 use Rattle.std.proofs.lemmas.Bool.{leb-true, leb-false, lt-leb}
 use Rattle.ix_base.specs.Stream.{Dated, bytes_of}
 use Rattle.ix_lines.specs.Lines.{cut, step_back, goes_on, line_of, unless_empty}
 use Rattle.ix_lines.specs.Kept.{Keeps, IsPart, first_moment}
 use Rattle.ix_lines.specs.declared.kept.Kept.{Kept}
-use Rattle.ix_lines.specs.declared.kept.Line.{Line}
 use Rattle.ix_lines.proofs.ListLemmas.{take-past, take-take, take-joined}
 use Rattle.ix_lines.proofs.WalkLemmas.{bytes_of-append}
 

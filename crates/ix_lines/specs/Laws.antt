@@ -3,7 +3,6 @@ use Rattle.std.specs.Prelude.{◌≡◌, ℕ, ◌<◌, ◌≤◌, Bool, true, Li
 use Rattle.ix_base.specs.Stream.{Dated}
 use Rattle.ix_lines.specs.Walk.{match, no_match, more, Looker}
 use Rattle.ix_lines.specs.Lines.{settled, all_lines}
-use Rattle.ix_lines.specs.Newlines.{reach}
 use Rattle.ix_lines.specs.declared.kept.Line.{Line}
 
 -- an answer other than `more` stays as it is when more bytes come or the end does

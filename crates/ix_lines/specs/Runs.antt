@@ -1,5 +1,5 @@
 -- Moments as runs of equal ones.
-use Rattle.std.specs.Prelude.{ℕ, ℤ, List, replicate}
+use Rattle.std.specs.Prelude.{ℤ, List, replicate}
 use Rattle.std.specs.List.{flat_map}
 use Rattle.ix_lines.specs.declared.runs.Run.{Run}
 

@@ -1,5 +1,5 @@
 -- The first break from a place on.
-use Rattle.std.specs.Prelude.{◌≡◌, ◌<◌, ◌≤◌, ℕ, suc, ◌+◌, Bool, List, [], ◌∷◌, Option, Some}
+use Rattle.std.specs.Prelude.{◌<◌, ◌≤◌, ℕ, suc, ◌+◌, Bool, List, [], ◌∷◌, Option, Some}
 use Rattle.ix_lines.specs.Walk.{Look, match, no_match, more, Looker}
 use Rattle.ix_lines.specs.declared.breaks.Looked.{Looked}
 use Rattle.ix_lines.specs.declared.breaks.Looked.TheVariants.{Match, No, More}

@@ -1,5 +1,5 @@
 -- What the walk over bytes that have come keeps.
-use Rattle.std.specs.Prelude.{◌≡◌, ℕ, ◌-◌, ◌<◌, ◌≤◌, Bool, List, ◌++◌, Option, take, drop}
+use Rattle.std.specs.Prelude.{◌≡◌, ℕ, ◌-◌, Bool, List, ◌++◌, Option, take, drop}
 use Rattle.std.specs.List.{flat_map}
 use Rattle.ix_base.specs.Stream.{Dated, bytes_of}
 use Rattle.ix_lines.specs.Walk.{Looker, Walked, preceded, walk}

@@ -6,6 +6,8 @@ mod kept;
 mod runs;
 mod settle;
 mod stream;
+#[cfg(test)]
+mod tests;
 
 ghost use Rattle.ix_lines.specs.Laws.{LinesStay};
 ghost use Rattle.ix_lines.specs.Newlines.{newlines};

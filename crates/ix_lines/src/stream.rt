@@ -1,6 +1,6 @@
 //! A stream in blocks.
 
-ghost use Rattle.std.specs.Prelude.{◌≡◌, ℕ, ◌+◌, ◌<◌, ◌≤◌, List, [], ◌++◌, length, IsTrue, IfOk, OnOk, OnErr, IsErr, drop, true, false, take};
+ghost use Rattle.std.specs.Prelude.{◌≡◌, ◌<◌, ◌≤◌, List, [], ◌++◌, length, IsTrue, IfOk, OnOk, OnErr, IsErr};
 ghost use Rattle.ix_base.specs.Stream.{Dated, dated};
 ghost use Rattle.ix_lines.specs.Lines.{effective};
 ghost use Rattle.ix_lines.specs.Newlines.{newlines, reach};

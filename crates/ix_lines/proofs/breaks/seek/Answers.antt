@@ -1,9 +1,9 @@
-use Rattle.std.proofs.Common.{◌≡◌, ◌+◌, ◌-◌, ◌<◌, ◌≤◌, ℕ, length, take, drop, subst, sym, ap, ◌∙◌, arith, refl}
+use Rattle.std.proofs.Common.{◌≡◌, ◌+◌, ◌-◌, ◌<◌, ℕ, length, take, drop, subst, sym, ap, arith}
 use Rattle.std.proofs.lemmas.List.{length-drop}
 use Rattle.ix_lines.specs.Walk.{match, no_match, more}
-use Rattle.ix_lines.specs.Newlines.{newlines, is_newline, reach}
+use Rattle.ix_lines.specs.Newlines.{newlines, is_newline}
 use Rattle.ix_lines.proofs.SeekLemmas.{Sought, sought-first, sought-none, sought-more, sought-match, sought-end, looked-at, rest-is}
-use Rattle.ix_lines.proofs.Stable.{newlines-begin, newlines-wait, reach-some}
+use Rattle.ix_lines.proofs.Stable.{newlines-begin, reach-some}
 use Rattle.ix_lines.proofs.breaks.seek.Goals as goal
 
 pub returns-in_default-clause-is : goal.returns-in_default-clause-is

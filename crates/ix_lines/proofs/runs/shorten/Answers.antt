@@ -1,4 +1,4 @@
-use Rattle.std.proofs.Common.{◌≡◌, ◌∙◌, sym, arith}
+use Rattle.std.proofs.Common.{◌∙◌}
 use Rattle.ix_lines.proofs.RunLemmas.{no_run, shortened, get_or-any}
 use Rattle.ix_lines.proofs.runs.shorten.Goals as goal
 

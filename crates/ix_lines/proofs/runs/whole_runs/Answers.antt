@@ -1,4 +1,4 @@
-use Rattle.std.proofs.Common.{◌≡◌, ◌∙◌, arith}
+use Rattle.std.proofs.Common.{◌∙◌, arith}
 use Rattle.ix_lines.proofs.RunLemmas.{run-past}
 use Rattle.ix_lines.proofs.runs.whole_runs.Goals as goal
 

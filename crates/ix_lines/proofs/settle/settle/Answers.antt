@@ -1,10 +1,9 @@
-use Rattle.std.proofs.Common.{◌≡◌, ◌+◌, ◌-◌, ◌<◌, ◌≤◌, List, ◌++◌, take, drop, length, sym, subst, ap, refl, arith, Option, ℕ, ℤ, true, rules, w64}
+use Rattle.std.proofs.Common.{◌+◌, ◌-◌, List, drop, length, sym, subst, arith, ℕ, ℤ, rules, w64}
 use mir.Val.{SFits}
 use Rattle.std.proofs.Math.Facts.{to_z-of_z}
 use Rattle.ix_lines.specs.Kept.{IsPart}
 use Rattle.std.specs.List.{zip}
 use Rattle.std.proofs.lemmas.List.{length-drop, length-take}
-use Rattle.ix_base.specs.Stream.{Dated}
 use Rattle.ix_lines.specs.Walk.{walk}
 use Rattle.ix_lines.specs.Newlines.{newlines}
 use Rattle.ix_lines.specs.Seek.{byte_before}

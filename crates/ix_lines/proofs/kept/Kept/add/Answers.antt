@@ -1,4 +1,4 @@
-use Rattle.std.proofs.Common.{rules, w64, Some, ◌≡◌, ◌∙◌, ◌++◌, ◌-◌, ◌+◌, ◌<◌, take, length, ap, arith}
+use Rattle.std.proofs.Common.{rules, w64, Some, ◌∙◌, ◌++◌, ◌-◌, ◌+◌, ◌<◌, take, length, ap}
 use mir.Val.{SFits}
 use Rattle.std.specs.Prelude.{unwrap_or}
 use Rattle.std.proofs.Math.Facts.{to_z-of_z}

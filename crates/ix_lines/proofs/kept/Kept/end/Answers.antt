@@ -1,4 +1,4 @@
-use Rattle.std.proofs.Common.{rules, w64, Some, ◌≡◌, ◌∙◌, sym, ap, refl, ◌++◌, ◌+◌, ℤ, ℕ, subst, to_z, of_z}
+use Rattle.std.proofs.Common.{rules, w64, ◌≡◌, ◌∙◌, sym, ap, refl, ◌++◌, ◌+◌, ℤ, ℕ, subst, to_z, of_z}
 use Rattle.ix_lines.proofs.ListLemmas.{take-nil}
 use Rattle.ix_lines.specs.Kept.{IsPart}
 use mir.Val.{SFits}

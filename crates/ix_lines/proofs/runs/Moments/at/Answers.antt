@@ -1,4 +1,4 @@
-use Rattle.std.proofs.Common.{rules, w64, ◌≡◌, ◌∙◌, ◌++◌, ◌<◌, ◌≤◌, ℤ, pos, List, length, sym, ap, replicate, get_or, subst, arith}
+use Rattle.std.proofs.Common.{rules, w64, ◌∙◌, ◌++◌, ◌<◌, ◌≤◌, pos, length, sym, ap, replicate, get_or, arith}
 use mir.Val.{SFits}
 use Rattle.std.proofs.Math.Facts.{to_z-of_z}
 use Rattle.ix_lines.specs.Runs.{moments_of}

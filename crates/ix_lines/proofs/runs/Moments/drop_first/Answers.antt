@@ -1,4 +1,4 @@
-use Rattle.std.proofs.Common.{◌≡◌, ◌∙◌, ◌++◌, ◌≤◌, drop, replicate, length, sym, ap, arith}
+use Rattle.std.proofs.Common.{◌∙◌, ◌++◌, ◌≤◌, drop, replicate, length, sym, ap, arith}
 use Rattle.ix_lines.specs.Runs.{moments_of}
 use Rattle.ix_lines.proofs.RunLemmas.{past-runs, shorter-last}
 use Rattle.ix_lines.proofs.runs.Moments.drop_first.Goals as goal

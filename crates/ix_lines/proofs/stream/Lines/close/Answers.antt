@@ -1,9 +1,8 @@
-use Rattle.std.proofs.Common.{◌≡◌, List, length, refl, sym, ◌∙◌, ap, subst, true, false, Bool, drop, take, ◌++◌, ◌-◌, ◌<◌, ◌≤◌, ℕ, ℤ, Option, arith, rules, w64}
+use Rattle.std.proofs.Common.{◌≡◌, List, length, refl, sym, ◌∙◌, ap, subst, false, Bool, drop, take, ◌-◌, ℕ, ℤ, rules, w64}
 use mir.Val.{SFits}
 use Rattle.std.specs.Bool.{OnFalse}
 use Rattle.std.specs.List.{zip, flat_map}
 use Rattle.std.proofs.Math.Facts.{to_z-of_z}
-use Rattle.ix_base.specs.Stream.{Dated}
 use Rattle.ix_lines.specs.Walk.{walk}
 use Rattle.ix_lines.specs.Lines.{line_of}
 use Rattle.ix_lines.specs.Newlines.{newlines}

@@ -1,4 +1,4 @@
-use Rattle.std.proofs.Common.{◌≡◌, List, length, refl, sym, ◌∙◌, ap, subst, true, false, Bool, replicate, drop, take, ◌++◌, ◌<◌, ◌≤◌, ℕ, Option, arith}
+use Rattle.std.proofs.Common.{◌≡◌, List, length, refl, sym, ◌∙◌, ap, subst, true, Bool, replicate, drop, take, ◌++◌, ℕ, Option, arith}
 use Rattle.std.proofs.lemmas.List.{length-drop}
 use Rattle.std.proofs.lemmas.Slice.Zip.{length-zip}
 use Rattle.ix_lines.specs.Walk.{walk}
