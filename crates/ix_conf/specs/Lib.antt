@@ -1,3 +1,7 @@
 pub mod Lines
 pub mod Grammar
 pub mod Reading
+pub mod Value
+pub mod Merging
+pub mod Listing
+pub mod Lent

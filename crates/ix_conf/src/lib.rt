@@ -4,8 +4,13 @@
 
 mod cuts;
 mod entries;
+mod layers;
 mod lines;
+mod merged;
+mod merging;
 mod reading;
 
 pub use entries::{ConfFault, ConfFile, Entry};
+pub use layers::{Layer, Layers, MergedEntry};
+pub use merged::{Item, Merged, Setting, merge};
 pub use reading::parse;
