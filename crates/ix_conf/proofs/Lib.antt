@@ -3,3 +3,7 @@ pub mod LineLemmas
 pub mod EntryLemmas
 pub mod MergeLemmas
 pub mod SearchLemmas
+pub mod FitLemmas
+pub mod TokenLemmas
+pub mod WalkLemmas
+pub mod MarkLemmas

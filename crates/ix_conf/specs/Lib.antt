@@ -5,3 +5,5 @@ pub mod Value
 pub mod Merging
 pub mod Listing
 pub mod Lent
+pub mod Names
+pub mod Walk

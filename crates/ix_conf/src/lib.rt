@@ -8,9 +8,12 @@ mod layers;
 mod lines;
 mod merged;
 mod merging;
+mod names;
 mod reading;
+mod tokens;
 
 pub use entries::{ConfFault, ConfFile, Entry};
 pub use layers::{Layer, Layers, MergedEntry};
 pub use merged::{Item, Merged, Setting, merge};
+pub use names::NamePattern;
 pub use reading::parse;
