@@ -7,3 +7,4 @@ pub mod Listing
 pub mod Lent
 pub mod Names
 pub mod Walk
+pub mod Zones

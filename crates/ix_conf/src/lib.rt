@@ -11,9 +11,12 @@ mod merging;
 mod names;
 mod reading;
 mod tokens;
+mod zones;
 
 pub use entries::{ConfFault, ConfFile, Entry};
 pub use layers::{Layer, Layers, MergedEntry};
 pub use merged::{Item, Merged, Setting, merge};
 pub use names::NamePattern;
 pub use reading::parse;
+pub use tokens::NameFault;
+pub use zones::built_in_zones;
