@@ -1,6 +1,6 @@
 //! Lists that contracts see as lists.
 
-ghost use Rattle.std.specs.Prelude.{◌≡◌, ◌++◌, ◌∷◌, [], length, OnOk, OnErr, IfOk, ◌==◌, string_bytes};
+ghost use Rattle.std.specs.Prelude.{◌≡◌, ◌≤◌, ◌+◌, ◌-◌, ◌++◌, ◌∷◌, [], length, take, drop, replicate, min, OnOk, OnErr, IfOk, ◌==◌, string_bytes};
 ghost use Rattle.std.specs.Str.{IsUtf8};
 
 use crate::faults::NoMemory;
@@ -129,6 +129,28 @@ impl Sequence<u8> {
         match self.items.extend_from_slice(bytes) {
             Ok(()) => Ok(()),
             Err(_) => Err(NoMemory),
+        }
+    }
+
+    /// Writes bytes over those from a place on, and past the end. Where there is no room for them nothing changes.
+    pub fn overwrite(&mut self, at: usize, bytes: &[u8]) -> Result<(), NoMemory>
+        requires { at ≤ length self.old }
+        ensures ok { OnOk result (self.new ≡ take at self.old ++ bytes.now ++ drop (at + length bytes.now) self.old) }
+        ensures err { OnErr result (self.new ≡ self.old) }
+    {
+        let over = bytes.len().min(self.items.len() - at);
+        self.items.extend_from_slice(&bytes[over..])?;
+        self.items[at..at + over].copy_from_slice(&bytes[..over]);
+        Ok(())
+    }
+
+    /// Sets the bytes from a place on, `count` of them at the most, and none past the end.
+    pub fn fill(&mut self, at: usize, count: usize, byte: u8)
+        ensures { self.new ≡ take at self.old ++ replicate (min count (length self.old - at)) byte ++ drop (at + count) self.old }
+    {
+        if at < self.items.len() {
+            let count = count.min(self.items.len() - at);
+            self.items[at..at + count].fill(byte);
         }
     }
 }

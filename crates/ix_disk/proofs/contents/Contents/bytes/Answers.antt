@@ -1,0 +1,11 @@
+use Rattle.std.proofs.Common.{◌∙◌, sym, ap}
+use Rattle.ix_disk.specs.Image.{content}
+use Rattle.ix_disk.specs.declared.contents.Held.{Held}
+use Rattle.ix_disk.proofs.Places.{first_get, absent_none}
+use Rattle.ix_disk.proofs.contents.Contents.bytes.Goals as goal
+
+pub returns-in_default : goal.returns-in_default
+returns-in_default c = sym (ap content (absent_none c.args.self.now.files.items c.args.file c.in_default.ensures.missing))
+
+pub returns : goal.returns
+returns c = c.lend.ensures ∙ ap (λ (h : Held). content h.bytes) c.index.ensures ∙ sym (ap content (first_get c.args.self.now.files.items c.args.file c.in-Some.place c.index.result.now c.in-Some.ensures.found))

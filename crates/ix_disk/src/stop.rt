@@ -1,0 +1,138 @@
+//! A disk that stops.
+
+ghost use Rattle.std.specs.Prelude.{◌≡◌, ◌≤◌, ◌<◌, ◌+◌, ◌-◌, ◌^◌, ◌++◌, length, take, drop, min, Some, IfOk, OnOk, OnErr};
+ghost use Rattle.ix_base.specs.Faults.{HasCause};
+ghost use Rattle.ix_base.specs.Told.{Told};
+ghost use Rattle.ix_disk.specs.Image.{Image, bytes_in, MayWrite, Writes, MayRemove, Removes, Stays, Passes};
+ghost use Rattle.ix_disk.specs.Stops.{Stops};
+
+use crate::Disk;
+use ix_base::{Failed, File};
+
+/// A disk that passes some calls on to the disk inside and then fails every call, as if the machine had stopped. What
+/// it tells is what the disk inside tells: a call that it fails does not reach that one.
+#[derive(Drop)]
+pub struct StopDisk<D: Disk + Drop> {
+    /// The disk inside.
+    pub inner: D,
+    /// How many calls it passes on before it stops.
+    pub left: u64,
+    /// How many calls it failed by itself.
+    pub faults: u64,
+}
+
+impl<D: Disk + Drop> StopDisk<D> {
+    /// A disk that passes so many calls on.
+    pub fn new(inner: D, calls: u64) -> Self
+        ensures inner { result.inner ≡ inner }
+        ensures left { result.left ≡ calls }
+        ensures faults { result.faults ≡ 0 }
+    {
+        StopDisk {
+            inner,
+            left: calls,
+            faults: 0,
+        }
+    }
+
+    /// The disk inside.
+    pub fn into_inner(self) -> D
+        ensures { result ≡ self.inner }
+    {
+        self.inner
+    }
+}
+
+/// Counts a call, which fails where none is left to pass on.
+fn pass(left: &mut u64, faults: &mut u64) -> Result<(), Failed>
+    ensures counted { left.new ≡ left.old - 1 }
+    ensures passed { OnOk result ((0 < left.old) × (faults.new ≡ faults.old)) }
+    ensures stopped { OnErr result (left.old ≡ 0) }
+    ensures cause { HasCause faults.old faults.new result }
+{
+    if *left == 0 {
+        *faults = faults.saturating_add(1);
+        return Err(Failed);
+    }
+    *left -= 1;
+    Ok(())
+}
+
+impl<D: Disk + Drop> Disk for StopDisk<D> {
+    ghost seen = { λ d. D.Disk.seen d.inner };
+
+    ghost may_leave = { λ d. D.Disk.may_leave d.inner };
+
+    ghost moment = { λ d. D.Disk.moment d.inner };
+
+    ghost left_since = { λ d. D.Disk.left_since d.inner };
+
+    ghost faults = { λ d. D.Disk.faults d.inner + d.faults };
+
+    ghost seen_may_stay = { λ d image is. D.Disk.seen_may_stay d.inner image is };
+
+    ghost counts_now = { λ d t image le left. D.Disk.counts_now d.inner t image le left };
+
+    ghost only_now = { λ d image left. D.Disk.only_now d.inner image left };
+
+    fn length(&mut self, file: File) -> Result<u64, Failed>
+        ensures length { IfOk result (λ n. (image : Image) → D.Disk.seen self.old.inner ≡ Some image → n ≡ length (bytes_in image file)) }
+        ensures bounded { IfOk result (λ n. n < 2 ^ 63) }
+        ensures same { D.Disk.seen self.new.inner ≡ D.Disk.seen self.old.inner }
+        ensures images { Passes D.Disk.may_leave D.Disk.moment D.Disk.left_since self.old.inner self.new.inner Stays }
+        ensures cause { HasCause (D.Disk.faults self.old.inner + self.old.faults) (D.Disk.faults self.new.inner + self.new.faults) result }
+        ensures stops { Stops D.Disk.faults self.old.left self.new.left self.old.inner self.new.inner result }
+    {
+        pass(&mut self.left, &mut self.faults)?;
+        self.inner.length(file)
+    }
+
+    fn read(&mut self, file: File, at: u64, buf: &mut [u8]) -> Result<usize, Failed>
+        ensures count { IfOk result (λ n. n ≤ length buf.old) }
+        ensures bytes { IfOk result (λ n. (image : Image) → D.Disk.seen self.old.inner ≡ Some image →
+            (n ≡ min (length buf.old) (length (bytes_in image file) - at))
+            × (buf.new ≡ take n (drop at (bytes_in image file)) ++ drop n buf.old)) }
+        ensures same { D.Disk.seen self.new.inner ≡ D.Disk.seen self.old.inner }
+        ensures images { Passes D.Disk.may_leave D.Disk.moment D.Disk.left_since self.old.inner self.new.inner Stays }
+        ensures cause { HasCause (D.Disk.faults self.old.inner + self.old.faults) (D.Disk.faults self.new.inner + self.new.faults) result }
+        ensures stops { Stops D.Disk.faults self.old.left self.new.left self.old.inner self.new.inner result }
+    {
+        pass(&mut self.left, &mut self.faults)?;
+        self.inner.read(file, at, buf)
+    }
+
+    fn write_at(&mut self, file: File, at: u64, bytes: &[u8]) -> Result<(), Failed>
+        requires { (image : Image) → D.Disk.seen self.old.inner ≡ Some image → at ≤ length (bytes_in image file) }
+        ensures written { OnOk result (Told (Writes file at bytes.now) (D.Disk.seen self.old.inner) (D.Disk.seen self.new.inner)) }
+        ensures begun { OnErr result (Told (MayWrite file at (length bytes.now)) (D.Disk.seen self.old.inner) (D.Disk.seen self.new.inner)) }
+        ensures bounded { OnOk result (at + length bytes.now < 2 ^ 63) }
+        ensures images { Passes D.Disk.may_leave D.Disk.moment D.Disk.left_since self.old.inner self.new.inner (MayWrite file at (length bytes.now)) }
+        ensures cause { HasCause (D.Disk.faults self.old.inner + self.old.faults) (D.Disk.faults self.new.inner + self.new.faults) result }
+        ensures stops { Stops D.Disk.faults self.old.left self.new.left self.old.inner self.new.inner result }
+    {
+        pass(&mut self.left, &mut self.faults)?;
+        self.inner.write_at(file, at, bytes)
+    }
+
+    fn sync(&mut self, file: File) -> Result<(), Failed>
+        ensures settled { OnOk result ((image : Image) → D.Disk.may_leave self.new.inner image → (read : Image) × (D.Disk.seen self.new.inner ≡ Some read) × (image file ≡ read file)) }
+        ensures same { D.Disk.seen self.new.inner ≡ D.Disk.seen self.old.inner }
+        ensures images { Passes D.Disk.may_leave D.Disk.moment D.Disk.left_since self.old.inner self.new.inner Stays }
+        ensures cause { HasCause (D.Disk.faults self.old.inner + self.old.faults) (D.Disk.faults self.new.inner + self.new.faults) result }
+        ensures stops { Stops D.Disk.faults self.old.left self.new.left self.old.inner self.new.inner result }
+    {
+        pass(&mut self.left, &mut self.faults)?;
+        self.inner.sync(file)
+    }
+
+    fn remove(&mut self, file: File) -> Result<(), Failed>
+        ensures removed { OnOk result (Told (Removes file) (D.Disk.seen self.old.inner) (D.Disk.seen self.new.inner)) }
+        ensures begun { OnErr result (Told (MayRemove file) (D.Disk.seen self.old.inner) (D.Disk.seen self.new.inner)) }
+        ensures images { Passes D.Disk.may_leave D.Disk.moment D.Disk.left_since self.old.inner self.new.inner (MayRemove file) }
+        ensures cause { HasCause (D.Disk.faults self.old.inner + self.old.faults) (D.Disk.faults self.new.inner + self.new.faults) result }
+        ensures stops { Stops D.Disk.faults self.old.left self.new.left self.old.inner self.new.inner result }
+    {
+        pass(&mut self.left, &mut self.faults)?;
+        self.inner.remove(file)
+    }
+}
