@@ -40,4 +40,4 @@ module _ {D : Type 0} (g : Ghosts D) (old mid : D) (bodies : List (List ℕ)) (b
     pub close_whole : four ≡ to_be_bytes w32 (length body) → Told (Writes log.file (log.at + 1) four) (g.seen old) (g.seen mid) → Told (Writes log.file (log.at + 5 + log.len) (0 ∷ [])) (g.seen mid) (g.seen next) → Reads g next log.file (Whole bodies body)
     close_whole four_is first second =
         write_reads g mid next log.file (log.at + 5 + log.len) (0 ∷ []) (StagedUnder four bodies body) (Whole bodies body) second (close_reads first)
-        (λ a under. make_whole bodies body a (log.at + 5 + log.len) (omega (arith, putting.place, putting.len)) (subst (λ (f : List ℕ). StagedUnder f bodies body a) four_is under))
+        (λ a under. make_whole bodies body a (log.at + 5 + log.len) (omega (arith, putting.len, log.in_range.1)) (omega (arith, putting.place, putting.len)) (subst (λ (f : List ℕ). StagedUnder f bodies body a) four_is under))

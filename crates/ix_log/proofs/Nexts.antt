@@ -12,7 +12,7 @@ use Rattle.ix_log.specs.Head.{IsHead}
 use Rattle.ix_log.specs.declared.head.Head.TheVariants.{End, Body, Cut}
 use Rattle.ix_log.specs.declared.log.LogFault.{LogFault}
 use Rattle.ix_log.specs.declared.log.LogFault.TheVariants.{Damaged}
-use Rattle.ix_log.proofs.Bytes.{blocks_push}
+use Rattle.ix_log.proofs.Bytes.{blocks_push, all_push}
 
 -- what a sync has settled stays so through calls that change nothing
 pub as_read_still : {D : Type 0} (g : Ghosts D) (old new : D) (file : File) → Goes g old new Stays → g.seen new ≡ g.seen old → IsAsRead g old file → IsAsRead g new file
@@ -34,10 +34,11 @@ gated_here bodies size at file on place head = record {
   rest = head.1;
   spelled = on.spelled ∙ ap (λ (l : List ℕ). blocks bodies ++ l) (sym (rest_is bodies size at file on place) ∙ head.2);
   shut = head.3;
+  fit = on.fit;
 }
 
 -- the next body, and what stands behind it
-module _ (bodies : List (List ℕ)) (size at len : ℕ) (file : List ℕ) (on : ReadOn bodies size file) (place : at ≡ length (blocks bodies)) (more : 1 < size) (head : IsHead (Body len) (drop at file)) where
+module _ (bodies : List (List ℕ)) (size at len : ℕ) (file : List ℕ) (on : ReadOn bodies size file) (place : at ≡ length (blocks bodies)) (more : 1 < size) (head : IsHead (Body len) (drop at file)) (fits : len < 2 ^ 32) where
   behind : drop (at + 5) file ≡ head.0
   behind = sym (drop-drop 5 at file) ∙ ap (λ (l : List ℕ). drop 5 l) head.1
 
@@ -61,6 +62,7 @@ module _ (bodies : List (List ℕ)) (size at len : ℕ) (file : List ℕ) (on : 
           measured = on.measured;
           goes_on = λ lt. omega (arith, length-drop len tail, head.2);
           short = λ le. absurd (omega (arith, on.measured));
+          fit = all_push bodies body on.fit (omega (arith, size_is, fits));
         },
       )
 

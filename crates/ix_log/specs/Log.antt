@@ -1,5 +1,6 @@
 -- The gated log: bodies behind open gates, and a gate that is shut.
 use Rattle.std.specs.Prelude.{◌≡◌, ◌≢◌, ◌⊎◌, ◌<◌, ◌≤◌, ◌^◌, ℕ, List, [], ◌∷◌, ◌++◌, length, Bool, true, false, Some}
+use Rattle.std.specs.List.{AllByRecursion}
 use Rattle.std.specs.Int.{to_be_bytes, w32}
 use Rattle.ix_base.specs.declared.files.File.{File}
 use Rattle.ix_disk.specs.Image.{Image, bytes_in}
@@ -23,12 +24,17 @@ abbrev pub blocks : List (List ℕ) → List ℕ
 blocks [] = []
 blocks (body ∷ bodies) = block body ++ blocks bodies
 
+-- the length of each has four bytes
+abbrev pub AreShort : List (List ℕ) → Type 0
+AreShort bodies = AllByRecursion (λ body. length body < 2 ^ 32) bodies
+
 -- the file is the blocks of these bodies, and then a gate that is not open, whatever stands behind it
 pub record Gated (bodies : List (List ℕ)) (file : List ℕ) : Type 0 where
   pub gate : ℕ
   pub rest : List ℕ
   pub spelled : file ≡ blocks bodies ++ gate ∷ rest
   pub shut : gate ≢ 1
+  pub fit : AreShort bodies
 
 -- a file of at most one byte has no body
 abbrev pub HasBodies : List (List ℕ) → List ℕ → Type 0
@@ -42,6 +48,7 @@ pub record Staged (bodies : List (List ℕ)) (body file : List ℕ) : Type 0 whe
   pub spelled : file ≡ blocks bodies ++ gate ∷ four ++ body ++ rest
   pub shut : gate ≢ 1
   pub size : length four ≡ 4
+  pub fit : AreShort bodies
 
 -- with a whole block behind it but for the gate, which is shut, and a shut gate behind that
 pub record Whole (bodies : List (List ℕ)) (body file : List ℕ) : Type 0 where
@@ -49,6 +56,8 @@ pub record Whole (bodies : List (List ℕ)) (body file : List ℕ) : Type 0 wher
   pub rest : List ℕ
   pub spelled : file ≡ blocks bodies ++ gate ∷ to_be_bytes w32 (length body) ++ body ++ 0 ∷ rest
   pub shut : gate ≢ 1
+  pub fit : AreShort bodies
+  pub body_fits : length body < 2 ^ 32
 
 -- a shut gate stands behind the bodies, or there is no room for a body yet
 abbrev pub AtEnd : Bool → List (List ℕ) → List ℕ → Type 0
@@ -92,6 +101,7 @@ pub record ReadOn (bodies : List (List ℕ)) (size : ℕ) (file : List ℕ) : Ty
   pub measured : size ≡ length file
   pub goes_on : 1 < length file → 0 < length rest
   pub short : length file ≤ 1 → bodies ≡ []
+  pub fit : AreShort bodies
 
 -- each image has the file as a read gives it
 abbrev pub IsAsRead : {D : Type 0} → Ghosts D → D → File → Type 0
@@ -134,3 +144,11 @@ pub record IsCut (bodies : List (List ℕ)) (file : List ℕ) : Type 0 where
   pub spelled : file ≡ blocks bodies ++ 1 ∷ tail
   pub long : 1 < length file
   pub short : (body : List ℕ) (gate : ℕ) (rest : List ℕ) → length body < 2 ^ 32 → file ≢ blocks (bodies ++ body ∷ []) ++ gate ∷ rest
+
+-- A file has one list of bodies at the most.
+abbrev pub HaveOneList : Type 0
+HaveOneList = (a b : List (List ℕ)) (file : List ℕ) → HasBodies a file → HasBodies b file → a ≡ b
+
+-- Where a log stands at the end of some bodies, these are the bodies of the file.
+abbrev pub EndHasBodies : Type 0
+EndHasBodies = (closed : Bool) (bodies : List (List ℕ)) (file : List ℕ) → AtEnd closed bodies file → HasBodies bodies file

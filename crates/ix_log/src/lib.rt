@@ -3,6 +3,8 @@
 #![tactic(auto)]
 
 mod head;
+mod laws;
 mod log;
 
+pub use laws::one_list;
 pub use log::{Log, LogFault};

@@ -89,6 +89,7 @@ impl Log {
         ensures reading { IfOk result (λ log. IsReading D.Disk log disk.new []) }
         ensures mounted { IfOk result (λ log. IsMounted D.Disk log disk.new) }
         ensures file { IfOk result (λ log. file_of log ≡ file) }
+        ensures counted { IfOk result (λ log. put_so_far log ≡ 0) }
         ensures same { D.Disk.seen disk.new ≡ D.Disk.seen disk.old }
         ensures images { Goes D.Disk disk.old disk.new Stays }
         ensures later { D.Disk.faults disk.old ≤ D.Disk.faults disk.new }
@@ -124,6 +125,7 @@ impl Log {
         ensures memory { (bodies : List (List ℕ)) → IsReading D.Disk self.old disk.old bodies → result ≡ Err LogFault.NoMemory →
             (image : Image) → D.Disk.seen disk.old ≡ Some image → IsCut bodies (bytes_in image (file_of self.old)) → ⊥ }
         ensures file { file_of self.new ≡ file_of self.old }
+        ensures counted { put_so_far self.new ≡ put_so_far self.old }
         ensures same { D.Disk.seen disk.new ≡ D.Disk.seen disk.old }
         ensures images { Goes D.Disk disk.old disk.new Stays }
         ensures later { D.Disk.faults disk.old ≤ D.Disk.faults disk.new }
@@ -155,7 +157,7 @@ impl Log {
         ensures shut { (bodies : List (List ℕ)) → IsAtEnd D.Disk self.old disk.old bodies →
             OnOk result (IsAtEnd D.Disk self.new disk.new bodies × (self.new.closed ≡ true)) }
         ensures images { (bodies : List (List ℕ)) → IsAtEnd D.Disk self.old disk.old bodies →
-            Goes D.Disk disk.old disk.new (InFile self.old.file (HasBodies bodies)) }
+            Goes D.Disk disk.old disk.new (InFile (file_of self.old) (HasBodies bodies)) }
         ensures counted { put_so_far self.new ≡ put_so_far self.old }
         ensures file { self.new.file ≡ self.old.file }
         ensures cause { HasCause (D.Disk.faults disk.old) (D.Disk.faults disk.new) result }
@@ -175,7 +177,7 @@ impl Log {
         ensures begun { (bodies : List (List ℕ)) → IsAtEnd D.Disk self.old disk.old bodies →
             OnOk result (IsPutting D.Disk self.new disk.new bodies []) }
         ensures images { (bodies : List (List ℕ)) → IsAtEnd D.Disk self.old disk.old bodies →
-            Goes D.Disk disk.old disk.new (InFile self.old.file (HasBodies bodies)) }
+            Goes D.Disk disk.old disk.new (InFile (file_of self.old) (HasBodies bodies)) }
         ensures counted { put_so_far self.new ≡ put_so_far self.old }
         ensures file { self.new.file ≡ self.old.file }
         ensures cause { HasCause (D.Disk.faults disk.old) (D.Disk.faults disk.new) result }
@@ -191,7 +193,7 @@ impl Log {
         ensures begun { (bodies : List (List ℕ)) (body : List ℕ) → IsReady D.Disk self.old disk.old bodies body →
             OnOk result (IsPutting D.Disk self.new disk.new bodies body) }
         ensures images { (bodies : List (List ℕ)) (body : List ℕ) → IsReady D.Disk self.old disk.old bodies body →
-            Goes D.Disk disk.old disk.new (InFile self.old.file (HasBodies bodies)) }
+            Goes D.Disk disk.old disk.new (InFile (file_of self.old) (HasBodies bodies)) }
         ensures counted { put_so_far self.new ≡ put_so_far self.old }
         ensures file { self.new.file ≡ self.old.file }
         ensures cause { HasCause (D.Disk.faults disk.old) (D.Disk.faults disk.new) result }
@@ -213,8 +215,8 @@ impl Log {
             OnOk result (IsPutting D.Disk self.new disk.new bodies (body ++ bytes.now)) }
         // Every image since the start of the call has the bodies from before, and all other files.
         ensures images { (bodies : List (List ℕ)) (body : List ℕ) → IsReady D.Disk self.old disk.old bodies body →
-            Goes D.Disk disk.old disk.new (InFile self.old.file (HasBodies bodies)) }
-        ensures file { self.new.file ≡ self.old.file }
+            Goes D.Disk disk.old disk.new (InFile (file_of self.old) (HasBodies bodies)) }
+        ensures file { file_of self.new ≡ file_of self.old }
         ensures cause { HasCause (D.Disk.faults disk.old) (D.Disk.faults disk.new) result }
     {
         self.ready(disk)?;
@@ -263,8 +265,8 @@ impl Log {
             OnOk result (IsAtEnd D.Disk self.new disk.new (bodies ++ body ∷ [])) }
         // Every image since the start of the call has the bodies from before, with this one or without, and all other files.
         ensures images { (bodies : List (List ℕ)) (body : List ℕ) → IsPutting D.Disk self.old disk.old bodies body →
-            Goes D.Disk disk.old disk.new (InFile self.old.file (WithOrWithout bodies body)) }
-        ensures file { self.new.file ≡ self.old.file }
+            Goes D.Disk disk.old disk.new (InFile (file_of self.old) (WithOrWithout bodies body)) }
+        ensures file { file_of self.new ≡ file_of self.old }
         ensures cause { HasCause (D.Disk.faults disk.old) (D.Disk.faults disk.new) result }
     {
         self.close(disk)?;

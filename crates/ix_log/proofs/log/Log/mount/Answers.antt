@@ -18,6 +18,7 @@ returns-clause-mounted g c = record {
       measured = c.in_ok-size.ensures.length image (sym c.length.ensures.same ∙ is);
       goes_on = λ lt. omega arith;
       short = λ le. refl;
+      fit = tt;
     };
   };
 }

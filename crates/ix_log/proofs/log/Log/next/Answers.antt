@@ -10,6 +10,7 @@ use Rattle.ix_log.proofs.log.Log.next.Goals as goal
 
 pub returns-in_ok-fill-in-Body-clause-next : goal.returns-in_ok-fill-in-Body-clause-next
 returns-in_ok-fill-in-Body-clause-next g c = λ bodies h.
+    let len_fits : c.in-Body.len < 4294967296 = search rules in
     let log = c.args.self.now in
     let mid = c.read.new.self in
     record {
@@ -28,8 +29,8 @@ returns-in_ok-fill-in-Body-clause-next g c = λ bodies h.
           let size : c.in_ok-n.n ≡ min 5 (length (drop log.at l)) = omega (arith, told.0, length-drop log.at l) in
           let left : c.saturating_sub-left.result ≡ length (drop log.at l) = omega (arith, c.saturating_sub-left.ensures, length-drop log.at l, on.measured) in
           let head = c.in-Body.ensures.head (drop log.at l) _ told.1 size left (rest_left bodies log.size log.at l on h.place more) in
-          let filled = c.in_ok-fill-in-Body.ensures.filled image at_mid (room_for bodies log.size log.at c.in-Body.len l on h.place more head) in
-          (body_here bodies log.size log.at c.in-Body.len l on h.place more head c.fill.new.out filled).1;
+          let filled = c.in_ok-fill-in-Body.ensures.filled image at_mid (room_for bodies log.size log.at c.in-Body.len l on h.place more head len_fits) in
+          (body_here bodies log.size log.at c.in-Body.len l on h.place more head len_fits c.fill.new.out filled).1;
     }
 
 pub returns-in_ok-fill-in-Body-clause-mounted : goal.returns-in_ok-fill-in-Body-clause-mounted
@@ -80,6 +81,7 @@ returns-in-Cut-clause-damaged g c = λ bodies h at is image told_is.
 
 pub returns-in_err-fill-in-Body-clause-memory : goal.returns-in_err-fill-in-Body-clause-memory
 returns-in_err-fill-in-Body-clause-memory g c = λ bodies h is image told_is cut.
+    let len_fits : c.in-Body.len < 4294967296 = search rules in
     let log = c.args.self.now in
     let l = bytes_in image log.file in
     let on = h.reads image told_is in
@@ -89,12 +91,12 @@ returns-in_err-fill-in-Body-clause-memory g c = λ bodies h is image told_is cut
     let left : c.saturating_sub-left.result ≡ length (drop log.at l) = omega (arith, c.saturating_sub-left.ensures, length-drop log.at l, on.measured) in
     let head = c.in-Body.ensures.head (drop log.at l) _ told.1 size left (rest_left bodies log.size log.at l on h.place more) in
     let body = take c.in-Body.len (drop (log.at + 5) l) in
-    let here = body_here bodies log.size log.at c.in-Body.len l on h.place more head body refl in
-    let len : c.in-Body.len < 4294967296 = search rules in
-    not_cut bodies body l log.size here.1 more (omega (arith, here.0, len)) cut
+    let here = body_here bodies log.size log.at c.in-Body.len l on h.place more head len_fits body refl in
+    not_cut bodies body l log.size here.1 more (omega (arith, here.0, len_fits)) cut
 
 pub returns-in_err-fill-in-Body-clause-damaged : goal.returns-in_err-fill-in-Body-clause-damaged
 returns-in_err-fill-in-Body-clause-damaged g c = λ bodies h at is image told_is.
+    let len_fits : c.in-Body.len < 4294967296 = search rules in
     let log = c.args.self.now in
     let l = bytes_in image log.file in
     let on = h.reads image told_is in
@@ -103,7 +105,7 @@ returns-in_err-fill-in-Body-clause-damaged g c = λ bodies h at is image told_is
     let size : c.in_ok-n.n ≡ min 5 (length (drop log.at l)) = omega (arith, told.0, length-drop log.at l) in
     let left : c.saturating_sub-left.result ≡ length (drop log.at l) = omega (arith, c.saturating_sub-left.ensures, length-drop log.at l, on.measured) in
     let head = c.in-Body.ensures.head (drop log.at l) _ told.1 size left (rest_left bodies log.size log.at l on h.place more) in
-    let room = room_for bodies log.size log.at c.in-Body.len l on h.place more head in
+    let room = room_for bodies log.size log.at c.in-Body.len l on h.place more head len_fits in
     let p = err_from_is_err_and c.from_residual-in_err-fill-in-Body.result c.from_residual-in_err-fill-in-Body.ensures.1 in
     let p1 = p.1 in
     let p2 = p.2 in
