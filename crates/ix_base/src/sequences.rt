@@ -54,6 +54,15 @@ impl<T> Sequence<T> {
         self.items
     }
 
+    /// An empty list over the same allocator. It takes no memory.
+    pub fn empty(&self) -> Self
+        ensures { result ≡ [] }
+    {
+        Sequence {
+            items: Vec::new(*self.items.allocator()),
+        }
+    }
+
     /// How many values there are.
     pub fn len(&self) -> usize
         ensures { result ≡ length self.now }

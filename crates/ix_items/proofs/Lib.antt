@@ -1,0 +1,5 @@
+pub mod Numbers
+pub mod Again
+pub mod Lists
+pub mod Rows
+pub mod RowsAgain

@@ -1,0 +1,190 @@
+use super::*;
+use ix_base::{Area, Bytes, File};
+use std::test::Fail;
+
+/// One item of each kind, spelled by hand from the layout.
+static ROWS: [&[u8]; 15] = [
+    // settings: none, and two of them
+    b"\x01\x00\x00\x00\x00",
+    b"\x01\x00\x00\x00\x02\x01\x00\x00\x00\x02s1\x00\x00\x00\x01k\x00\x00\x00\x01v\x04\x00\x00\x00\x00\x00\x00\x00\x00\x00\x00\x00\x00",
+    // run 1
+    b"\x02\x00\x00\x00\x00\x00\x00\x00\x01",
+    // moments 258 and -2
+    b"\x03\x00\x00\x00\x00\x00\x00\x01\x02\xff\xff\xff\xff\xff\xff\xff\xfe",
+    // channel "c" of host "h" and source "s", source type "t", no index, carry of two bytes
+    b"\x04\x00\x00\x00\x01c\x00\x00\x00\x01h\x00\x00\x00\x01s\x01\x00\x00\x00\x01t\x00\x00\x00\x00\x02\x00\xff",
+    // channel "c" ended
+    b"\x05\x00\x00\x00\x01c",
+    // bucket 7 of "main": warm, home/3, 4 bytes, 5 events, newest 6, oldest -1, used 8, touched 9
+    b"\x06\x00\x00\x00\x04main\x00\x00\x00\x00\x00\x00\x00\x07\x03\x02\x00\x00\x00\x00\x00\x00\x00\x03\x00\x00\x00\x00\x00\x00\x00\x04\x00\x00\x00\x00\x00\x00\x00\x05\x00\x00\x00\x00\x00\x00\x00\x06\xff\xff\xff\xff\xff\xff\xff\xff\x00\x00\x00\x00\x00\x00\x00\x08\x00\x00\x00\x00\x00\x00\x00\x09",
+    // bucket 7 of "main" gone
+    b"\x07\x00\x00\x00\x04main\x00\x00\x00\x00\x00\x00\x00\x07",
+    // ledger: bucket 7 of "main", rule cold, moment 1, 2 events, newest 3, oldest 4, 5 bytes, archive 6
+    b"\x08\x00\x00\x00\x04main\x00\x00\x00\x00\x00\x00\x00\x07\x02\x00\x00\x00\x00\x00\x00\x00\x01\x00\x00\x00\x00\x00\x00\x00\x02\x00\x00\x00\x00\x00\x00\x00\x03\x00\x00\x00\x00\x00\x00\x00\x04\x00\x00\x00\x00\x00\x00\x00\x05\x00\x00\x00\x00\x00\x00\x00\x06",
+    // the same with no archive
+    b"\x08\x00\x00\x00\x04main\x00\x00\x00\x00\x00\x00\x00\x07\x02\x00\x00\x00\x00\x00\x00\x00\x01\x00\x00\x00\x00\x00\x00\x00\x02\x00\x00\x00\x00\x00\x00\x00\x03\x00\x00\x00\x00\x00\x00\x00\x04\x00\x00\x00\x00\x00\x00\x00\x05\x00\x00\x00\x00\x00\x00\x00\x00",
+    // counts 1, 2, 3 and 65536
+    b"\x09\x00\x00\x00\x00\x00\x00\x00\x01\x00\x00\x00\x00\x00\x00\x00\x02\x00\x00\x00\x00\x00\x00\x00\x03\x00\x00\x00\x00\x00\x01\x00\x00",
+    // spot: path "/a", head "xy", offset 2
+    b"\x0a\x00\x00\x00\x02/a\x00\x00\x00\x02xy\x00\x00\x00\x00\x00\x00\x00\x02",
+    // next file 2^63
+    b"\x0b\x80\x00\x00\x00\x00\x00\x00\x00",
+    // removals: cold/1 and thawed/2
+    b"\x0c\x00\x00\x00\x02\x03\x00\x00\x00\x00\x00\x00\x00\x01\x05\x00\x00\x00\x00\x00\x00\x00\x02",
+    // next id of "main": 1
+    b"\x0d\x00\x00\x00\x04main\x00\x00\x00\x00\x00\x00\x00\x01",
+];
+
+#[test]
+fn each_kind_there_and_back(rt: HostRuntime) -> Result<(), Fail> {
+    for row in &ROWS {
+        // one byte more stands behind the item
+        let mut text = Bytes::copy_of(rt.alloc(), row)?;
+        text.push(1)?;
+        let (item, n) = read_item(rt.alloc(), text.as_slice())?;
+        assert_eq!(rt; n, row.len());
+        let mut out = Bytes::copy_of(rt.alloc(), b"ab")?;
+        write_item(&item, &mut out)?;
+        assert_eq!(rt; out.len(), row.len() + 2);
+        assert_eq!(rt; &out.as_slice()[..2], b"ab".as_slice());
+        assert_eq!(rt; &out.as_slice()[2..], *row);
+    }
+    Ok(())
+}
+
+fn bucket_of(item: Item) -> Option<Bucket> {
+    match item {
+        Item::Bucket { bucket, .. } => Some(bucket),
+        _ => None,
+    }
+}
+
+fn entry_of(item: Item) -> Option<Entry> {
+    match item {
+        Item::Ledger { entry } => Some(entry),
+        _ => None,
+    }
+}
+
+#[test]
+fn fields_of_a_bucket_stand_in_their_places(rt: HostRuntime) -> Result<(), Fail> {
+    let (item, _) = read_item(rt.alloc(), ROWS[6])?;
+    let file = File {
+        area: Area::Home,
+        number: 3,
+    };
+    let bucket = Bucket {
+        id: 7,
+        state: State::Warm,
+        file,
+        bytes: 4,
+        count: 5,
+        newest: 6,
+        oldest: -1,
+        used: 8,
+        touched: 9,
+    };
+    assert_eq!(rt; bucket_of(item), Some(bucket));
+    Ok(())
+}
+
+#[test]
+fn fields_of_a_ledger_entry_stand_in_their_places(rt: HostRuntime) -> Result<(), Fail> {
+    let (item, _) = read_item(rt.alloc(), ROWS[8])?;
+    let entry = entry_of(item).ok_or("no entry")?;
+    assert_eq!(rt; entry.index.as_slice(), b"main".as_slice());
+    assert_eq!(rt; (entry.id, entry.rule, entry.moment), (7, Rule::Cold, 1));
+    assert_eq!(rt; (entry.count, entry.newest, entry.oldest), (2, 3, 4));
+    assert_eq!(rt; (entry.bytes, entry.archive), (5, Some(6)));
+    Ok(())
+}
+
+#[test]
+fn fields_of_counts_stand_in_their_places(rt: HostRuntime) -> Result<(), Fail> {
+    let (item, _) = read_item(rt.alloc(), ROWS[10])?;
+    assert!(rt;
+        matches!(
+            item,
+            Item::Counts {
+                settled: 1,
+                nulled: 2,
+                dropped: 3,
+                placed: 65536,
+            }
+        )
+    );
+    let (item, _) = read_item(rt.alloc(), ROWS[3])?;
+    assert!(rt;
+        matches!(
+            item,
+            Item::Moments {
+                last: 258,
+                tick: -2
+            }
+        )
+    );
+    Ok(())
+}
+
+#[test]
+fn the_first_body_of_a_store(rt: HostRuntime) -> Result<(), Fail> {
+    let mut out = Bytes::new(rt.alloc());
+    let kept = KeptList::new(rt.alloc());
+    write_item(&Item::Settings { kept }, &mut out)?;
+    write_item(&Item::Run { run: 1 }, &mut out)?;
+    assert_eq!(rt;
+        out.as_slice(),
+        b"\x01\x00\x00\x00\x00\x02\x00\x00\x00\x00\x00\x00\x00\x01".as_slice()
+    );
+    one_item();
+    one_list();
+    Ok(())
+}
+
+/// No prefix of these is an item.
+static BAD: [&[u8]; 20] = [
+    b"",
+    // no kind
+    b"\x00",
+    b"\x0e\x00\x00\x00\x00\x00\x00\x00\x00",
+    b"\xff",
+    // fields cut short
+    b"\x01\x00\x00\x00",
+    b"\x02\x00\x00\x00\x00\x00\x00\x00",
+    b"\x05\x00\x00\x00\x02c",
+    b"\x05\x00\x00",
+    // lengths and counts that the bytes cannot hold
+    b"\x05\xff\xff\xff\xffc",
+    b"\x01\xff\xff\xff\xff\x01\x00\x00\x00\x00\x00\x00\x00\x00\x00\x00\x00\x00",
+    b"\x0c\xff\xff\xff\xff\x03\x00\x00\x00\x00\x00\x00\x00\x01",
+    b"\x0c\x00\x00\x00\x02\x03\x00\x00\x00\x00\x00\x00\x00\x01",
+    // settings of files 0 and 5
+    b"\x01\x00\x00\x00\x01\x00\x00\x00\x00\x00\x00\x00\x00\x00\x00\x00\x00\x00",
+    b"\x01\x00\x00\x00\x01\x05\x00\x00\x00\x00\x00\x00\x00\x00\x00\x00\x00\x00",
+    // an option whose flag is 2
+    b"\x04\x00\x00\x00\x01c\x00\x00\x00\x01h\x00\x00\x00\x01s\x02\x00\x00\x00\x01t\x00\x00\x00\x00\x00",
+    // areas 0 and 6
+    b"\x0c\x00\x00\x00\x01\x00\x00\x00\x00\x00\x00\x00\x00\x01",
+    b"\x0c\x00\x00\x00\x01\x06\x00\x00\x00\x00\x00\x00\x00\x01",
+    // states 0 and 6
+    b"\x06\x00\x00\x00\x00\x00\x00\x00\x00\x00\x00\x00\x07\x00\x02\x00\x00\x00\x00\x00\x00\x00\x03\x00\x00\x00\x00\x00\x00\x00\x04\x00\x00\x00\x00\x00\x00\x00\x05\x00\x00\x00\x00\x00\x00\x00\x06\xff\xff\xff\xff\xff\xff\xff\xff\x00\x00\x00\x00\x00\x00\x00\x08\x00\x00\x00\x00\x00\x00\x00\x09",
+    b"\x06\x00\x00\x00\x00\x00\x00\x00\x00\x00\x00\x00\x07\x06\x02\x00\x00\x00\x00\x00\x00\x00\x03\x00\x00\x00\x00\x00\x00\x00\x04\x00\x00\x00\x00\x00\x00\x00\x05\x00\x00\x00\x00\x00\x00\x00\x06\xff\xff\xff\xff\xff\xff\xff\xff\x00\x00\x00\x00\x00\x00\x00\x08\x00\x00\x00\x00\x00\x00\x00\x09",
+    // rule 4
+    b"\x08\x00\x00\x00\x00\x00\x00\x00\x00\x00\x00\x00\x07\x04\x00\x00\x00\x00\x00\x00\x00\x01\x00\x00\x00\x00\x00\x00\x00\x02\x00\x00\x00\x00\x00\x00\x00\x03\x00\x00\x00\x00\x00\x00\x00\x04\x00\x00\x00\x00\x00\x00\x00\x05\x00\x00\x00\x00\x00\x00\x00\x00",
+];
+
+#[test]
+fn bytes_that_are_no_item(rt: HostRuntime) {
+    for bad in &BAD {
+        assert!(rt; matches!(read_item(rt.alloc(), bad), Err(ItemFault::BadItem)));
+    }
+}
+
+#[test]
+fn each_cut_of_an_item_is_none(rt: HostRuntime) {
+    for row in &ROWS {
+        for n in 0..row.len() {
+            assert!(rt; matches!(read_item(rt.alloc(), &row[..n]), Err(ItemFault::BadItem)));
+        }
+    }
+}

@@ -1,0 +1,40 @@
+use Rattle.std.proofs.Common.{arith, length-append, inr, ◌++◌}
+use Rattle.ix_log.proofs.Bytes.{staged_long}
+use Rattle.ix_log.proofs.Put.{put_run, put_holds, put_reads}
+use Rattle.ix_log.proofs.log.Log.put.Goals as goal
+
+pub returns-in_err-write_at-clause-images : goal.returns-in_err-write_at-clause-images
+returns-in_err-write_at-clause-images g c = λ bodies body h.
+    put_run g.D.Disk _ _ _ _ bodies body c.args.bytes.now c.ready.new.self c.ready.ensures.file (c.in_ok-ready.ensures.begun bodies body h) c.write_at.ensures.images (c.ready.ensures.images bodies body h)
+
+pub returns-clause-images : goal.returns-clause-images
+returns-clause-images g c = λ bodies body h.
+    put_run g.D.Disk _ _ _ _ bodies body c.args.bytes.now c.ready.new.self c.ready.ensures.file (c.in_ok-ready.ensures.begun bodies body h) c.write_at.ensures.images (c.ready.ensures.images bodies body h)
+
+pub returns-clause-put : goal.returns-clause-put
+returns-clause-put g c = λ bodies body h.
+    let putting = c.in_ok-ready.ensures.begun bodies body h in
+    record {
+      place = putting.place;
+      begun = putting.begun;
+      closed = putting.closed;
+      len = omega (arith, putting.len, length-append body c.args.bytes.now);
+      images = put_holds g.D.Disk c.args.disk.now _ _ c.args.self.now.file bodies body c.args.bytes.now c.ready.new.self c.ready.ensures.file putting c.write_at.ensures.images;
+      seen = put_reads g.D.Disk c.args.disk.now _ _ c.args.self.now.file bodies body c.args.bytes.now c.ready.new.self c.ready.ensures.file putting c.write_at.ensures.images c.in_ok-write_at.ensures.written;
+    }
+
+pub write_at-requires : goal.write_at-requires
+write_at-requires g c = λ image is.
+    let u = c.requires.usable in
+    let p = c.in_ok-ready.ensures.begun u.bodies u.body u.ready in
+    omega (arith, p.place, p.len, staged_long u.bodies u.body _ (p.seen image is))
+
+pub returns-clause-begun : goal.returns-clause-begun
+returns-clause-begun g c =
+    let u = c.requires.usable in
+    record { bodies = u.bodies; body = u.body ++ c.args.bytes.now; putting = returns-clause-put g c u.bodies u.body u.ready }
+
+pub returns-clause-usable_still : goal.returns-clause-usable_still
+returns-clause-usable_still g c =
+    let u = c.requires.usable in
+    record { bodies = u.bodies; body = u.body ++ c.args.bytes.now; ready = inr (returns-clause-put g c u.bodies u.body u.ready) }
