@@ -1,0 +1,4 @@
+pub mod Ends
+pub mod Refining
+pub mod Spans
+pub mod RowsLemmas

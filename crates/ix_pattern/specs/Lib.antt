@@ -1,0 +1,4 @@
+pub mod Piece
+pub mod Ways
+pub mod Laws
+pub mod Rows
