@@ -1,8 +1,14 @@
 //! Patterns: their grammar, the tree of their pieces, and what the pieces mean.
 #![tactic(auto)]
 
+mod classes;
+mod counts;
 mod laws;
+mod lexer;
+mod modifiers;
 mod pattern;
+mod sets;
+mod tokens;
 
 pub use laws::edges_are_replaced;
 pub use pattern::{Node, Pattern};
