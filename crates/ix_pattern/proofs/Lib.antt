@@ -4,3 +4,5 @@ pub mod Spans
 pub mod RowsLemmas
 pub mod SetLemmas
 pub mod LexLemmas
+pub mod Grammar
+pub mod PartLemmas

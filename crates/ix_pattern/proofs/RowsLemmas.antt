@@ -2,9 +2,11 @@
 use Rattle.std.proofs.Common.{◌≡◌, ℕ, zero, suc, ◌+◌, ◌<◌, Bool, List, [], ◌∷◌, ◌++◌, length, get_or, Some, refl, sym, ◌∙◌, ap, subst, arith}
 use Rattle.std.specs.Prelude.{slice_get, unwrap_or}
 use Rattle.std.specs.Option.{option_map}
-use Rattle.std.proofs.lemmas.List.{length-append, length-map}
+use Rattle.std.proofs.lemmas.List.{length-append, length-map, map-append}
 use Rattle.std.proofs.lemmas.Option.{slice_get-map, slice_get_read}
 use Rattle.ix_pattern.specs.Piece.{Piece, nothing}
+use Rattle.ix_pattern.specs.Made.{Made}
+use Rattle.ix_pattern.specs.Parts.{Grew}
 use Rattle.ix_pattern.specs.declared.pattern.Node.{Node}
 use Rattle.ix_pattern.specs.declared.pattern.Node.TheVariants.{Nothing, Bytes, Start, Finish, Word, Seq, Either, Count, Group, Ahead}
 use Rattle.ix_pattern.specs.declared.pattern.Row.{Row}
@@ -95,3 +97,60 @@ pub node-inside : (rows : List Row) (shape : Shape) (k : ℕ) (row : Row) → ro
 node-inside rows shape k row is all lt read =
     subst (IsInside shape.groups row.node) (omega arith)
     (AllInside-at shape.groups 0 shape.rows k (row.node, row.set) all.inside (row-at rows shape.rows k row is lt read))
+
+pieces-push : (done : List Piece) (rows : Rows) (row : Node × List Bool) →
+    pieces_from done (rows ++ row ∷ []) ≡ pieces_from done rows ++ made (pieces_from done rows) row.0 row.1 ∷ []
+pieces-push done [] row = refl
+pieces-push done (first ∷ rows) row = pieces-push (done ++ made done first.0 first.1 ∷ []) rows row
+
+length-pieces : (done : List Piece) (rows : Rows) → length (pieces_from done rows) ≡ length done + length rows
+length-pieces done [] = omega arith
+length-pieces done (row ∷ rows) =
+    omega (arith, length-pieces (done ++ made done row.0 row.1 ∷ []) rows, length-append done (made done row.0 row.1 ∷ []))
+
+-- the piece that is added
+pub push-made : (rows : Rows) (row : Node × List Bool) → piece_at (rows ++ row ∷ []) (length rows) ≡ made (pieces rows) row.0 row.1
+push-made rows row =
+    ap (λ l. piece_in l (length rows)) (pieces-push [] rows row)
+    ∙ ap (λ n. piece_in (pieces rows ++ made (pieces rows) row.0 row.1 ∷ []) n) (sym (length-pieces [] rows ∙ omega arith))
+    ∙ ap (λ o. unwrap_or o nothing) (slice_get-seam (pieces rows) [] (made (pieces rows) row.0 row.1))
+
+-- those that were there stay
+pub push-stay : (rows : Rows) (row : Node × List Bool) (k : ℕ) → k < length rows → piece_at (rows ++ row ∷ []) k ≡ piece_at rows k
+push-stay rows row k h =
+    ap (λ l. piece_in l k) (pieces-push [] rows row)
+    ∙ ap (λ o. unwrap_or o nothing)
+    (slice_get-append (pieces rows) (made (pieces rows) row.0 row.1 ∷ []) k (omega (arith, length-pieces [] rows)))
+
+pub push-grew : (old new : Made) (row : Node × List Bool) → new.groups ≡ old.groups → new.rows ≡ old.rows ++ row ∷ [] → Grew old new
+push-grew old new row g e = record {
+  groups = g;
+  longer = omega (arith, ap length e, length-append old.rows (row ∷ []));
+  stay = λ k h. ap (λ r. piece_at r k) e ∙ push-stay old.rows row k h;
+}
+
+rows-more : (rows more : List Row) (row : Row) → more ≡ rows ++ row ∷ [] → rows_of more ≡ rows_of rows ++ (row.node, row.set) ∷ []
+rows-more rows more row e = ap rows_of e ∙ map-append (λ (r : Row). (r.node, r.set)) rows (row ∷ [])
+
+pub work-inside : (rows more : List Row) (groups : ℕ) (now : Made) (row : Row) → record { rows = rows_of rows; groups = groups } ≡ now →
+    AllInside groups 0 (rows_of rows) → IsInside now.groups row.node (length now.rows) → more ≡ rows ++ row ∷ [] →
+    AllInside groups 0 (rows_of more)
+work-inside rows more groups now row is all h e =
+    let g : now.groups ≡ groups = sym (ap (λ (m : Made). m.groups) is) in
+    let l : length now.rows ≡ 0 + length (rows_of rows) = ap (λ (m : Made). length m.rows) (sym is) ∙ omega arith in
+    rw (rows-more rows more row e)
+    (AllInside-push groups 0 (rows_of rows) row.node row.set all
+    (subst (λ n. IsInside n row.node (0 + length (rows_of rows))) g (subst (λ k. IsInside now.groups row.node k) l h)))
+
+pub work-made : (rows more : List Row) (groups : ℕ) (now : Made) (row : Row) (k : ℕ) → record { rows = rows_of rows; groups = groups } ≡ now →
+    k ≡ length now.rows → more ≡ rows ++ row ∷ [] → piece_at (rows_of more) k ≡ made (pieces now.rows) row.node row.set
+work-made rows more groups now row k is at e =
+    ap (λ r. piece_at r k) (rows-more rows more row e ∙ ap (λ (m : Made). m.rows ++ (row.node, row.set) ∷ []) is)
+    ∙ ap (piece_at (now.rows ++ (row.node, row.set) ∷ [])) at
+    ∙ push-made now.rows (row.node, row.set)
+
+pub work-grew : (rows more : List Row) (groups : ℕ) (now : Made) (row : Row) → record { rows = rows_of rows; groups = groups } ≡ now →
+    more ≡ rows ++ row ∷ [] → Grew now (record { rows = rows_of more; groups = groups })
+work-grew rows more groups now row is e =
+    push-grew now (record { rows = rows_of more; groups = groups }) (row.node, row.set) (ap (λ (m : Made). m.groups) is)
+    (rows-more rows more row e ∙ ap (λ (m : Made). m.rows ++ (row.node, row.set) ∷ []) is)

@@ -4,3 +4,7 @@ pub mod Laws
 pub mod Rows
 pub mod Sets
 pub mod Tokens
+pub mod Syntax
+pub mod Run
+pub mod Made
+pub mod Parts

@@ -6,9 +6,12 @@ mod counts;
 mod laws;
 mod lexer;
 mod modifiers;
+mod part;
+mod parts;
 mod pattern;
 mod sets;
 mod tokens;
+mod work;
 
 pub use laws::edges_are_replaced;
 pub use pattern::{Node, Pattern};

@@ -56,9 +56,9 @@ pub enum Node {
 
 /// A piece, and whether it takes each of the 256 bytes.
 #[derive(Clone, Copy)]
-struct Row {
-    node: Node,
-    set: [bool; 256],
+pub struct Row {
+    pub node: Node,
+    pub set: [bool; 256],
 }
 
 /// A pattern. Contracts see it as its pieces by number, with their sets, the number of its capturing groups, and its
