@@ -5,7 +5,7 @@ use Rattle.ix_pattern.specs.declared.tokens.Opening.{Opening}
 use Rattle.ix_pattern.specs.declared.tokens.Token.{Token}
 use Rattle.ix_pattern.specs.declared.tokens.Token.TheVariants.{Leaf, Open, Close, Bar, Count}
 use Rattle.ix_pattern.specs.Tokens.{◌>>=◌}
-use Rattle.ix_pattern.specs.Syntax.{Syntax, done, bar, leaf, paren, spelled, spelled_count, may_hold, is_allowed}
+use Rattle.ix_pattern.specs.Syntax.{Syntax, done, bar, leaf, paren, spelled, spelled_count, may_hold, is_plain, is_allowed}
 use Rattle.ix_pattern.specs.Run.{Level, level, State, state, opened_level, step, run, syntax_of}
 
 and-first : (a b : Bool) → (a && b) ≡ true → a ≡ true
@@ -30,10 +30,10 @@ runs (leaf l times rest) ts outer a e =
     (ap run (append_assoc (spelled_count times) (spelled rest) ts)
     ∙ run-count times (spelled rest ++ ts) rest outer (runs rest ts outer a e))
 runs (paren opening inside times rest) ts outer a e =
-    let holds : may_hold opening inside ≡ true = and-first (may_hold opening inside) (is_allowed inside) (and-first (may_hold opening inside && is_allowed inside) (is_allowed rest) a) in
-    let within : is_allowed inside ≡ true = and-second (may_hold opening inside) (is_allowed inside) (and-first (may_hold opening inside && is_allowed inside) (is_allowed rest) a) in
+    let holds : may_hold opening (is_plain inside) ≡ true = and-first (may_hold opening (is_plain inside)) (is_allowed inside) (and-first (may_hold opening (is_plain inside) && is_allowed inside) (is_allowed rest) a) in
+    let within : is_allowed inside ≡ true = and-second (may_hold opening (is_plain inside)) (is_allowed inside) (and-first (may_hold opening (is_plain inside) && is_allowed inside) (is_allowed rest) a) in
     let behind : run (spelled_count times ++ (spelled rest ++ ts)) ≡ Some (state (level times rest) outer) =
-    run-count times (spelled rest ++ ts) rest outer (runs rest ts outer (and-second (may_hold opening inside && is_allowed inside) (is_allowed rest) a) e) in
+    run-count times (spelled rest ++ ts) rest outer (runs rest ts outer (and-second (may_hold opening (is_plain inside) && is_allowed inside) (is_allowed rest) a) e) in
     let closed : run (Close ∷ (spelled_count times ++ (spelled rest ++ ts))) ≡ Some (state (level None done) (level times rest ∷ outer)) =
     ap (λ o. o >>= step Close) behind in
     let opens : run (spelled inside ++ Close ∷ (spelled_count times ++ (spelled rest ++ ts))) ≡ Some (state (level None inside) (level times rest ∷ outer)) =
@@ -67,7 +67,7 @@ pub record Spells (st : State) (ts : List Token) : Type 0 where
 step-open : (opening : Opening) (inside : Syntax) (outer : List Level) (st : State) → opened_level opening inside outer ≡ Some st →
     IsAllowedState (state (level None inside) outer) → Spells st (Open opening ∷ spelled_state (state (level None inside) outer))
 step-open opening inside [] st e a = absurd (cc)
-step-open opening inside (level times rest ∷ outer) st e a = by (may_hold opening inside) refl e
+step-open opening inside (level times rest ∷ outer) st e a = by (may_hold opening (is_plain inside)) refl e
   where
     regrouped : spelled_state (state (level None (paren opening inside times rest)) outer)
         ≡ Open opening ∷ spelled_state (state (level None inside) (level times rest ∷ outer))
@@ -76,7 +76,7 @@ step-open opening inside (level times rest ∷ outer) st e a = by (may_hold open
         (append_assoc (spelled inside) (Close ∷ (spelled_count times ++ spelled rest)) (spelled_levels outer)
         ∙ ap (λ l. spelled inside ++ Close ∷ l) (append_assoc (spelled_count times) (spelled rest) (spelled_levels outer)))
 
-    by : (b : Bool) → may_hold opening inside ≡ b →
+    by : (b : Bool) → may_hold opening (is_plain inside) ≡ b →
         (if b then Some (state (level None (paren opening inside times rest)) outer) else None) ≡ Some st →
         Spells st (Open opening ∷ spelled_state (state (level None inside) (level times rest ∷ outer)))
     by true h f =

@@ -6,3 +6,6 @@ pub mod SetLemmas
 pub mod LexLemmas
 pub mod Grammar
 pub mod PartLemmas
+pub mod FrameLemmas
+pub mod StepLemmas
+pub mod ReadLemmas

@@ -1,5 +1,5 @@
 -- What is known of a piece that is made of pieces.
-use Rattle.std.proofs.Common.{◌≡◌, ℕ, zero, suc, ◌+◌, ◌*◌, ◌<◌, ◌≤◌, min, max, Bool, true, false, not, ◌&&◌, ◌||◌, nat_lt, nat_le, length, List, Option, Some, None, refl, sym, ◌∙◌, ap, subst, arith}
+use Rattle.std.proofs.Common.{◌≡◌, ℕ, zero, suc, ◌+◌, ◌*◌, ◌<◌, ◌≤◌, min, max, Bool, true, false, not, ◌&&◌, ◌||◌, nat_lt, nat_le, length, List, Option, Some, None, Result, Ok, Err, IfOk, refl, sym, ◌∙◌, ap, subst, arith}
 use Rattle.std.specs.Prelude.{◌==◌}
 use Rattle.std.proofs.lemmas.Bool.Decides.{nat_tests}
 use Rattle.std.proofs.lemmas.Bool.{leb-true, leb-false}
@@ -12,7 +12,7 @@ use Rattle.ix_pattern.specs.declared.pattern.Node.TheVariants as node
 use Rattle.ix_pattern.specs.declared.tokens.Leaf.{Leaf}
 use Rattle.ix_pattern.specs.declared.tokens.Leaf.TheVariants as leaf
 use Rattle.ix_pattern.specs.Made.{Made}
-use Rattle.ix_pattern.specs.Parts.{IsPart, Grew, Adds}
+use Rattle.ix_pattern.specs.Parts.{IsPart, IsOptional, IsBelow, Grew, Adds}
 use Rattle.ix_pattern.specs.Syntax.{repeats_empty, is_none, times_weight, repeated_weight, repeated, least_of, most_of, leaf_piece}
 use Rattle.ix_pattern.specs.declared.part.Part.{Part}
 use Rattle.ix_pattern.specs.declared.tokens.Times.{Times}
@@ -62,13 +62,13 @@ seq-part old new part first rest p q v w g b is m t e f r =
     adds old new part (seq p q) (v + w) g b (cc (f.is, r.is)) (omega (arith, f.measured, r.measured))
     (t ∙ rw (f.takes, r.takes) (or-takes (least_length p) (least_length q))) (cc (f.empty, r.empty))
 
-pub either-part : (old new : Made) (part first other : Part) (p q : Piece) (v w : ℕ) → Grew old new → part.piece < length new.rows →
+pub either-part : (old new : Made) (part first other : Part) (more : ℕ) (p q : Piece) (v w : ℕ) → Grew old new → part.piece < length new.rows →
     piece_at new.rows part.piece ≡ either (piece_at old.rows first.piece) (piece_at old.rows other.piece) →
-    part.weight ≡ min (first.weight + other.weight + 1) 200001 → part.takes ≡ (first.takes && other.takes) → part.empty ≡ (first.empty || other.empty) →
-    IsPart old.rows first p v → IsPart old.rows other q w → Adds old new part (either p q) (v + w + 1)
+    part.weight ≡ min (first.weight + other.weight + more) 200001 → part.takes ≡ (first.takes && other.takes) → part.empty ≡ (first.empty || other.empty) →
+    IsPart old.rows first p v → IsPart old.rows other q w → Adds old new part (either p q) (v + w + more)
 unfolding least_length
-either-part old new part first other p q v w g b is m t e f r =
-    adds old new part (either p q) (v + w + 1) g b (cc (f.is, r.is)) (omega (arith, f.measured, r.measured))
+either-part old new part first other more p q v w g b is m t e f r =
+    adds old new part (either p q) (v + w + more) g b (cc (f.is, r.is)) (omega (arith, f.measured, r.measured))
     (t ∙ rw (f.takes, r.takes) (and-takes (least_length p) (least_length q))) (cc (f.empty, r.empty))
 
 -- a product that is above the limit stays so
@@ -146,3 +146,48 @@ leaf-made old new part l row same g b is m t e =
     with_row (leaf.Start lines) i k = leaf-part old new part (start lines) g b i m k e
     with_row (leaf.Finish lines) i k = leaf-part old new part (finish lines) g b i m k e
     with_row leaf.Word i k = leaf-part old new part word g b i m k e
+
+-- ---- nothing is added, or more is
+
+pub Grew-refl : (made : Made) → Grew made made
+Grew-refl made = record { groups = refl; longer = omega arith; stay = λ k h. refl }
+
+pub Grew-then : (old mid new : Made) → Grew old mid → Grew mid new → Grew old new
+Grew-then old mid new f g = record {
+  groups = g.groups ∙ f.groups;
+  longer = omega (arith, f.longer, g.longer);
+  stay = λ k h. g.stay k (omega (arith, f.longer, h)) ∙ f.stay k h;
+}
+
+pub lift-part : (old new : Made) (part : Part) (piece : Piece) (weight : ℕ) → Grew old new → IsPart old.rows part piece weight → IsPart new.rows part piece weight
+lift-part old new part piece weight g i = record {
+  below = omega (arith, g.longer, i.below);
+  is = g.stay part.piece i.below ∙ i.is;
+  measured = i.measured;
+  takes = i.takes;
+  empty = i.empty;
+}
+
+pub lift-optional : (old new : Made) (part : Option Part) (piece : Option Piece) (weight : Option ℕ) → Grew old new →
+    IsOptional old.rows part piece weight → IsOptional new.rows part piece weight
+lift-optional old new None piece weight g i = i
+lift-optional old new (Some part) piece weight g i = (i.0, i.1, i.2, i.3, lift-part old new part i.0 i.1 g i.4)
+
+pub below-optional : (old : Made) (part : Option Part) (piece : Option Piece) (weight : Option ℕ) → IsOptional old.rows part piece weight → IsBelow old.rows part
+below-optional old None piece weight i = tt
+below-optional old (Some part) piece weight i = i.4.below
+
+pub lift-below : (old new : Made) (part : Option Part) → Grew old new → IsBelow old.rows part → IsBelow new.rows part
+lift-below old new None g b = tt
+lift-below old new (Some part) g b = omega (arith, g.longer, b)
+
+pub same-part : (made : Made) (part : Part) (piece : Piece) (weight : ℕ) → IsPart made.rows part piece weight → Adds made made part piece weight
+same-part made part piece weight i = record { grew = Grew-refl made; added = i }
+
+pub then-adds : (old mid new : Made) (part : Part) (piece : Piece) (weight : ℕ) → Grew old mid → Adds mid new part piece weight → Adds old new part piece weight
+then-adds old mid new part piece weight g a = record { grew = Grew-then old mid new g a.grew; added = a.added }
+
+pub all-add : {E : Type 0} (old mid new : Made) (r : Result Part E) (piece : Piece) (weight : ℕ) → Grew old mid →
+    IfOk r (λ x. Adds mid new x piece weight) → IfOk r (λ x. Adds old new x piece weight)
+all-add old mid new (Ok x) piece weight g a = then-adds old mid new x piece weight g a
+all-add old mid new (Err e) piece weight g a = tt

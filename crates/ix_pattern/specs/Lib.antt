@@ -8,3 +8,4 @@ pub mod Syntax
 pub mod Run
 pub mod Made
 pub mod Parts
+pub mod Frames

@@ -24,3 +24,12 @@ pub record Grew (old new : Made) : Type 0 where
 pub record Adds (old new : Made) (part : Part) (piece : Piece) (weight : ℕ) : Type 0 where
   pub grew : Grew old new
   pub added : IsPart new.rows part piece weight
+
+-- so does the part where there is one
+abbrev pub IsOptional : Rows → Option Part → Option Piece → Option ℕ → Type 0
+IsOptional rows None piece weight = (piece ≡ None) × (weight ≡ None)
+IsOptional rows (Some part) piece weight = (p : Piece) × (w : ℕ) × (piece ≡ Some p) × (weight ≡ Some w) × IsPart rows part p w
+
+abbrev pub IsBelow : Rows → Option Part → Type 0
+IsBelow rows None = Unit {0}
+IsBelow rows (Some part) = part.piece < length rows

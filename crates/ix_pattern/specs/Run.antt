@@ -5,7 +5,7 @@ use Rattle.ix_pattern.specs.declared.tokens.Opening.{Opening}
 use Rattle.ix_pattern.specs.declared.tokens.Token.{Token}
 use Rattle.ix_pattern.specs.declared.tokens.Token.TheVariants.{Leaf, Open, Close, Bar, Count}
 use Rattle.ix_pattern.specs.Tokens.{◌>>=◌}
-use Rattle.ix_pattern.specs.Syntax.{Syntax, done, bar, leaf, paren, may_hold}
+use Rattle.ix_pattern.specs.Syntax.{Syntax, done, bar, leaf, paren, may_hold, is_plain}
 
 -- what has been read of one level of parentheses: its syntax, and before that a count whose piece is still to come
 pub data Level : Type 0 where
@@ -18,7 +18,7 @@ pub data State : Type 0 where
 abbrev pub opened_level : Opening → Syntax → List Level → Option State
 opened_level opening inside [] = None
 opened_level opening inside (level times rest ∷ outer) =
-    if may_hold opening inside then Some (state (level None (paren opening inside times rest)) outer) else None
+    if may_hold opening (is_plain inside) then Some (state (level None (paren opening inside times rest)) outer) else None
 
 abbrev pub step : Token → State → Option State
 step (Leaf l) (state (level times rest) outer) = Some (state (level None (leaf l times rest)) outer)

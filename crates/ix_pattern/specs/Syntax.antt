@@ -47,17 +47,18 @@ is_plain (bar rest) = is_plain rest
 is_plain (leaf l times rest) = is_plain rest
 is_plain (paren opening inside times rest) = is_plain_opening opening && is_plain inside && is_plain rest
 
-abbrev pub may_hold : Opening → Syntax → Bool
-may_hold Capture inside = true
-may_hold Plain inside = true
-may_hold (Ahead wanted) inside = is_plain inside
+-- what is inside may stand there, given whether it is plain
+abbrev pub may_hold : Opening → Bool → Bool
+may_hold Capture plain = true
+may_hold Plain plain = true
+may_hold (Ahead wanted) plain = plain
 
 -- what is inside a lookahead is plain
 abbrev pub is_allowed : Syntax → Bool
 is_allowed done = true
 is_allowed (bar rest) = is_allowed rest
 is_allowed (leaf l times rest) = is_allowed rest
-is_allowed (paren opening inside times rest) = may_hold opening inside && is_allowed inside && is_allowed rest
+is_allowed (paren opening inside times rest) = may_hold opening (is_plain inside) && is_allowed inside && is_allowed rest
 
 -- the text is a pattern with this syntax
 pub record IsSpelledBy (syntax : Syntax) (text : List ℕ) : Type 0 where
@@ -152,19 +153,20 @@ paren_weight Capture weight = weight + 2
 paren_weight Plain weight = weight
 paren_weight (Ahead wanted) weight = 256 * weight + 1
 
-abbrev pub alternatives_weight : ℕ → Option ℕ → ℕ
-alternatives_weight first None = first
-alternatives_weight first (Some others) = first + others + 1
+-- two or more alternatives weigh so much more than their sum
+abbrev pub alternatives_weight : ℕ → Option ℕ → ℕ → ℕ
+alternatives_weight first None more = first
+alternatives_weight first (Some others) more = first + others + more
 
 abbrev pub whole_weight : Halves ℕ → ℕ
-whole_weight h = alternatives_weight (unwrap_or h.first 1) h.others
+whole_weight h = alternatives_weight (unwrap_or h.first 1) h.others 1
 
 -- the weight of the first alternative, if it is not empty, and the sum of the others', if there are any
 abbrev pub weights : Syntax → Halves ℕ
 weights done = record { first = None; others = None }
 weights (bar rest) =
     let behind : Halves ℕ = weights rest in
-    record { first = None; others = Some (unwrap_or behind.first 1 + unwrap_or behind.others 0) }
+    record { first = None; others = Some (alternatives_weight (unwrap_or behind.first 1) behind.others 0) }
 weights (leaf l times rest) =
     let behind : Halves ℕ = weights rest in
     record { first = Some (repeated_weight 1 times + unwrap_or behind.first 0); others = behind.others }

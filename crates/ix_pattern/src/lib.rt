@@ -3,13 +3,17 @@
 
 mod classes;
 mod counts;
+mod frames;
 mod laws;
 mod lexer;
 mod modifiers;
 mod part;
 mod parts;
 mod pattern;
+mod reader;
+mod reading;
 mod sets;
+mod steps;
 mod tokens;
 mod work;
 

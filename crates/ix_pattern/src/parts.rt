@@ -1,9 +1,9 @@
 //! Pieces that are made of pieces.
 
-ghost use Rattle.std.specs.Prelude.{◌≡◌, ◌+◌, ◌<◌, ◌≤◌, ◌*◌, ℕ, length, IfOk, min, unwrap_or, Some, None};
+ghost use Rattle.std.specs.Prelude.{◌≡◌, ◌+◌, ◌<◌, ◌≤◌, ◌*◌, ℕ, Option, length, IfOk, min, unwrap_or, Some, None};
 ghost use Rattle.ix_pattern.specs.Piece.{Piece, nothing, seq, either, count, group, ahead};
-ghost use Rattle.ix_pattern.specs.Syntax.{leaf_piece, is_none, least_of, most_of, repeated, paren_piece, joined, times_weight, paren_weight, repeated_weight};
-ghost use Rattle.ix_pattern.specs.Parts.{IsPart, Adds};
+ghost use Rattle.ix_pattern.specs.Syntax.{opened, joined, leaf_piece, is_none, least_of, most_of, repeated, paren_piece, times_weight, paren_weight, repeated_weight, alternatives, alternatives_weight};
+ghost use Rattle.ix_pattern.specs.Parts.{IsPart, IsOptional, IsBelow, Grew, Adds};
 
 use crate::part::Part;
 use crate::pattern::Node;
@@ -42,8 +42,9 @@ pub fn leaf(work: &mut Work, leaf: Leaf) -> Result<Part, NoMemory>
 }
 
 /// An empty sequence.
-pub fn nothing(work: &mut Work) -> Result<Part, NoMemory>
-    ensures { IfOk result (λ part. Adds work.old work.new part nothing 1) }
+fn nothing(work: &mut Work) -> Result<Part, NoMemory>
+    ensures kept { IfOk result (λ x. Grew work.old work.new × (x.piece < length work.new.rows)) }
+    ensures meaning { IfOk result (λ part. Adds work.old work.new part nothing 1) }
 {
     let piece = work.push(Node::Nothing, none())?;
     Ok(Part {
@@ -55,10 +56,11 @@ pub fn nothing(work: &mut Work) -> Result<Part, NoMemory>
 }
 
 /// One piece behind the other.
-pub fn sequence(work: &mut Work, first: Part, rest: Part) -> Result<Part, NoMemory>
+fn sequence(work: &mut Work, first: Part, rest: Part) -> Result<Part, NoMemory>
     requires first { first.piece < length work.old.rows }
     requires rest { rest.piece < length work.old.rows }
-    ensures { (p q : Piece) → (v w : ℕ) → IsPart work.old.rows first p v → IsPart work.old.rows rest q w →
+    ensures kept { IfOk result (λ x. Grew work.old work.new × (x.piece < length work.new.rows)) }
+    ensures meaning { (p q : Piece) → (v w : ℕ) → IsPart work.old.rows first p v → IsPart work.old.rows rest q w →
         IfOk result (λ part. Adds work.old work.new part (seq p q) (v + w)) }
 {
     let node = Node::Seq {
@@ -74,12 +76,14 @@ pub fn sequence(work: &mut Work, first: Part, rest: Part) -> Result<Part, NoMemo
     })
 }
 
-/// One piece or the other. The weight is the sum alone.
-pub fn either(work: &mut Work, first: Part, other: Part) -> Result<Part, NoMemory>
+/// One piece or the other. It weighs so much more than their sum.
+fn either(work: &mut Work, first: Part, other: Part, more: u64) -> Result<Part, NoMemory>
     requires first { first.piece < length work.old.rows }
     requires other { other.piece < length work.old.rows }
-    ensures { (p q : Piece) → (v w : ℕ) → IsPart work.old.rows first p v → IsPart work.old.rows other q w →
-        IfOk result (λ part. Adds work.old work.new part (either p q) (v + w + 1)) }
+    requires more { more ≤ 1 }
+    ensures kept { IfOk result (λ x. Grew work.old work.new × (x.piece < length work.new.rows)) }
+    ensures meaning { (p q : Piece) → (v w : ℕ) → IsPart work.old.rows first p v → IsPart work.old.rows other q w →
+        IfOk result (λ part. Adds work.old work.new part (either p q) (v + w + more)) }
 {
     let node = Node::Either {
         first: first.piece,
@@ -88,7 +92,7 @@ pub fn either(work: &mut Work, first: Part, other: Part) -> Result<Part, NoMemor
     let piece = work.push(node, none())?;
     Ok(Part {
         piece,
-        weight: limited(first.weight + other.weight + 1),
+        weight: limited(first.weight + other.weight + more),
         takes: first.takes & other.takes,
         empty: first.empty | other.empty,
     })
@@ -135,9 +139,10 @@ fn times_weight(weight: u64, times: Times) -> u64
 }
 
 /// A piece with a count.
-pub fn repeat(work: &mut Work, inside: Part, repeat: Repeat) -> Result<Part, NoMemory>
+fn repeat(work: &mut Work, inside: Part, repeat: Repeat) -> Result<Part, NoMemory>
     requires { inside.piece < length work.old.rows }
-    ensures { (p : Piece) → (w : ℕ) → IsPart work.old.rows inside p w →
+    ensures kept { IfOk result (λ x. Grew work.old work.new × (x.piece < length work.new.rows)) }
+    ensures meaning { (p : Piece) → (w : ℕ) → IsPart work.old.rows inside p w →
         IfOk result (λ part. Adds work.old work.new part (repeated p (Some repeat)) (repeated_weight w (Some repeat))) }
 {
     let least = least_of(repeat.times);
@@ -162,7 +167,8 @@ fn group(work: &mut Work, number: usize, inside: Part) -> Result<Part, NoMemory>
     requires inside { inside.piece < length work.old.rows }
     requires counted { 0 < number }
     requires known { number ≤ work.old.groups }
-    ensures { (p : Piece) → (w : ℕ) → IsPart work.old.rows inside p w →
+    ensures kept { IfOk result (λ x. Grew work.old work.new × (x.piece < length work.new.rows)) }
+    ensures meaning { (p : Piece) → (w : ℕ) → IsPart work.old.rows inside p w →
         IfOk result (λ part. Adds work.old work.new part (group number p) (w + 2)) }
 {
     let node = Node::Group {
@@ -181,7 +187,8 @@ fn group(work: &mut Work, number: usize, inside: Part) -> Result<Part, NoMemory>
 /// A lookahead.
 fn ahead(work: &mut Work, wanted: bool, inside: Part) -> Result<Part, NoMemory>
     requires { inside.piece < length work.old.rows }
-    ensures { (p : Piece) → (w : ℕ) → IsPart work.old.rows inside p w →
+    ensures kept { IfOk result (λ x. Grew work.old work.new × (x.piece < length work.new.rows)) }
+    ensures meaning { (p : Piece) → (w : ℕ) → IsPart work.old.rows inside p w →
         IfOk result (λ part. Adds work.old work.new part (ahead p wanted) (256 * w + 1)) }
 {
     let node = Node::Ahead {
@@ -195,4 +202,85 @@ fn ahead(work: &mut Work, wanted: bool, inside: Part) -> Result<Part, NoMemory>
         takes: false,
         empty: inside.empty,
     })
+}
+
+/// The piece with its count, where it has one.
+pub fn counted(work: &mut Work, part: Part, waiting: Option<Repeat>) -> Result<Part, NoMemory>
+    requires { part.piece < length work.old.rows }
+    ensures kept { IfOk result (λ x. Grew work.old work.new × (x.piece < length work.new.rows)) }
+    ensures meaning { (p : Piece) → (w : ℕ) → IsPart work.old.rows part p w →
+        IfOk result (λ x. Adds work.old work.new x (repeated p waiting) (repeated_weight w waiting)) }
+{
+    match waiting {
+        None => Ok(part),
+        Some(times) => repeat(work, part, times),
+    }
+}
+
+/// The piece before the rest of its sequence.
+pub fn joined(work: &mut Work, part: Part, rest: Option<Part>) -> Result<Part, NoMemory>
+    requires part { part.piece < length work.old.rows }
+    requires rest { IsBelow work.old.rows rest }
+    ensures kept { IfOk result (λ x. Grew work.old work.new × (x.piece < length work.new.rows)) }
+    ensures meaning { (p : Piece) → (w : ℕ) → (q : Option Piece) → (v : Option ℕ) → IsPart work.old.rows part p w → IsOptional work.old.rows rest q v →
+        IfOk result (λ x. Adds work.old work.new x (joined p q) (w + unwrap_or v 0)) }
+{
+    match rest {
+        None => Ok(part),
+        Some(rest) => sequence(work, part, rest),
+    }
+}
+
+/// The first alternative, which may be empty.
+pub fn first_of(work: &mut Work, part: Option<Part>) -> Result<Part, NoMemory>
+    requires { IsBelow work.old.rows part }
+    ensures kept { IfOk result (λ x. Grew work.old work.new × (x.piece < length work.new.rows)) }
+    ensures meaning { (q : Option Piece) → (v : Option ℕ) → IsOptional work.old.rows part q v →
+        IfOk result (λ x. Adds work.old work.new x (unwrap_or q nothing) (unwrap_or v 1)) }
+{
+    match part {
+        None => nothing(work),
+        Some(part) => Ok(part),
+    }
+}
+
+/// The alternative before the others. It weighs so much more than their sum.
+pub fn alternatives(
+    work: &mut Work,
+    first: Part,
+    others: Option<Part>,
+    more: u64,
+) -> Result<Part, NoMemory>
+    requires first { first.piece < length work.old.rows }
+    requires others { IsBelow work.old.rows others }
+    requires more { more ≤ 1 }
+    ensures kept { IfOk result (λ x. Grew work.old work.new × (x.piece < length work.new.rows)) }
+    ensures meaning { (p : Piece) → (w : ℕ) → (q : Option Piece) → (v : Option ℕ) → IsPart work.old.rows first p w → IsOptional work.old.rows others q v →
+        IfOk result (λ x. Adds work.old work.new x (alternatives p q) (alternatives_weight w v more)) }
+{
+    match others {
+        None => Ok(first),
+        Some(others) => either(work, first, others, more),
+    }
+}
+
+/// What is in parentheses. A capturing group has this number.
+pub fn parenthesis(
+    work: &mut Work,
+    opening: Opening,
+    number: usize,
+    inside: Part,
+) -> Result<Part, NoMemory>
+    requires inside { inside.piece < length work.old.rows }
+    requires number { opened opening ≤ number }
+    requires known { number ≤ work.old.groups }
+    ensures kept { IfOk result (λ x. Grew work.old work.new × (x.piece < length work.new.rows)) }
+    ensures meaning { (p : Piece) → (w : ℕ) → IsPart work.old.rows inside p w →
+        IfOk result (λ x. Adds work.old work.new x (paren_piece opening number p) (paren_weight opening w)) }
+{
+    match opening {
+        Opening::Capture => group(work, number, inside),
+        Opening::Plain => Ok(inside),
+        Opening::Ahead { wanted } => ahead(work, wanted, inside),
+    }
 }

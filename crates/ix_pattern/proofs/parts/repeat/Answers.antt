@@ -5,8 +5,8 @@ use Rattle.ix_pattern.specs.Syntax.{least_of}
 use Rattle.ix_pattern.proofs.PartLemmas.{count-part}
 use Rattle.ix_pattern.proofs.parts.repeat.Goals as goal
 
-pub returns : goal.returns
-returns c =
+pub returns-clause-meaning : goal.returns-clause-meaning
+returns-clause-meaning c =
     λ p w i. count-part _ _ _ _ _ p w c.in_ok-piece.ensures.grew c.in_ok-piece.ensures.number.1
     (c.in_ok-piece.ensures.made
     ∙ ap (λ n. count (piece_at c.args.work.now.rows c.args.inside.piece) n c.most_of-most.result c.args.repeat.lazy) c.least_of-least.ensures
