@@ -9,3 +9,5 @@ pub mod PartLemmas
 pub mod FrameLemmas
 pub mod StepLemmas
 pub mod ReadLemmas
+pub mod ReadsLemmas
+pub mod ParseLemmas

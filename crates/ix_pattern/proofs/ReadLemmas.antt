@@ -17,7 +17,7 @@ captures-snoc : (xs : List Token) (t : Token) → captures (xs ++ t ∷ []) ≡ 
 captures-snoc [] t = omega arith
 captures-snoc (x ∷ xs) t = omega (arith, captures-snoc xs t)
 
-captures-append : (xs ys : List Token) → captures (xs ++ ys) ≡ captures xs + captures ys
+pub captures-append : (xs ys : List Token) → captures (xs ++ ys) ≡ captures xs + captures ys
 captures-append [] ys = omega arith
 captures-append (x ∷ xs) ys = omega (arith, captures-append xs ys)
 

@@ -1,8 +1,8 @@
 -- Each tree of the list is made of its node, and the list may grow.
-use Rattle.std.proofs.Common.{◌≡◌, ℕ, zero, suc, ◌+◌, ◌<◌, Bool, List, [], ◌∷◌, ◌++◌, length, get_or, Some, refl, sym, ◌∙◌, ap, subst, arith}
+use Rattle.std.proofs.Common.{◌≡◌, ℕ, zero, suc, ◌+◌, ◌<◌, Bool, List, [], ◌∷◌, ◌++◌, length, take, drop, get_or, Some, refl, sym, ◌∙◌, ap, subst, arith}
 use Rattle.std.specs.Prelude.{slice_get, unwrap_or}
 use Rattle.std.specs.Option.{option_map}
-use Rattle.std.proofs.lemmas.List.{length-append, length-map, map-append}
+use Rattle.std.proofs.lemmas.List.{length-append, length-map, map-append, length-take-le, take-append-drop, take-map}
 use Rattle.std.proofs.lemmas.Option.{slice_get-map, slice_get_read}
 use Rattle.ix_pattern.specs.Piece.{Piece, nothing}
 use Rattle.ix_pattern.specs.Made.{Made}
@@ -10,7 +10,7 @@ use Rattle.ix_pattern.specs.Parts.{Grew}
 use Rattle.ix_pattern.specs.declared.pattern.Node.{Node}
 use Rattle.ix_pattern.specs.declared.pattern.Node.TheVariants.{Nothing, Bytes, Start, Finish, Word, Seq, Either, Count, Group, Ahead}
 use Rattle.ix_pattern.specs.declared.pattern.Row.{Row}
-use Rattle.ix_pattern.specs.Rows.{Rows, rows_of, piece_at, piece_in, made, pieces_from, pieces, IsInside, AllInside, set_at, set_of, node_of, node_at, Shape, IsPattern}
+use Rattle.ix_pattern.specs.Rows.{Rows, tree, rows_of, piece_at, piece_in, made, pieces_from, pieces, IsInside, AllInside, set_at, set_of, node_of, node_at, Shape, IsPattern}
 
 pub AllInside-push : (groups : ℕ) (k : ℕ) (rows : Rows) (node : Node) (set : List Bool) → AllInside groups k rows → IsInside groups node (k + length rows) →
     AllInside groups k (rows ++ (node, set) ∷ [])
@@ -154,3 +154,39 @@ pub work-grew : (rows more : List Row) (groups : ℕ) (now : Made) (row : Row) �
 work-grew rows more groups now row is e =
     push-grew now (record { rows = rows_of more; groups = groups }) (row.node, row.set) (ap (λ (m : Made). m.groups) is)
     (rows-more rows more row e ∙ ap (λ (m : Made). m.rows ++ (row.node, row.set) ∷ []) is)
+
+pieces-behind : (done : List Piece) (xs ys : Rows) → pieces_from done (xs ++ ys) ≡ pieces_from (pieces_from done xs) ys
+pieces-behind done [] ys = refl
+pieces-behind done (x ∷ xs) ys = pieces-behind (done ++ made done x.0 x.1 ∷ []) xs ys
+
+-- what stands behind changes no piece
+pub piece-front : (xs ys : Rows) (k : ℕ) → k < length xs → piece_at (xs ++ ys) k ≡ piece_at xs k
+piece-front xs ys k h =
+    ap (λ l. piece_in l k) (pieces-behind [] xs ys) ∙ piece_in-from (pieces xs) ys k (omega (arith, length-pieces [] xs))
+
+AllInside-front : (groups k : ℕ) (xs ys : Rows) → AllInside groups k (xs ++ ys) → AllInside groups k xs
+AllInside-front groups k [] ys all = tt
+AllInside-front groups k (x ∷ xs) ys all = (all.0, AllInside-front groups (suc k) xs ys all.1)
+
+-- the pieces up to one of them, of which that is the whole
+pub cut-tree : (rows : List Row) (made : Made) (k : ℕ) → rows_of rows ≡ made.rows → k < length made.rows →
+    tree (rows_of (take (k + 1) rows)) ≡ piece_at made.rows k
+cut-tree rows made k is lt =
+    let cut : rows_of (take (k + 1) rows) ≡ take (k + 1) made.rows =
+    sym (take-map (λ (r : Row). (r.node, r.set)) (k + 1) rows) ∙ ap (take (k + 1)) is in
+    let long : length (take (k + 1) made.rows) ≡ k + 1 = length-take-le (k + 1) made.rows (omega arith) in
+    ap tree cut
+    ∙ ap (piece_at (take (k + 1) made.rows)) (omega (arith, long))
+    ∙ sym (piece-front (take (k + 1) made.rows) (drop (k + 1) made.rows) k (omega (arith, long)))
+    ∙ ap (λ r. piece_at r k) (take-append-drop (k + 1) made.rows)
+
+pub cut-rooted : (rows : List Row) (made : Made) (k : ℕ) → rows_of rows ≡ made.rows → k < length made.rows → 0 < length (rows_of (take (k + 1) rows))
+cut-rooted rows made k is lt =
+    let cut : rows_of (take (k + 1) rows) ≡ take (k + 1) made.rows =
+    sym (take-map (λ (r : Row). (r.node, r.set)) (k + 1) rows) ∙ ap (take (k + 1)) is in
+    omega (arith, ap length cut, length-take-le (k + 1) made.rows (omega arith))
+
+pub cut-inside : (rows : List Row) (groups : ℕ) (n : ℕ) → AllInside groups 0 (rows_of rows) → AllInside groups 0 (rows_of (take n rows))
+cut-inside rows groups n all =
+    subst (AllInside groups 0) (take-map (λ (r : Row). (r.node, r.set)) n rows)
+    (AllInside-front groups 0 (take n (rows_of rows)) (drop n (rows_of rows)) (subst (AllInside groups 0) (sym (take-append-drop n (rows_of rows))) all))

@@ -49,7 +49,7 @@ close-stepped old outer here e m = record { goes = goes; left = λ t. add-zero o
 
 -- ---- an opening parenthesis
 
-snoc-nil : {A : Type 0} (xs : List A) (x : A) → xs ++ x ∷ [] ≡ [] → ⊥
+pub snoc-nil : {A : Type 0} (xs : List A) (x : A) → xs ++ x ∷ [] ≡ [] → ⊥
 snoc-nil [] x e = absurd (cc)
 snoc-nil (y ∷ xs) x e = absurd (cc)
 

@@ -9,3 +9,5 @@ pub mod Run
 pub mod Made
 pub mod Parts
 pub mod Frames
+pub mod Reads
+pub mod Parsed

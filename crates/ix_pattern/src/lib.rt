@@ -3,6 +3,7 @@
 
 mod classes;
 mod counts;
+mod faults;
 mod frames;
 mod laws;
 mod lexer;
@@ -10,6 +11,7 @@ mod modifiers;
 mod part;
 mod parts;
 mod pattern;
+mod read;
 mod reader;
 mod reading;
 mod sets;
@@ -17,5 +19,6 @@ mod steps;
 mod tokens;
 mod work;
 
-pub use laws::edges_are_replaced;
+pub use faults::{BreakFault, PatternFault};
+pub use laws::{edges_are_replaced, one_syntax};
 pub use pattern::{Node, Pattern};

@@ -1,8 +1,8 @@
 //! Patterns.
 
-ghost use Rattle.std.specs.Prelude.{◌≡◌, ◌+◌, ◌<◌, length, Some, IfOk};
-ghost use Rattle.ix_pattern.specs.Piece.{in_set, IsSound};
-ghost use Rattle.ix_pattern.specs.Rows.{pieces, piece_at, node_at, set_at, made, tree, IsInside};
+ghost use Rattle.std.specs.Prelude.{◌≡◌, ◌+◌, ◌<◌, length, nat_lt, Some, IfOk};
+ghost use Rattle.ix_pattern.specs.Piece.{in_set, least_length, IsSound};
+ghost use Rattle.ix_pattern.specs.Rows.{pieces, piece_at, node_at, set_at, made, tree, IsInside, IsPattern, rows_of};
 
 use ix_base::{NoMemory, Steps};
 use std::marker::Model;
@@ -68,19 +68,44 @@ pub struct Pattern {
     rows: Vec<Row>,
     groups: usize,
     weight: u64,
+    takes: bool,
 }
 
 impl Model for Pattern {
-    ghost use Rattle.ix_pattern.specs.Rows.{Shape, IsPattern, rows_of};
+    ghost use Rattle.std.specs.Prelude.{◌≡◌, nat_lt};
+    ghost use Rattle.ix_pattern.specs.Piece.{least_length};
+    ghost use Rattle.ix_pattern.specs.Rows.{Shape, IsPattern, rows_of, tree};
 
     ghost Value = { Shape };
 
     ghost view = { λ p. record { rows = rows_of p.rows.items; groups = p.groups; weight = p.weight } };
 
-    ghost invariant = { λ p. IsPattern (record { rows = rows_of p.rows.items; groups = p.groups; weight = p.weight }) };
+    ghost invariant = { λ p. IsPattern (record { rows = rows_of p.rows.items; groups = p.groups; weight = p.weight })
+        × (p.takes ≡ nat_lt 0 (least_length (tree (rows_of p.rows.items)))) };
 }
 
 impl Pattern {
+    /// The pattern of these pieces, the last of which is the whole; `takes` tells whether it takes at least one byte.
+    pub(crate) fn from_rows(rows: Vec<Row>, groups: usize, weight: u64, takes: bool) -> Pattern
+        requires pattern { IsPattern (record { rows = rows_of rows.items; groups = groups; weight = weight }) }
+        requires takes { takes ≡ nat_lt 0 (least_length (tree (rows_of rows.items))) }
+        ensures { result ≡ record { rows = rows_of rows.items; groups = groups; weight = weight } }
+    {
+        Pattern {
+            rows,
+            groups,
+            weight,
+            takes,
+        }
+    }
+
+    /// Whether a match takes at least one byte.
+    pub(crate) fn takes(&self) -> bool
+        ensures { result ≡ nat_lt 0 (least_length (tree self.now.rows)) }
+    {
+        self.takes
+    }
+
     /// How many capturing groups it has, at most 32.
     pub fn groups(&self) -> usize
         ensures { result ≡ self.now.groups }
@@ -132,6 +157,7 @@ impl Pattern {
             rows,
             groups: self.groups,
             weight: self.weight,
+            takes: self.takes,
         })
     }
 }

@@ -86,7 +86,7 @@ fn before(work: &mut Work, part: Part, frame: Frame) -> Result<Part, NoMemory>
 }
 
 /// All alternatives of a level. They weigh so much more than their sum.
-fn whole(work: &mut Work, frame: Frame, more: u64) -> Result<Part, NoMemory>
+pub fn whole(work: &mut Work, frame: Frame, more: u64) -> Result<Part, NoMemory>
     requires holds { Holds work.old.rows frame }
     requires more { more ≤ 1 }
     ensures kept { IfOk result (λ x. Grew work.old work.new × (x.piece < length work.new.rows)) }

@@ -1,7 +1,7 @@
 //! The pieces of a pattern while it is read.
 
 ghost use Rattle.std.specs.Prelude.{◌≡◌, ◌+◌, ◌<◌, length, IfOk, OnOk};
-ghost use Rattle.ix_pattern.specs.Rows.{pieces, piece_at, made, IsInside, AllInside, rows_of};
+ghost use Rattle.ix_pattern.specs.Rows.{pieces, piece_at, made, tree, IsInside, AllInside, rows_of};
 ghost use Rattle.ix_pattern.specs.Parts.{Grew};
 
 use crate::pattern::{Node, Row};
@@ -51,12 +51,22 @@ impl Work {
         Ok(number)
     }
 
-    /// The rows, for a pattern.
-    pub fn into_rows(self) -> (Vec<Row>, usize)
-        ensures rows { let x = result in rows_of x.0.items ≡ self.rows }
-        ensures groups { let x = result in x.1 ≡ self.groups }
-        ensures inside { AllInside self.groups 0 self.rows }
+    /// How many capturing groups the pattern has.
+    pub fn groups(&self) -> usize
+        ensures { result ≡ self.now.groups }
     {
-        (self.rows, self.groups)
+        self.groups
+    }
+
+    /// The pieces up to this one, which is the whole.
+    pub fn into_rows(self, root: usize) -> Vec<Row>
+        requires { root < length self.rows }
+        ensures tree { tree (rows_of result.items) ≡ piece_at self.rows root }
+        ensures rooted { 0 < length (rows_of result.items) }
+        ensures inside { AllInside self.groups 0 (rows_of result.items) }
+    {
+        let mut rows = self.rows;
+        rows.truncate(root + 1);
+        rows
     }
 }
