@@ -34,6 +34,8 @@ fn holds<D: Disk>(rt: &impl Abort, disk: &mut D, file: File, want: &[u8]) -> Res
 }
 
 fn run<D: Disk>(rt: &impl Abort, disk: &mut D) -> Result<(), Fail> {
+    disk.remove(FROM)?;
+    disk.remove(TO)?;
     put(disk, FROM, TEXT)?;
     put(disk, TO, b"0123456789!?")?;
     for (len, size, want) in [
@@ -51,7 +53,10 @@ fn run<D: Disk>(rt: &impl Abort, disk: &mut D) -> Result<(), Fail> {
         holds(rt, disk, FROM, TEXT)?;
     }
     for len in [11, u64::MAX] {
-        assert_eq!(*rt; copy(disk, FROM, TO, len, &mut [0u8; 4]), Err(CopyFault::Short { at: 10 }));
+        assert_eq!(*rt;
+            copy(disk, FROM, TO, len, &mut [0u8; 4]),
+            Err(CopyFault::Short { at: 10 })
+        );
         holds(rt, disk, TO, b"abcdefghij!?")?;
     }
     copy(disk, FROM, FROM, 10, &mut [0u8; 4])?;
@@ -70,7 +75,10 @@ fn run<D: Disk>(rt: &impl Abort, disk: &mut D) -> Result<(), Fail> {
 
 #[test]
 fn the_first_bytes_are_copied(rt: HostRuntime) -> Result<(), Fail> {
-    run(&rt, &mut MemDisk::new(rt.alloc(), FailPlan::none(rt.alloc())))
+    run(
+        &rt,
+        &mut MemDisk::new(rt.alloc(), FailPlan::none(rt.alloc())),
+    )
 }
 
 #[test]
@@ -113,7 +121,10 @@ fn a_call_that_fails_is_told(rt: HostRuntime) -> Result<(), Fail> {
     let alloc = rt.alloc();
     for number in 0..6u64 {
         let mut disk = OneFail::new(with_text(alloc)?, number);
-        assert_eq!(rt; copy(&mut disk, FROM, TO, 8, &mut [0u8; 4]), Err(CopyFault::Disk));
+        assert_eq!(rt;
+            copy(&mut disk, FROM, TO, 8, &mut [0u8; 4]),
+            Err(CopyFault::Disk)
+        );
         copy(&mut disk, FROM, TO, 8, &mut [0u8; 4])?;
         holds(&rt, &mut disk, TO, b"abcdefgh")?;
     }

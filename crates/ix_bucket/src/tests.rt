@@ -153,6 +153,8 @@ fn is_end<D: Disk>(reader: &mut Reader, disk: &mut D, file: File, at: u64) -> bo
 }
 
 fn run<D: Disk>(rt: &impl Abort, alloc: Global, disk: &mut D) -> Result<(), Fail> {
+    disk.remove(HOME)?;
+    disk.remove(COLD)?;
     for (file, raw) in [(HOME, b"one"), (HOME, b"two"), (COLD, b"six")] {
         put(disk, file, &record(alloc, MOMENT, raw)?)?;
     }
