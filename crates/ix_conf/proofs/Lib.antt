@@ -1,0 +1,9 @@
+pub mod CutLemmas
+pub mod LineLemmas
+pub mod EntryLemmas
+pub mod MergeLemmas
+pub mod SearchLemmas
+pub mod FitLemmas
+pub mod TokenLemmas
+pub mod WalkLemmas
+pub mod MarkLemmas

@@ -1,0 +1,10 @@
+pub mod Lines
+pub mod Grammar
+pub mod Reading
+pub mod Value
+pub mod Merging
+pub mod Listing
+pub mod Lent
+pub mod Names
+pub mod Walk
+pub mod Zones

@@ -1,0 +1,42 @@
+//! What a .conf text says.
+
+use ix_base::{Bytes, NoMemory, Sequence};
+use std::alloc::{AllocError, AllocFailed};
+
+/// One entry of a .conf text.
+#[derive(Drop)]
+pub enum Entry {
+    /// A stanza of this name is opened. A name has 1 to 1,024 bytes.
+    Stanza(Bytes),
+    /// In this stanza this key, of at least one byte, has this value.
+    Pair(Bytes, Bytes, Bytes),
+}
+
+/// The entries of one .conf text, in the order in which they stand there.
+pub type ConfFile = Sequence<Entry>;
+
+/// Why a .conf text is refused.
+#[derive(Clone, Copy, Debug, PartialEq, Eq)]
+pub enum ConfFault {
+    /// The bytes are not UTF-8. `at` is the place of the first bad one, counted from 0.
+    NotUtf8 { at: u64 },
+    /// A line that is no stanza has no `=`, or nothing before it. Lines are counted from 1.
+    NoEquals { line: u32 },
+    /// A line begins with `[` and does not end with `]`, or its name is empty or above 1,024 bytes.
+    BadStanza { line: u32 },
+    /// The text has more than 1,048,576 bytes.
+    TooLong,
+    /// There was no room in memory.
+    NoMemory,
+}
+
+impl From<NoMemory> for ConfFault {
+    ghost use Rattle.std.specs.Prelude.{◌≡◌};
+    ghost use Rattle.ix_conf.specs.declared.entries.ConfFault.TheVariants.{NoMemory as no_memory};
+
+    ghost from_gives = { λ _ fault. fault ≡ no_memory };
+
+    fn from(_: NoMemory) -> ConfFault {
+        ConfFault::NoMemory
+    }
+}
