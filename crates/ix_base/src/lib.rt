@@ -12,6 +12,7 @@ mod lines;
 mod sequences;
 mod sinks;
 mod sources;
+mod trees;
 
 pub use clocks::{Clock, HostClock, MemClock};
 pub use counter::Steps;
@@ -22,3 +23,4 @@ pub use lines::write_line;
 pub use sequences::{Bytes, Names, NumberList, Sequence, Text};
 pub use sinks::{MemSink, Sink, StdSink};
 pub use sources::{MemSource, Source, StdSource};
+pub use trees::{HostTree, MemTree, Tree, TreeFault, TreeFile, TreeFileList};
