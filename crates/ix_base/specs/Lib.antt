@@ -4,3 +4,4 @@ pub mod Clocks
 pub mod EventLine
 pub mod Lent
 pub mod Stream
+pub mod Trees

@@ -12,8 +12,12 @@ mod lines;
 mod sequences;
 mod sinks;
 mod sources;
+<<<<<<< HEAD
 #[cfg(test)]
 mod tests;
+=======
+mod trees;
+>>>>>>> fbfefba58a39401d1564ac30bab7aa8eaf479439
 
 pub use clocks::{Clock, HostClock, MemClock};
 pub use counter::Steps;
@@ -24,3 +28,4 @@ pub use lines::write_line;
 pub use sequences::{Bytes, Names, NumberList, Sequence, Text};
 pub use sinks::{MemSink, Sink, StdSink};
 pub use sources::{MemSource, Source, StdSource};
+pub use trees::{HostTree, MemTree, Tree, TreeFault, TreeFile, TreeFileList};

@@ -10,6 +10,8 @@ mod merged;
 mod merging;
 mod names;
 mod reading;
+#[cfg(test)]
+mod tests;
 mod tokens;
 mod zones;
 
