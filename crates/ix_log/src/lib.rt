@@ -8,3 +8,6 @@ mod log;
 
 pub use laws::one_list;
 pub use log::{Log, LogFault};
+
+#[cfg(test)]
+mod tests;
