@@ -1,0 +1,13 @@
+pub mod Ends
+pub mod Refining
+pub mod Spans
+pub mod RowsLemmas
+pub mod SetLemmas
+pub mod LexLemmas
+pub mod Grammar
+pub mod PartLemmas
+pub mod FrameLemmas
+pub mod StepLemmas
+pub mod ReadLemmas
+pub mod ReadsLemmas
+pub mod ParseLemmas

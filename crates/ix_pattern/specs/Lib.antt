@@ -1,0 +1,13 @@
+pub mod Piece
+pub mod Ways
+pub mod Laws
+pub mod Rows
+pub mod Sets
+pub mod Tokens
+pub mod Syntax
+pub mod Run
+pub mod Made
+pub mod Parts
+pub mod Frames
+pub mod Reads
+pub mod Parsed
