@@ -1,0 +1,5 @@
+pub mod Stack
+pub mod Leaf
+pub mod Costs
+pub mod Steps
+pub mod Matches

@@ -1,0 +1,41 @@
+-- What is still to do of a match, and what it will give.
+use Rattle.std.specs.Prelude.{◌≡◌, ℕ, zero, suc, ◌+◌, ◌-◌, ◌<◌, ◌≤◌, Bool, List, [], ◌∷◌, ◌++◌, length, Option, Some, None, slice_get}
+use Rattle.ix_pattern.specs.Piece.{Piece}
+use Rattle.ix_pattern.specs.Ways.{Text, Reached, Way, ends_at, edge, onward, required, optional, close_group, ways}
+use Rattle.ix_pattern.specs.Rows.{Rows, piece_at}
+use Rattle.ix_match.specs.declared.frames.Task.{Task}
+use Rattle.ix_match.specs.declared.frames.Task.TheVariants.{Piece as DoPiece, Turns, Close}
+use Rattle.ix_match.specs.declared.frames.Frame.{Frame}
+use Rattle.ix_match.specs.declared.search.Outcome.{Outcome}
+use Rattle.ix_match.specs.declared.search.Outcome.TheVariants.{End, No, More}
+
+-- the head of the list that an outcome stands for
+abbrev pub head_of : Outcome → Option Way
+head_of (End place groups) = Some (ends_at (record { place = place; groups = groups.items }))
+head_of No = None
+head_of More = Some edge
+
+abbrev pub task_ways : Rows → Text → Task → Reached → List Way
+task_ways rows text (DoPiece k) r = ways (piece_at rows k) text r
+task_ways rows text (Turns inside least further lazy) r =
+    required (ways (piece_at rows inside) text) least (optional lazy (ways (piece_at rows inside) text) further) r
+task_ways rows text (Close number from) r = close_group number from r
+
+-- the last task of the list is done first, and then what comes next
+abbrev pub todo_ways : Rows → Text → (Reached → List Way) → List Task → Reached → List Way
+todo_ways rows text next [] r = next r
+todo_ways rows text next (task ∷ later) r = todo_ways rows text (λ e. onward next (task_ways rows text task e)) later r
+
+abbrev pub stop : Reached → List Way
+stop r = ends_at r ∷ []
+
+abbrev pub reached : Frame → Reached
+reached frame = record { place = frame.place; groups = frame.groups.items }
+
+abbrev pub frame_ways : Rows → Text → Frame → List Way
+frame_ways rows text frame = todo_ways rows text stop frame.todo.items (reached frame)
+
+-- the last frame is tried first
+abbrev pub stack_ways : Rows → Text → List Frame → List Way
+stack_ways rows text [] = []
+stack_ways rows text (frame ∷ frames) = stack_ways rows text frames ++ frame_ways rows text frame

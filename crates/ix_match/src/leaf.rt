@@ -1,0 +1,135 @@
+//! The steps that look at no other piece.
+
+ghost use Rattle.std.specs.Prelude.{◌≡◌, ℕ, ◌<◌, ◌+◌, List, [], ◌∷◌, length, Option, Some, slice_get, if◌then◌else◌};
+ghost use Rattle.ix_pattern.specs.Piece.{in_set};
+ghost use Rattle.ix_pattern.specs.Ways.{Reached, edge, here, is_start, is_word_byte, is_word, byte_ways, finish_ways, word_ways};
+ghost use Rattle.ix_pattern.specs.Rows.{node_at, set_at};
+ghost use Rattle.ix_match.specs.Leaf.{leaf_ways, text_of, at};
+
+use crate::input::{Input, byte_before};
+use ix_base::Steps;
+use ix_pattern::{Node, Pattern};
+use std::marker::Brand;
+use std::sync::ledger::{Blank, Ledger};
+
+/// What a step comes to: an end here, an end a byte later, nothing, or an edge.
+#[derive(Clone, Copy)]
+pub enum Leaf {
+    Here,
+    Next,
+    Never,
+    Edge,
+}
+
+fn is_word_byte(b: u8) -> bool
+    ensures { result ≡ is_word_byte b }
+{
+    b >= b'0' && b <= b'9' || b >= b'A' && b <= b'Z' || b >= b'a' && b <= b'z' || b == b'_'
+}
+
+fn is_word(b: Option<u8>) -> bool
+    ensures { result ≡ is_word b }
+{
+    match b {
+        None => false,
+        Some(b) => is_word_byte(b),
+    }
+}
+
+/// An end here, if the test holds.
+fn here(test: bool) -> Leaf
+    ensures within { result ≡ Leaf.Next → ⊥ }
+    ensures ways { (r : Reached) → leaf_ways result r ≡ here test r }
+{
+    if test { Leaf::Here } else { Leaf::Never }
+}
+
+/// An edge, or what it is in a closed text.
+fn at_end(unfinished: bool, closed: Leaf) -> Leaf
+    ensures within { result ≡ Leaf.Next → closed ≡ Leaf.Next }
+    ensures ways { (r : Reached) → leaf_ways result r ≡ (if unfinished then edge ∷ [] else leaf_ways closed r) }
+{
+    if unfinished { Leaf::Edge } else { closed }
+}
+
+fn counted<L: Ledger>(p: &Pattern, piece: usize, byte: u8, blank: Blank) -> bool
+    requires piece { node_at p.now.rows piece ≡ Some Node.Bytes }
+    requires name { blank.name ≡ L.name }
+    requires parts { blank.parts ≡ L.parts }
+    requires some { 0 < blank.parts }
+    ensures { result ≡ in_set (set_at p.now.rows piece) byte }
+{
+    let mut steps = Steps::<L>::new(blank);
+    p.accepts(piece, byte, &mut steps)
+}
+
+/// Whether the byte piece with this number takes the byte. Nobody counts it.
+fn accepts(p: &Pattern, piece: usize, byte: u8) -> bool
+    requires { node_at p.now.rows piece ≡ Some Node.Bytes }
+    ensures { result ≡ in_set (set_at p.now.rows piece) byte }
+{
+    counted::<Brand>(p, piece, byte, Blank::new(1))
+}
+
+/// One byte of a set.
+pub fn byte(p: &Pattern, piece: usize, input: Input<'_>, place: usize) -> Leaf
+    requires { node_at p.now.rows piece ≡ Some Node.Bytes }
+    ensures within { result ≡ Leaf.Next → place < length input.entry.bytes.now }
+    ensures ways { (groups : List (Option (ℕ × ℕ))) → leaf_ways result (at place groups)
+        ≡ byte_ways (set_at p.now.rows piece) (text_of input.entry) (at place groups) (slice_get input.entry.bytes.now place) }
+{
+    match input.bytes.get(place) {
+        None => at_end(input.unfinished, Leaf::Never),
+        Some(b) => {
+            if accepts(p, piece, *b) {
+                Leaf::Next
+            } else {
+                Leaf::Never
+            }
+        }
+    }
+}
+
+/// `^`, by the byte before the place.
+pub fn start(lines: bool, before: Option<u8>) -> Leaf
+    ensures within { result ≡ Leaf.Next → ⊥ }
+    ensures ways { (r : Reached) → leaf_ways result r ≡ here (is_start lines before) r }
+{
+    match before {
+        None => Leaf::Here,
+        Some(b) => here(lines && b == b'\n'),
+    }
+}
+
+/// `$`.
+pub fn finish(lines: bool, input: Input<'_>, place: usize) -> Leaf
+    ensures within { result ≡ Leaf.Next → ⊥ }
+    ensures ways { (groups : List (Option (ℕ × ℕ))) → leaf_ways result (at place groups)
+        ≡ finish_ways lines (text_of input.entry) (at place groups) (slice_get input.entry.bytes.now place) }
+{
+    match input.bytes.get(place) {
+        None => at_end(input.unfinished, Leaf::Here),
+        Some(b) => {
+            if lines {
+                here(*b == b'\n')
+            } else if *b == b'\n' && place + 1 == input.bytes.len() {
+                at_end(input.unfinished, Leaf::Here)
+            } else {
+                Leaf::Never
+            }
+        }
+    }
+}
+
+/// `\b`.
+pub fn word(input: Input<'_>, place: usize) -> Leaf
+    ensures within { result ≡ Leaf.Next → ⊥ }
+    ensures ways { (groups : List (Option (ℕ × ℕ))) → leaf_ways result (at place groups)
+        ≡ word_ways (text_of input.entry) (at place groups) (slice_get input.entry.bytes.now place) }
+{
+    let word_before = is_word(byte_before(input, place));
+    match input.bytes.get(place) {
+        None => at_end(input.unfinished, here(word_before)),
+        Some(b) => here(word_before != is_word_byte(*b)),
+    }
+}

@@ -1,0 +1,121 @@
+//! The head of a list of ways.
+
+ghost use Rattle.std.specs.Prelude.{◌≡◌, ℕ, ◌<◌, IfOk, OnOk, List, length, slice_get};
+ghost use Rattle.ix_pattern.specs.Ways.{Reached, Way, ways, look};
+ghost use Rattle.ix_pattern.specs.Rows.{piece_at};
+ghost use Rattle.ix_match.specs.Stack.{head_of};
+ghost use Rattle.ix_match.specs.Leaf.{leaf_ways, text_of, at};
+ghost use Rattle.ix_match.specs.Steps.{task_number, Steps, Fits, AllFit, EachFits};
+
+use crate::frames::{Frame, Task, closed};
+use crate::input::{Input, in_sight};
+use crate::leaf::Leaf;
+use crate::steps::{piece_step, turns};
+use ix_base::NoMemory;
+use ix_pattern::{Node, Pattern};
+use std::alloc::Global;
+
+/// The head of a list of ways: an end with its place and groups, nothing where the list is empty, or an edge.
+#[derive(Drop)]
+pub enum Outcome {
+    End {
+        place: usize,
+        groups: Vec<Option<(usize, usize)>>,
+    },
+    No,
+    More,
+}
+
+fn copy_of_groups(alloc: Global, groups: &[Option<(usize, usize)>]) -> Result<Vec<Option<(usize, usize)>>, NoMemory>
+    ensures { IfOk result (λ v. v.items ≡ groups.now) }
+{
+    let copy = groups.to_vec(alloc)?;
+    Ok(copy)
+}
+
+/// What a lookahead comes to, by what its inside came to.
+fn ahead_leaf(outcome: Outcome, wanted: bool) -> Leaf
+    ensures within { result ≡ Leaf.Next → ⊥ }
+    ensures ways { (r : Reached) (inside : List Way) → slice_get inside 0 ≡ head_of outcome → look wanted r inside ≡ leaf_ways result r }
+{
+    match outcome {
+        Outcome::End { .. } => {
+            if wanted { Leaf::Here } else { Leaf::Never }
+        }
+        Outcome::No => {
+            if wanted { Leaf::Never } else { Leaf::Here }
+        }
+        Outcome::More => Leaf::Edge,
+    }
+}
+
+/// Takes up one task. The answer is whether it is an edge.
+#[cycle(search)]
+fn step(
+    alloc: Global,
+    p: &Pattern,
+    task: Task,
+    input: Input<'_>,
+    frame: Frame,
+    stack: &mut Vec<Frame>,
+) -> Result<bool, NoMemory>
+    requires { task_number task < length p.now.rows }
+    ensures steps { IfOk result (λ is_edge. Steps p.now.rows (text_of input.entry) frame task stack.old.items stack.new.items is_edge) }
+    ensures fits { OnOk result ((top : ℕ) → Fits top task → AllFit top frame.todo.items → EachFits top stack.old.items → EachFits top stack.new.items) }
+{
+    match task {
+        Task::Turns { inside, least, further, lazy } => {
+            turns(alloc, inside, least, further, lazy, frame, stack)?;
+            Ok(false)
+        }
+        Task::Close { number, from } => {
+            let next = closed(frame, number, from);
+            stack.push(next)?;
+            Ok(false)
+        }
+        Task::Piece(piece) => {
+            if let Node::Ahead { inside, wanted } = p.node(piece) {
+                let groups = copy_of_groups(alloc, &frame.groups)?;
+                let outcome = head(alloc, p, inside, in_sight(input, frame.place), frame.place, groups)?;
+                let seen = ahead_leaf(outcome, wanted);
+                let is_edge = piece_step(alloc, p, piece, input, seen, frame, stack)?;
+                return Ok(is_edge);
+            }
+            let is_edge = piece_step(alloc, p, piece, input, Leaf::Never, frame, stack)?;
+            Ok(is_edge)
+        }
+    }
+}
+
+/// The head of the ordered list of ways of the piece with this number, at a place of a text, with the groups as they
+/// stand there.
+#[cycle(search)]
+pub fn head(
+    alloc: Global,
+    p: &Pattern,
+    piece: usize,
+    input: Input<'_>,
+    place: usize,
+    groups: Vec<Option<(usize, usize)>>,
+) -> Result<Outcome, NoMemory>
+    requires { piece < length p.now.rows }
+    ensures { IfOk result (λ o. slice_get (ways (piece_at p.now.rows piece) (text_of input.entry) (at place groups.items)) 0 ≡ head_of o) }
+{
+    let mut todo: Vec<Task> = Vec::new(alloc);
+    todo.push(Task::Piece(piece))?;
+    let mut stack = Vec::new(alloc);
+    stack.push(Frame { place, groups, todo })?;
+    while let Some(mut frame) = stack.pop() {
+        let Some(task) = frame.todo.pop() else {
+            return Ok(Outcome::End {
+                place: frame.place,
+                groups: frame.groups,
+            });
+        };
+        let is_edge = step(alloc, p, task, input, frame, &mut stack)?;
+        if is_edge {
+            return Ok(Outcome::More);
+        }
+    }
+    Ok(Outcome::No)
+}
