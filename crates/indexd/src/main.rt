@@ -3,10 +3,9 @@
 
 use indexd_core::top;
 use ix_base::{HostClock, StdSink, StdSource, Text};
-use std::env;
-use std::io;
 use std::process::ExitCode;
 use std::rt::Env;
+use std::{env, io};
 
 /// The words of the command line behind the program's name.
 fn read_words<R: Env + AllocGlobal>(rt: &R) -> io::Result<Vec<Text>> {

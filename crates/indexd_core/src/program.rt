@@ -67,7 +67,14 @@ impl Preview {
 }
 
 /// The lines of the input's events, all before the line of the status.
-fn preview_lines<S: Source, W: Sink>(alloc: Global, host: &[u8], source: &[u8], moment: i64, input: &mut S, output: &mut W) -> Status
+fn preview_lines<S: Source, W: Sink>(
+    alloc: Global,
+    host: &[u8],
+    source: &[u8],
+    moment: i64,
+    input: &mut S,
+    output: &mut W,
+) -> Status
     ensures runs { Runs result (preview_meta host.now source.now) moment (S.faults input.old) (S.faults input.new)
         (W.faults output.old) (W.faults output.new) (S.left input.old) (S.left input.new) (W.given output.old) (W.given output.new) }
     ensures read_later { S.faults input.old ≤ S.faults input.new }
@@ -81,7 +88,14 @@ fn preview_lines<S: Source, W: Sink>(alloc: Global, host: &[u8], source: &[u8], 
 
 /// Reads the input as one closed stream, all of whose bytes have the moment that the clock shows first, and writes the
 /// lines of its events and the line of the status.
-fn preview<S: Source, W: Sink, C: Clock>(alloc: Global, host: &[u8], source: &[u8], input: &mut S, output: &mut W, clock: &mut C) -> Status
+fn preview<S: Source, W: Sink, C: Clock>(
+    alloc: Global,
+    host: &[u8],
+    source: &[u8],
+    input: &mut S,
+    output: &mut W,
+    clock: &mut C,
+) -> Status
     ensures previews { Previews result (preview_meta host.now source.now) (C.ahead clock.old) (C.ahead clock.new)
         (S.faults input.old) (S.faults input.new) (W.faults output.old) (W.faults output.new)
         (S.left input.old) (S.left input.new) (W.given output.old) (W.given output.new) }
@@ -104,7 +118,13 @@ fn preview<S: Source, W: Sink, C: Clock>(alloc: Global, host: &[u8], source: &[u
 /// index is `main`, the source type `unknown`, and the time of each is the moment at which the program began. Any other
 /// words are `Usage`. `Input` and `Output` come only where the input or the output has failed, `Endless` only where 2^40
 /// bytes were taken, and `Memory` where there was no room. The line of the status stands behind the output.
-pub fn top<S: Source, W: Sink, C: Clock>(alloc: Global, words: &[Text], input: &mut S, output: &mut W, clock: &mut C) -> Status
+pub fn top<S: Source, W: Sink, C: Clock>(
+    alloc: Global,
+    words: &[Text],
+    input: &mut S,
+    output: &mut W,
+    clock: &mut C,
+) -> Status
     // Exactly the words that are no command are refused. Then nothing is read, and nothing but the line is written.
     ensures usage { (result ≡ Status.Usage) ↔ (¬ (IsCommand words.now)) }
     ensures refused { result ≡ Status.Usage → Refuses (C.ahead clock.old) (C.ahead clock.new)
@@ -114,8 +134,8 @@ pub fn top<S: Source, W: Sink, C: Clock>(alloc: Global, words: &[Text], input: &
     // At 0 the output is the lines of all events of the whole input; at any other status it is known as well.
     ensures preview { (host source : List ℕ) → AsksPreview words.now host source →
         Previews result (preview_meta host source) (C.ahead clock.old) (C.ahead clock.new)
-            (S.faults input.old) (S.faults input.new) (W.faults output.old) (W.faults output.new)
-            (S.left input.old) (S.left input.new) (W.given output.old) (W.given output.new) }
+        (S.faults input.old) (S.faults input.new) (W.faults output.old) (W.faults output.new)
+        (S.left input.old) (S.left input.new) (W.given output.old) (W.given output.new) }
 
     // The causes of the other statuses.
     ensures input { result ≡ Status.Input → Rose (S.faults input.old) (S.faults input.new) }

@@ -25,7 +25,11 @@ fn words(alloc: Global, line: &str) -> Result<Vec<Text>, Fail> {
 }
 
 fn source(alloc: Global, bytes: &[u8], most: usize, failing: &[u64]) -> Result<MemSource, Fail> {
-    Ok(MemSource::in_pieces(Bytes::copy_of(alloc, bytes)?, most, FailPlan::new(failing.to_vec(alloc)?)))
+    Ok(MemSource::in_pieces(
+        Bytes::copy_of(alloc, bytes)?,
+        most,
+        FailPlan::new(failing.to_vec(alloc)?),
+    ))
 }
 
 fn preview(alloc: Global, input: &mut MemSource, output: &mut MemSink) -> Result<Status, Fail> {

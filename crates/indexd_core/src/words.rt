@@ -36,7 +36,10 @@ impl<'a> Command<'a> {
         let [command, host_flag, host, source_flag, source] = words else {
             return None;
         };
-        if !is_word(command, "preview") || !is_word(host_flag, "--host") || !is_word(source_flag, "--source") {
+        if !is_word(command, "preview")
+            || !is_word(host_flag, "--host")
+            || !is_word(source_flag, "--source")
+        {
             return None;
         }
         let host = host.as_bytes();

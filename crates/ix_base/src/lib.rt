@@ -12,12 +12,9 @@ mod lines;
 mod sequences;
 mod sinks;
 mod sources;
-<<<<<<< HEAD
 #[cfg(test)]
 mod tests;
-=======
 mod trees;
->>>>>>> fbfefba58a39401d1564ac30bab7aa8eaf479439
 
 pub use clocks::{Clock, HostClock, MemClock};
 pub use counter::Steps;

@@ -1,7 +1,9 @@
 //! The forms in memory and over the real things.
 
-use crate::{Clock, Event, FailPlan, HostClock, MemClock, MemSink, MemSource, Sink, Source, StdSink, StdSource, write_line};
-use crate::{Bytes, ChannelMeta, NumberList, Text};
+use crate::{
+    Bytes, ChannelMeta, Clock, Event, FailPlan, HostClock, MemClock, MemSink, MemSource,
+    NumberList, Sink, Source, StdSink, StdSource, Text, write_line,
+};
 use std::alloc::Global;
 use std::fs;
 use std::test::Fail;
@@ -23,10 +25,22 @@ fn event(alloc: Global, time: i64, raw: &[u8]) -> Result<Event, Fail> {
 fn events_have_lines(rt: HostRuntime) -> Result<(), Fail> {
     let alloc = rt.alloc();
     for (time, raw, want) in [
-        (1_700_000_000_000_000i64, b"a".as_slice(), b"main\t1700000000.000000\th\t/a\\tb\tx\\\\y\t\ta\n".as_slice()),
+        (
+            1_700_000_000_000_000i64,
+            b"a".as_slice(),
+            b"main\t1700000000.000000\th\t/a\\tb\tx\\\\y\t\ta\n".as_slice(),
+        ),
         (-1, b"", b"main\t-0.000001\th\t/a\\tb\tx\\\\y\t\t\n"),
-        (1_000_001, b"\x00 \r\n~\x7f\x80\xff", b"main\t1.000001\th\t/a\\tb\tx\\\\y\t\t\\x00 \\r\\n~\\x7f\\x80\\xff\n"),
-        (i64::MIN, b"\\", b"main\t-9223372036854.775808\th\t/a\\tb\tx\\\\y\t\t\\\\\n"),
+        (
+            1_000_001,
+            b"\x00 \r\n~\x7f\x80\xff",
+            b"main\t1.000001\th\t/a\\tb\tx\\\\y\t\t\\x00 \\r\\n~\\x7f\\x80\\xff\n",
+        ),
+        (
+            i64::MIN,
+            b"\\",
+            b"main\t-9223372036854.775808\th\t/a\\tb\tx\\\\y\t\t\\\\\n",
+        ),
     ] {
         let event = event(alloc, time, raw)?;
         let mut out = MemSink::new(alloc, FailPlan::none(alloc));
@@ -116,7 +130,10 @@ fn lists_are_copied(rt: HostRuntime) -> Result<(), Fail> {
     };
     let copy = meta.copy()?;
     assert!(rt; copy.host.as_slice() == b"h".as_slice() && copy.sourcetype.is_none());
-    assert!(rt; copy.index.is_some_and(|index| index.as_slice() == b"main".as_slice()));
+    assert!(rt;
+        copy.index
+            .is_some_and(|index| index.as_slice() == b"main".as_slice())
+    );
     let mut numbers = NumberList::new(alloc);
     numbers.push(7)?;
     assert_eq!(rt; numbers.len(), 1);

@@ -30,6 +30,6 @@ pub none-here : (p : Shape) (text : List ℕ) (place : ℕ) (out : Outcome) → 
     (out ≡ No) ⊎ (out ≡ More) → ways_from p text place ≡ []
 none-here p text place out h is =
     elim is [
-      inl e ↦ no-head (ways_from p text place) (h ∙ ap head_of e)
-    | inr e ↦ absurd (first-known p text place (h ∙ ap head_of e))
+      | inl e ↦ no-head (ways_from p text place) (h ∙ ap head_of e)
+      | inr e ↦ absurd (first-known p text place (h ∙ ap head_of e))
     ]

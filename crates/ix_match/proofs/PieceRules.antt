@@ -27,13 +27,14 @@ pub next-steps : (rows : Rows) (text : Text) (frame next : Frame) (task : Task) 
     Acts rows text frame task Next → Steps rows text frame task old new false
 next-steps rows text frame next task old new place groups todo e a =
     by_end rows text frame next task (record { place = frame.place + 1; groups = frame.groups.items }) old new
-      (λ i. record { place = place i; groups = groups i }) todo e a.ways (λ next. a.cost next ∙ omega arith)
+    (λ i. record { place = place i; groups = groups i }) todo e a.ways (λ next. a.cost next ∙ omega arith)
 
 pub never-steps : (rows : Rows) (text : Text) (frame : Frame) (task : Task) (old : List Frame) →
     Acts rows text frame task Never → Steps rows text frame task old old false
-never-steps rows text frame task old a =
-    (ap (λ l. onward (todo_ways rows text stop frame.todo.items) l ++ stack_ways rows text old) (sym a.ways),
-     omega (arith, a.cost (todo_cost rows text one frame.todo.items)))
+never-steps rows text frame task old a = (
+  ap (λ l. onward (todo_ways rows text stop frame.todo.items) l ++ stack_ways rows text old) (sym a.ways),
+  omega (arith, a.cost (todo_cost rows text one frame.todo.items)),
+)
 
 pub edge-steps : (rows : Rows) (text : Text) (frame : Frame) (task : Task) (old new : List Frame) →
     Acts rows text frame task Edge → Steps rows text frame task old new true
@@ -64,7 +65,7 @@ pub start-acts : (rows : Rows) (text : Text) (frame : Frame) (k : ℕ) (leaf : L
 unfolding ways cost
 start-acts rows text frame k leaf lines b e is h =
     leaf-acts rows text frame k leaf
-      (rw e (ap (λ o. here (is_start lines o) (reached frame)) (sym is) ∙ sym (h (reached frame)))) (λ next. rw e refl)
+    (rw e (ap (λ o. here (is_start lines o) (reached frame)) (sym is) ∙ sym (h (reached frame)))) (λ next. rw e refl)
 
 pub finish-acts : (rows : Rows) (text : Text) (frame : Frame) (k : ℕ) (leaf : Leaf) (lines : Bool) → piece_at rows k ≡ finish lines →
     ((groups : List (Option (ℕ × ℕ))) → leaf_ways leaf (at frame.place groups) ≡ finish_ways lines text (at frame.place groups) (slice_get text.bytes frame.place)) →

@@ -82,12 +82,14 @@ pushed rows text frame next task old new e w k =
 pub pushed_two : (rows : Rows) (text : Text) (frame low high : Frame) (task : Task) (old new : List Frame) →
     new ≡ (old ++ low ∷ []) ++ high ∷ [] →
     frame_ways rows text high ++ frame_ways rows text low
-      ≡ onward (todo_ways rows text stop frame.todo.items) (task_ways rows text task (reached frame)) →
+    ≡ onward (todo_ways rows text stop frame.todo.items) (task_ways rows text task (reached frame)) →
     frame_cost rows text high + frame_cost rows text low < task_cost rows text task (todo_cost rows text one frame.todo.items) (reached frame) →
     Steps rows text frame task old new false
 pushed_two rows text frame low high task old new e w k =
-    rw e (stack_ways-push rows text (old ++ low ∷ []) high
-      ∙ ap (λ l. frame_ways rows text high ++ l) (stack_ways-push rows text old low)
-      ∙ sym (append_assoc (frame_ways rows text high) (frame_ways rows text low) (stack_ways rows text old))
-      ∙ ap (λ l. l ++ stack_ways rows text old) w,
-      omega (arith, stack_cost-push rows text (old ++ low ∷ []) high, stack_cost-push rows text old low))
+    rw e (
+      stack_ways-push rows text (old ++ low ∷ []) high
+          ∙ ap (λ l. frame_ways rows text high ++ l) (stack_ways-push rows text old low)
+          ∙ sym (append_assoc (frame_ways rows text high) (frame_ways rows text low) (stack_ways rows text old))
+          ∙ ap (λ l. l ++ stack_ways rows text old) w,
+      omega (arith, stack_cost-push rows text (old ++ low ∷ []) high, stack_cost-push rows text old low),
+    )

@@ -29,17 +29,18 @@ stays law t meta stream later true =
 pub fed : (t : ℕ) (meta : ChannelMeta) (stream later : List Dated) (old copy new : Parts) (none out : List Line) →
     old ≡ parts_of newlines t stream → copy ≡ old → none ≡ [] →
     ((s : List Dated) → StandsFor newlines copy.truncate s copy →
-      StandsFor newlines copy.truncate (s ++ later) new × Adds newlines copy.truncate s later none out) →
+    StandsFor newlines copy.truncate (s ++ later) new × Adds newlines copy.truncate s later none out) →
     StandsFor newlines t (stream ++ later) new
     × (settled t meta (stream ++ later) false ≡ settled t meta stream false ++ map (outcome_of meta) out)
 fed t meta stream later old copy new none out stands same empty feeds =
     let is : copy ≡ parts_of newlines t stream = same ∙ stands in
     let P : ℕ → Type 0 = λ k. StandsFor newlines k stream copy →
-      StandsFor newlines k (stream ++ later) new × Adds newlines k stream later none out in
-    let r = subst P (ap (λ (p : Parts). p.truncate) is) (feeds stream) is in
-    (r.0,
-     outcomes-more meta (lines.settled newlines t (stream ++ later)) (lines.settled newlines t stream) r.1.added r.1.settles
-     ∙ ap (λ l. map (outcome_of meta) (lines.settled newlines t stream) ++ map (outcome_of meta) l) (sym (r.1.written ∙ ap (λ l. l ++ r.1.added) empty)))
+    StandsFor newlines k (stream ++ later) new × Adds newlines k stream later none out in
+    let r = subst P (ap (λ (p : Parts). p.truncate) is) (feeds stream) is in (
+      r.0,
+      outcomes-more meta (lines.settled newlines t (stream ++ later)) (lines.settled newlines t stream) r.1.added r.1.settles
+          ∙ ap (λ l. map (outcome_of meta) (lines.settled newlines t stream) ++ map (outcome_of meta) l) (sym (r.1.written ∙ ap (λ l. l ++ r.1.added) empty)),
+    )
 
 -- a copy of lines that stand for a stream, and then its end
 pub ended : (t : ℕ) (meta : ChannelMeta) (stream : List Dated) (old copy : Parts) (none out : List Line) →

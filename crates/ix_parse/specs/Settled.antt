@@ -16,9 +16,15 @@ sourcetype_of meta = unwrap_or meta.sourcetype (codes "unknown")
 -- a line as an event, which has the time of its first byte's arrival
 abbrev pub event_of : ChannelMeta → Line → Event
 event_of meta line = record {
-    time = line.moment; arrival = line.moment; index = unwrap_or meta.index []; host = meta.host; source = meta.source;
-    sourcetype = sourcetype_of meta; meta = []; raw = line.bytes
-  }
+  time = line.moment;
+  arrival = line.moment;
+  index = unwrap_or meta.index [];
+  host = meta.host;
+  source = meta.source;
+  sourcetype = sourcetype_of meta;
+  meta = [];
+  raw = line.bytes;
+}
 
 abbrev pub outcome_of : ChannelMeta → Line → Routed
 outcome_of meta line = To (event_of meta line)

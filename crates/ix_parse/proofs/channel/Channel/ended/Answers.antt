@@ -6,6 +6,6 @@ use Rattle.ix_parse.proofs.channel.Channel.ended.Goals as goal
 pub returns : goal.returns
 returns c = λ t meta stream is.
     ended t meta stream c.args.self.now.lines c.in_ok-lines.lines c.new-last.result c.close.new.out
-      is.lines_are c.in_ok-lines.ensures c.new-last.ensures (λ s stands. c.in_ok-close.ensures.ok s stands)
+    is.lines_are c.in_ok-lines.ensures c.new-last.ensures (λ s stands. c.in_ok-close.ensures.ok s stands)
     ∙ ap (λ l. settled t meta stream false ++ l)
-      (ap (λ m. map (outcome_of m) c.close.new.out) (sym is.meta_is) ∙ sym c.in_ok-routed.ensures)
+    (ap (λ m. map (outcome_of m) c.close.new.out) (sym is.meta_is) ∙ sym c.in_ok-routed.ensures)

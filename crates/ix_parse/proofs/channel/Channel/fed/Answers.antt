@@ -10,8 +10,9 @@ pub returns : goal.returns
 returns c = λ t meta stream is.
     let f : SFits w64 c.args.moment = c.ranges.moment in
     let r = fed t meta stream (dated c.args.bytes.now c.args.moment) c.args.self.now.lines c.in_ok-lines.lines c.feed.new.self
-        c.new-settled.result c.feed.new.out is.lines_are c.in_ok-lines.ensures c.new-settled.ensures
-        (λ s stands. simp to_z-of_z at (c.in_ok-feed.ensures.ok s stands)) in
-    (record { lines_are = r.0; meta_is = c.in_ok-meta.ensures ∙ is.meta_is },
-     r.1 ∙ ap (λ l. settled t meta stream false ++ l)
-       (ap (λ m. map (outcome_of m) c.feed.new.out) (sym is.meta_is) ∙ sym c.in_ok-routed.ensures))
+    c.new-settled.result c.feed.new.out is.lines_are c.in_ok-lines.ensures c.new-settled.ensures
+    (λ s stands. simp to_z-of_z at (c.in_ok-feed.ensures.ok s stands)) in (
+      record { lines_are = r.0; meta_is = c.in_ok-meta.ensures ∙ is.meta_is },
+      r.1 ∙ ap (λ l. settled t meta stream false ++ l)
+          (ap (λ m. map (outcome_of m) c.feed.new.out) (sym is.meta_is) ∙ sym c.in_ok-routed.ensures),
+    )
