@@ -85,7 +85,7 @@ impl Log {
 
     /// Settles the file by a sync, and stands before its first body. The bodies are judged by `next`, so this is never
     /// `Damaged`; and it takes no memory.
-    pub fn mount<D: Disk>(_alloc: Global, disk: &mut D, file: File) -> Result<Log, LogFault>
+    pub fn mount<D: Disk>(alloc: Global, disk: &mut D, file: File) -> Result<Log, LogFault>
         ensures reading { IfOk result (λ log. IsReading D.Disk log disk.new []) }
         ensures mounted { IfOk result (λ log. IsMounted D.Disk log disk.new) }
         ensures file { IfOk result (λ log. file_of log ≡ file) }
@@ -95,6 +95,7 @@ impl Log {
         ensures later { D.Disk.faults disk.old ≤ D.Disk.faults disk.new }
         ensures cause { OnErr result ((result ≡ Err LogFault.Disk) × Rose (D.Disk.faults disk.old) (D.Disk.faults disk.new)) }
     {
+        let _ = alloc;
         disk.sync(file)?;
         let size = disk.length(file)?;
         Ok(Log {

@@ -139,6 +139,22 @@ fn a_log_with_a_changed_byte_says_what_its_bytes_say(rt: HostRuntime) -> Result<
 }
 
 #[test]
+fn a_forged_length_is_damage(rt: HostRuntime) -> Result<(), Fail> {
+    let alloc = rt.alloc();
+    for file in [
+        b"\x01\xff\xff\xff\xffab\x00".as_slice(),
+        b"\x01\x00\x00\x00\x03ab\x00".as_slice(),
+        b"\x01\xff".as_slice(),
+    ] {
+        let mut disk = disk_of(alloc, file)?;
+        let found = said(alloc, &mut disk)?;
+        assert_eq!(rt; found.damaged, Some(0));
+        assert!(rt; found.text.is_empty());
+    }
+    Ok(())
+}
+
+#[test]
 fn bodies_that_are_put_are_read(rt: HostRuntime) -> Result<(), Fail> {
     let mut disk = MemDisk::new(rt.alloc(), FailPlan::none(rt.alloc()));
     add(rt.alloc(), &mut disk, b"a", b"b")?;
