@@ -1,14 +1,12 @@
 -- What becomes of levels when pieces are added.
-use Rattle.std.proofs.Common.{◌≡◌, ℕ, ◌+◌, ◌≤◌, ◌<◌, min, max, Bool, true, false, ◌&&◌, ◌||◌, List, [], ◌∷◌, ◌++◌, Option, Some, None, unwrap_or, refl, sym, ◌∙◌, ap, subst, arith}
-use Rattle.ix_pattern.specs.Rows.{Rows}
+use Rattle.std.proofs.Common.{◌≡◌, ℕ, ◌+◌, min, max, Bool, ◌&&◌, ◌||◌, List, [], ◌∷◌, Option, Some, None, unwrap_or, refl, ◌∙◌, subst, arith}
 use Rattle.ix_pattern.specs.Made.{Made}
 use Rattle.ix_pattern.specs.Parts.{IsPart, IsOptional, Grew, Adds}
-use Rattle.ix_pattern.specs.Syntax.{Syntax, done, bar, leaf, paren, pieces, weights, whole, whole_weight, joined, repeated, repeated_weight, leaf_piece, paren_piece, paren_weight, opened, groups, is_plain, is_plain_opening, depth, counts_high, is_high}
-use Rattle.ix_pattern.specs.Run.{Level, level, State, state, step, opened_level}
-use Rattle.ix_pattern.specs.Frames.{IsFrame, AreFrames, IsReading, Holds}
+use Rattle.ix_pattern.specs.Syntax.{Syntax, leaf, paren, pieces, weights, whole, whole_weight, joined, repeated, repeated_weight, leaf_piece, paren_piece, paren_weight, opened, groups, is_plain_opening, is_high}
+use Rattle.ix_pattern.specs.Run.{Level, level}
+use Rattle.ix_pattern.specs.Frames.{IsFrame, AreFrames, Holds}
 use Rattle.ix_pattern.specs.declared.frames.Frame.{Frame}
 use Rattle.ix_pattern.specs.declared.part.Part.{Part}
-use Rattle.ix_pattern.specs.declared.reader.Reader.{Reader}
 use Rattle.ix_pattern.specs.declared.tokens.Leaf.{Leaf}
 use Rattle.ix_pattern.specs.declared.tokens.Opening.{Opening}
 use Rattle.ix_pattern.specs.declared.tokens.Repeat.{Repeat}

@@ -1,5 +1,5 @@
 -- Rounds of readers.
-use Rattle.std.proofs.Common.{◌≡◌, ℕ, suc, ◌+◌, ◌-◌, ◌<◌, ◌≤◌, zero, length, [], ◌∷◌, Bool, true, false, List, Option, Some, None, if◌then◌else◌, refl, sym, ◌∙◌, ap, ◌++◌, append_assoc, append-nil, arith}
+use Rattle.std.proofs.Common.{◌≡◌, ℕ, suc, ◌+◌, ◌-◌, ◌<◌, ◌≤◌, zero, length, [], ◌∷◌, Bool, List, Option, Some, None, if◌then◌else◌, refl, sym, ◌∙◌, ap, ◌++◌, append_assoc, append-nil, arith}
 use Rattle.ix_pattern.specs.Tokens.{turn, members, modifier, modifiers, behind_modifier, token_front, tokens, ◌>>=◌}
 use Rattle.ix_pattern.specs.declared.tokens.Flags.{Flags}
 use Rattle.ix_pattern.specs.declared.tokens.Token.{Token}

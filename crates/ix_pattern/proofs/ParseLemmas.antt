@@ -1,27 +1,21 @@
 -- From what was read to the pattern.
-use Rattle.std.proofs.Common.{◌≡◌, ℕ, ◌+◌, ◌≤◌, ◌<◌, min, nat_lt, Bool, true, false, ◌||◌, List, [], ◌∷◌, ◌++◌, length, Option, Some, None, zero, suc, refl, sym, ◌∙◌, ap, subst, arith}
+use Rattle.std.proofs.Common.{◌≡◌, ℕ, ◌+◌, ◌≤◌, min, nat_lt, Bool, true, false, ◌||◌, List, [], ◌∷◌, length, Option, Some, None, zero, suc, refl, sym, ◌∙◌, ap, subst, arith}
 use Rattle.std.specs.Prelude.{◌==◌}
 use Rattle.std.specs.Option.{is_some}
 use Rattle.std.proofs.lemmas.Bool.Decides.{nat_tests}
-use Rattle.std.proofs.lemmas.Bool.{leb-false, ltb-false}
-use Rattle.ix_pattern.specs.Piece.{Piece, least_length}
-use Rattle.ix_pattern.specs.Rows.{Shape, IsPattern, tree, AllInside}
-use Rattle.ix_pattern.specs.Made.{Made}
-use Rattle.ix_pattern.specs.Parts.{IsPart, Grew, Adds}
+use Rattle.std.proofs.lemmas.Bool.{ltb-false}
+use Rattle.ix_pattern.specs.Rows.{Shape, tree}
 use Rattle.ix_pattern.specs.Tokens.{tokens_of}
-use Rattle.ix_pattern.specs.Syntax.{Syntax, spelled, IsSpelledBy, is_allowed, groups, tree_of, weight_of, is_too_large, counts_high, depth, repeats_empty}
-use Rattle.ix_pattern.specs.Run.{Level, level, State, state, run, syntax_of}
-use Rattle.ix_pattern.specs.Frames.{IsFrame, AreFrames, IsReading, HasRead, ReadsAll, captures}
-use Rattle.ix_pattern.specs.Parsed.{Came, Read, Parses}
-use Rattle.ix_pattern.specs.Reads.{IsPatternOf, IsWithinLimits, IsReadAs, IsTooLarge, above}
-use Rattle.ix_pattern.specs.declared.frames.Frame.{Frame}
-use Rattle.ix_pattern.specs.declared.part.Part.{Part}
+use Rattle.ix_pattern.specs.Syntax.{Syntax, spelled, IsSpelledBy, groups, tree_of, weight_of, is_too_large, counts_high, depth}
+use Rattle.ix_pattern.specs.Run.{level, State, state, run}
+use Rattle.ix_pattern.specs.Frames.{IsFrame, IsReading, HasRead, ReadsAll, captures}
+use Rattle.ix_pattern.specs.Parsed.{Read, Parses}
+use Rattle.ix_pattern.specs.Reads.{IsPatternOf}
 use Rattle.ix_pattern.specs.declared.reader.Reader.{Reader}
-use Rattle.ix_pattern.specs.declared.tokens.Repeat.{Repeat}
 use Rattle.ix_pattern.specs.declared.tokens.Token.{Token}
 use Rattle.ix_pattern.proofs.Grammar.{given-is-spelled, spelled-is-given}
 use Rattle.ix_pattern.proofs.StepLemmas.{snoc-nil}
-use Rattle.ix_pattern.proofs.ReadsLemmas.{captures-spelled, syntax-sound, or-none}
+use Rattle.ix_pattern.proofs.ReadsLemmas.{captures-spelled, or-none}
 
 spelled-so : (text : List ℕ) (ts : List Token) (s : Syntax) → Some ts ≡ tokens_of text → IsSpelledBy s text → run ts ≡ Some (state (level None s) [])
 spelled-so text ts s e p =

@@ -1,10 +1,10 @@
 -- What is known of a piece that is made of pieces.
-use Rattle.std.proofs.Common.{◌≡◌, ℕ, zero, suc, ◌+◌, ◌*◌, ◌<◌, ◌≤◌, min, max, Bool, true, false, not, ◌&&◌, ◌||◌, nat_lt, nat_le, length, List, Option, Some, None, Result, Ok, Err, IfOk, refl, sym, ◌∙◌, ap, subst, arith}
+use Rattle.std.proofs.Common.{◌≡◌, ℕ, zero, suc, ◌+◌, ◌*◌, ◌<◌, ◌≤◌, min, max, Bool, true, false, not, ◌&&◌, ◌||◌, nat_lt, nat_le, length, List, Option, Some, None, Result, Ok, Err, IfOk, refl, sym, ◌∙◌, ap, arith}
 use Rattle.std.specs.Prelude.{◌==◌}
 use Rattle.std.proofs.lemmas.Bool.Decides.{nat_tests}
 use Rattle.std.proofs.lemmas.Bool.{leb-true, leb-false}
 use Rattle.std.proofs.Math.Nat.{mul-le-mul_right}
-use Rattle.ix_pattern.specs.Piece.{Piece, nothing, byte_in, start, finish, word, seq, either, count, group, ahead, least_length}
+use Rattle.ix_pattern.specs.Piece.{Piece, byte_in, start, finish, word, seq, either, count, group, ahead, least_length}
 use Rattle.ix_pattern.specs.Rows.{piece_at, pieces, made}
 use Rattle.ix_pattern.specs.Sets.{none}
 use Rattle.ix_pattern.specs.declared.pattern.Node.{Node}

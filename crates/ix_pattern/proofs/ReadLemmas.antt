@@ -1,13 +1,13 @@
 -- Reading all tokens.
-use Rattle.std.proofs.Common.{◌≡◌, ℕ, zero, suc, ◌+◌, ◌≤◌, ◌<◌, Bool, true, false, List, [], ◌∷◌, ◌++◌, Option, Some, None, refl, sym, ◌∙◌, ap, subst, arith, add-zero, append-nil, append_assoc, count_by, cond, Vec, Global}
+use Rattle.std.proofs.Common.{◌≡◌, ℕ, ◌+◌, Bool, true, false, List, [], ◌∷◌, ◌++◌, Option, Some, None, refl, sym, ◌∙◌, ap, subst, arith, append-nil, append_assoc, count_by, cond, Vec, Global}
 use Rattle.ix_pattern.specs.Syntax.{opened, done}
 use Rattle.ix_pattern.specs.Rows.{Rows}
 use Rattle.ix_pattern.specs.Made.{Made}
 use Rattle.ix_pattern.specs.declared.frames.Frame.{Frame}
 use Rattle.std.proofs.lemmas.List.Sums.{sum_by-cons}
 use Rattle.ix_pattern.specs.Tokens.{◌>>=◌}
-use Rattle.ix_pattern.specs.Run.{Level, level, State, state, step, run}
-use Rattle.ix_pattern.specs.Frames.{IsFrame, IsReading, Goes, Stepped, CanStep, captures, opened_by, is_capture, HasRead, ReadsAll}
+use Rattle.ix_pattern.specs.Run.{level, State, state, step, run}
+use Rattle.ix_pattern.specs.Frames.{IsFrame, Goes, Stepped, CanStep, captures, opened_by, is_capture, HasRead, ReadsAll}
 use Rattle.ix_pattern.specs.declared.reader.Reader.{Reader}
 use Rattle.ix_pattern.specs.declared.tokens.Opening.TheVariants.{Capture, Plain, Ahead}
 use Rattle.ix_pattern.specs.declared.tokens.Token.{Token}

@@ -1,17 +1,16 @@
 -- The pattern of a syntax.
-use Rattle.std.proofs.Common.{◌≡◌, ℕ, zero, suc, ◌+◌, ◌-◌, ◌≤◌, ◌<◌, Bool, true, false, ◌&&◌, ◌||◌, List, [], ◌∷◌, ◌++◌, length, take, drop, Option, Some, None, unwrap_or, refl, sym, ◌∙◌, ap, subst, arith}
+use Rattle.std.proofs.Common.{◌≡◌, ℕ, zero, suc, ◌+◌, ◌<◌, Bool, true, false, ◌&&◌, ◌||◌, [], ◌∷◌, ◌++◌, Option, Some, None, unwrap_or, refl, sym, ◌∙◌, ap, arith}
 use Rattle.std.specs.Prelude.{◌==◌}
-use Rattle.ix_pattern.specs.Piece.{Piece, nothing, byte_in, start, finish, word, seq, either, count, group, ahead, least_length, IsSound, IsPlain, TakesIfUnlimited}
-use Rattle.ix_pattern.specs.Syntax.{Syntax, done, bar, leaf, paren, spelled, spelled_count, IsSpelledBy, groups, opened, pieces, whole, alternatives, joined, repeated, leaf_piece, paren_piece, is_plain, is_plain_opening, is_allowed, may_hold, repeats_empty, is_none, least_of, most_of}
+use Rattle.ix_pattern.specs.Piece.{Piece, nothing, least_length, IsSound, IsPlain, TakesIfUnlimited}
+use Rattle.ix_pattern.specs.Syntax.{Syntax, done, bar, leaf, paren, spelled, spelled_count, groups, opened, pieces, whole, alternatives, joined, repeated, leaf_piece, paren_piece, is_plain, is_plain_opening, is_allowed, may_hold, repeats_empty, is_none, most_of}
 use Rattle.ix_pattern.specs.Run.{level, state, run}
-use Rattle.ix_pattern.specs.Frames.{captures, opened_by}
+use Rattle.ix_pattern.specs.Frames.{captures}
 use Rattle.ix_pattern.specs.Reads.{OneSyntax}
 use Rattle.ix_pattern.specs.declared.tokens.Leaf.{Leaf}
 use Rattle.ix_pattern.specs.declared.tokens.Leaf.TheVariants.{Bytes, Start, Finish, Word}
 use Rattle.ix_pattern.specs.declared.tokens.Opening.{Opening}
 use Rattle.ix_pattern.specs.declared.tokens.Opening.TheVariants.{Capture, Plain, Ahead}
 use Rattle.ix_pattern.specs.declared.tokens.Repeat.{Repeat}
-use Rattle.ix_pattern.specs.declared.tokens.Token.{Token}
 use Rattle.ix_pattern.specs.declared.tokens.Token.TheVariants as token
 use Rattle.ix_pattern.proofs.Grammar.{spelled-is-given}
 use Rattle.ix_pattern.proofs.ReadLemmas.{captures-append}

@@ -1,12 +1,12 @@
 -- What a step of the reader comes to.
-use Rattle.std.proofs.Common.{◌≡◌, ℕ, ◌+◌, ◌-◌, ◌≤◌, ◌<◌, Bool, true, false, List, [], ◌∷◌, ◌++◌, Option, Some, None, Vec, Global, refl, sym, ◌∙◌, ap, subst, arith, add-zero}
+use Rattle.std.proofs.Common.{◌≡◌, ℕ, ◌+◌, true, false, List, [], ◌∷◌, ◌++◌, Option, Some, None, Vec, Global, refl, sym, ◌∙◌, subst, arith, add-zero}
 use Rattle.std.specs.Option.{is_some}
 use Rattle.ix_pattern.specs.Rows.{Rows}
 use Rattle.ix_pattern.specs.Made.{Made}
 use Rattle.ix_pattern.specs.Parts.{Grew}
-use Rattle.ix_pattern.specs.Syntax.{Syntax, done, bar, leaf, paren, groups, opened, may_hold, is_plain}
+use Rattle.ix_pattern.specs.Syntax.{Syntax, done, bar, leaf, paren, groups, opened, may_hold}
 use Rattle.ix_pattern.specs.Run.{Level, level, State, state, step, opened_level}
-use Rattle.ix_pattern.specs.Frames.{IsFrame, AreFrames, IsReading, Holds, Goes, Stepped, CanStep}
+use Rattle.ix_pattern.specs.Frames.{IsFrame, AreFrames, IsReading, Holds, Goes, Stepped}
 use Rattle.ix_pattern.specs.declared.frames.Frame.{Frame}
 use Rattle.ix_pattern.specs.declared.reader.Reader.{Reader}
 use Rattle.ix_pattern.specs.declared.tokens.Leaf.{Leaf}

@@ -1,8 +1,7 @@
 -- What the reader of a pattern keeps of the levels of parentheses that are open.
-use Rattle.std.specs.Prelude.{◌≡◌, ℕ, ◌+◌, ◌≤◌, ◌<◌, min, Bool, true, false, List, [], ◌∷◌, ◌++◌, Option, Some, None, IsTrue, IsFalse}
+use Rattle.std.specs.Prelude.{◌≡◌, ℕ, ◌+◌, ◌≤◌, min, Bool, true, false, List, [], ◌∷◌, ◌++◌, Option, Some, None}
 use Rattle.ix_pattern.specs.Rows.{Rows}
-use Rattle.ix_pattern.specs.Made.{Made}
-use Rattle.ix_pattern.specs.Parts.{IsOptional, IsBelow, Grew}
+use Rattle.ix_pattern.specs.Parts.{IsOptional, IsBelow}
 use Rattle.ix_pattern.specs.Syntax.{Syntax, pieces, weights, is_plain, depth, counts_high, groups, opened}
 use Rattle.ix_pattern.specs.Run.{Level, level, State, state, step, run}
 use Rattle.ix_pattern.specs.declared.reader.Reader.{Reader}

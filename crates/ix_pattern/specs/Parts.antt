@@ -1,5 +1,5 @@
 -- What the reader of a pattern keeps of the pieces that it has made.
-use Rattle.std.specs.Prelude.{◌≡◌, ℕ, ◌<◌, ◌+◌, nat_lt, min, length, List, [], ◌∷◌, ◌++◌, Option, Some, None}
+use Rattle.std.specs.Prelude.{◌≡◌, ℕ, ◌<◌, ◌+◌, nat_lt, min, length, Option, Some, None}
 use Rattle.ix_pattern.specs.Piece.{Piece, least_length}
 use Rattle.ix_pattern.specs.Rows.{Rows, piece_at}
 use Rattle.ix_pattern.specs.Syntax.{repeats_empty}

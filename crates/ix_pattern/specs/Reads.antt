@@ -1,6 +1,6 @@
 -- What reading a pattern comes to.
-use Rattle.std.specs.Prelude.{◌≡◌, ℕ, ◌≤◌, ◌<◌, Bool, true, false, List, length, Option, Some, None}
-use Rattle.ix_pattern.specs.Piece.{Piece, least_length}
+use Rattle.std.specs.Prelude.{◌≡◌, ℕ, ◌≤◌, ◌<◌, true, false, List, length}
+use Rattle.ix_pattern.specs.Piece.{least_length}
 use Rattle.ix_pattern.specs.Rows.{Shape, tree}
 use Rattle.ix_pattern.specs.Syntax.{Syntax, IsSpelledBy, groups, tree_of, weight_of, is_too_large, repeats_empty}
 

@@ -1,5 +1,5 @@
 -- Sets of bytes: a test for each of the 256 bytes.
-use Rattle.std.specs.Prelude.{ℕ, ◌+◌, ◌-◌, Bool, true, false, ◌&&◌, ◌||◌, not, if◌then◌else◌, nat_le, List, ◌++◌, take, drop, replicate, map}
+use Rattle.std.specs.Prelude.{ℕ, ◌+◌, ◌-◌, Bool, false, ◌&&◌, ◌||◌, not, if◌then◌else◌, nat_le, List, replicate, map}
 use Rattle.std.specs.List.{range_with_len}
 use Rattle.ix_pattern.specs.Piece.{in_set}
 

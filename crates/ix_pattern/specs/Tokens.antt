@@ -4,11 +4,9 @@ use Rattle.ix_pattern.specs.Sets.{none, with_range, union, folded, complement, d
 use Rattle.ix_pattern.specs.declared.tokens.Flags.{Flags}
 use Rattle.ix_pattern.specs.declared.tokens.Leaf.{Leaf}
 use Rattle.ix_pattern.specs.declared.tokens.Leaf.TheVariants.{Bytes, Start, Finish, Word}
-use Rattle.ix_pattern.specs.declared.tokens.Opening.{Opening}
 use Rattle.ix_pattern.specs.declared.tokens.Opening.TheVariants.{Capture, Plain, Ahead}
 use Rattle.ix_pattern.specs.declared.tokens.Times.{Times}
 use Rattle.ix_pattern.specs.declared.tokens.Times.TheVariants.{Maybe, Limited, Unlimited}
-use Rattle.ix_pattern.specs.declared.tokens.Repeat.{Repeat}
 use Rattle.ix_pattern.specs.declared.tokens.Token.{Token}
 use Rattle.ix_pattern.specs.declared.tokens.Token.TheVariants as token
 use Rattle.ix_pattern.specs.declared.classes.Escape.{Escape}

@@ -16,6 +16,8 @@ mod reader;
 mod reading;
 mod sets;
 mod steps;
+#[cfg(test)]
+mod tests;
 mod tokens;
 mod work;
 

@@ -89,4 +89,30 @@ impl Pattern {
         };
         finish(reader)
     }
+
+    /// Reads the text of a pattern for breaks, which has a capturing group and takes at least one byte.
+    ///
+    /// The faults of `read` come first, then `NoGroup`, then `MatchesEmpty`.
+    pub fn for_breaks(alloc: Global, text: &[u8]) -> Result<Pattern, BreakFault>
+        ensures found { IfOk result (λ p. (s : Syntax) × IsReadAs text.now s p) }
+        ensures groups { IfOk result (λ p. 0 < p.groups) }
+        ensures takes { IfOk result (λ p. 0 < least_length (tree p.rows)) }
+        ensures too_large { IsErrOf result (BreakFault.Pattern PatternFault.TooLarge) → IsTooLarge text.now }
+        ensures syntax { IsErrOf result (BreakFault.Pattern PatternFault.Syntax) → IsNoPattern text.now }
+        ensures empty_repeat { IsErrOf result (BreakFault.Pattern PatternFault.EmptyRepeat) → (s : Syntax) × RepeatsEmpty text.now s }
+        ensures no_group { IsErrOf result BreakFault.NoGroup → (s : Syntax) × HasNoGroup text.now s }
+        ensures matches_empty { IsErrOf result BreakFault.MatchesEmpty → (s : Syntax) × MayMatchEmpty text.now s }
+    {
+        let pattern = match Pattern::read(alloc, text) {
+            Ok(pattern) => pattern,
+            Err(fault) => return Err(BreakFault::Pattern(fault)),
+        };
+        if pattern.groups() == 0 {
+            return Err(BreakFault::NoGroup);
+        }
+        if !pattern.takes() {
+            return Err(BreakFault::MatchesEmpty);
+        }
+        Ok(pattern)
+    }
 }

@@ -1,7 +1,6 @@
-use Rattle.std.proofs.Common.{arith, sym, ◌∙◌, ap, length}
+use Rattle.std.proofs.Common.{arith, sym, ◌∙◌, ap}
 use Rattle.std.proofs.lemmas.Grind.{common_steps}
 use Rattle.std.specs.Option.{option_map}
-use Rattle.ix_pattern.specs.declared.frames.Frame.{Frame}
 use Rattle.ix_pattern.proofs.StepLemmas.{none-waits}
 use Rattle.ix_pattern.proofs.ParseLemmas.{no-state, still-waits, still-open, parsed, not-empty}
 use Rattle.ix_pattern.proofs.read.parse.Goals as goal

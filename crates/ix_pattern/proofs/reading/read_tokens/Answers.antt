@@ -1,4 +1,4 @@
-use Rattle.std.proofs.Common.{refl, sym, ◌∙◌, ap, subst, append-nil, count_by}
+use Rattle.std.proofs.Common.{◌∙◌, ap, count_by}
 use Rattle.ix_pattern.specs.Frames.{is_capture}
 use Rattle.ix_pattern.proofs.ReadLemmas.{come-begins, come-can, come-on, come-not, going-on, gone, captures-count}
 use Rattle.ix_pattern.proofs.reading.read_tokens.Goals as goal

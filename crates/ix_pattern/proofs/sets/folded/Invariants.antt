@@ -1,4 +1,4 @@
-use Rattle.std.proofs.Common.{◌≡◌, ℕ, ◌<◌, get_or, not, ◌||◌, ◌&&◌, nat_le, false}
+use Rattle.std.proofs.Common.{◌≡◌, ℕ, ◌<◌, get_or, ◌||◌, ◌&&◌, false}
 use Rattle.ix_pattern.specs.Piece.{in_set}
 use Rattle.ix_pattern.specs.Sets.{other_case}
 use Rattle.ix_pattern.proofs.sets.folded.Given as goal

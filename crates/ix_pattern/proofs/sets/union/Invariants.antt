@@ -1,6 +1,5 @@
-use Rattle.std.proofs.Common.{◌≡◌, ℕ, ◌<◌, get_or, not, ◌||◌, ◌&&◌, nat_le, false}
+use Rattle.std.proofs.Common.{◌≡◌, ℕ, ◌<◌, get_or, ◌||◌, false}
 use Rattle.ix_pattern.specs.Piece.{in_set}
-use Rattle.ix_pattern.specs.Sets.{other_case}
 use Rattle.ix_pattern.proofs.sets.union.Given as goal
 
 abbrev pub invariant-loop-b : goal.invariant-loop-b

@@ -1,4 +1,3 @@
-use Rattle.std.proofs.Common.{rules}
 use Rattle.ix_pattern.proofs.StepLemmas.{close-stepped}
 use Rattle.ix_pattern.proofs.reader.Reader.close.Goals as goal
 

@@ -1,4 +1,4 @@
-use Rattle.std.proofs.Common.{arith, ◌∙◌, sym, append-nil}
+use Rattle.std.proofs.Common.{arith, sym}
 use Rattle.std.proofs.lemmas.Grind.{common_steps}
 use Rattle.ix_pattern.proofs.StepLemmas.{waiting-stepped, held-stepped, outermost-stepped, popped-holds, open-stepped, none-waits}
 use Rattle.ix_pattern.proofs.reader.Reader.open.Goals as goal
