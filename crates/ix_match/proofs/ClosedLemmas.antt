@@ -1,12 +1,12 @@
 -- A closed text has no edges, and its first match lies in it.
-use Rattle.std.proofs.Common.{◌≡◌, ℕ, zero, suc, ◌+◌, ◌-◌, ◌<◌, ◌≤◌, Bool, true, false, List, [], ◌∷◌, ◌++◌, length, take, Option, Some, None, if◌then◌else◌, refl, sym, ◌∙◌, ap, subst, arith, nat_le, ◌&&◌}
+use Rattle.std.proofs.Common.{◌≡◌, ℕ, zero, suc, ◌+◌, ◌-◌, ◌≤◌, Bool, true, false, List, [], ◌∷◌, ◌++◌, length, take, Option, Some, None, if◌then◌else◌, refl, ◌∙◌, ap, subst, arith, nat_le, ◌&&◌}
 use Rattle.std.specs.Prelude.{slice_get, slice_set, replicate, ◌==◌}
 use Rattle.std.proofs.lemmas.List.{length-replicate}
 use Rattle.ix_pattern.specs.Piece.{Piece, nothing, byte_in, start, finish, word, seq, either, count, group, ahead, in_set, least_length}
 use Rattle.ix_pattern.specs.Ways.{Text, Reached, Way, ends_at, edge, onward, required, prefer, optional, further_turns, byte_before, at_end, here, byte_ways, is_start, finish_ways, is_word_byte, is_word, differ, word_ways, sight, look, close_group, ways}
 use Rattle.ix_pattern.specs.Laws.{AllInOrder}
 use Rattle.ix_pattern.specs.Rows.{Shape, tree}
-use Rattle.ix_pattern.proofs.Ends.{EachEnd, EachEnd-append, EachEnd-onward, EachEnd-weaker, EachEnd-here, EachEnd-at_end, EachEnd-prefer, finish-ends, word-ends, look-ends, Within, ways-ends}
+use Rattle.ix_pattern.proofs.Ends.{EachEnd, EachEnd-append, EachEnd-onward, EachEnd-here, EachEnd-at_end, EachEnd-prefer, finish-ends, word-ends, look-ends, Within, ways-ends}
 use Rattle.ix_pattern.proofs.Spans.{Ordered, ways-keeps}
 use Rattle.ix_match.specs.Matches.{closed, ways_from}
 
@@ -39,7 +39,7 @@ Known-optional : (lazy : Bool) (turn : Reached → List Way) → ((r : Reached) 
 Known-optional lazy turn t zero r = tt
 Known-optional lazy turn t (suc n) r =
     Known-prefer lazy (ends_at r ∷ []) (onward (optional lazy turn n) (turn r)) tt
-      (Known-onward (optional lazy turn n) (turn r) (t r) (Known-optional lazy turn t n))
+    (Known-onward (optional lazy turn n) (turn r) (t r) (Known-optional lazy turn t n))
 
 Known-here : (test : Bool) (r : Reached) → Known (here test r)
 Known-here true r = tt
@@ -64,7 +64,7 @@ Known-finish false text r (Some b) u = last ((b == 10) && (r.place + 1 == length
 Known-word : (text : Text) (r : Reached) (o : Option ℕ) → text.unfinished ≡ false → Known (word_ways text r o)
 Known-word text r None u =
     Known-at_end text (here (is_word (byte_before text.before text.bytes r.place)) r) u
-      (Known-here (is_word (byte_before text.before text.bytes r.place)) r)
+    (Known-here (is_word (byte_before text.before text.bytes r.place)) r)
 Known-word text r (Some b) u = Known-here (differ (is_word (byte_before text.before text.bytes r.place)) (is_word_byte b)) r
 
 Known-look : (wanted : Bool) (r : Reached) (xs : List Way) → Known xs → Known (look wanted r xs)
@@ -94,12 +94,12 @@ all-known (either first other) text u r =
     Known-append (ways first text r) (ways other text r) (all-known first text u r) (all-known other text u r)
 all-known (count inside least most lazy) text u r =
     Known-required (ways inside text) (optional lazy (ways inside text) (further_turns text least most)) (all-known inside text u)
-      (Known-optional lazy (ways inside text) (all-known inside text u) (further_turns text least most)) least r
+    (Known-optional lazy (ways inside text) (all-known inside text u) (further_turns text least most)) least r
 all-known (group number inside) text u r =
     Known-onward (close_group number r.place) (ways inside text r) (all-known inside text u r) (λ e. tt)
 all-known (ahead inside wanted) text u r =
     Known-look wanted r (ways inside (sight (r.place + 255) text) r)
-      (all-known inside (sight (r.place + 255) text) (sight-closed (r.place + 255) text u) r)
+    (all-known inside (sight (r.place + 255) text) (sight-closed (r.place + 255) text u) r)
 
 -- as many groups as before
 abbrev pub SameCount : ℕ → Reached → Type 0
@@ -124,7 +124,7 @@ optional-count : (n : ℕ) (lazy : Bool) (turn : Reached → List Way) → Keeps
 optional-count n lazy turn t zero r p = (p, tt)
 optional-count n lazy turn t (suc m) r p =
     EachEnd-prefer (SameCount n) lazy (ends_at r ∷ []) (onward (optional lazy turn m) (turn r)) (p, tt)
-      (onward-count n (optional lazy turn m) (turn r) (t r p) (optional-count n lazy turn t m))
+    (onward-count n (optional lazy turn m) (turn r) (t r p) (optional-count n lazy turn t m))
 
 bytes-count : (n : ℕ) (set : List Bool) (text : Text) (r : Reached) (o : Option ℕ) → SameCount n r → EachEnd (SameCount n) (byte_ways set text r o)
 bytes-count n set text r None p = EachEnd-at_end (SameCount n) text.unfinished [] tt
@@ -142,10 +142,10 @@ ways-count n (either first other) text r p =
     EachEnd-append (SameCount n) (ways first text r) (ways other text r) (ways-count n first text r p) (ways-count n other text r p)
 ways-count n (count inside least most lazy) text r p =
     required-count n (ways inside text) (optional lazy (ways inside text) (further_turns text least most)) (ways-count n inside text)
-      (optional-count n lazy (ways inside text) (ways-count n inside text) (further_turns text least most)) least r p
+    (optional-count n lazy (ways inside text) (ways-count n inside text) (further_turns text least most)) least r p
 ways-count n (group number inside) text r p =
     EachEnd-onward (SameCount n) (SameCount n) (close_group number r.place) (ways inside text r) (ways-count n inside text r p)
-      (λ e q. (length-set e.groups (number - 1) (Some (r.place, e.place)) ∙ q, tt))
+    (λ e q. (length-set e.groups (number - 1) (Some (r.place, e.place)) ∙ q, tt))
 ways-count n (ahead inside wanted) text r p = look-ends (SameCount n) wanted r (ways inside (sight (r.place + 255) text) r) p
 
 none-set : (count place : ℕ) → AllInOrder place (replicate count None)
@@ -172,7 +172,7 @@ first-lies p text place r h e =
     let w = head-end (Within (closed text) (place + least_length (tree p.rows))) (ways_from p text place) r (ways-ends (tree p.rows) (closed text) start h) e in
     let o = head-end (Ordered place) (ways_from p text place) r (ways-keeps (tree p.rows) (closed text) start (none-set p.groups place)) e in
     let c = head-end (SameCount p.groups) (ways_from p text place) r
-      (ways-count p.groups (tree p.rows) (closed text) start (length-replicate p.groups None)) e in
+    (ways-count p.groups (tree p.rows) (closed text) start (length-replicate p.groups None)) e in
     record { order = omega (arith, w.low); within = w.high; groups = c; spans = o.spans }
 
 Known-head : (xs : List Way) → Known xs → slice_get xs 0 ≡ Some edge → ⊥
@@ -183,7 +183,7 @@ Known-head (ends_at r ∷ xs) k e = grind (arith, e)
 pub first-known : (p : Shape) (text : List ℕ) (place : ℕ) → slice_get (ways_from p text place) 0 ≡ Some edge → ⊥
 first-known p text place e =
     Known-head (ways_from p text place)
-      (all-known (tree p.rows) (closed text) refl (record { place = place; groups = replicate p.groups None })) e
+    (all-known (tree p.rows) (closed text) refl (record { place = place; groups = replicate p.groups None })) e
 
 pub no-head : (xs : List Way) → slice_get xs 0 ≡ None → xs ≡ []
 no-head [] e = refl

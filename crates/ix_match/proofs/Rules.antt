@@ -1,15 +1,14 @@
 -- One step for each kind of task.
-use Rattle.std.proofs.Common.{◌≡◌, ℕ, zero, suc, ◌+◌, ◌-◌, ◌<◌, ◌≤◌, Bool, true, false, List, [], ◌∷◌, ◌++◌, length, Option, Some, None, refl, sym, ◌∙◌, ap, subst, arith, append_assoc}
+use Rattle.std.proofs.Common.{◌≡◌, ℕ, zero, suc, ◌+◌, ◌-◌, ◌<◌, Bool, true, false, List, [], ◌∷◌, ◌++◌, refl, sym, ◌∙◌, ap, subst, arith}
 use Rattle.std.proofs.lemmas.List.{append-nil}
-use Rattle.ix_pattern.specs.Piece.{Piece, nothing, byte_in, start, finish, word, seq, either, count, group, ahead}
-use Rattle.ix_pattern.specs.Ways.{Text, Reached, Way, ends_at, edge, onward, required, optional, prefer, further_turns, close_group, ways}
-use Rattle.ix_pattern.specs.Rows.{Rows, piece_at}
+use Rattle.ix_pattern.specs.Ways.{Text, Reached, Way, ends_at, onward}
+use Rattle.ix_pattern.specs.Rows.{Rows}
 use Rattle.ix_match.specs.declared.frames.Task.{Task}
-use Rattle.ix_match.specs.declared.frames.Task.TheVariants.{Piece as DoPiece, Turns, Close}
+use Rattle.ix_match.specs.declared.frames.Task.TheVariants.{Piece as DoPiece, Turns}
 use Rattle.ix_match.specs.declared.frames.Frame.{Frame}
-use Rattle.ix_match.specs.Stack.{task_ways, todo_ways, stop, reached, frame_ways, stack_ways}
-use Rattle.ix_match.specs.Costs.{sum_ends, required_cost, optional_cost, cost, task_cost, todo_cost, one, frame_cost, stack_cost}
-use Rattle.ix_match.specs.Steps.{Stands, ways_now, cost_now, Steps, Fits, AllFit, EachFits}
+use Rattle.ix_match.specs.Stack.{task_ways, todo_ways, stop, reached, frame_ways}
+use Rattle.ix_match.specs.Costs.{task_cost, todo_cost, one, frame_cost}
+use Rattle.ix_match.specs.Steps.{Stands, Steps, Fits, AllFit, EachFits}
 use Rattle.ix_match.proofs.StackLemmas.{onward-append, onward-onward, todo_ways-push, todo_ways-push-fn, todo_cost-push, todo_cost-push-fn, pushed, pushed_two, AllFit-push, EachFits-push}
 
 same_reached : (frame next : Frame) (tasks : List Task) → Stands frame next tasks → reached next ≡ reached frame
@@ -40,7 +39,7 @@ cost-1 rows text frame next a s =
 -- two tasks more
 ways-2 : (rows : Rows) (text : Text) (frame next : Frame) (a b : Task) → Stands frame next ((frame.todo.items ++ a ∷ []) ++ b ∷ []) →
     frame_ways rows text next
-      ≡ onward (todo_ways rows text stop frame.todo.items) (onward (task_ways rows text a) (task_ways rows text b (reached frame)))
+    ≡ onward (todo_ways rows text stop frame.todo.items) (onward (task_ways rows text a) (task_ways rows text b (reached frame)))
 ways-2 rows text frame next a b s =
     ways-stands rows text frame next ((frame.todo.items ++ a ∷ []) ++ b ∷ []) s
     ∙ todo_ways-push rows text stop (frame.todo.items ++ a ∷ []) b (reached frame)
@@ -49,7 +48,7 @@ ways-2 rows text frame next a b s =
 
 cost-2 : (rows : Rows) (text : Text) (frame next : Frame) (a b : Task) → Stands frame next ((frame.todo.items ++ a ∷ []) ++ b ∷ []) →
     frame_cost rows text next
-      ≡ task_cost rows text b (task_cost rows text a (todo_cost rows text one frame.todo.items)) (reached frame)
+    ≡ task_cost rows text b (task_cost rows text a (todo_cost rows text one frame.todo.items)) (reached frame)
 cost-2 rows text frame next a b s =
     cost-stands rows text frame next ((frame.todo.items ++ a ∷ []) ++ b ∷ []) s
     ∙ todo_cost-push rows text one (frame.todo.items ++ a ∷ []) b (reached frame)
@@ -63,8 +62,8 @@ pub by_one : (rows : Rows) (text : Text) (frame next : Frame) (task a : Task) (o
     Steps rows text frame task old new false
 by_one rows text frame next task a old new s e w k =
     pushed rows text frame next task old new e
-      (ways-1 rows text frame next a s ∙ ap (onward (todo_ways rows text stop frame.todo.items)) (sym (w (reached frame))))
-      (omega (arith, cost-1 rows text frame next a s, k (todo_cost rows text one frame.todo.items) (reached frame)))
+    (ways-1 rows text frame next a s ∙ ap (onward (todo_ways rows text stop frame.todo.items)) (sym (w (reached frame))))
+    (omega (arith, cost-1 rows text frame next a s, k (todo_cost rows text one frame.todo.items) (reached frame)))
 
 -- the task is replaced by two, of which the last is done first
 pub by_two : (rows : Rows) (text : Text) (frame next : Frame) (task a b : Task) (old new : List Frame) →
@@ -74,8 +73,8 @@ pub by_two : (rows : Rows) (text : Text) (frame next : Frame) (task a b : Task) 
     Steps rows text frame task old new false
 by_two rows text frame next task a b old new s e w k =
     pushed rows text frame next task old new e
-      (ways-2 rows text frame next a b s ∙ ap (onward (todo_ways rows text stop frame.todo.items)) (sym w))
-      (omega (arith, cost-2 rows text frame next a b s, k (todo_cost rows text one frame.todo.items)))
+    (ways-2 rows text frame next a b s ∙ ap (onward (todo_ways rows text stop frame.todo.items)) (sym w))
+    (omega (arith, cost-2 rows text frame next a b s, k (todo_cost rows text one frame.todo.items)))
 
 -- the task has one end, and what it costs
 pub by_end : (rows : Rows) (text : Text) (frame next : Frame) (task : Task) (r : Reached) (old new : List Frame) →
@@ -85,11 +84,14 @@ pub by_end : (rows : Rows) (text : Text) (frame next : Frame) (task : Task) (r :
     Steps rows text frame task old new false
 by_end rows text frame next task r old new at same e w k =
     pushed rows text frame next task old new e
-      (ap (λ ts. todo_ways rows text stop ts (reached next)) same ∙ ap (todo_ways rows text stop frame.todo.items) at
-        ∙ sym (append-nil (todo_ways rows text stop frame.todo.items r))
-        ∙ ap (onward (todo_ways rows text stop frame.todo.items)) (sym w))
-      (omega (arith, k (todo_cost rows text one frame.todo.items),
-        ap (λ ts. todo_cost rows text one ts (reached next)) same ∙ ap (todo_cost rows text one frame.todo.items) at))
+    (ap (λ ts. todo_ways rows text stop ts (reached next)) same ∙ ap (todo_ways rows text stop frame.todo.items) at
+    ∙ sym (append-nil (todo_ways rows text stop frame.todo.items r))
+    ∙ ap (onward (todo_ways rows text stop frame.todo.items)) (sym w))
+    (omega (
+      arith,
+      k (todo_cost rows text one frame.todo.items),
+      ap (λ ts. todo_cost rows text one ts (reached next)) same ∙ ap (todo_cost rows text one frame.todo.items) at,
+    ))
 
 -- one task or another, of which the higher frame is tried first
 pub by_either : (rows : Rows) (text : Text) (frame low high : Frame) (task a b : Task) (old new : List Frame) →
@@ -100,11 +102,11 @@ pub by_either : (rows : Rows) (text : Text) (frame low high : Frame) (task a b :
 by_either rows text frame low high task a b old new sa sb e w k =
     let D : Reached → List Way = todo_ways rows text stop frame.todo.items in
     pushed_two rows text frame low high task old new e
-      (ap (λ l. l ++ frame_ways rows text low) (ways-1 rows text frame high a sa)
-        ∙ ap (λ l. onward D (task_ways rows text a (reached frame)) ++ l) (ways-1 rows text frame low b sb)
-        ∙ sym (onward-append D (task_ways rows text a (reached frame)) (task_ways rows text b (reached frame)))
-        ∙ ap (onward D) (sym (w (reached frame))))
-      (omega (arith, cost-1 rows text frame high a sa, cost-1 rows text frame low b sb, k (todo_cost rows text one frame.todo.items) (reached frame)))
+    (ap (λ l. l ++ frame_ways rows text low) (ways-1 rows text frame high a sa)
+    ∙ ap (λ l. onward D (task_ways rows text a (reached frame)) ++ l) (ways-1 rows text frame low b sb)
+    ∙ sym (onward-append D (task_ways rows text a (reached frame)) (task_ways rows text b (reached frame)))
+    ∙ ap (onward D) (sym (w (reached frame))))
+    (omega (arith, cost-1 rows text frame high a sa, cost-1 rows text frame low b sb, k (todo_cost rows text one frame.todo.items) (reached frame)))
 
 -- the turns of a count
 pub turns-required : (rows : Rows) (text : Text) (frame next : Frame) (inside least further : ℕ) (lazy : Bool) (old new : List Frame) → 0 < least →
@@ -114,8 +116,8 @@ turns-required rows text frame next inside zero further lazy old new pos s e = a
 turns-required rows text frame next inside (suc n) further lazy old new pos s e =
     let less : suc n - 1 ≡ n = omega arith in
     by_two rows text frame next (Turns inside (suc n) further lazy) (Turns inside n further lazy) (DoPiece inside) old new
-      (subst (λ m. Stands frame next ((frame.todo.items ++ Turns inside m further lazy ∷ []) ++ DoPiece inside ∷ [])) less s) e
-      refl (λ k. refl)
+    (subst (λ m. Stands frame next ((frame.todo.items ++ Turns inside m further lazy ∷ []) ++ DoPiece inside ∷ [])) less s) e
+    refl (λ k. refl)
 
 pub turns-done : (rows : Rows) (text : Text) (frame : Frame) (inside least further : ℕ) (lazy : Bool) (old new : List Frame) → least ≡ 0 → further ≡ 0 →
     new ≡ old ++ frame ∷ [] → Steps rows text frame (Turns inside least further lazy) old new false
@@ -130,10 +132,10 @@ turns-lazy rows text frame more inside least (suc n) old new le0 pos s e =
     let less : suc n - 1 ≡ n = omega arith in
     let D : Reached → List Way = todo_ways rows text stop frame.todo.items in
     let s' : Stands frame more ((frame.todo.items ++ Turns inside 0 n true ∷ []) ++ DoPiece inside ∷ []) =
-      subst (λ m. Stands frame more ((frame.todo.items ++ Turns inside 0 m true ∷ []) ++ DoPiece inside ∷ [])) less s in
+    subst (λ m. Stands frame more ((frame.todo.items ++ Turns inside 0 m true ∷ []) ++ DoPiece inside ∷ [])) less s in
     rw le0 (pushed_two rows text frame more frame (Turns inside 0 (suc n) true) old new e
-      (ap (λ l. frame_ways rows text frame ++ l) (ways-2 rows text frame more (Turns inside 0 n true) (DoPiece inside) s'))
-      (omega (arith, cost-2 rows text frame more (Turns inside 0 n true) (DoPiece inside) s')))
+    (ap (λ l. frame_ways rows text frame ++ l) (ways-2 rows text frame more (Turns inside 0 n true) (DoPiece inside) s'))
+    (omega (arith, cost-2 rows text frame more (Turns inside 0 n true) (DoPiece inside) s')))
 
 pub turns-greedy : (rows : Rows) (text : Text) (frame more : Frame) (inside least further : ℕ) (old new : List Frame) → least ≡ 0 → 0 < further →
     Stands frame more ((frame.todo.items ++ Turns inside 0 (further - 1) false ∷ []) ++ DoPiece inside ∷ []) →
@@ -144,12 +146,12 @@ turns-greedy rows text frame more inside least (suc n) old new le0 pos s e =
     let D : Reached → List Way = todo_ways rows text stop frame.todo.items in
     let X : List Way = onward (task_ways rows text (Turns inside 0 n false)) (task_ways rows text (DoPiece inside) (reached frame)) in
     let s' : Stands frame more ((frame.todo.items ++ Turns inside 0 n false ∷ []) ++ DoPiece inside ∷ []) =
-      subst (λ m. Stands frame more ((frame.todo.items ++ Turns inside 0 m false ∷ []) ++ DoPiece inside ∷ [])) less s in
+    subst (λ m. Stands frame more ((frame.todo.items ++ Turns inside 0 m false ∷ []) ++ DoPiece inside ∷ [])) less s in
     rw le0 (pushed_two rows text frame frame more (Turns inside 0 (suc n) false) old new e
-      (ap (λ l. l ++ frame_ways rows text frame) (ways-2 rows text frame more (Turns inside 0 n false) (DoPiece inside) s')
-        ∙ ap (λ l. onward D X ++ l) (sym (append-nil (frame_ways rows text frame)))
-        ∙ sym (onward-append D X (ends_at (reached frame) ∷ [])))
-      (omega (arith, cost-2 rows text frame more (Turns inside 0 n false) (DoPiece inside) s')))
+    (ap (λ l. l ++ frame_ways rows text frame) (ways-2 rows text frame more (Turns inside 0 n false) (DoPiece inside) s')
+    ∙ ap (λ l. onward D X ++ l) (sym (append-nil (frame_ways rows text frame)))
+    ∙ sym (onward-append D X (ends_at (reached frame) ∷ [])))
+    (omega (arith, cost-2 rows text frame more (Turns inside 0 n false) (DoPiece inside) s')))
 
 pub joined : (ts us vs : List Task) (a b : Task) → us ≡ ts ++ a ∷ [] → vs ≡ us ++ b ∷ [] → vs ≡ (ts ++ a ∷ []) ++ b ∷ []
 joined ts us vs a b p q = q ∙ ap (λ l. l ++ b ∷ []) p

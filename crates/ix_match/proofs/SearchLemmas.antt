@@ -1,18 +1,17 @@
 -- The loop of the search: its list of ways stays the same.
-use Rattle.std.proofs.Common.{◌≡◌, ℕ, zero, suc, ◌+◌, ◌-◌, ◌*◌, ◌<◌, ◌≤◌, Bool, true, false, List, [], ◌∷◌, ◌++◌, length, take, Option, Some, None, refl, sym, ◌∙◌, ap, subst, arith}
+use Rattle.std.proofs.Common.{◌≡◌, ℕ, ◌+◌, ◌-◌, ◌<◌, ◌≤◌, Bool, true, false, List, [], ◌∷◌, ◌++◌, take, Option, Some, refl, sym, ◌∙◌, ap, subst, arith}
 use Rattle.std.specs.Prelude.{slice_get, slice_set}
-use Rattle.std.proofs.lemmas.List.{append-nil}
 use Rattle.ix_pattern.specs.Piece.{Piece, ahead}
-use Rattle.ix_pattern.specs.Ways.{Text, Reached, Way, ends_at, edge, onward, close_group, look, sight, ways}
+use Rattle.ix_pattern.specs.Ways.{Text, Reached, Way, ends_at, edge, onward, look, sight, ways}
 use Rattle.ix_pattern.specs.Rows.{Rows, piece_at}
 use Rattle.ix_match.specs.declared.frames.Task.{Task}
 use Rattle.ix_match.specs.declared.frames.Task.TheVariants.{Piece as DoPiece, Turns, Close}
 use Rattle.ix_match.specs.declared.frames.Frame.{Frame}
 use Rattle.ix_match.specs.declared.leaf.Leaf.{Leaf}
 use Rattle.ix_match.specs.Leaf.{leaf_ways, at}
-use Rattle.ix_match.specs.Stack.{task_ways, todo_ways, stop, reached, frame_ways, stack_ways}
-use Rattle.ix_match.specs.Costs.{sum_ends, cost, task_cost, todo_cost, one, frame_cost, stack_cost}
-use Rattle.ix_match.specs.Steps.{task_number, ways_now, cost_now, Steps, Stands, Left, Fits, AllFit, EachFits}
+use Rattle.ix_match.specs.Stack.{task_ways, todo_ways, stop, reached, stack_ways}
+use Rattle.ix_match.specs.Costs.{task_cost, todo_cost, one, stack_cost}
+use Rattle.ix_match.specs.Steps.{task_number, ways_now, cost_now, Steps, Left, Fits, AllFit, EachFits}
 use Rattle.ix_match.proofs.StackLemmas.{todo_ways-push, todo_cost-push, stack_ways-push, stack_cost-push, EachFits-pop, AllFit-pop}
 use Rattle.ix_match.proofs.Rules.{by_end}
 
@@ -29,8 +28,8 @@ left-init rows text piece frame none empty new e0 e1 e2 e3 =
     let all : new ≡ frame ∷ [] = e3 ∙ ap (λ l. l ++ frame ∷ []) e2 in
     record {
       whole = sym (ap (stack_ways rows text) all ∙ ap (λ ts. todo_ways rows text stop ts (reached frame)) todo
-        ∙ onward-stop (ways (piece_at rows piece) text (reached frame)));
-      fits = rw all (rw todo ((omega arith, tt), tt))
+          ∙ onward-stop (ways (piece_at rows piece) text (reached frame)));
+      fits = rw all (rw todo ((omega arith, tt), tt));
     }
 
 pub number-below : (top : ℕ) (task : Task) → Fits top task → task_number task ≤ top
@@ -60,18 +59,18 @@ pub popped-ways : (rows : Rows) (text : Text) (frames rest : List Frame) (frame 
 popped-ways rows text frames rest frame left task p =
     ap (stack_ways rows text) p.is ∙ stack_ways-push rows text rest frame
     ∙ ap (λ l. l ++ stack_ways rows text rest)
-        (ap (λ ts. todo_ways rows text stop ts (reached frame)) p.todo
-          ∙ todo_ways-push rows text stop left.todo.items task (reached frame)
-          ∙ ap (λ r. onward (todo_ways rows text stop left.todo.items) (task_ways rows text task r)) (same frames rest frame left task p))
+    (ap (λ ts. todo_ways rows text stop ts (reached frame)) p.todo
+    ∙ todo_ways-push rows text stop left.todo.items task (reached frame)
+    ∙ ap (λ r. onward (todo_ways rows text stop left.todo.items) (task_ways rows text task r)) (same frames rest frame left task p))
 
 pub popped-cost : (rows : Rows) (text : Text) (frames rest : List Frame) (frame left : Frame) (task : Task) → Popped frames rest frame left task →
     stack_cost rows text frames ≡ cost_now rows text left task rest
 popped-cost rows text frames rest frame left task p =
     ap (stack_cost rows text) p.is ∙ stack_cost-push rows text rest frame
     ∙ ap (λ n. n + stack_cost rows text rest)
-        (ap (λ ts. todo_cost rows text one ts (reached frame)) p.todo
-          ∙ todo_cost-push rows text one left.todo.items task (reached frame)
-          ∙ ap (λ r. task_cost rows text task (todo_cost rows text one left.todo.items) r) (same frames rest frame left task p))
+    (ap (λ ts. todo_cost rows text one ts (reached frame)) p.todo
+    ∙ todo_cost-push rows text one left.todo.items task (reached frame)
+    ∙ ap (λ r. task_cost rows text task (todo_cost rows text one left.todo.items) r) (same frames rest frame left task p))
 
 -- a lookahead, by the head of the list inside
 pub ahead-ways : (rows : Rows) (text seen : Text) (k : ℕ) (inside : Piece) (wanted : Bool) (r : Reached) → piece_at rows k ≡ ahead inside wanted →
@@ -83,7 +82,7 @@ pub found : (rows : Rows) (text : Text) (whole : List Way) (frames rest : List F
     frames ≡ rest ++ frame ∷ [] → frame.todo.items ≡ [] → slice_get whole 0 ≡ Some (ends_at (reached frame))
 found rows text whole frames rest frame w e none =
     ap (λ l. slice_get l 0) (w ∙ ap (stack_ways rows text) e ∙ stack_ways-push rows text rest frame
-      ∙ ap (λ ts. todo_ways rows text stop ts (reached frame) ++ stack_ways rows text rest) none)
+    ∙ ap (λ ts. todo_ways rows text stop ts (reached frame) ++ stack_ways rows text rest) none)
 
 -- what a pop of an empty list says
 pub none-left : (old new : List Task) (n : ℕ) → old ≡ new ++ [] → new ≡ take (n - 1) old → n ≡ 0 → old ≡ []
@@ -117,5 +116,5 @@ pub close-steps : (rows : Rows) (text : Text) (frame next : Frame) (number from 
     new ≡ old ++ next ∷ [] → Steps rows text frame (Close number from) old new false
 close-steps rows text frame next number from old new place groups todo e =
     by_end rows text frame next (Close number from)
-      (record { place = frame.place; groups = slice_set frame.groups.items (number - 1) (Some (from, frame.place)) }) old new
-      (λ i. record { place = place i; groups = groups i }) todo e refl (λ k. omega arith)
+    (record { place = frame.place; groups = slice_set frame.groups.items (number - 1) (Some (from, frame.place)) }) old new
+    (λ i. record { place = place i; groups = groups i }) todo e refl (λ k. omega arith)

@@ -26,7 +26,10 @@ pub enum Outcome {
     More,
 }
 
-fn copy_of_groups(alloc: Global, groups: &[Option<(usize, usize)>]) -> Result<Vec<Option<(usize, usize)>>, NoMemory>
+fn copy_of_groups(
+    alloc: Global,
+    groups: &[Option<(usize, usize)>],
+) -> Result<Vec<Option<(usize, usize)>>, NoMemory>
     ensures { IfOk result (λ v. v.items ≡ groups.now) }
 {
     let copy = groups.to_vec(alloc)?;
@@ -39,12 +42,8 @@ fn ahead_leaf(outcome: Outcome, wanted: bool) -> Leaf
     ensures ways { (r : Reached) (inside : List Way) → slice_get inside 0 ≡ head_of outcome → look wanted r inside ≡ leaf_ways result r }
 {
     match outcome {
-        Outcome::End { .. } => {
-            if wanted { Leaf::Here } else { Leaf::Never }
-        }
-        Outcome::No => {
-            if wanted { Leaf::Never } else { Leaf::Here }
-        }
+        Outcome::End { .. } => { if wanted { Leaf::Here } else { Leaf::Never } }
+        Outcome::No => { if wanted { Leaf::Never } else { Leaf::Here } }
         Outcome::More => Leaf::Edge,
     }
 }
@@ -64,7 +63,12 @@ fn step(
     ensures fits { OnOk result ((top : ℕ) → Fits top task → AllFit top frame.todo.items → EachFits top stack.old.items → EachFits top stack.new.items) }
 {
     match task {
-        Task::Turns { inside, least, further, lazy } => {
+        Task::Turns {
+            inside,
+            least,
+            further,
+            lazy,
+        } => {
             turns(alloc, inside, least, further, lazy, frame, stack)?;
             Ok(false)
         }
@@ -76,7 +80,14 @@ fn step(
         Task::Piece(piece) => {
             if let Node::Ahead { inside, wanted } = p.node(piece) {
                 let groups = copy_of_groups(alloc, &frame.groups)?;
-                let outcome = head(alloc, p, inside, in_sight(input, frame.place), frame.place, groups)?;
+                let outcome = head(
+                    alloc,
+                    p,
+                    inside,
+                    in_sight(input, frame.place),
+                    frame.place,
+                    groups,
+                )?;
                 let seen = ahead_leaf(outcome, wanted);
                 let is_edge = piece_step(alloc, p, piece, input, seen, frame, stack)?;
                 return Ok(is_edge);
@@ -104,7 +115,11 @@ pub fn head(
     let mut todo: Vec<Task> = Vec::new(alloc);
     todo.push(Task::Piece(piece))?;
     let mut stack = Vec::new(alloc);
-    stack.push(Frame { place, groups, todo })?;
+    stack.push(Frame {
+        place,
+        groups,
+        todo,
+    })?;
     while let Some(mut frame) = stack.pop() {
         let Some(task) = frame.todo.pop() else {
             return Ok(Outcome::End {

@@ -146,9 +146,22 @@ pub fn piece_step(
             stack.push(high)?;
             Ok(false)
         }
-        Node::Count { inside, least, most, lazy } => {
+        Node::Count {
+            inside,
+            least,
+            most,
+            lazy,
+        } => {
             let further = further_turns(input, least, most);
-            let next = also(frame, Task::Turns { inside, least, further, lazy })?;
+            let next = also(
+                frame,
+                Task::Turns {
+                    inside,
+                    least,
+                    further,
+                    lazy,
+                },
+            )?;
             stack.push(next)?;
             Ok(false)
         }
