@@ -1,12 +1,12 @@
 -- A closed text has no edges, and its first match lies in it.
-use Rattle.std.proofs.Common.{◌≡◌, ℕ, zero, suc, ◌+◌, ◌-◌, ◌<◌, ◌≤◌, Bool, true, false, List, [], ◌∷◌, ◌++◌, length, take, Option, Some, None, if◌then◌else◌, refl, sym, ◌∙◌, ap, subst, arith, nat_le, ◌&&◌}
+use Rattle.std.proofs.Common.{◌≡◌, ℕ, zero, suc, ◌+◌, ◌-◌, ◌≤◌, Bool, true, false, List, [], ◌∷◌, ◌++◌, length, take, Option, Some, None, if◌then◌else◌, refl, ◌∙◌, ap, subst, arith, nat_le, ◌&&◌}
 use Rattle.std.specs.Prelude.{slice_get, slice_set, replicate, ◌==◌}
 use Rattle.std.proofs.lemmas.List.{length-replicate}
 use Rattle.ix_pattern.specs.Piece.{Piece, nothing, byte_in, start, finish, word, seq, either, count, group, ahead, in_set, least_length}
 use Rattle.ix_pattern.specs.Ways.{Text, Reached, Way, ends_at, edge, onward, required, prefer, optional, further_turns, byte_before, at_end, here, byte_ways, is_start, finish_ways, is_word_byte, is_word, differ, word_ways, sight, look, close_group, ways}
 use Rattle.ix_pattern.specs.Laws.{AllInOrder}
 use Rattle.ix_pattern.specs.Rows.{Shape, tree}
-use Rattle.ix_pattern.proofs.Ends.{EachEnd, EachEnd-append, EachEnd-onward, EachEnd-weaker, EachEnd-here, EachEnd-at_end, EachEnd-prefer, finish-ends, word-ends, look-ends, Within, ways-ends}
+use Rattle.ix_pattern.proofs.Ends.{EachEnd, EachEnd-append, EachEnd-onward, EachEnd-here, EachEnd-at_end, EachEnd-prefer, finish-ends, word-ends, look-ends, Within, ways-ends}
 use Rattle.ix_pattern.proofs.Spans.{Ordered, ways-keeps}
 use Rattle.ix_match.specs.Matches.{closed, ways_from}
 

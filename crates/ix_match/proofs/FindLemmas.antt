@@ -1,11 +1,10 @@
 -- From the head of the list of ways to the match.
-use Rattle.std.proofs.Common.{◌≡◌, ℕ, ◌+◌, ◌-◌, ◌≤◌, List, [], ◌∷◌, length, Option, Some, None, refl, sym, ◌∙◌, ap, subst, arith, ◌⊎◌, inl, inr}
+use Rattle.std.proofs.Common.{◌≡◌, ℕ, ◌+◌, ◌-◌, ◌≤◌, List, [], length, Option, Some, None, sym, ◌∙◌, ap, arith, ◌⊎◌, inl, inr}
 use Rattle.std.specs.Prelude.{slice_get, replicate}
-use Rattle.ix_pattern.specs.Ways.{Way, ends_at, edge, ways}
+use Rattle.ix_pattern.specs.Ways.{Way, ends_at, ways}
 use Rattle.ix_pattern.specs.Rows.{Shape, piece_at}
-use Rattle.ix_match.specs.declared.first.Found.{Found}
 use Rattle.ix_match.specs.declared.search.Outcome.{Outcome}
-use Rattle.ix_match.specs.declared.search.Outcome.TheVariants.{End, No, More}
+use Rattle.ix_match.specs.declared.search.Outcome.TheVariants.{No, More}
 use Rattle.ix_match.specs.Leaf.{at}
 use Rattle.ix_match.specs.Stack.{head_of}
 use Rattle.ix_match.specs.Matches.{closed, ways_from, LiesIn}

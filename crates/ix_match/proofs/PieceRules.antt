@@ -1,8 +1,8 @@
 -- One step for each kind of piece.
-use Rattle.std.proofs.Common.{◌≡◌, ℕ, zero, suc, ◌+◌, ◌-◌, ◌<◌, ◌≤◌, Bool, true, false, List, [], ◌∷◌, ◌++◌, length, Option, Some, None, refl, sym, ◌∙◌, ap, subst, arith, append_assoc}
+use Rattle.std.proofs.Common.{◌≡◌, ℕ, suc, ◌+◌, Bool, true, false, List, [], ◌∷◌, ◌++◌, Option, refl, sym, ◌∙◌, ap, arith}
 use Rattle.std.specs.Prelude.{slice_get}
 use Rattle.ix_pattern.specs.Piece.{Piece, nothing, byte_in, start, finish, word, seq, either, count, group, ahead}
-use Rattle.ix_pattern.specs.Ways.{Text, Reached, Way, ends_at, edge, onward, required, optional, prefer, further_turns, close_group, byte_before, here, is_start, byte_ways, finish_ways, word_ways, ways}
+use Rattle.ix_pattern.specs.Ways.{Text, Reached, onward, further_turns, byte_before, here, is_start, byte_ways, finish_ways, word_ways, ways}
 use Rattle.ix_pattern.specs.Rows.{Rows, piece_at}
 use Rattle.ix_match.specs.declared.frames.Task.{Task}
 use Rattle.ix_match.specs.declared.frames.Task.TheVariants.{Piece as DoPiece, Turns, Close}
@@ -10,11 +10,10 @@ use Rattle.ix_match.specs.declared.leaf.Leaf.{Leaf}
 use Rattle.ix_match.specs.declared.leaf.Leaf.TheVariants.{Here, Next, Never, Edge}
 use Rattle.ix_match.specs.declared.frames.Frame.{Frame}
 use Rattle.ix_match.specs.Leaf.{leaf_ways, at}
-use Rattle.ix_match.specs.Stack.{task_ways, todo_ways, stop, reached, frame_ways, stack_ways}
-use Rattle.ix_match.specs.Costs.{sum_ends, required_cost, optional_cost, cost, task_cost, todo_cost, one, frame_cost, stack_cost}
-use Rattle.ix_match.specs.Steps.{Stands, Steps, Acts, Fits, AllFit, EachFits}
-use Rattle.ix_match.proofs.StackLemmas.{onward-append, onward-onward, pushed, pushed_two, AllFit-push, EachFits-push}
-use Rattle.ix_match.proofs.Rules.{by_one, by_two, by_end, by_either, Stands-copy}
+use Rattle.ix_match.specs.Stack.{todo_ways, stop, reached, stack_ways}
+use Rattle.ix_match.specs.Costs.{sum_ends, cost, todo_cost, one}
+use Rattle.ix_match.specs.Steps.{Stands, Steps, Acts}
+use Rattle.ix_match.proofs.Rules.{by_one, by_two, by_end, by_either}
 
 -- the leaf's steps
 pub here-steps : (rows : Rows) (text : Text) (frame : Frame) (task : Task) (old new : List Frame) → new ≡ old ++ frame ∷ [] →

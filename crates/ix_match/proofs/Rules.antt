@@ -1,15 +1,14 @@
 -- One step for each kind of task.
-use Rattle.std.proofs.Common.{◌≡◌, ℕ, zero, suc, ◌+◌, ◌-◌, ◌<◌, ◌≤◌, Bool, true, false, List, [], ◌∷◌, ◌++◌, length, Option, Some, None, refl, sym, ◌∙◌, ap, subst, arith, append_assoc}
+use Rattle.std.proofs.Common.{◌≡◌, ℕ, zero, suc, ◌+◌, ◌-◌, ◌<◌, Bool, true, false, List, [], ◌∷◌, ◌++◌, refl, sym, ◌∙◌, ap, subst, arith}
 use Rattle.std.proofs.lemmas.List.{append-nil}
-use Rattle.ix_pattern.specs.Piece.{Piece, nothing, byte_in, start, finish, word, seq, either, count, group, ahead}
-use Rattle.ix_pattern.specs.Ways.{Text, Reached, Way, ends_at, edge, onward, required, optional, prefer, further_turns, close_group, ways}
-use Rattle.ix_pattern.specs.Rows.{Rows, piece_at}
+use Rattle.ix_pattern.specs.Ways.{Text, Reached, Way, ends_at, onward}
+use Rattle.ix_pattern.specs.Rows.{Rows}
 use Rattle.ix_match.specs.declared.frames.Task.{Task}
-use Rattle.ix_match.specs.declared.frames.Task.TheVariants.{Piece as DoPiece, Turns, Close}
+use Rattle.ix_match.specs.declared.frames.Task.TheVariants.{Piece as DoPiece, Turns}
 use Rattle.ix_match.specs.declared.frames.Frame.{Frame}
-use Rattle.ix_match.specs.Stack.{task_ways, todo_ways, stop, reached, frame_ways, stack_ways}
-use Rattle.ix_match.specs.Costs.{sum_ends, required_cost, optional_cost, cost, task_cost, todo_cost, one, frame_cost, stack_cost}
-use Rattle.ix_match.specs.Steps.{Stands, ways_now, cost_now, Steps, Fits, AllFit, EachFits}
+use Rattle.ix_match.specs.Stack.{task_ways, todo_ways, stop, reached, frame_ways}
+use Rattle.ix_match.specs.Costs.{task_cost, todo_cost, one, frame_cost}
+use Rattle.ix_match.specs.Steps.{Stands, Steps, Fits, AllFit, EachFits}
 use Rattle.ix_match.proofs.StackLemmas.{onward-append, onward-onward, todo_ways-push, todo_ways-push-fn, todo_cost-push, todo_cost-push-fn, pushed, pushed_two, AllFit-push, EachFits-push}
 
 same_reached : (frame next : Frame) (tasks : List Task) → Stands frame next tasks → reached next ≡ reached frame

@@ -1,18 +1,17 @@
 -- The loop of the search: its list of ways stays the same.
-use Rattle.std.proofs.Common.{◌≡◌, ℕ, zero, suc, ◌+◌, ◌-◌, ◌*◌, ◌<◌, ◌≤◌, Bool, true, false, List, [], ◌∷◌, ◌++◌, length, take, Option, Some, None, refl, sym, ◌∙◌, ap, subst, arith}
+use Rattle.std.proofs.Common.{◌≡◌, ℕ, ◌+◌, ◌-◌, ◌<◌, ◌≤◌, Bool, true, false, List, [], ◌∷◌, ◌++◌, take, Option, Some, refl, sym, ◌∙◌, ap, subst, arith}
 use Rattle.std.specs.Prelude.{slice_get, slice_set}
-use Rattle.std.proofs.lemmas.List.{append-nil}
 use Rattle.ix_pattern.specs.Piece.{Piece, ahead}
-use Rattle.ix_pattern.specs.Ways.{Text, Reached, Way, ends_at, edge, onward, close_group, look, sight, ways}
+use Rattle.ix_pattern.specs.Ways.{Text, Reached, Way, ends_at, edge, onward, look, sight, ways}
 use Rattle.ix_pattern.specs.Rows.{Rows, piece_at}
 use Rattle.ix_match.specs.declared.frames.Task.{Task}
 use Rattle.ix_match.specs.declared.frames.Task.TheVariants.{Piece as DoPiece, Turns, Close}
 use Rattle.ix_match.specs.declared.frames.Frame.{Frame}
 use Rattle.ix_match.specs.declared.leaf.Leaf.{Leaf}
 use Rattle.ix_match.specs.Leaf.{leaf_ways, at}
-use Rattle.ix_match.specs.Stack.{task_ways, todo_ways, stop, reached, frame_ways, stack_ways}
-use Rattle.ix_match.specs.Costs.{sum_ends, cost, task_cost, todo_cost, one, frame_cost, stack_cost}
-use Rattle.ix_match.specs.Steps.{task_number, ways_now, cost_now, Steps, Stands, Left, Fits, AllFit, EachFits}
+use Rattle.ix_match.specs.Stack.{task_ways, todo_ways, stop, reached, stack_ways}
+use Rattle.ix_match.specs.Costs.{task_cost, todo_cost, one, stack_cost}
+use Rattle.ix_match.specs.Steps.{task_number, ways_now, cost_now, Steps, Left, Fits, AllFit, EachFits}
 use Rattle.ix_match.proofs.StackLemmas.{todo_ways-push, todo_cost-push, stack_ways-push, stack_cost-push, EachFits-pop, AllFit-pop}
 use Rattle.ix_match.proofs.Rules.{by_end}
 

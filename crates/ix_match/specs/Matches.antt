@@ -1,6 +1,6 @@
 -- The first match in a text.
 use Rattle.std.specs.Prelude.{◌≡◌, ℕ, ◌<◌, ◌≤◌, false, List, [], length, Option, Some, None, slice_get, replicate}
-use Rattle.ix_pattern.specs.Ways.{Text, Reached, Way, ends_at, ways}
+use Rattle.ix_pattern.specs.Ways.{Text, Way, ends_at, ways}
 use Rattle.ix_pattern.specs.Rows.{Shape, tree}
 use Rattle.ix_pattern.specs.Laws.{AllInOrder}
 use Rattle.ix_match.specs.declared.first.Found.{Found}

@@ -1,6 +1,5 @@
 -- What is still to do of a match, and what it will give.
-use Rattle.std.specs.Prelude.{◌≡◌, ℕ, zero, suc, ◌+◌, ◌-◌, ◌<◌, ◌≤◌, Bool, List, [], ◌∷◌, ◌++◌, length, Option, Some, None, slice_get}
-use Rattle.ix_pattern.specs.Piece.{Piece}
+use Rattle.std.specs.Prelude.{List, [], ◌∷◌, ◌++◌, Option, Some, None}
 use Rattle.ix_pattern.specs.Ways.{Text, Reached, Way, ends_at, edge, onward, required, optional, close_group, ways}
 use Rattle.ix_pattern.specs.Rows.{Rows, piece_at}
 use Rattle.ix_match.specs.declared.frames.Task.{Task}

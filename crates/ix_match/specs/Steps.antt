@@ -1,6 +1,6 @@
 -- One step of the search.
 use Rattle.std.specs.Prelude.{◌≡◌, ℕ, suc, ◌+◌, ◌<◌, ◌≤◌, Bool, true, false, List, [], ◌∷◌, ◌++◌}
-use Rattle.ix_pattern.specs.Ways.{Text, Reached, Way, ends_at, edge, onward, ways}
+use Rattle.ix_pattern.specs.Ways.{Text, Reached, Way, edge, onward, ways}
 use Rattle.ix_pattern.specs.Rows.{Rows, piece_at}
 use Rattle.ix_match.specs.declared.frames.Task.{Task}
 use Rattle.ix_match.specs.declared.frames.Task.TheVariants.{Piece as DoPiece, Turns, Close}

@@ -7,5 +7,7 @@ mod input;
 mod leaf;
 mod search;
 mod steps;
+#[cfg(test)]
+mod tests;
 
 pub use first::{Found, GroupList, find};

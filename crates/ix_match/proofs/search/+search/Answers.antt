@@ -1,13 +1,10 @@
-use Rattle.std.proofs.Common.{◌≡◌, ℕ, ◌+◌, ◌*◌, ◌<◌, ◌≤◌, List, [], ◌∷◌, ◌++◌, refl, sym, ◌∙◌, ap, subst, arith, length}
-use Rattle.ix_pattern.specs.Piece.{Piece, ahead}
-use Rattle.ix_pattern.specs.Ways.{ways}
+use Rattle.std.proofs.Common.{◌≤◌, refl, sym, ◌∙◌, subst, arith}
 use Rattle.ix_pattern.specs.Rows.{piece_at}
-use Rattle.ix_match.specs.declared.frames.Task.TheVariants.{Piece as DoPiece, Turns, Close}
 use Rattle.ix_match.specs.declared.frames.Frame.{Frame}
-use Rattle.ix_match.specs.Leaf.{text_of, at}
-use Rattle.ix_match.specs.Steps.{Fits, AllFit, EachFits, task_number}
+use Rattle.ix_match.specs.Leaf.{text_of}
+use Rattle.ix_match.specs.Steps.{Fits, task_number}
 use Rattle.ix_match.proofs.Rules.{fits-1}
-use Rattle.ix_match.proofs.SearchLemmas.{none-left, seen-by-head, left-init, number-below, Popped, popped-fits, popped-ways, popped-cost, found, at-edge, went-on, ahead-ways, close-steps}
+use Rattle.ix_match.proofs.SearchLemmas.{none-left, seen-by-head, left-init, number-below, Popped, popped-fits, popped-ways, popped-cost, found, at-edge, went-on, close-steps}
 use Rattle.ix_match.proofs.search.+search.Goals as goal
 
 pub head-loop-frame-init : goal.head-loop-frame-init

@@ -1,10 +1,7 @@
-use Rattle.std.proofs.Common.{◌≡◌, ℕ, suc, ◌+◌, ◌*◌}
-use Rattle.ix_pattern.specs.Ways.{ways}
-use Rattle.ix_pattern.specs.Rows.{piece_at}
-use Rattle.ix_match.specs.Stack.{stack_ways}
+use Rattle.std.proofs.Common.{◌+◌, ◌*◌}
 use Rattle.ix_match.specs.Costs.{stack_cost}
 use Rattle.ix_match.specs.Leaf.{text_of, at}
-use Rattle.ix_match.specs.Steps.{task_number, EachFits, Left}
+use Rattle.ix_match.specs.Steps.{task_number, Left}
 use Rattle.ix_match.proofs.search.+search.Given as goal
 
 abbrev pub decreases-head : goal.decreases-head

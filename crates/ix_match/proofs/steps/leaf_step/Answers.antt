@@ -1,5 +1,5 @@
-use Rattle.std.proofs.Common.{◌≡◌, ℕ, ◌+◌, List, [], ◌∷◌, ◌++◌, refl, arith, subst}
-use Rattle.ix_match.specs.Steps.{Steps, Acts}
+use Rattle.std.proofs.Common.{◌+◌, refl, subst}
+use Rattle.ix_match.specs.Steps.{Acts}
 use Rattle.ix_match.proofs.Rules.{fits-1}
 use Rattle.ix_match.proofs.PieceRules.{here-steps, next-steps, edge-steps}
 use Rattle.ix_match.proofs.steps.leaf_step.Goals as goal

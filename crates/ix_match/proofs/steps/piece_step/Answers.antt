@@ -1,10 +1,7 @@
-use Rattle.std.proofs.Common.{◌≡◌, ℕ, ◌+◌, ◌<◌, ◌≤◌, List, [], ◌∷◌, ◌++◌, refl, arith, subst}
+use Rattle.std.proofs.Common.{◌≤◌, [], ◌∷◌, ◌++◌, arith}
 use Rattle.ix_pattern.specs.Rows.{piece_at, set_at}
-use Rattle.ix_pattern.specs.Piece.{Piece}
-use Rattle.ix_match.specs.declared.frames.Task.{Task}
 use Rattle.ix_match.specs.declared.frames.Task.TheVariants.{Piece as DoPiece, Turns, Close}
 use Rattle.ix_match.specs.Leaf.{text_of}
-use Rattle.ix_match.specs.Steps.{Stands, Steps, Acts, AllFit}
 use Rattle.ix_match.proofs.StackLemmas.{AllFit-push}
 use Rattle.ix_match.proofs.Rules.{Stands-copy, fits-stands, fits-1, fits-2, joined_frames}
 use Rattle.ix_match.proofs.PieceRules.{nothing-acts, bytes-acts, start-acts, finish-acts, word-acts, ahead-acts, seq-steps, either-steps, count-steps, group-steps}

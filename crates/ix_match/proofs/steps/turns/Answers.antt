@@ -1,7 +1,7 @@
-use Rattle.std.proofs.Common.{◌≡◌, ℕ, ◌+◌, ◌-◌, ◌<◌, ◌≤◌, List, [], ◌∷◌, ◌++◌, refl, arith, true, false, subst, Bool}
+use Rattle.std.proofs.Common.{◌≡◌, ℕ, ◌-◌, ◌<◌, ◌≤◌, List, [], ◌∷◌, ◌++◌, arith, true, false, subst, Bool}
 use Rattle.ix_match.specs.declared.frames.Task.{Task}
 use Rattle.ix_match.specs.declared.frames.Task.TheVariants.{Piece as DoPiece, Turns}
-use Rattle.ix_match.specs.Steps.{Stands, Steps, Fits, AllFit}
+use Rattle.ix_match.specs.Steps.{Stands, AllFit}
 use Rattle.ix_match.proofs.StackLemmas.{AllFit-push}
 use Rattle.ix_match.proofs.Rules.{joined_frames, Stands-copy_two, fits-stands, turns-required, turns-done, turns-lazy, turns-greedy, fits-1, fits-2}
 use Rattle.ix_match.proofs.steps.turns.Goals as goal
