@@ -1,9 +1,215 @@
-//! Matches in texts.
+//! Matches as another engine finds them.
 
 use crate::{Found, find};
 use ix_pattern::Pattern;
 use std::alloc::{AllocError, Global};
+use std::process::Abort;
 use std::test::Fail;
+
+/// Patterns, texts, places to begin at and the matches there with their groups, with `|` between. In the first two `\n`, `\r`,
+/// `\t`, `\\`, `\p` for `|` and `\xHH` are escapes. The matches were made with Python 3.11: `re.compile(pattern).search(text,
+/// from)` over bytes. These patterns mean the same in both.
+const ROWS: &str = "\
+    a|a|0|0-1\n\
+    a|ba|0|1-2\n\
+    a|b|0|none\n\
+    abc|ababc|0|2-5\n\
+    a.c|a\\nc|0|none\n\
+    a.c|abc|0|0-3\n\
+    a.c|ac|0|none\n\
+    (?s)a.c|a\\nc|0|0-3\n\
+    ^a|a|0|0-1\n\
+    ^a|ba|0|none\n\
+    ^a|b\\na|0|none\n\
+    (?m)^a|b\\na|0|2-3\n\
+    (?m)^a|ba|0|none\n\
+    a$|a|0|0-1\n\
+    a$|a\\n|0|0-1\n\
+    a$|a\\n\\n|0|none\n\
+    a$|ab|0|none\n\
+    (?m)a$|a\\nb|0|0-1\n\
+    (?m)a$|ab\\na|0|3-4\n\
+    ^$||0|0-0\n\
+    ^$|\\n|0|0-0\n\
+    ^$|a|0|none\n\
+    (?m)^$|a\\n\\nb|0|2-2\n\
+    ^|abc|0|0-0\n\
+    $|abc|0|3-3\n\
+    $|abc\\n|0|3-3\n\
+    ^a|aa|1|none\n\
+    a|aba|1|2-3\n\
+    \\\\ba|ba a|1|3-4\n\
+    $|ab|2|2-2\n\
+    [abc]|xbz|0|1-2\n\
+    [^abc]|abcd|0|3-4\n\
+    [^abc]|\\n|0|0-1\n\
+    [a-c]+|xabcd|0|1-4\n\
+    []a]+|a]b|0|0-2\n\
+    [^]a]|a]b|0|2-3\n\
+    [a-]+|-a-b|0|0-3\n\
+    [-a]+|-a-b|0|0-3\n\
+    [\\\\d-]+|1-2a|0|0-3\n\
+    [\\\\w.]+|a.b c|0|0-3\n\
+    [\\\\s]+|a \\t\\nb|0|1-4\n\
+    [^\\\\s]+| ab |0|1-3\n\
+    [\\\\x41-\\\\x43]+|xABCD|0|1-4\n\
+    [\\\\]\\\\\\\\]+|a]\\\\b|0|1-3\n\
+    [+--]+|a+,-b|0|1-4\n\
+    [\\\\t ]+|a\\t b|0|1-3\n\
+    [\\\\D]+|12ab3|0|2-4\n\
+    [\\\\W]+|ab, cd|0|2-4\n\
+    [\\\\S\\\\n]+| a\\nb c|0|1-4\n\
+    \\\\d+|a123b|0|1-4\n\
+    \\\\D+|12ab34|0|2-4\n\
+    \\\\w+|-ab_1-|0|1-5\n\
+    \\\\W+|ab, cd|0|2-4\n\
+    \\\\s+|a \\r\\n\\tb|0|1-5\n\
+    \\\\S+| ab |0|1-3\n\
+    \\\\.|a.b|0|1-2\n\
+    \\\\(\\\\)|a()b|0|1-3\n\
+    \\\\x61|xa|0|1-2\n\
+    \\\\r\\\\n|a\\r\\n|0|1-3\n\
+    \\\\t|a\\tb|0|1-2\n\
+    \\\\f|a\\x0cb|0|1-2\n\
+    \\\\\\\\|a\\\\b|0|1-2\n\
+    \\\\[\\\\]\\\\{\\\\}|[]{}|0|0-4\n\
+    \\\\$\\\\^\\\\*\\\\+\\\\?\\\\\\p|$^*+?\\p|0|0-6\n\
+    \\\\bab\\\\b|cab ab|0|4-6\n\
+    \\\\bab\\\\b|ab|0|0-2\n\
+    \\\\bab\\\\b|cabc|0|none\n\
+    a\\\\b|ab a|0|3-4\n\
+    \\\\b|  ab|0|2-2\n\
+    \\\\b||0|none\n\
+    \\\\b|  |0|none\n\
+    a*|aaab|0|0-3\n\
+    a*|baa|0|0-0\n\
+    a+|baab|0|1-3\n\
+    a+|b|0|none\n\
+    a?b|aab|0|1-3\n\
+    a?b|b|0|0-1\n\
+    a{2}|aaa|0|0-2\n\
+    a{2}|a|0|none\n\
+    a{2,}|aaaa|0|0-4\n\
+    a{2,}|a|0|none\n\
+    a{1,2}|aaa|0|0-2\n\
+    a{0}b|ab|0|1-2\n\
+    a{0,1}b|aab|0|1-3\n\
+    a*?b|aab|0|0-3\n\
+    a+?|aaa|0|0-1\n\
+    a??b|ab|0|0-2\n\
+    a{1,3}?|aaa|0|0-1\n\
+    a{2,}?|aaaa|0|0-2\n\
+    a{2}?|aaaa|0|0-2\n\
+    <.+>|<a><b>|0|0-6\n\
+    <.+?>|<a><b>|0|0-3\n\
+    (a+)(a+)|aaaa|0|0-4 0-3 3-4\n\
+    (a+?)(a+)|aaaa|0|0-4 0-1 1-4\n\
+    (a*)(ab)*(b*)|abab|0|0-2 0-1 - 1-2\n\
+    (a{1,2})(a{1,2})|aaa|0|0-3 0-2 2-3\n\
+    (?:ab){2,3}|abababab|0|0-6\n\
+    (?:a\\pb){3}|abab|0|0-3\n\
+    a{x}|a{x}|0|0-4\n\
+    {|{|0|0-1\n\
+    a}|a}|0|0-2\n\
+    a\\pb|cb|0|1-2\n\
+    a\\pab|ab|0|0-1\n\
+    ab\\pa|ab|0|0-2\n\
+    (a\\pab)(c\\pbcd)|abcd|0|0-4 0-1 1-4\n\
+    \\pa|a|0|0-0\n\
+    a\\p|b|0|0-0\n\
+    (\\pa)b|ab|0|0-2 0-1\n\
+    a\\p\\pb|b|0|0-0\n\
+    (?:a\\pb)c|abc|0|1-3\n\
+    abc\\pab\\pa|abd|0|0-2\n\
+    x(a\\pb\\p)y|xy|0|0-2 1-1\n\
+    x(a\\pb\\p)y|xby|0|0-3 1-2\n\
+    (a)(b)?|a|0|0-1 0-1 -\n\
+    (a)(b)?|ab|0|0-2 0-1 1-2\n\
+    (a)\\p(b)|b|0|0-1 - 0-1\n\
+    ((a)(b))|ab|0|0-2 0-2 0-1 1-2\n\
+    (a(b)?)+|aba|0|0-3 2-3 1-2\n\
+    (?:(a)\\p(b))+|ab|0|0-2 0-1 1-2\n\
+    (?:(a)\\p(b))+|ba|0|0-2 1-2 0-1\n\
+    (a\\pb)+|ab|0|0-2 1-2\n\
+    (\\\\w+)@(\\\\w+)\\\\.com|me@site.com|0|0-11 0-2 3-7\n\
+    (?:a)(b)|ab|0|0-2 1-2\n\
+    (a*)b|b|0|0-1 0-0\n\
+    (a*)b|aab|0|0-3 0-2\n\
+    (((a)))|a|0|0-1 0-1 0-1 0-1\n\
+    (a)(?:b(c)?)+|abbc|0|0-4 0-1 3-4\n\
+    (x)?(y)?z|xz|0|0-2 0-1 -\n\
+    (x)?(y)?z|yz|0|0-2 - 0-1\n\
+    (x)?(y)?z|z|0|0-1 - -\n\
+    a(?=b)|acab|0|2-3\n\
+    a(?!b)|abac|0|2-3\n\
+    a(?!b)|ab|0|none\n\
+    (?=a)a|ba|0|1-2\n\
+    (?!a).|ab|0|1-2\n\
+    \\\\w+(?=:)|key: v|0|0-3\n\
+    (?=.*b)a|xab|0|1-2\n\
+    (?=.*b)a|xa|0|none\n\
+    (?!.*b)a|aab a|0|4-5\n\
+    a(?=$)|aa|0|1-2\n\
+    (?=^)a|a|0|0-1\n\
+    (?:(?!ab).)+|xyab|0|0-2\n\
+    (?=a\\pb)\\\\w|cb|0|1-2\n\
+    ([\\\\r\\\\n]+)(?=\\\\d{4}-)|a\\nb\\n2024-01|0|3-4 3-4\n\
+    (?i)abc|xAbC|0|1-4\n\
+    (?i)[a-c]+|xABcd|0|1-4\n\
+    (?i)[^a]|Ab|0|1-2\n\
+    (?im)^a$|b\\nA|0|2-3\n\
+    (?is)a.b|A\\nB|0|0-3\n\
+    (?i)\\\\x41|a|0|0-1\n\
+    (?ms)^.+$|a\\nb|0|0-3\n\
+    (?i)k\\\\d|K1|0|0-2\n\
+    ^(\\\\S+) (\\\\S+) (\\\\S+) \\\\[([^\\\\]]+)\\\\] \"([^\"]*)\" (\\\\d+) (\\\\d+)$|10.0.0.7 - - [14/Nov/2023:22:10:03 +0000] \"GET / HTTP/1.1\" 200 512|0|0-66 0-8 9-10 11-12 14-40 43-57 59-62 63-66\n\
+    \\\\d{1,3}(?:\\\\.\\\\d{1,3}){3}|10.0.0.7 - - [14/Nov/2023:22:10:03 +0000] \"GET / HTTP/1.1\" 200 512|0|0-8\n\
+    \"(GET\\pPOST) (\\\\S+)|10.0.0.7 - - [14/Nov/2023:22:10:03 +0000] \"GET / HTTP/1.1\" 200 512|0|42-48 43-46 47-48\n\
+    (\\\\d+) (\\\\d+)$|10.0.0.7 - - [14/Nov/2023:22:10:03 +0000] \"GET / HTTP/1.1\" 200 512|0|59-66 59-62 63-66\n\
+    \\\\[(\\\\d+)/(\\\\w+)/(\\\\d{4})|10.0.0.7 - - [14/Nov/2023:22:10:03 +0000] \"GET / HTTP/1.1\" 200 512|0|13-25 14-16 17-20 21-25\n\
+    ([\\\\r\\\\n]+)|a\\r\\n\\nb|0|1-4 1-4\n\
+    ([\\\\r\\\\n]+)|ab|0|none\n\
+    end(\\\\n)begin\\pend2(\\\\n)begin2\\pbegin3|b end2\\nbegin2 c|0|2-13 - 6-7\n\
+    end(\\\\n)begin\\pend2(\\\\n)begin2\\pbegin3|c begin3 d|0|2-8 - -\n\
+    (\\\\w+)=(\"[^\"]*\"\\p\\\\S+)|k=\"v w\" x=1|0|0-7 0-1 2-7\n";
+
+fn hex(digit: u8) -> u8 {
+    match digit {
+        b'0'..=b'9' => digit - b'0',
+        b'a'..=b'f' => digit - b'a' + 10,
+        _ => 0,
+    }
+}
+
+/// The byte behind a backslash, and how many bytes spell it.
+fn escaped(rest: &[u8]) -> (u8, usize) {
+    match rest {
+        [b'n', ..] => (b'\n', 1),
+        [b'r', ..] => (b'\r', 1),
+        [b't', ..] => (b'\t', 1),
+        [b'p', ..] => (b'|', 1),
+        [b'x', high, low, ..] => (hex(*high) * 16 + hex(*low), 3),
+        [other, ..] => (*other, 1),
+        [] => (b'\\', 0),
+    }
+}
+
+fn unescaped(alloc: Global, text: &[u8]) -> Result<Vec<u8>, AllocError> {
+    let mut bytes = Vec::new(alloc);
+    let mut skip = 0usize;
+    for (i, b) in text.iter().enumerate() {
+        if skip > 0 {
+            skip -= 1;
+        } else if *b == b'\\' {
+            let (byte, length) = escaped(&text[i + 1..]);
+            bytes.push(byte)?;
+            skip = length;
+        } else {
+            bytes.push(*b)?;
+        }
+    }
+    Ok(bytes)
+}
 
 /// The places of a match and of its groups, in short.
 fn shown(alloc: Global, found: &Option<Found>) -> Result<String, AllocError> {
@@ -20,74 +226,25 @@ fn shown(alloc: Global, found: &Option<Found>) -> Result<String, AllocError> {
     Ok(text)
 }
 
-/// The answers were made with Python 3.11: `re.compile(pattern).search(text, from)` over bytes, the span of the match
-/// and then those of its groups. These patterns mean the same in both.
+fn check_row(rt: &impl Abort, alloc: Global, row: &str) -> Result<(), Fail> {
+    let mut fields = row.split('|');
+    let pattern = unescaped(alloc, fields.next().unwrap_or("").as_bytes())?;
+    let text = unescaped(alloc, fields.next().unwrap_or("").as_bytes())?;
+    let from = fields.next().unwrap_or("").parse::<usize>().unwrap_or(0);
+    let want = fields.next().unwrap_or("");
+    assert!(rt; from <= text.len());
+    let pattern = Pattern::read(alloc, &pattern)?;
+    let found = find(alloc, &pattern, &text, from)?;
+    let shown = shown(alloc, &found)?;
+    assert!(rt; shown.as_str() == want, "{row}: it is {shown}");
+    Ok(())
+}
+
 #[test]
 fn finds_what_the_regular_expressions_of_python_find(rt: HostRuntime) -> Result<(), Fail> {
     let alloc = rt.alloc();
-    for (pattern, text, from, want) in [
-        (
-            b"abc".as_slice(),
-            b"xabcabc".as_slice(),
-            0usize,
-            b"1-4".as_slice(),
-        ),
-        (b"abc", b"xabcabc", 2, b"4-7"),
-        (b"abc", b"xab", 0, b"none"),
-        (b"", b"ab", 2, b"2-2"),
-        (b"a|ab", b"ab", 0, b"0-1"),
-        (b"(a|ab)(c|bcd)(d*)", b"abcd", 0, b"0-4 0-1 1-4 4-4"),
-        (b"(?:ab|a)$", b"cab", 0, b"1-3"),
-        (b"a*", b"baaa", 0, b"0-0"),
-        (b"a+?", b"aaa", 0, b"0-1"),
-        (b"a+", b"baaa", 0, b"1-4"),
-        (b"<.+>", b"<a><b>", 0, b"0-6"),
-        (b"<.+?>", b"<a><b>", 0, b"0-3"),
-        (b"a{2}", b"aaaaa", 1, b"1-3"),
-        (b"a{2,3}", b"aaaaa", 0, b"0-3"),
-        (b"a{2,3}?", b"aaaaa", 0, b"0-2"),
-        (b"a{4,}", b"aaa", 0, b"none"),
-        (b"(ab){0}c", b"abc", 0, b"2-3 -"),
-        (b"(a|b)+", b"xabab", 0, b"1-5 4-5"),
-        (b"(?:(a)|b)+", b"ab", 0, b"0-2 0-1"),
-        (b"(a)?(b)?(c)", b"xbc", 0, b"1-3 - 1-2 2-3"),
-        (b"((a)(b)?)+", b"abaa", 0, b"0-4 3-4 3-4 1-2"),
-        (b"^b", b"ab\nb", 0, b"none"),
-        (b"(?m)^b", b"ab\nb", 0, b"3-4"),
-        (b"^a", b"aa", 1, b"none"),
-        (b"a$", b"a\na\n", 0, b"2-3"),
-        (b"(?m)a$", b"a\na", 0, b"0-1"),
-        (b"a$", b"a\nb\n", 0, b"none"),
-        (b"$", b"ab\n", 0, b"2-2"),
-        (b"$", b"ab\n", 3, b"3-3"),
-        (b"\\bat\\b", b"cat at", 0, b"4-6"),
-        (b"\\b", b"--a", 0, b"2-2"),
-        (b"\\b", b"--", 0, b"none"),
-        (b"a(?=b)", b"acab", 0, b"2-3"),
-        (b"a(?!b)", b"abac", 0, b"2-3"),
-        (b"a(?=b)b", b"ab", 0, b"0-2"),
-        (b"(?=\\d{4}-)", b"x12-2024-", 0, b"4-4"),
-        (b"(?!a|b).", b"abc", 0, b"2-3"),
-        (b"([\\r\\n]+)", b"ab\r\n\r\ncd", 0, b"2-6 2-6"),
-        (b"(?i)[a-c]x", b"dX BX", 0, b"3-5"),
-        (b"(?s)a.b", b"a\nb", 0, b"0-3"),
-        (b"a.b", b"a\nb", 0, b"none"),
-        (b"[^\\d\\s]+", b"12 ab3", 0, b"3-5"),
-        (b"[]a-]+", b"b-]a", 0, b"1-4"),
-        (b"\\x41\\.", b"A.", 0, b"0-2"),
-        (b"\\d{4}-(\\d{4})", b"card 1234-5678", 0, b"5-14 10-14"),
-        (b"(\\w+)=(\\S*)", b" k=v; x=", 0, b"1-5 1-2 3-5"),
-        (b"(\\w+)=(\\S*)", b" k=v; x=", 5, b"6-8 6-7 8-8"),
-        (b"(?:a+b|a+c)", b"aaaac", 0, b"0-5"),
-        (b"(a+)(a+)", b"aaa", 0, b"0-3 0-2 2-3"),
-        (b"(a+?)(a+)", b"aaa", 0, b"0-3 0-1 1-3"),
-        (b"\\xff", b"\x00\xff", 0, b"1-2"),
-    ] {
-        let p = Pattern::read(alloc, pattern)?;
-        assert!(rt; from <= text.len());
-        let found = find(alloc, &p, text, from)?;
-        let shown = shown(alloc, &found)?;
-        assert!(rt; shown.as_bytes() == want, "it is {shown}");
+    for row in ROWS.lines() {
+        check_row(&rt, alloc, row)?;
     }
     Ok(())
 }
@@ -98,15 +255,15 @@ fn a_lookahead_sees_so_far(rt: HostRuntime) -> Result<(), Fail> {
     let alloc = rt.alloc();
     let text = vec![in alloc; b'a'; 300]?;
     for (pattern, want) in [
-        (b"x?(?=a{255})".as_slice(), b"0-0".as_slice()),
-        (b"x?(?=a{256})", b"none"),
-        (b"x?(?=a{255}$)", b"0-0"),
-        (b"x?(?=a{254}$)", b"46-46"),
+        (b"x?(?=a{255})".as_slice(), "0-0"),
+        (b"x?(?=a{256})", "none"),
+        (b"x?(?=a{255}$)", "0-0"),
+        (b"x?(?=a{254}$)", "46-46"),
     ] {
         let p = Pattern::read(alloc, pattern)?;
         let found = find(alloc, &p, &text, 0)?;
         let shown = shown(alloc, &found)?;
-        assert!(rt; shown.as_bytes() == want, "it is {shown}");
+        assert!(rt; shown.as_str() == want, "it is {shown}");
     }
     Ok(())
 }
