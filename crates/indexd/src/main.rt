@@ -1,12 +1,11 @@
-//! The program `indexd`: the real input, output and clock, handed to the library that does all the work.
+//! The program `indexd`: the real input, output, clock and files, handed to the library that does all the work.
 #![tactic(auto)]
 
 use indexd_core::top;
-use ix_base::{HostClock, StdSink, StdSource, Text};
-use std::env;
-use std::io;
+use ix_base::{HostClock, HostTree, StdSink, StdSource, Text};
 use std::process::ExitCode;
 use std::rt::Env;
+use std::{env, io};
 
 /// The words of the command line behind the program's name.
 fn read_words<R: Env + AllocGlobal>(rt: &R) -> io::Result<Vec<Text>> {
@@ -23,6 +22,14 @@ fn main(rt: HostRuntime) -> ExitCode {
     let mut input = StdSource::new(rt.reader());
     let mut output = StdSink::new(io::writer(&rt));
     let mut clock = HostClock::new(&rt);
-    let status = top(rt.alloc(), &words, &mut input, &mut output, &mut clock);
+    let mut tree = HostTree::new(&rt);
+    let status = top(
+        rt.alloc(),
+        &words,
+        &mut input,
+        &mut output,
+        &mut clock,
+        &mut tree,
+    );
     ExitCode::from(status.code())
 }

@@ -56,20 +56,20 @@ pub advances : (old new : Preview) (more : List ℕ) (routed : List Routed) (lef
     new.moment ≡ old.moment → Told (Took more) left left' → HasWritten (lines_of routed) given given' →
     Feeds old.channel new.channel more old.moment routed → Advances more old new left left' given given'
 advances old new more routed left left' given given' same took written feeds = record {
-    at = λ meta left₀ given₀ taken at.
+  at = λ meta left₀ given₀ taken at.
       let f = feeds (effective 10000) meta (dated taken old.moment) at.stands in
       let text : preview_text meta old.moment (taken ++ more) false ≡ preview_text meta old.moment taken false ++ lines_of routed =
-        text-more meta old.moment taken more routed f.1 in
+      text-more meta old.moment taken more routed f.1 in
       let whole : dated taken old.moment ++ dated more old.moment ≡ dated (taken ++ more) new.moment =
-        sym (dated-append taken more old.moment) ∙ ap (dated (taken ++ more)) (sym same) in
+      sym (dated-append taken more old.moment) ∙ ap (dated (taken ++ more)) (sym same) in
       record {
         stands = subst (λ (s : List Dated). StandsFor (effective 10000) meta s new.channel) whole f.0;
         took = took-took taken more left₀ left left' at.took took;
         written = subst (λ (x : List ℕ). HasWritten x given₀ given')
-          (sym text ∙ ap (λ m. preview_text meta m (taken ++ more) false) (sym same)) (then_written at.written written)
+            (sym text ∙ ap (λ m. preview_text meta m (taken ++ more) false) (sym same)) (then_written at.written written);
       };
-    moment = same
-  }
+  moment = same;
+}
 
 -- a block was read, and writing its lines stopped
 pub stops : (stop : Stop) (old : Preview) (next : Channel) (more : List ℕ) (routed : List Routed) (read read' wrote wrote' : ℕ)
@@ -78,13 +78,16 @@ pub stops : (stop : Stop) (old : Preview) (next : Channel) (more : List ℕ) (ro
 stops Memory old next more routed read read' wrote wrote' left left' given given' took feeds put =
     record { more = more; took = took; same = put }
 stops Input old next more routed read read' wrote wrote' left left' given given' took feeds put = absurd put
-stops Output old next more routed read read' wrote wrote' left left' given given' took feeds put =
-    (put.0, record {
-      more = more; took = took;
-      begun = λ meta left₀ given₀ taken at.
+stops Output old next more routed read read' wrote wrote' left left' given given' took feeds put = (
+  put.0,
+  record {
+    more = more;
+    took = took;
+    begun = λ meta left₀ given₀ taken at.
         let f = feeds (effective 10000) meta (dated taken old.moment) at.stands in
-        subst (λ (x : List ℕ). HasBegun x given₀ given') (sym (text-more meta old.moment taken more routed f.1)) (then_begun at.written put.1)
-    })
+        subst (λ (x : List ℕ). HasBegun x given₀ given') (sym (text-more meta old.moment taken more routed f.1)) (then_begun at.written put.1);
+  },
+)
 
 pub took-nothing : (x : Option (List ℕ)) → Told (Took []) x x
 took-nothing None = tt
@@ -110,21 +113,30 @@ pub run-stops : (stop : Stop) (meta : ChannelMeta) (old : Preview) (m : ℤ) (ta
     IsAt meta left given taken old left₁ given₁ → StepStops stop old read₁ read' wrote₁ wrote' left₁ left' given₁ given' →
     RunStops stop meta m read read' wrote wrote' left left' given given'
 run-stops Memory meta old m taken read read₁ read' wrote wrote₁ wrote' left left₁ left' given given₁ given' same short rl wl at stop = record {
-    taken = taken; more = stop.more; took = took-took taken stop.more left left₁ left' at.took stop.took;
+  taken = taken;
+  more = stop.more;
+  took = took-took taken stop.more left left₁ left' at.took stop.took;
+  written = subst (λ (z : ℤ). HasWritten (preview_text meta z taken false) given given') same
+      (subst (λ (x : Option (List ℕ)). HasWritten (preview_text meta old.moment taken false) given x) (sym stop.same) at.written);
+}
+run-stops Input meta old m taken read read₁ read' wrote wrote₁ wrote' left left₁ left' given given₁ given' same short rl wl at stop = (
+  rose-since read read₁ read' rl stop.0,
+  record {
+    taken = taken;
+    took = subst (λ (x : Option (List ℕ)). Told (Took taken) left x) (sym stop.1) at.took;
+    within = short;
     written = subst (λ (z : ℤ). HasWritten (preview_text meta z taken false) given given') same
-      (subst (λ (x : Option (List ℕ)). HasWritten (preview_text meta old.moment taken false) given x) (sym stop.same) at.written)
-  }
-run-stops Input meta old m taken read read₁ read' wrote wrote₁ wrote' left left₁ left' given given₁ given' same short rl wl at stop =
-    (rose-since read read₁ read' rl stop.0, record {
-      taken = taken; took = subst (λ (x : Option (List ℕ)). Told (Took taken) left x) (sym stop.1) at.took; within = short;
-      written = subst (λ (z : ℤ). HasWritten (preview_text meta z taken false) given given') same
-        (subst (λ (x : Option (List ℕ)). HasWritten (preview_text meta old.moment taken false) given x) (sym stop.2) at.written)
-    })
-run-stops Output meta old m taken read read₁ read' wrote wrote₁ wrote' left left₁ left' given given₁ given' same short rl wl at stop =
-    (rose-since wrote wrote₁ wrote' wl stop.0, record {
-      taken = taken ++ stop.1.more; took = took-took taken stop.1.more left left₁ left' at.took stop.1.took;
-      begun = subst (λ (z : ℤ). HasBegun (preview_text meta z (taken ++ stop.1.more) false) given given') same (stop.1.begun meta left given taken at)
-    })
+        (subst (λ (x : Option (List ℕ)). HasWritten (preview_text meta old.moment taken false) given x) (sym stop.2) at.written);
+  },
+)
+run-stops Output meta old m taken read read₁ read' wrote wrote₁ wrote' left left₁ left' given given₁ given' same short rl wl at stop = (
+  rose-since wrote wrote₁ wrote' wl stop.0,
+  record {
+    taken = taken ++ stop.1.more;
+    took = took-took taken stop.1.more left left₁ left' at.took stop.1.took;
+    begun = subst (λ (z : ℤ). HasBegun (preview_text meta z (taken ++ stop.1.more) false) given given') same (stop.1.begun meta left given taken at);
+  },
+)
 
 -- what the end settles, as text
 pub text-end : (meta : ChannelMeta) (m : ℤ) (taken : List ℕ) (routed : List Routed) →
@@ -141,15 +153,17 @@ pub ends-all : (preview : Preview) (routed : List Routed) (given given' : Option
     HasWritten (lines_of routed) given given' → EndsAll preview given given'
 ends-all preview routed given given' closes written = λ meta left left' given₀ taken at.
     subst (λ (x : List ℕ). HasWritten x given₀ given')
-      (sym (text-end meta preview.moment taken routed (closes (effective 10000) meta (dated taken preview.moment) at.stands)))
-      (then_written at.written written)
+    (sym (text-end meta preview.moment taken routed (closes (effective 10000) meta (dated taken preview.moment) at.stands)))
+    (then_written at.written written)
 
 pub end-stops : (stop : Stop) (preview : Preview) (routed : List Routed) (wrote wrote' : ℕ) (given given' : Option (List ℕ)) →
     Closes preview.channel routed → PutStops stop (lines_of routed) wrote wrote' given given' → EndStops stop preview wrote wrote' given given'
 end-stops Memory preview routed wrote wrote' given given' closes put = put
 end-stops Input preview routed wrote wrote' given given' closes put = put
-end-stops Output preview routed wrote wrote' given given' closes put =
-    (put.0, λ meta left left' given₀ taken at.
+end-stops Output preview routed wrote wrote' given given' closes put = (
+  put.0,
+  λ meta left left' given₀ taken at.
       subst (λ (x : List ℕ). HasBegun x given₀ given')
-        (sym (text-end meta preview.moment taken routed (closes (effective 10000) meta (dated taken preview.moment) at.stands)))
-        (then_begun at.written put.1))
+      (sym (text-end meta preview.moment taken routed (closes (effective 10000) meta (dated taken preview.moment) at.stands)))
+      (then_begun at.written put.1),
+)

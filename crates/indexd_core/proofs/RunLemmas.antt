@@ -37,7 +37,7 @@ text-front law meta m taken later closed =
     record {
       rest = lines_of l.0;
       whole_is = ap (λ s. lines_of (settled (effective 10000) meta s closed)) (dated-append taken later m)
-        ∙ ap lines_of l.1 ∙ lines_of-append (settled (effective 10000) meta (dated taken m) false) l.0
+          ∙ ap lines_of l.1 ∙ lines_of-append (settled (effective 10000) meta (dated taken m) false) l.0;
     }
 
 begun-further : (a b : List ℕ) (x y : Option (List ℕ)) → IsFrontOf a b → HasBegun a x y → HasBegun b x y
@@ -48,47 +48,73 @@ begun-further a b x y front begun =
 pub no-room : (meta : ChannelMeta) (m : ℤ) (read wrote : ℕ) (left given : Option (List ℕ)) →
     Runs status.Memory meta m read read wrote wrote left left given given
 no-room meta m read wrote left given = record {
-    taken = []; rest = rest_of left; took = took-nothing left; left_is = is_rest left;
-    outcome = ([], record { rest = preview_text meta m (rest_of left) true; whole_is = refl }, nothing_written given)
-  }
+  taken = [];
+  rest = rest_of left;
+  took = took-nothing left;
+  left_is = is_rest left;
+  outcome = ([], record { rest = preview_text meta m (rest_of left) true; whole_is = refl }, nothing_written given);
+}
 
 -- reading stopped
 pub stopped : SettledStays → (s : Stop) (meta : ChannelMeta) (m : ℤ) (read read' wrote wrote' : ℕ) (left left' given given' : Option (List ℕ)) →
     RunStops s meta m read read' wrote wrote' left left' given given' → Runs (stop_status s) meta m read read' wrote wrote' left left' given given'
 stopped law stop.Memory meta m read read' wrote wrote' left left' given given' s = record {
-    taken = s.taken ++ s.more; rest = rest_of left'; took = s.took; left_is = is_rest left';
-    outcome = (preview_text meta m s.taken false,
-      subst (λ (l : List ℕ). IsFrontOf (preview_text meta m s.taken false) (preview_text meta m l true))
+  taken = s.taken ++ s.more;
+  rest = rest_of left';
+  took = s.took;
+  left_is = is_rest left';
+  outcome = (
+    preview_text meta m s.taken false,
+    subst (λ (l : List ℕ). IsFrontOf (preview_text meta m s.taken false) (preview_text meta m l true))
         (sym (append_assoc s.taken s.more (rest_of left'))) (text-front law meta m s.taken (s.more ++ rest_of left') true),
-      s.written)
-  }
+    s.written,
+  );
+}
 stopped law stop.Input meta m read read' wrote wrote' left left' given given' s = record {
-    taken = s.1.taken; rest = rest_of left'; took = s.1.took; left_is = is_rest left';
-    outcome = (s.0, s.1.within, s.1.written)
-  }
+  taken = s.1.taken;
+  rest = rest_of left';
+  took = s.1.took;
+  left_is = is_rest left';
+  outcome = (s.0, s.1.within, s.1.written);
+}
 stopped law stop.Output meta m read read' wrote wrote' left left' given given' s = record {
-    taken = s.1.taken; rest = rest_of left'; took = s.1.took; left_is = is_rest left';
-    outcome = (s.0, begun-further (preview_text meta m s.1.taken false) (preview_text meta m (s.1.taken ++ rest_of left') true) given given'
-      (text-front law meta m s.1.taken (rest_of left') true) s.1.begun)
-  }
+  taken = s.1.taken;
+  rest = rest_of left';
+  took = s.1.took;
+  left_is = is_rest left';
+  outcome = (
+    s.0,
+    begun-further (preview_text meta m s.1.taken false) (preview_text meta m (s.1.taken ++ rest_of left') true) given given'
+        (text-front law meta m s.1.taken (rest_of left') true) s.1.begun,
+  );
+}
 
 -- the limit was taken
 pub endless : (meta : ChannelMeta) (new : Preview) (m : ℤ) (read read' wrote wrote' : ℕ) (left left' given given' : Option (List ℕ)) →
     new.moment ≡ m → ReadsAll false meta new left left' given given' → Runs status.Endless meta m read read' wrote wrote' left left' given given'
 endless meta new m read read' wrote wrote' left left' given given' same r = record {
-    taken = r.taken; rest = rest_of left'; took = r.at.took; left_is = is_rest left';
-    outcome = (r.end, subst (λ (z : ℤ). HasWritten (preview_text meta z r.taken false) given given') same r.at.written)
-  }
+  taken = r.taken;
+  rest = rest_of left';
+  took = r.at.took;
+  left_is = is_rest left';
+  outcome = (r.end, subst (λ (z : ℤ). HasWritten (preview_text meta z r.taken false) given given') same r.at.written);
+}
 
 -- the input came to its end, and all was written
 pub done : (meta : ChannelMeta) (new : Preview) (m : ℤ) (read read' wrote wrote' : ℕ) (left left' given given₁ given' : Option (List ℕ)) →
     new.moment ≡ m → ReadsAll true meta new left left' given given₁ → EndsAll new given₁ given' →
     Runs status.Done meta m read read' wrote wrote' left left' given given'
 done meta new m read read' wrote wrote' left left' given given₁ given' same r ends = record {
-    taken = r.taken; rest = []; took = r.at.took; left_is = r.end.1;
-    outcome = (refl, r.end.0,
-      subst (λ (z : ℤ). HasWritten (preview_text meta z r.taken true) given given') same (ends meta left left' given r.taken r.at))
-  }
+  taken = r.taken;
+  rest = [];
+  took = r.at.took;
+  left_is = r.end.1;
+  outcome = (
+    refl,
+    r.end.0,
+    subst (λ (z : ℤ). HasWritten (preview_text meta z r.taken true) given given') same (ends meta left left' given r.taken r.at),
+  );
+}
 
 -- the input came to its end, and then the run stopped
 pub stopped-at-end : SettledStays → (s : Stop) (meta : ChannelMeta) (new : Preview) (m : ℤ) (read read' wrote wrote₁ wrote' : ℕ)
@@ -96,18 +122,29 @@ pub stopped-at-end : SettledStays → (s : Stop) (meta : ChannelMeta) (new : Pre
     ReadsAll true meta new left left' given given₁ → EndStops s new wrote₁ wrote' given₁ given' →
     Runs (stop_status s) meta m read read' wrote wrote' left left' given given'
 stopped-at-end law stop.Memory meta new m read read' wrote wrote₁ wrote' left left' given given₁ given' same rise r ends = record {
-    taken = r.taken; rest = []; took = r.at.took; left_is = r.end.1;
-    outcome = (preview_text meta m r.taken false, text-front law meta m r.taken [] true,
-      subst (λ (z : ℤ). HasWritten (preview_text meta z r.taken false) given given') same
-        (subst (λ (x : Option (List ℕ)). HasWritten (preview_text meta new.moment r.taken false) given x) (sym ends) r.at.written))
-  }
+  taken = r.taken;
+  rest = [];
+  took = r.at.took;
+  left_is = r.end.1;
+  outcome = (
+    preview_text meta m r.taken false,
+    text-front law meta m r.taken [] true,
+    subst (λ (z : ℤ). HasWritten (preview_text meta z r.taken false) given given') same
+        (subst (λ (x : Option (List ℕ)). HasWritten (preview_text meta new.moment r.taken false) given x) (sym ends) r.at.written),
+  );
+}
 stopped-at-end law stop.Input meta new m read read' wrote wrote₁ wrote' left left' given given₁ given' same rise r ends = absurd ends
 stopped-at-end law stop.Output meta new m read read' wrote wrote₁ wrote' left left' given given₁ given' same rise r ends = record {
-    taken = r.taken; rest = []; took = r.at.took; left_is = r.end.1;
-    outcome = (rise ends.0,
-      subst (λ (l : List ℕ). HasBegun (preview_text meta m l true) given given') (sym (append-nil r.taken))
-        (subst (λ (z : ℤ). HasBegun (preview_text meta z r.taken true) given given') same (ends.1 meta left left' given r.taken r.at)))
-  }
+  taken = r.taken;
+  rest = [];
+  took = r.at.took;
+  left_is = r.end.1;
+  outcome = (
+    rise ends.0,
+    subst (λ (l : List ℕ). HasBegun (preview_text meta m l true) given given') (sym (append-nil r.taken))
+        (subst (λ (z : ℤ). HasBegun (preview_text meta z r.taken true) given given') same (ends.1 meta left left' given r.taken r.at)),
+  );
+}
 
 -- what the outcome says of the counts of faults, by the status
 pub not-usage : (ended : Status) (meta : ChannelMeta) (m : ℤ) (read read' wrote wrote' : ℕ) (left left' given given' : Option (List ℕ)) →

@@ -1,9 +1,13 @@
 //! The whole of the program over the traits of the outside.
 #![tactic(auto)]
 
+mod btool;
 mod preview;
 mod program;
+mod settings;
 mod status;
+#[cfg(test)]
+mod tests;
 mod words;
 
 pub use program::top;

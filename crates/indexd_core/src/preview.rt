@@ -97,7 +97,12 @@ impl Preview {
     }
 
     /// Reads a block, takes it in and writes the lines that it settles; 0 bytes at the end of the input.
-    pub fn take_block<S: Source, W: Sink>(&mut self, block: &mut [u8], input: &mut S, output: &mut W) -> Result<usize, Stop>
+    pub fn take_block<S: Source, W: Sink>(
+        &mut self,
+        block: &mut [u8],
+        input: &mut S,
+        output: &mut W,
+    ) -> Result<usize, Stop>
         ensures taken { IfOk result (λ n. (n ≤ length block.old) × Advances (take n block.new) self.old self.new
             (S.left input.old) (S.left input.new) (W.given output.old) (W.given output.new)) }
         ensures end { IfOk result (λ n. n ≡ 0 → 0 < length block.old → IfSome (S.left input.new) (λ bytes. bytes ≡ [])) }
@@ -121,13 +126,18 @@ impl Preview {
     }
 
     /// Reads the input to its end, or up to the limit, and writes the lines that it settles; whether it came to the end.
-    pub fn read_all<S: Source, W: Sink>(&mut self, block: &mut [u8], input: &mut S, output: &mut W) -> Result<bool, Stop>
+    pub fn read_all<S: Source, W: Sink>(
+        &mut self,
+        block: &mut [u8],
+        input: &mut S,
+        output: &mut W,
+    ) -> Result<bool, Stop>
         requires { 0 < length block.old }
         ensures all { IfOk result (λ ended. (meta : ChannelMeta) → StandsFor (effective 10000) meta [] self.old.channel →
             ReadsAll ended meta self.new (S.left input.old) (S.left input.new) (W.given output.old) (W.given output.new)) }
         ensures stopped { IfErr result (λ stop. (meta : ChannelMeta) → StandsFor (effective 10000) meta [] self.old.channel →
             RunStops stop meta self.old.moment (S.faults input.old) (S.faults input.new) (W.faults output.old) (W.faults output.new)
-                (S.left input.old) (S.left input.new) (W.given output.old) (W.given output.new)) }
+            (S.left input.old) (S.left input.new) (W.given output.old) (W.given output.new)) }
         ensures moment { OnOk result (self.new.moment ≡ self.old.moment) }
         ensures read_later { S.faults input.old ≤ S.faults input.new }
         ensures written_later { W.faults output.old ≤ W.faults output.new }
@@ -161,7 +171,7 @@ impl Preview {
     pub fn run<S: Source, W: Sink>(&mut self, input: &mut S, output: &mut W) -> Status
         ensures run { (meta : ChannelMeta) → StandsFor (effective 10000) meta [] self.old.channel →
             Runs result meta self.old.moment (S.faults input.old) (S.faults input.new) (W.faults output.old) (W.faults output.new)
-                (S.left input.old) (S.left input.new) (W.given output.old) (W.given output.new) }
+            (S.left input.old) (S.left input.new) (W.given output.old) (W.given output.new) }
         ensures read_later { S.faults input.old ≤ S.faults input.new }
         ensures written_later { W.faults output.old ≤ W.faults output.new }
     {

@@ -8,14 +8,14 @@ pub returns-in_err-n-clause-stopped : goal.returns-in_err-n-clause-stopped
 returns-in_err-n-clause-stopped g c =
     let p = err_from_is_err_and c.from_residual.result c.from_residual.ensures.1 in
     rw (p.1, p.2) (λ meta stands.
-      let came = c.loop-taken.invariant.came meta stands in
-      run-stops c.in_err-n.field-0.0 meta c.loop-taken.self c.args.self.now.moment came.0
-        (g.S.Source.faults c.args.input.now) (g.S.Source.faults c.loop-taken.input) (g.S.Source.faults c.take_block.new.input)
-        (g.W.Sink.faults c.args.output.now) (g.W.Sink.faults c.loop-taken.output) (g.W.Sink.faults c.take_block.new.output)
-        (g.S.Source.left c.args.input.now) (g.S.Source.left c.loop-taken.input) (g.S.Source.left c.take_block.new.input)
-        (g.W.Sink.given c.args.output.now) (g.W.Sink.given c.loop-taken.output) (g.W.Sink.given c.take_block.new.output)
-        c.loop-taken.invariant.moment (omega (arith, came.1)) c.loop-taken.invariant.read_later c.loop-taken.invariant.written_later
-        came.2 c.in_err-n.ensures.stopped)
+    let came = c.loop-taken.invariant.came meta stands in
+    run-stops c.in_err-n.field-0.0 meta c.loop-taken.self c.args.self.now.moment came.0
+    (g.S.Source.faults c.args.input.now) (g.S.Source.faults c.loop-taken.input) (g.S.Source.faults c.take_block.new.input)
+    (g.W.Sink.faults c.args.output.now) (g.W.Sink.faults c.loop-taken.output) (g.W.Sink.faults c.take_block.new.output)
+    (g.S.Source.left c.args.input.now) (g.S.Source.left c.loop-taken.input) (g.S.Source.left c.take_block.new.input)
+    (g.W.Sink.given c.args.output.now) (g.W.Sink.given c.loop-taken.output) (g.W.Sink.given c.take_block.new.output)
+    c.loop-taken.invariant.moment (omega (arith, came.1)) c.loop-taken.invariant.read_later c.loop-taken.invariant.written_later
+    came.2 c.in_err-n.ensures.stopped)
 
 pub returns-then-n-eq0-clause-all : goal.returns-then-n-eq0-clause-all
 returns-then-n-eq0-clause-all g c = λ meta stands.
@@ -23,26 +23,28 @@ returns-then-n-eq0-clause-all g c = λ meta stands.
     record {
       taken = came.0 ++ take c.in_ok-n.n c.take_block.new.block;
       at = c.in_ok-n.ensures.taken.1.at meta (g.S.Source.left c.args.input.now) (g.W.Sink.given c.args.output.now) came.0 came.2;
-      end =
-        (let none : length (take c.in_ok-n.n c.take_block.new.block) ≤ 0 = omega (arith, length-take c.in_ok-n.n c.take_block.new.block) in
-         omega (arith, length-append came.0 (take c.in_ok-n.n c.take_block.new.block), came.1),
-         c.in_ok-n.ensures.end c.if-n-eq0.true (omega (arith, c.min-room.ensures, length-take-le c.min-room.result c.loop-taken.block (omega (arith, c.min-room.ensures)))))
+      end = (
+        let none : length (take c.in_ok-n.n c.take_block.new.block) ≤ 0 = omega (arith, length-take c.in_ok-n.n c.take_block.new.block) in
+            omega (arith, length-append came.0 (take c.in_ok-n.n c.take_block.new.block), came.1),
+        c.in_ok-n.ensures.end c.if-n-eq0.true (omega (arith, c.min-room.ensures, length-take-le c.min-room.result c.loop-taken.block (omega (arith, c.min-room.ensures)))),
+      );
     }
 
 pub loop-taken-preserved : goal.loop-taken-preserved
 loop-taken-preserved g c = record {
-    within = omega (arith, c.in_ok-n.ensures.taken.0, length-take c.min-room.result c.loop-taken.block, c.min-room.ensures);
-    came = λ meta stands.
+  within = omega (arith, c.in_ok-n.ensures.taken.0, length-take c.min-room.result c.loop-taken.block, c.min-room.ensures);
+  came = λ meta stands.
       let came = c.loop-taken.invariant.came meta stands in
       let more : List ℕ = take c.in_ok-n.n c.take_block.new.block in
-      let fits : c.in_ok-n.n ≤ length c.take_block.new.block = omega (arith, c.in_ok-n.ensures.taken.0, c.take_block.auto.block) in
-      (came.0 ++ more,
-       omega (arith, length-append came.0 more, length-take-le c.in_ok-n.n c.take_block.new.block fits, came.1),
-       c.in_ok-n.ensures.taken.1.at meta (g.S.Source.left c.args.input.now) (g.W.Sink.given c.args.output.now) came.0 came.2);
-    moment = c.in_ok-n.ensures.taken.1.moment ∙ c.loop-taken.invariant.moment;
-    read_later = omega (arith, c.loop-taken.invariant.read_later, c.take_block.ensures.read_later);
-    written_later = omega (arith, c.loop-taken.invariant.written_later, c.take_block.ensures.written_later)
-  }
+      let fits : c.in_ok-n.n ≤ length c.take_block.new.block = omega (arith, c.in_ok-n.ensures.taken.0, c.take_block.auto.block) in (
+        came.0 ++ more,
+        omega (arith, length-append came.0 more, length-take-le c.in_ok-n.n c.take_block.new.block fits, came.1),
+        c.in_ok-n.ensures.taken.1.at meta (g.S.Source.left c.args.input.now) (g.W.Sink.given c.args.output.now) came.0 came.2,
+      );
+  moment = c.in_ok-n.ensures.taken.1.moment ∙ c.loop-taken.invariant.moment;
+  read_later = omega (arith, c.loop-taken.invariant.read_later, c.take_block.ensures.read_later);
+  written_later = omega (arith, c.loop-taken.invariant.written_later, c.take_block.ensures.written_later);
+}
 
 pub returns-clause-all : goal.returns-clause-all
 returns-clause-all g c = λ meta stands.
