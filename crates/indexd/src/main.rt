@@ -1,8 +1,8 @@
-//! The program `indexd`: the real input, output and clock, handed to the library that does all the work.
+//! The program `indexd`: the real input, output, clock and files, handed to the library that does all the work.
 #![tactic(auto)]
 
 use indexd_core::top;
-use ix_base::{HostClock, StdSink, StdSource, Text};
+use ix_base::{HostClock, HostTree, StdSink, StdSource, Text};
 use std::process::ExitCode;
 use std::rt::Env;
 use std::{env, io};
@@ -22,6 +22,14 @@ fn main(rt: HostRuntime) -> ExitCode {
     let mut input = StdSource::new(rt.reader());
     let mut output = StdSink::new(io::writer(&rt));
     let mut clock = HostClock::new(&rt);
-    let status = top(rt.alloc(), &words, &mut input, &mut output, &mut clock);
+    let mut tree = HostTree::new(&rt);
+    let status = top(
+        rt.alloc(),
+        &words,
+        &mut input,
+        &mut output,
+        &mut clock,
+        &mut tree,
+    );
     ExitCode::from(status.code())
 }

@@ -1,3 +1,4 @@
 pub mod WordLemmas
 pub mod PreviewLemmas
 pub mod RunLemmas
+pub mod SettingsLemmas

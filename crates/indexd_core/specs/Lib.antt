@@ -5,3 +5,5 @@ pub mod Texts
 pub mod Stops
 pub mod Steps
 pub mod Preview
+pub mod Settings
+pub mod Btool

@@ -7,7 +7,7 @@ use Rattle.ix_base.specs.declared.events.ChannelMeta.{ChannelMeta}
 use Rattle.indexd_core.specs.Moments.{clamped}
 use Rattle.indexd_core.specs.Texts.{preview_text, status_text, Said}
 use Rattle.indexd_core.specs.declared.status.Status.{Status}
-use Rattle.indexd_core.specs.declared.status.Status.TheVariants.{Done, Memory, Usage, Input, Output, Endless}
+use Rattle.indexd_core.specs.declared.status.Status.TheVariants.{Done, Memory, Usage, Configuration, Input, Output, Endless}
 
 -- The lines of all events that the bytes taken have settled were written, and what came of the bytes is known by the
 -- status: the input was read to its end (`Done`), failed (`Input`) or gave 2^40 bytes (`Endless`). After `Output` a front
@@ -18,6 +18,7 @@ Wrote Done meta moment taken rest read read' wrote wrote' given given' =
 Wrote Memory meta moment taken rest read read' wrote wrote' given given' =
     (part : List ℕ) × IsFrontOf part (preview_text meta moment (taken ++ rest) true) × HasWritten part given given'
 Wrote Usage meta moment taken rest read read' wrote wrote' given given' = ⊥
+Wrote Configuration meta moment taken rest read read' wrote wrote' given given' = ⊥
 Wrote Input meta moment taken rest read read' wrote wrote' given given' =
     Rose read read' × (length taken < 2 ^ 40) × HasWritten (preview_text meta moment taken false) given given'
 Wrote Output meta moment taken rest read read' wrote wrote' given given' =

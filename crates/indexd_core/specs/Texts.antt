@@ -11,7 +11,7 @@ use Rattle.ix_parse.specs.declared.routed.Routed.{Routed}
 use Rattle.ix_parse.specs.declared.routed.Routed.TheVariants.{To}
 use Rattle.ix_parse.specs.Settled.{settled}
 use Rattle.indexd_core.specs.declared.status.Status.{Status}
-use Rattle.indexd_core.specs.declared.status.Status.TheVariants.{Done, Memory, Usage, Input, Output, Endless}
+use Rattle.indexd_core.specs.declared.status.Status.TheVariants.{Done, Memory, Usage, Configuration, Input, Output, Endless}
 
 abbrev pub event_in : Routed → Event
 event_in (To event) = event
@@ -33,15 +33,17 @@ abbrev pub status_code : Status → ℕ
 status_code Done = 0
 status_code Memory = 1
 status_code Usage = 2
+status_code Configuration = 3
 status_code Input = 4
 status_code Output = 7
 status_code Endless = 13
 
--- the line of a status, which stands behind the output
+-- the line of a status that always has the same one, which stands behind the output
 abbrev pub status_text : Status → List ℕ
 status_text Done = []
 status_text Memory = codes "indexd: want of memory\n"
 status_text Usage = codes "indexd: usage\n"
+status_text Configuration = []
 status_text Input = codes "indexd: input fault\n"
 status_text Output = []
 status_text Endless = codes "indexd: endless input\n"

@@ -1,5 +1,7 @@
 -- The words of a command line.
-use Rattle.std.specs.Prelude.{◌≡◌, ◌≤◌, ℕ, List, [], ◌∷◌, length, codes}
+use Rattle.std.specs.Prelude.{◌≡◌, ◌≤◌, ◌⊎◌, ℕ, List, [], ◌∷◌, length, codes}
+use Rattle.indexd_core.specs.Settings.{file_name}
+use Rattle.indexd_core.specs.declared.settings.SettingsFile.{SettingsFile}
 
 -- a host, a source or a source type: 1 to 1,024 bytes
 abbrev pub IsName : List ℕ → Type 0
@@ -11,6 +13,16 @@ pub record AsksPreview (words : List (List ℕ)) (host source : List ℕ) : Type
   pub host_is_name : IsName host
   pub source_is_name : IsName source
 
+-- btool FILE
+pub record AsksBtool (words : List (List ℕ)) (file : SettingsFile) : Type 0 where
+  pub words_are : words ≡ codes "btool" ∷ file_name file ∷ []
+
+abbrev pub IsPreview : List (List ℕ) → Type 0
+IsPreview words = (host : List ℕ) × (source : List ℕ) × AsksPreview words host source
+
+abbrev pub IsBtool : List (List ℕ) → Type 0
+IsBtool words = (file : SettingsFile) × AsksBtool words file
+
 -- the words are a command
 abbrev pub IsCommand : List (List ℕ) → Type 0
-IsCommand words = (host : List ℕ) × (source : List ℕ) × AsksPreview words host source
+IsCommand words = IsPreview words ⊎ IsBtool words

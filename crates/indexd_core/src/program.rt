@@ -1,17 +1,20 @@
 //! All that the program does.
 
-ghost use Rattle.std.specs.Prelude.{◌≡◌, ◌≢◌, ◌↔◌, ◌≤◌, ℕ, List, IfOk};
+ghost use Rattle.std.specs.Prelude.{◌≡◌, ◌≢◌, ◌↔◌, ◌≤◌, ◌⊎◌, ℕ, List, IfOk};
 ghost use Rattle.ix_base.specs.Faults.{Rose};
 ghost use Rattle.ix_base.specs.declared.events.ChannelMeta.{ChannelMeta};
-ghost use Rattle.indexd_core.specs.Words.{AsksPreview, IsCommand};
+ghost use Rattle.indexd_core.specs.Words.{AsksPreview, AsksBtool, IsBtool, IsCommand};
+ghost use Rattle.indexd_core.specs.Btool.{Tells};
+ghost use Rattle.indexd_core.specs.declared.settings.SettingsFile.{SettingsFile};
 ghost use Rattle.indexd_core.specs.Moments.{clamped};
 ghost use Rattle.indexd_core.specs.Texts.{preview_meta, status_text, Said};
 ghost use Rattle.indexd_core.specs.Preview.{Runs, Previews, Refuses};
 
+use crate::btool::btool;
 use crate::preview::Preview;
 use crate::status::{Status, say};
 use crate::words::Command;
-use ix_base::{Bytes, ChannelMeta, Clock, NoMemory, Sink, Source, Text};
+use ix_base::{Bytes, ChannelMeta, Clock, NoMemory, Sink, Source, Text, Tree};
 use ix_parse::Channel;
 use std::alloc::Global;
 
@@ -112,18 +115,21 @@ fn preview<S: Source, W: Sink, C: Clock>(
 }
 
 /// Does all that the program does, and answers its status. `words` are those of the command line behind the program's
-/// name, `input` and `output` its standard input and output.
+/// name, `input` and `output` its standard input and output, `tree` the files of the folder that it stands in.
 ///
 /// `preview --host HOST --source SOURCE` reads the input as one closed stream and writes its events, a line each: the
-/// index is `main`, the source type `unknown`, and the time of each is the moment at which the program began. Any other
-/// words are `Usage`. `Input` and `Output` come only where the input or the output has failed, `Endless` only where 2^40
-/// bytes were taken, and `Memory` where there was no room. The line of the status stands behind the output.
-pub fn top<S: Source, W: Sink, C: Clock>(
+/// index is `main`, the source type `unknown`, and the time of each is the moment at which the program began.
+/// `btool FILE` writes the settings of all layers of a file. Any other words are `Usage`. `Configuration` comes exactly
+/// where the file has a fault. `Input` comes only where the input or the tree has failed, `Output` only where the output
+/// has, `Endless` only where 2^40 bytes were taken, and `Memory` where there was no room. The line of the status stands
+/// behind the output.
+pub fn top<S: Source, W: Sink, C: Clock, T: Tree>(
     alloc: Global,
     words: &[Text],
     input: &mut S,
     output: &mut W,
     clock: &mut C,
+    tree: &mut T,
 ) -> Status
     // Exactly the words that are no command are refused. Then nothing is read, and nothing but the line is written.
     ensures usage { (result ≡ Status.Usage) ↔ (¬ (IsCommand words.now)) }
@@ -137,16 +143,27 @@ pub fn top<S: Source, W: Sink, C: Clock>(
         (S.faults input.old) (S.faults input.new) (W.faults output.old) (W.faults output.new)
         (S.left input.old) (S.left input.new) (W.given output.old) (W.given output.new) }
 
+    // At 0 the output is the listing of the file, and exactly where one of its layers has a fault the status is
+    // `Configuration` and the output the line of the first one.
+    ensures btool { (file : SettingsFile) → AsksBtool words.now file →
+        Tells result file (T.files tree.old) (T.faults tree.old) (T.faults tree.new)
+        (W.faults output.old) (W.faults output.new) (W.given output.old) (W.given output.new) }
+    ensures unread { IsBtool words.now → (S.left input.new ≡ S.left input.old) × (C.ahead clock.new ≡ C.ahead clock.old) }
+    ensures unchanged { T.files tree.new ≡ T.files tree.old }
+
     // The causes of the other statuses.
-    ensures input { result ≡ Status.Input → Rose (S.faults input.old) (S.faults input.new) }
+    ensures input { result ≡ Status.Input → Rose (S.faults input.old) (S.faults input.new) ⊎ Rose (T.faults tree.old) (T.faults tree.new) }
     ensures output { result ≡ Status.Output → Rose (W.faults output.old) (W.faults output.new) }
     ensures read_later { S.faults input.old ≤ S.faults input.new }
     ensures written_later { W.faults output.old ≤ W.faults output.new }
+    ensures tree_later { T.faults tree.old ≤ T.faults tree.new }
 {
     let Some(command) = Command::read(words) else {
         say(Status::Usage, output);
         return Status::Usage;
     };
-    let Command::Preview { host, source } = command;
-    preview(alloc, host, source, input, output, clock)
+    match command {
+        Command::Preview { host, source } => preview(alloc, host, source, input, output, clock),
+        Command::Btool { file } => btool(alloc, file, tree, output),
+    }
 }

@@ -14,7 +14,9 @@ pub enum Status {
     Memory,
     /// 2: the words are no command. `indexd: usage`
     Usage,
-    /// 4: reading the input failed. `indexd: input fault`
+    /// 3: a file of settings has a fault. `indexd: configuration: ` and what it is
+    Configuration,
+    /// 4: reading the input or the tree of files failed. `indexd: input fault`
     Input,
     /// 7: writing the output failed.
     Output,
@@ -31,18 +33,19 @@ impl Status {
             Status::Done => 0,
             Status::Memory => 1,
             Status::Usage => 2,
+            Status::Configuration => 3,
             Status::Input => 4,
             Status::Output => 7,
             Status::Endless => 13,
         }
     }
 
-    /// The line that is written behind the output, with its newline.
+    /// The line that is written behind the output, with its newline, where it is always the same.
     fn text(self) -> &'static [u8]
         ensures { result.now ≡ status_text self }
     {
         match self {
-            Status::Done | Status::Output => b"",
+            Status::Done | Status::Configuration | Status::Output => b"",
             Status::Memory => b"indexd: want of memory\n",
             Status::Usage => b"indexd: usage\n",
             Status::Input => b"indexd: input fault\n",

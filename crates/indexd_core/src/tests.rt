@@ -1,7 +1,7 @@
 //! Whole runs over the forms in memory.
 
 use crate::{Status, top};
-use ix_base::{Bytes, FailPlan, MemClock, MemSink, MemSource, Text};
+use ix_base::{Bytes, FailPlan, MemClock, MemSink, MemSource, MemTree, Text, TreeFileList};
 use std::alloc::Global;
 use std::process::Abort;
 use std::test::Fail;
@@ -32,10 +32,15 @@ fn source(alloc: Global, bytes: &[u8], most: usize, failing: &[u64]) -> Result<M
     ))
 }
 
+fn no_files(alloc: Global) -> MemTree {
+    MemTree::new(TreeFileList::new(alloc), FailPlan::none(alloc))
+}
+
 fn preview(alloc: Global, input: &mut MemSource, output: &mut MemSink) -> Result<Status, Fail> {
     let words = words(alloc, "preview --host h --source s")?;
     let mut clock = MemClock::new([NOON].to_vec(alloc)?);
-    Ok(top(alloc, &words, input, output, &mut clock))
+    let mut tree = no_files(alloc);
+    Ok(top(alloc, &words, input, output, &mut clock, &mut tree))
 }
 
 /// The lines of events with these raw texts, which stand with `|` between.
@@ -152,7 +157,14 @@ fn other_words_are_refused(rt: HostRuntime) -> Result<(), Fail> {
         let mut input = source(alloc, b"a\n", 1, &[])?;
         let mut output = MemSink::new(alloc, FailPlan::none(alloc));
         let mut clock = MemClock::new(Vec::new(alloc));
-        let status = top(alloc, &words, &mut input, &mut output, &mut clock);
+        let status = top(
+            alloc,
+            &words,
+            &mut input,
+            &mut output,
+            &mut clock,
+            &mut no_files(alloc),
+        );
         assert_eq!(rt; status, Status::Usage, "{line}");
         assert!(rt; output.bytes() == b"indexd: usage\n".as_slice(), "{line}");
     }
@@ -171,7 +183,14 @@ fn moments_lie_between_1970_and_2100(rt: HostRuntime) -> Result<(), Fail> {
         let mut input = source(alloc, b"a", 1, &[])?;
         let mut output = MemSink::new(alloc, FailPlan::none(alloc));
         let mut clock = MemClock::new([shown, 5].to_vec(alloc)?);
-        let status = top(alloc, &words, &mut input, &mut output, &mut clock);
+        let status = top(
+            alloc,
+            &words,
+            &mut input,
+            &mut output,
+            &mut clock,
+            &mut no_files(alloc),
+        );
         assert_eq!(rt; status, Status::Done);
         assert!(rt; output.bytes().starts_with(want.as_bytes()), "{want}");
     }
@@ -184,6 +203,7 @@ fn statuses_have_their_numbers(rt: HostRuntime) {
         (Status::Done, 0),
         (Status::Memory, 1),
         (Status::Usage, 2),
+        (Status::Configuration, 3),
         (Status::Input, 4),
         (Status::Output, 7),
         (Status::Endless, 13),

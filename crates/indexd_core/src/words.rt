@@ -1,8 +1,11 @@
 //! The words of the command line.
 
 ghost use Rattle.std.specs.Prelude.{◌≡◌, ◌≤◌, ◌↔◌, IsTrue, IsNone, IfSome, IfNone, MatchOption, length};
-ghost use Rattle.indexd_core.specs.Words.{IsName, AsksPreview, IsCommand};
+ghost use Rattle.indexd_core.specs.Words.{IsName, IsPreview, IsBtool, IsCommand};
+ghost use Rattle.indexd_core.specs.Settings.{file_name};
+ghost use Rattle.indexd_core.specs.declared.settings.SettingsFile.{SettingsFile};
 
+use crate::settings::SettingsFile;
 use ix_base::Text;
 
 /// A command with its words.
@@ -10,6 +13,8 @@ use ix_base::Text;
 pub enum Command<'a> {
     /// Lines of the input as events.
     Preview { host: &'a [u8], source: &'a [u8] },
+    /// The settings of all layers of a file.
+    Btool { file: SettingsFile },
 }
 
 fn is_name(name: &[u8]) -> bool
@@ -24,13 +29,27 @@ fn is_word(text: &Text, word: &str) -> bool
     text.as_str() == word
 }
 
+/// The file of settings of this name.
+fn file_named(name: &Text) -> Option<SettingsFile>
+    ensures none { IfNone result ((file : SettingsFile) → ¬ (name.now ≡ file_name file)) }
+    ensures some { IfSome result (λ file. name.now ≡ file_name file) }
+{
+    match name.as_str() {
+        "props" => Some(SettingsFile::Props),
+        "transforms" => Some(SettingsFile::Transforms),
+        "indexes" => Some(SettingsFile::Indexes),
+        "inputs" => Some(SettingsFile::Inputs),
+        "zones" => Some(SettingsFile::Zones),
+        _ => None,
+    }
+}
+
 impl<'a> Command<'a> {
     ghost use Rattle.indexd_core.specs.Asked.{Asks};
 
-    /// The command that the words are: `preview --host HOST --source SOURCE`, in this order, each name having 1 to
-    /// 1,024 bytes. Any other words are none.
-    pub fn read(words: &'a [Text]) -> Option<Command<'a>>
-        ensures none { IfNone result (¬ (IsCommand words.now)) }
+    /// `preview --host HOST --source SOURCE`, in this order, each name having 1 to 1,024 bytes.
+    fn read_preview(words: &'a [Text]) -> Option<Command<'a>>
+        ensures none { IfNone result (¬ (IsPreview words.now)) }
         ensures some { IfSome result (λ command. Asks command words.now) }
     {
         let [command, host_flag, host, source_flag, source] = words else {
@@ -48,5 +67,32 @@ impl<'a> Command<'a> {
             return None;
         }
         Some(Command::Preview { host, source })
+    }
+
+    /// `btool FILE`.
+    fn read_btool(words: &'a [Text]) -> Option<Command<'a>>
+        ensures none { IfNone result (¬ (IsBtool words.now)) }
+        ensures some { IfSome result (λ command. Asks command words.now) }
+    {
+        let [command, file] = words else {
+            return None;
+        };
+        if !is_word(command, "btool") {
+            return None;
+        }
+        let file = file_named(file)?;
+        Some(Command::Btool { file })
+    }
+
+    /// The command that the words are: `preview --host HOST --source SOURCE`, in this order, each name having 1 to
+    /// 1,024 bytes, or `btool FILE`. Any other words are none.
+    pub fn read(words: &'a [Text]) -> Option<Command<'a>>
+        ensures none { IfNone result (¬ (IsCommand words.now)) }
+        ensures some { IfSome result (λ command. Asks command words.now) }
+    {
+        match Command::read_preview(words) {
+            Some(command) => Some(command),
+            None => Command::read_btool(words),
+        }
     }
 }

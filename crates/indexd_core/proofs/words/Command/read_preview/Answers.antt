@@ -1,7 +1,7 @@
 use Rattle.std.proofs.Common.{rules, arith, ◌≡◌, List, ℕ, ◌∷◌, [], ◌∙◌, sym}
 use Rattle.std.specs.Prelude.{codes}
 use Rattle.indexd_core.proofs.WordLemmas.{five}
-use Rattle.indexd_core.proofs.words.Command.read.Goals as goal
+use Rattle.indexd_core.proofs.words.Command.read_preview.Goals as goal
 
 pub returns-clause-some : goal.returns-clause-some
 returns-clause-some c =
