@@ -188,7 +188,7 @@ fn escaped(rest: &[u8]) -> (u8, usize) {
         [b'r', ..] => (b'\r', 1),
         [b't', ..] => (b'\t', 1),
         [b'p', ..] => (b'|', 1),
-        [b'x', high, low, ..] => (hex(*high) * 16 + hex(*low), 3),
+        [b'x', high, low, ..] => (hex(*high) << 4 | hex(*low), 3),
         [other, ..] => (*other, 1),
         [] => (b'\\', 0),
     }
