@@ -2,4 +2,5 @@ pub mod Stack
 pub mod Leaf
 pub mod Costs
 pub mod Steps
+pub mod Attempt
 pub mod Matches
