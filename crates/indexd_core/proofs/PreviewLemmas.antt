@@ -1,22 +1,24 @@
 -- Steps of a preview.
-use Rattle.std.proofs.Common.{◌≡◌, ℕ, ℤ, Bool, true, false, List, [], ◌∷◌, ◌++◌, map, length, take, refl, sym, ◌∙◌, ap, subst, append_assoc, zero, suc, ◌+◌, ◌<◌, ◌≤◌, ◌^◌, inl, inr, arith}
-use Rattle.std.specs.Prelude.{Option, Some, None, replicate}
-use Rattle.std.specs.List.{zip, flat_map}
-use Rattle.std.proofs.lemmas.List.{map-append, append-nil, length-append}
+use Rattle.std.proofs.Common.{◌≡◌, ℕ, ℤ, true, false, List, [], ◌∷◌, ◌++◌, map, length, refl, sym, ◌∙◌, ap, subst, append_assoc, ◌<◌, ◌≤◌, ◌^◌, inl, inr, arith}
+use Rattle.std.specs.Prelude.{Option, Some, None}
+use Rattle.std.specs.List.{flat_map}
+use Rattle.std.proofs.lemmas.List.{map-append}
 use Rattle.std.proofs.lemmas.Grind.{flat_map-append}
 use Rattle.ix_base.specs.Stream.{Dated, dated}
-use Rattle.ix_base.specs.Told.{Told, Took, IsFrontOf, HasWritten, HasBegun}
+use Rattle.ix_base.specs.Told.{Told, Took, HasWritten, HasBegun}
 use Rattle.ix_base.specs.EventLine.{line}
 use Rattle.ix_base.specs.declared.events.ChannelMeta.{ChannelMeta}
 use Rattle.ix_base.specs.Faults.{Rose}
 use Rattle.ix_base.proofs.ToldLemmas.{then_written, then_begun, nothing_written}
 use Rattle.ix_lines.specs.Lines.{effective}
+use Rattle.ix_lines.specs.Newlines.{newlines}
+use Rattle.ix_lines.specs.Walk.{Looker}
 use Rattle.ix_parse.specs.declared.channel.Channel.{Channel}
 use Rattle.ix_parse.specs.declared.routed.Routed.{Routed}
 use Rattle.ix_parse.specs.Settled.{settled}
 use Rattle.ix_parse.specs.Standing.{StandsFor}
 use Rattle.indexd_core.specs.Texts.{event_in, lines_of, preview_text}
-use Rattle.indexd_core.specs.Steps.{PutStops, IsAt, Advances, StepStops, ReadsAll, RunStops, EndsAll, EndStops, CameToEnd}
+use Rattle.indexd_core.specs.Steps.{PutStops, IsAt, Advances, StepStops, RunStops, EndsAll, EndStops}
 use Rattle.indexd_core.specs.declared.preview.Preview.{Preview}
 use Rattle.indexd_core.specs.declared.preview.Stop.{Stop}
 use Rattle.indexd_core.specs.declared.preview.Stop.TheVariants.{Memory, Input, Output}
@@ -40,16 +42,17 @@ took-took a b (Some x) (Some y) (Some z) p q = p ∙ ap (λ l. a ++ l) q ∙ sym
 
 -- What a block settles, as text: the text of all bytes is that of the bytes before it and then the lines of its events.
 pub text-more : (meta : ChannelMeta) (m : ℤ) (taken more : List ℕ) (routed : List Routed) →
-    settled (effective 10000) meta (dated taken m ++ dated more m) false ≡ settled (effective 10000) meta (dated taken m) false ++ routed →
+    settled newlines (effective 10000) meta (dated taken m ++ dated more m) false ≡ settled newlines (effective 10000) meta (dated taken m) false ++ routed →
     preview_text meta m (taken ++ more) false ≡ preview_text meta m taken false ++ lines_of routed
 text-more meta m taken more routed e =
-    ap (λ s. lines_of (settled (effective 10000) meta s false)) (dated-append taken more m)
-    ∙ ap lines_of e ∙ lines_of-append (settled (effective 10000) meta (dated taken m) false) routed
+    ap (λ s. lines_of (settled newlines (effective 10000) meta s false)) (dated-append taken more m)
+    ∙ ap lines_of e ∙ lines_of-append (settled newlines (effective 10000) meta (dated taken m) false) routed
 
 -- what a channel settles of more bytes
 abbrev pub Feeds : Channel → Channel → List ℕ → ℤ → List Routed → Type 0
-Feeds old new more m routed = (t : ℕ) (meta : ChannelMeta) (stream : List Dated) → StandsFor t meta stream old →
-    StandsFor t meta (stream ++ dated more m) new × (settled t meta (stream ++ dated more m) false ≡ settled t meta stream false ++ routed)
+Feeds old new more m routed = (look : Looker) (t : ℕ) (meta : ChannelMeta) (stream : List Dated) → StandsFor look t meta stream old →
+    StandsFor look t meta (stream ++ dated more m) new
+    × (settled look t meta (stream ++ dated more m) false ≡ settled look t meta stream false ++ routed)
 
 -- a block was taken in and the lines that it settles were written
 pub advances : (old new : Preview) (more : List ℕ) (routed : List Routed) (left left' given given' : Option (List ℕ)) →
@@ -57,13 +60,13 @@ pub advances : (old new : Preview) (more : List ℕ) (routed : List Routed) (lef
     Feeds old.channel new.channel more old.moment routed → Advances more old new left left' given given'
 advances old new more routed left left' given given' same took written feeds = record {
   at = λ meta left₀ given₀ taken at.
-      let f = feeds (effective 10000) meta (dated taken old.moment) at.stands in
+      let f = feeds newlines (effective 10000) meta (dated taken old.moment) at.stands in
       let text : preview_text meta old.moment (taken ++ more) false ≡ preview_text meta old.moment taken false ++ lines_of routed =
       text-more meta old.moment taken more routed f.1 in
       let whole : dated taken old.moment ++ dated more old.moment ≡ dated (taken ++ more) new.moment =
       sym (dated-append taken more old.moment) ∙ ap (dated (taken ++ more)) (sym same) in
       record {
-        stands = subst (λ (s : List Dated). StandsFor (effective 10000) meta s new.channel) whole f.0;
+        stands = subst (λ (s : List Dated). StandsFor newlines (effective 10000) meta s new.channel) whole f.0;
         took = took-took taken more left₀ left left' at.took took;
         written = subst (λ (x : List ℕ). HasWritten x given₀ given')
             (sym text ∙ ap (λ m. preview_text meta m (taken ++ more) false) (sym same)) (then_written at.written written);
@@ -84,7 +87,7 @@ stops Output old next more routed read read' wrote wrote' left left' given given
     more = more;
     took = took;
     begun = λ meta left₀ given₀ taken at.
-        let f = feeds (effective 10000) meta (dated taken old.moment) at.stands in
+        let f = feeds newlines (effective 10000) meta (dated taken old.moment) at.stands in
         subst (λ (x : List ℕ). HasBegun x given₀ given') (sym (text-more meta old.moment taken more routed f.1)) (then_begun at.written put.1);
   },
 )
@@ -94,7 +97,7 @@ took-nothing None = tt
 took-nothing (Some x) = refl
 
 -- at the start
-pub starts : (meta : ChannelMeta) (preview : Preview) (left given : Option (List ℕ)) → StandsFor (effective 10000) meta [] preview.channel →
+pub starts : (meta : ChannelMeta) (preview : Preview) (left given : Option (List ℕ)) → StandsFor newlines (effective 10000) meta [] preview.channel →
     IsAt meta left given [] preview left given
 starts meta preview left given stands = record { stands = stands; took = took-nothing left; written = nothing_written given }
 
@@ -140,20 +143,20 @@ run-stops Output meta old m taken read read₁ read' wrote wrote₁ wrote' left 
 
 -- what the end settles, as text
 pub text-end : (meta : ChannelMeta) (m : ℤ) (taken : List ℕ) (routed : List Routed) →
-    settled (effective 10000) meta (dated taken m) true ≡ settled (effective 10000) meta (dated taken m) false ++ routed →
+    settled newlines (effective 10000) meta (dated taken m) true ≡ settled newlines (effective 10000) meta (dated taken m) false ++ routed →
     preview_text meta m taken true ≡ preview_text meta m taken false ++ lines_of routed
-text-end meta m taken routed e = ap lines_of e ∙ lines_of-append (settled (effective 10000) meta (dated taken m) false) routed
+text-end meta m taken routed e = ap lines_of e ∙ lines_of-append (settled newlines (effective 10000) meta (dated taken m) false) routed
 
 -- what a channel settles at its end
 abbrev pub Closes : Channel → List Routed → Type 0
-Closes channel routed = (t : ℕ) (meta : ChannelMeta) (stream : List Dated) → StandsFor t meta stream channel →
-    settled t meta stream true ≡ settled t meta stream false ++ routed
+Closes channel routed = (look : Looker) (t : ℕ) (meta : ChannelMeta) (stream : List Dated) → StandsFor look t meta stream channel →
+    settled look t meta stream true ≡ settled look t meta stream false ++ routed
 
 pub ends-all : (preview : Preview) (routed : List Routed) (given given' : Option (List ℕ)) → Closes preview.channel routed →
     HasWritten (lines_of routed) given given' → EndsAll preview given given'
 ends-all preview routed given given' closes written = λ meta left left' given₀ taken at.
     subst (λ (x : List ℕ). HasWritten x given₀ given')
-    (sym (text-end meta preview.moment taken routed (closes (effective 10000) meta (dated taken preview.moment) at.stands)))
+    (sym (text-end meta preview.moment taken routed (closes newlines (effective 10000) meta (dated taken preview.moment) at.stands)))
     (then_written at.written written)
 
 pub end-stops : (stop : Stop) (preview : Preview) (routed : List Routed) (wrote wrote' : ℕ) (given given' : Option (List ℕ)) →
@@ -164,6 +167,6 @@ end-stops Output preview routed wrote wrote' given given' closes put = (
   put.0,
   λ meta left left' given₀ taken at.
       subst (λ (x : List ℕ). HasBegun x given₀ given')
-      (sym (text-end meta preview.moment taken routed (closes (effective 10000) meta (dated taken preview.moment) at.stands)))
+      (sym (text-end meta preview.moment taken routed (closes newlines (effective 10000) meta (dated taken preview.moment) at.stands)))
       (then_begun at.written put.1),
 )

@@ -1,13 +1,14 @@
 -- A run of a preview, by how it ends.
-use Rattle.std.proofs.Common.{◌≡◌, ◌≤◌, ℕ, ℤ, Bool, true, false, List, [], ◌∷◌, ◌++◌, refl, sym, ◌∙◌, ap, subst, append_assoc}
+use Rattle.std.proofs.Common.{◌≡◌, ◌≤◌, ℕ, ℤ, Bool, true, false, List, [], ◌++◌, refl, sym, ◌∙◌, ap, subst, append_assoc}
 use Rattle.std.specs.Prelude.{Option, Some, None, IfSome, unwrap_or}
 use Rattle.std.proofs.lemmas.List.{append-nil}
 use Rattle.ix_base.specs.Faults.{Rose}
 use Rattle.ix_base.specs.Stream.{dated}
-use Rattle.ix_base.specs.Told.{Told, Took, IsFrontOf, HasWritten, HasBegun}
+use Rattle.ix_base.specs.Told.{IsFrontOf, HasWritten, HasBegun}
 use Rattle.ix_base.specs.declared.events.ChannelMeta.{ChannelMeta}
 use Rattle.ix_base.proofs.ToldLemmas.{begun_of_more, nothing_written}
 use Rattle.ix_lines.specs.Lines.{effective}
+use Rattle.ix_lines.specs.Newlines.{newlines}
 use Rattle.ix_parse.specs.Settled.{settled, SettledStays}
 use Rattle.indexd_core.specs.Texts.{lines_of, preview_text}
 use Rattle.indexd_core.specs.Steps.{ReadsAll, RunStops, EndsAll, EndStops}
@@ -30,14 +31,14 @@ is_rest None = tt
 is_rest (Some bytes) = refl
 
 -- the lines that some bytes have settled are the first of all that begin with these bytes
-pub text-front : SettledStays → (meta : ChannelMeta) (m : ℤ) (taken later : List ℕ) (closed : Bool) →
+pub text-front : SettledStays newlines → (meta : ChannelMeta) (m : ℤ) (taken later : List ℕ) (closed : Bool) →
     IsFrontOf (preview_text meta m taken false) (preview_text meta m (taken ++ later) closed)
 text-front law meta m taken later closed =
     let l = law (effective 10000) meta (dated taken m) (dated later m) closed in
     record {
       rest = lines_of l.0;
-      whole_is = ap (λ s. lines_of (settled (effective 10000) meta s closed)) (dated-append taken later m)
-          ∙ ap lines_of l.1 ∙ lines_of-append (settled (effective 10000) meta (dated taken m) false) l.0;
+      whole_is = ap (λ s. lines_of (settled newlines (effective 10000) meta s closed)) (dated-append taken later m)
+          ∙ ap lines_of l.1 ∙ lines_of-append (settled newlines (effective 10000) meta (dated taken m) false) l.0;
     }
 
 begun-further : (a b : List ℕ) (x y : Option (List ℕ)) → IsFrontOf a b → HasBegun a x y → HasBegun b x y
@@ -56,7 +57,7 @@ no-room meta m read wrote left given = record {
 }
 
 -- reading stopped
-pub stopped : SettledStays → (s : Stop) (meta : ChannelMeta) (m : ℤ) (read read' wrote wrote' : ℕ) (left left' given given' : Option (List ℕ)) →
+pub stopped : SettledStays newlines → (s : Stop) (meta : ChannelMeta) (m : ℤ) (read read' wrote wrote' : ℕ) (left left' given given' : Option (List ℕ)) →
     RunStops s meta m read read' wrote wrote' left left' given given' → Runs (stop_status s) meta m read read' wrote wrote' left left' given given'
 stopped law stop.Memory meta m read read' wrote wrote' left left' given given' s = record {
   taken = s.taken ++ s.more;
@@ -117,7 +118,7 @@ done meta new m read read' wrote wrote' left left' given given₁ given' same r 
 }
 
 -- the input came to its end, and then the run stopped
-pub stopped-at-end : SettledStays → (s : Stop) (meta : ChannelMeta) (new : Preview) (m : ℤ) (read read' wrote wrote₁ wrote' : ℕ)
+pub stopped-at-end : SettledStays newlines → (s : Stop) (meta : ChannelMeta) (new : Preview) (m : ℤ) (read read' wrote wrote₁ wrote' : ℕ)
     (left left' given given₁ given' : Option (List ℕ)) → new.moment ≡ m → (Rose wrote₁ wrote' → Rose wrote wrote') →
     ReadsAll true meta new left left' given given₁ → EndStops s new wrote₁ wrote' given₁ given' →
     Runs (stop_status s) meta m read read' wrote wrote' left left' given given'

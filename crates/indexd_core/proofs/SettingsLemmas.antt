@@ -8,7 +8,7 @@ use Rattle.ix_conf.specs.Grammar.{pairs, Gives}
 use Rattle.ix_conf.specs.declared.entries.Entry.{Entry}
 use Rattle.ix_conf.specs.declared.entries.ConfFault.{ConfFault}
 use Rattle.ix_conf.specs.declared.layers.Layer.{Layer}
-use Rattle.indexd_core.specs.Settings.{or_empty, text_at, path_in, in_layer, layer_read, layers_read, IsTextOr, IsBegun, before, led_by, followed_by, LayerRefused, LayerStops, Reads, ReadAs}
+use Rattle.indexd_core.specs.Settings.{or_empty, text_at, path_in, in_layer, layer_read, IsTextOr, IsBegun, before, led_by, LayerRefused, Reads}
 use Rattle.indexd_core.specs.declared.settings.Refusal.{Refusal}
 use Rattle.indexd_core.specs.declared.settings.SettingsFile.{SettingsFile}
 use Rattle.indexd_core.specs.declared.settings.LayerStop.{LayerStop}

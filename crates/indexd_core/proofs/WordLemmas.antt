@@ -1,5 +1,5 @@
 -- Lists of words.
-use Rattle.std.proofs.Common.{◌≡◌, ◌≤◌, ℕ, List, [], ◌∷◌, length, get_or, refl, sym, ap, ◌∙◌, arith}
+use Rattle.std.proofs.Common.{◌≡◌, ◌≤◌, ℕ, List, [], ◌∷◌, length, get_or, sym, ◌∙◌, arith}
 
 -- the five words of a list of five
 pub five : (ws : List (List ℕ)) (a b h d s a' b' d' : List ℕ) → 5 ≤ length ws → length ws ≤ 5 →

@@ -1,10 +1,11 @@
 -- What the steps of a preview keep.
-use Rattle.std.specs.Prelude.{◌≡◌, ◌<◌, ◌^◌, ℕ, ℤ, Bool, true, false, List, [], ◌++◌, length, take, Option, IfSome}
+use Rattle.std.specs.Prelude.{◌≡◌, ◌<◌, ◌^◌, ℕ, ℤ, Bool, true, false, List, [], ◌++◌, length, Option, IfSome}
 use Rattle.ix_base.specs.Faults.{Rose}
 use Rattle.ix_base.specs.Stream.{dated}
 use Rattle.ix_base.specs.Told.{Told, Took, HasWritten, HasBegun}
 use Rattle.ix_base.specs.declared.events.ChannelMeta.{ChannelMeta}
 use Rattle.ix_lines.specs.Lines.{effective}
+use Rattle.ix_lines.specs.Newlines.{newlines}
 use Rattle.ix_parse.specs.Standing.{StandsFor}
 use Rattle.indexd_core.specs.Texts.{preview_text}
 use Rattle.indexd_core.specs.declared.preview.Preview.{Preview}
@@ -19,7 +20,7 @@ PutStops Output text faults faults' given given' = Rose faults faults' × HasBeg
 
 -- since an input with `left` and an output with `given`, these bytes were taken in and the lines that they settle written
 pub record IsAt (meta : ChannelMeta) (left given : Option (List ℕ)) (taken : List ℕ) (preview : Preview) (left' given' : Option (List ℕ)) : Type 0 where
-  pub stands : StandsFor (effective 10000) meta (dated taken preview.moment) preview.channel
+  pub stands : StandsFor newlines (effective 10000) meta (dated taken preview.moment) preview.channel
   pub took : Told (Took taken) left left'
   pub written : HasWritten (preview_text meta preview.moment taken false) given given'
 

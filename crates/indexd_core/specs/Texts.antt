@@ -1,5 +1,5 @@
 -- What a run writes.
-use Rattle.std.specs.Prelude.{◌≡◌, ◌⊎◌, ℕ, ℤ, Bool, List, [], ◌∷◌, ◌++◌, map, codes, Option, Some, None}
+use Rattle.std.specs.Prelude.{◌⊎◌, ℕ, ℤ, Bool, List, [], map, codes, Option, Some, None}
 use Rattle.ix_base.specs.Faults.{Rose}
 use Rattle.ix_base.specs.Stream.{dated}
 use Rattle.ix_base.specs.Told.{HasWritten, HasBegun}
@@ -7,6 +7,7 @@ use Rattle.ix_base.specs.EventLine as event
 use Rattle.ix_base.specs.declared.events.Event.{Event}
 use Rattle.ix_base.specs.declared.events.ChannelMeta.{ChannelMeta}
 use Rattle.ix_lines.specs.Lines.{effective}
+use Rattle.ix_lines.specs.Newlines.{newlines}
 use Rattle.ix_parse.specs.declared.routed.Routed.{Routed}
 use Rattle.ix_parse.specs.declared.routed.Routed.TheVariants.{To}
 use Rattle.ix_parse.specs.Settled.{settled}
@@ -24,9 +25,10 @@ lines_of routed = event.lines (map event_in routed)
 abbrev pub preview_meta : List ℕ → List ℕ → ChannelMeta
 preview_meta host source = record { host = host; source = source; sourcetype = None; index = Some (codes "main") }
 
--- the lines of the events that are settled of bytes which all come at one moment; a line is cut at 10,000 bytes
+-- the lines of the events that are settled of bytes which all come at one moment; a line stands between runs of newlines,
+-- and is cut at 10,000 bytes
 abbrev pub preview_text : ChannelMeta → ℤ → List ℕ → Bool → List ℕ
-preview_text meta moment bytes closed = lines_of (settled (effective 10000) meta (dated bytes moment) closed)
+preview_text meta moment bytes closed = lines_of (settled newlines (effective 10000) meta (dated bytes moment) closed)
 
 -- the exit status of the program
 abbrev pub status_code : Status → ℕ

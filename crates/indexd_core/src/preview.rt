@@ -6,12 +6,14 @@ ghost use Rattle.ix_base.specs.Faults.{HasCause, Rose};
 ghost use Rattle.ix_base.specs.Told.{Told, Took, HasWritten, HasBegun};
 ghost use Rattle.ix_base.specs.declared.events.ChannelMeta.{ChannelMeta};
 ghost use Rattle.ix_lines.specs.Lines.{effective};
+ghost use Rattle.ix_lines.specs.Newlines.{newlines};
 ghost use Rattle.indexd_core.specs.Texts.{lines_of};
 
 use crate::status::Status;
-use ix_base::{FailPlan, MemSink, NoMemory, Sink, Source, write_line};
+use ix_base::{FailPlan, MemSink, NoMemory, Sink, Source, Steps, write_line};
 use ix_parse::{Channel, Routed, RoutedList};
 use std::alloc::Global;
+use std::sync::ledger::Ledger;
 
 /// How many bytes of input are taken at the most.
 const LIMIT: u64 = 1 << 40;
@@ -97,11 +99,12 @@ impl Preview {
     }
 
     /// Reads a block, takes it in and writes the lines that it settles; 0 bytes at the end of the input.
-    pub fn take_block<S: Source, W: Sink>(
+    pub fn take_block<S: Source, W: Sink, L: Ledger>(
         &mut self,
         block: &mut [u8],
         input: &mut S,
         output: &mut W,
+        steps: &mut Steps<L>,
     ) -> Result<usize, Stop>
         ensures taken { IfOk result (λ n. (n ≤ length block.old) × Advances (take n block.new) self.old self.new
             (S.left input.old) (S.left input.new) (W.given output.old) (W.given output.new)) }
@@ -117,7 +120,7 @@ impl Preview {
         if n == 0 {
             return Ok(0);
         }
-        let Ok(fed) = self.channel.fed(&block[..n], self.moment) else {
+        let Ok(fed) = self.channel.fed(&block[..n], self.moment, steps) else {
             return Err(Stop::Memory);
         };
         self.put_events(&fed.1, output)?;
@@ -126,16 +129,17 @@ impl Preview {
     }
 
     /// Reads the input to its end, or up to the limit, and writes the lines that it settles; whether it came to the end.
-    pub fn read_all<S: Source, W: Sink>(
+    pub fn read_all<S: Source, W: Sink, L: Ledger>(
         &mut self,
         block: &mut [u8],
         input: &mut S,
         output: &mut W,
+        steps: &mut Steps<L>,
     ) -> Result<bool, Stop>
         requires { 0 < length block.old }
-        ensures all { IfOk result (λ ended. (meta : ChannelMeta) → StandsFor (effective 10000) meta [] self.old.channel →
+        ensures all { IfOk result (λ ended. (meta : ChannelMeta) → StandsFor newlines (effective 10000) meta [] self.old.channel →
             ReadsAll ended meta self.new (S.left input.old) (S.left input.new) (W.given output.old) (W.given output.new)) }
-        ensures stopped { IfErr result (λ stop. (meta : ChannelMeta) → StandsFor (effective 10000) meta [] self.old.channel →
+        ensures stopped { IfErr result (λ stop. (meta : ChannelMeta) → StandsFor newlines (effective 10000) meta [] self.old.channel →
             RunStops stop meta self.old.moment (S.faults input.old) (S.faults input.new) (W.faults output.old) (W.faults output.new)
             (S.left input.old) (S.left input.new) (W.given output.old) (W.given output.new)) }
         ensures moment { OnOk result (self.new.moment ≡ self.old.moment) }
@@ -145,7 +149,7 @@ impl Preview {
         let mut taken: u64 = 0;
         while taken < LIMIT {
             let room = (LIMIT - taken).min(block.len() as u64) as usize;
-            let n = self.take_block(&mut block[..room], input, output)?;
+            let n = self.take_block(&mut block[..room], input, output, steps)?;
             if n == 0 {
                 return Ok(true);
             }
@@ -168,8 +172,13 @@ impl Preview {
     }
 
     /// Reads the input to its end and writes the lines of its events.
-    pub fn run<S: Source, W: Sink>(&mut self, input: &mut S, output: &mut W) -> Status
-        ensures run { (meta : ChannelMeta) → StandsFor (effective 10000) meta [] self.old.channel →
+    pub fn run<S: Source, W: Sink, L: Ledger>(
+        &mut self,
+        input: &mut S,
+        output: &mut W,
+        steps: &mut Steps<L>,
+    ) -> Status
+        ensures run { (meta : ChannelMeta) → StandsFor newlines (effective 10000) meta [] self.old.channel →
             Runs result meta self.old.moment (S.faults input.old) (S.faults input.new) (W.faults output.old) (W.faults output.new)
             (S.left input.old) (S.left input.new) (W.given output.old) (W.given output.new) }
         ensures read_later { S.faults input.old ≤ S.faults input.new }
@@ -179,7 +188,7 @@ impl Preview {
         let Ok(mut block) = make_block(self.alloc) else {
             return Status::Memory;
         };
-        match self.read_all(&mut block, input, output) {
+        match self.read_all(&mut block, input, output, steps) {
             Ok(true) => {}
             Ok(false) => return Status::Endless,
             Err(stop) => return stop.status(),

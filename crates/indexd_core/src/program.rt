@@ -1,6 +1,6 @@
 //! All that the program does.
 
-ghost use Rattle.std.specs.Prelude.{◌≡◌, ◌≢◌, ◌↔◌, ◌≤◌, ◌⊎◌, ℕ, List, IfOk};
+ghost use Rattle.std.specs.Prelude.{◌≡◌, ◌≢◌, ◌↔◌, ◌<◌, ◌≤◌, ◌⊎◌, ℕ, List, IfOk};
 ghost use Rattle.ix_base.specs.Faults.{Rose};
 ghost use Rattle.ix_base.specs.declared.events.ChannelMeta.{ChannelMeta};
 ghost use Rattle.indexd_core.specs.Words.{AsksPreview, AsksBtool, IsBtool, IsCommand};
@@ -14,9 +14,12 @@ use crate::btool::btool;
 use crate::preview::Preview;
 use crate::status::{Status, say};
 use crate::words::Command;
-use ix_base::{Bytes, ChannelMeta, Clock, NoMemory, Sink, Source, Text, Tree};
+use ix_base::{Bytes, ChannelMeta, Clock, NoMemory, Sink, Source, Steps, Text, Tree};
+use ix_lines::default_breaker;
 use ix_parse::Channel;
 use std::alloc::Global;
+use std::marker::Brand;
+use std::sync::ledger::{Blank, Ledger};
 
 /// The beginning of the year 2100, in microseconds since 1970.
 const LATEST: i64 = 4_102_444_800_000_000;
@@ -52,20 +55,42 @@ fn meta_of(alloc: Global, host: &[u8], source: &[u8]) -> Result<ChannelMeta, NoM
 impl Preview {
     ghost use Rattle.std.specs.Prelude.{[]};
     ghost use Rattle.ix_lines.specs.Lines.{effective};
+    ghost use Rattle.ix_lines.specs.Newlines.{newlines};
     ghost use Rattle.ix_parse.specs.Standing.{StandsFor};
 
     /// A run that has read nothing yet.
     fn start(alloc: Global, host: &[u8], source: &[u8], moment: i64) -> Result<Preview, NoMemory>
-        ensures stands { IfOk result (λ preview. StandsFor (effective 10000) (preview_meta host.now source.now) [] preview.channel) }
+        ensures stands { IfOk result (λ preview. StandsFor newlines (effective 10000) (preview_meta host.now source.now) [] preview.channel) }
         ensures moment { IfOk result (λ preview. preview.moment ≡ moment) }
     {
         let meta = meta_of(alloc, host, source)?;
-        let channel = Channel::start(alloc, TRUNCATE, meta)?;
+        let breaker = default_breaker(alloc)?;
+        let channel = Channel::start(alloc, breaker, TRUNCATE, meta)?;
         Ok(Preview {
             alloc,
             channel,
             moment,
         })
+    }
+
+    /// Runs it, and counts in the ledger that the blank one opens.
+    fn run_counted<S: Source, W: Sink, L: Ledger>(
+        &mut self,
+        input: &mut S,
+        output: &mut W,
+        blank: Blank,
+    ) -> Status
+        requires name { blank.name ≡ L.name }
+        requires parts { blank.parts ≡ L.parts }
+        requires some { 0 < blank.parts }
+        ensures run { (meta : ChannelMeta) → StandsFor newlines (effective 10000) meta [] self.old.channel →
+            Runs result meta self.old.moment (S.faults input.old) (S.faults input.new) (W.faults output.old) (W.faults output.new)
+            (S.left input.old) (S.left input.new) (W.given output.old) (W.given output.new) }
+        ensures read_later { S.faults input.old ≤ S.faults input.new }
+        ensures written_later { W.faults output.old ≤ W.faults output.new }
+    {
+        let mut steps = Steps::<L>::new(blank);
+        self.run(input, output, &mut steps)
     }
 }
 
@@ -86,7 +111,7 @@ fn preview_lines<S: Source, W: Sink>(
     let Ok(mut preview) = Preview::start(alloc, host, source, moment) else {
         return Status::Memory;
     };
-    preview.run(input, output)
+    preview.run_counted::<S, W, Brand>(input, output, Blank::new(1))
 }
 
 /// Reads the input as one closed stream, all of whose bytes have the moment that the clock shows first, and writes the

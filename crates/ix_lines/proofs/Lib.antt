@@ -1,7 +1,11 @@
 pub mod ListLemmas
 pub mod WalkLemmas
 pub mod SeekLemmas
-pub mod Stable
+pub mod Attempts
+pub mod DefaultText
+pub mod DefaultBreaks
+pub mod NewlinesStable
+pub mod CarryLemmas
 pub mod RunLemmas
 pub mod KeptLemmas
 pub mod Answering

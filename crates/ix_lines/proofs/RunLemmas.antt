@@ -1,6 +1,8 @@
 -- Runs of equal moments.
-use Rattle.std.proofs.Common.{◌≡◌, ℕ, zero, suc, ◌+◌, ◌-◌, ◌<◌, ◌≤◌, ℤ, pos, List, [], ◌∷◌, ◌++◌, length, drop, get_or, replicate, refl, sym, ◌∙◌, ap, arith, append_assoc}
+use Rattle.std.proofs.Common.{◌≡◌, ℕ, zero, suc, ◌+◌, ◌-◌, ◌<◌, ◌≤◌, ℤ, pos, List, [], ◌∷◌, ◌++◌, length, drop, get_or, replicate, refl, sym, ◌∙◌, ap, arith, append_assoc, w64, to_z, of_z}
 use Rattle.std.proofs.lemmas.List.{append-nil, length-drop}
+use mir.Val.{SFits}
+use Rattle.std.proofs.Math.Facts.{to_z-of_z}
 use Rattle.std.specs.Prelude.{slice_set}
 use Rattle.ix_lines.specs.Runs.{moments_of}
 use Rattle.ix_lines.specs.declared.runs.Run.{Run}
@@ -104,3 +106,32 @@ shortened (q ∷ runs) n r more some e h =
     ∙ append_assoc (replicate (q.count - n) q.moment) (moments_of runs) more
     ∙ shorter-replicate n q.count q.moment (moments_of runs ++ more) h
     ∙ ap (drop n) (sym (append_assoc (replicate q.count q.moment) (moments_of runs) more))
+
+-- a run in use, and the others from a place on
+abbrev pub waiting : Run → List Run → ℕ → List ℤ
+waiting now runs i = replicate now.count now.moment ++ moments_of (drop i runs)
+
+-- the next run takes its place
+pub run-next : (runs : List Run) (i : ℕ) → i < length runs → moments_of (drop i runs) ≡ waiting (get_or runs i no_run) runs (i + 1)
+run-next runs i h = ap moments_of (drop-run runs i h)
+
+-- or its moments become a part of the run in use, as they are equal or none
+pub run-joins : (runs : List Run) (i : ℕ) (now grown : Run) → i < length runs → grown ≡ record { count = now.count + (get_or runs i no_run).count; moment = now.moment } →
+    replicate (get_or runs i no_run).count (get_or runs i no_run).moment ≡ replicate (get_or runs i no_run).count now.moment →
+    waiting grown runs (i + 1) ≡ waiting now runs i
+run-joins runs i now grown h is same =
+    let p : Run = get_or runs i no_run in
+    let more : List ℤ = moments_of (drop (i + 1) runs) in
+    ap (λ r. waiting r runs (i + 1)) is
+    ∙ ap (λ l. l ++ more) (replicate-add now.count p.count now.moment)
+    ∙ append_assoc (replicate now.count now.moment) (replicate p.count now.moment) more
+    ∙ ap (λ l. replicate now.count now.moment ++ (l ++ more)) (sym same)
+    ∙ ap (λ l. replicate now.count now.moment ++ l) (sym (run-next runs i h))
+
+pub none-equal : (n : ℕ) (x y : ℤ) → n ≤ 0 → replicate n x ≡ replicate n y
+none-equal zero x y h = refl
+none-equal (suc n) x y h = absurd (omega arith)
+
+-- moments as words
+pub same-words : (x y : ℤ) → SFits w64 x → SFits w64 y → of_z w64 x ≡ of_z w64 y → x ≡ y
+same-words x y f g e = sym (to_z-of_z f) ∙ ap (to_z w64) e ∙ to_z-of_z g

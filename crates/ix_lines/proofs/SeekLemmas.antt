@@ -1,11 +1,15 @@
 -- The first break, and the walk to it.
-use Rattle.std.proofs.Common.{◌≡◌, ℕ, zero, suc, ◌+◌, ◌-◌, ◌<◌, ◌≤◌, Bool, true, List, [], ◌∷◌, ◌++◌, length, take, drop, get_or, Option, Some, refl, sym, ◌∙◌, ap, subst, arith, append_assoc}
-use Rattle.std.specs.Prelude.{slice_index}
-use Rattle.std.proofs.lemmas.List.{append-nil, length-drop}
+use Rattle.std.proofs.Common.{Ok, Err, ◌≡◌, ℕ, zero, suc, ◌+◌, ◌-◌, ◌<◌, ◌≤◌, Bool, true, false, List, [], ◌∷◌, ◌++◌, length, take, drop, get_or, Option, Some, refl, sym, ◌∙◌, ap, subst, arith, append_assoc}
+use Rattle.std.specs.Prelude.{take_while, not, cond, Result, IfOk}
+use Rattle.std.specs.List.{prefix_len}
+use Rattle.std.proofs.lemmas.List.Folds.{length-prefix_len}
+use Rattle.std.proofs.lemmas.List.{append-nil, length-drop, get_or-drop}
 use Rattle.ix_base.specs.Stream.{Dated, bytes_of}
 use Rattle.ix_lines.specs.Walk.{Look, match, no_match, more, Looker, Walked, preceded, after, walk}
-use Rattle.ix_lines.specs.Laws.{IsStable, BeginsBy, WaitsWithin}
-use Rattle.ix_lines.specs.Seek.{byte_before, past_one, past, found_by, seek, IsWithin}
+use Rattle.ix_lines.specs.Laws.{IsStable, BeginsBy}
+use Rattle.ix_lines.specs.Seek.{byte_before, look_of, IsSized, past_one, past, found_by, seek}
+use Rattle.ix_lines.specs.declared.breaks.Looked.{Looked}
+use Rattle.ix_lines.specs.declared.breaks.Looked.TheVariants.{Match, No, More}
 use Rattle.ix_lines.specs.declared.breaks.Found.{Found}
 use Rattle.ix_lines.specs.declared.breaks.Found.TheVariants.{Break, Stop}
 use Rattle.ix_lines.proofs.ListLemmas.{take-drop-swap, take-add, drop-drop, drop-past, take-past}
@@ -59,23 +63,6 @@ walk-seek look stable u before rest (d ∷ left) =
         let sized = stable.sized before (bytes_of (d ∷ left)) u from to n e in
         walk-match look u before rest d left from to n sized.1 sized.2 (omega (arith, sized.3, length-bytes_of left))
 
--- what is found lies within the bytes
-within-past : (f : Found) (len most : ℕ) → IsWithin f len most → IsWithin (past_one f) (suc len) most
-within-past (Break from to n) len most h = (omega (arith, h.0), omega (arith, h.1), omega arith, omega (arith, h.3))
-within-past (Stop at) len most h = (omega (arith, h.0), omega (arith, h.1))
-
-pub seek-within : (look : Looker) → IsStable look → (most : ℕ) → WaitsWithin look most → 0 < most → (u : Bool) (before : Option ℕ) (bytes : List ℕ) →
-    IsWithin (seek look u before bytes) (length bytes) most
-seek-within look stable most waits some u before [] = (omega arith, omega arith)
-seek-within look stable most waits some u before (b ∷ bytes) =
-    by (look before (b ∷ bytes) u) refl (seek-within look stable most waits some u (Some b) bytes)
-  where
-    by : (l : Look) → look before (b ∷ bytes) u ≡ l → IsWithin (seek look u (Some b) bytes) (length bytes) most →
-        IsWithin (found_by (seek look u (Some b) bytes) l) (suc (length bytes)) most
-    by more e ih = (omega arith, omega (arith, waits before (b ∷ bytes) u e))
-    by no_match e ih = within-past (seek look u (Some b) bytes) (length bytes) most ih
-    by (match from to n) e ih = stable.sized before (b ∷ bytes) u from to n e
-
 -- places that are passed over
 past-zero : (f : Found) → f ≡ past 0 f
 past-zero (Break from to n) = λ i. Break (plus from i) (plus to i) (plus n i)
@@ -106,15 +93,25 @@ pub byte_before-on : (before : Option ℕ) (i n : ℕ) (xs : List ℕ) → byte_
 byte_before-on before i n xs = byte_before-append before (take i xs) (take n (drop i xs)) ∙ ap (byte_before before) (take-add i n xs)
 
 -- no break begins with a byte that fails the test
-pub seek-past : (look : Looker) (test : ℕ → Bool) → BeginsBy look test → (u : Bool) (before : Option ℕ) (n : ℕ) (bytes : List ℕ) → n ≤ length bytes →
-    ((k : ℕ) → k < n → ¬ (test (slice_index bytes k) ≡ true)) →
-    seek look u before bytes ≡ past n (seek look u (byte_before before (take n bytes)) (drop n bytes))
-seek-past look test begins u before zero bytes h fails = past-zero (seek look u before bytes)
-seek-past look test begins u before (suc n) [] h fails = absurd (omega arith)
-seek-past look test begins u before (suc n) (b ∷ bytes) h fails =
-    ap (found_by (seek look u (Some b) bytes)) (begins before b bytes u (fails 0 (omega arith)))
-    ∙ ap past_one (seek-past look test begins u (Some b) n bytes (omega arith) (λ k l. fails (suc k) (omega arith)))
-    ∙ past-suc n (seek look u (byte_before (Some b) (take n bytes)) (drop n bytes))
+pub seek-past : (look : Looker) (test : ℕ → Bool) → BeginsBy look test → (u : Bool) (before : Option ℕ) (bytes : List ℕ) → ((k : ℕ) → get_or bytes k 0 < 256) →
+    let n = prefix_len (λ b. not (test b)) bytes in seek look u before bytes ≡ past n (seek look u (byte_before before (take n bytes)) (drop n bytes))
+seek-past look test begins u before [] low = refl
+seek-past look test begins u before (b ∷ bytes) low =
+    by (test b) refl (seek-past look test begins u (Some b) bytes (λ k. low (suc k)))
+  where
+    n : ℕ
+    n = prefix_len (λ b. not (test b)) bytes
+
+    by : (t : Bool) → test b ≡ t → seek look u (Some b) bytes ≡ past n (seek look u (byte_before (Some b) (take n bytes)) (drop n bytes)) →
+        let m = cond (not t) (1 + n) 0 in
+        seek look u before (b ∷ bytes) ≡ past m (seek look u (byte_before before (take m (b ∷ bytes))) (drop m (b ∷ bytes)))
+    by true e ih = past-zero (seek look u before (b ∷ bytes))
+    by false e ih =
+        let one : 1 + n ≡ suc n = omega arith in
+        rw one (
+        ap (found_by (seek look u (Some b) bytes)) (begins before b bytes u (low 0) e)
+        ∙ ap past_one ih
+        ∙ past-suc n (seek look u (byte_before (Some b) (take n bytes)) (drop n bytes)))
 
 -- the search has come to this place
 abbrev pub Sought : Looker → Bool → Option ℕ → List ℕ → ℕ → Type 0
@@ -170,12 +167,14 @@ pub rest-is : (bytes : List ℕ) (at : ℕ) → take (length bytes - at) (drop a
 rest-is bytes at = take-past (length bytes - at) (drop at bytes) (omega (arith, length-drop at bytes))
 
 pub sought-first : (look : Looker) (test : ℕ → Bool) → BeginsBy look test → (u : Bool) (before : Option ℕ) (bytes : List ℕ) (at n : ℕ) (hay : List ℕ) →
-    hay ≡ drop at bytes → Sought look u before bytes at → n ≤ length hay → ((k : ℕ) → 0 ≤ k → k < n → ¬ (test (slice_index hay k) ≡ true)) →
+    ((k : ℕ) → get_or bytes k 0 < 256) → hay ≡ drop at bytes → Sought look u before bytes at → n ≡ length (take_while (λ b. not (test b)) hay) →
     Sought look u before bytes (at + n)
-sought-first look test begins u before bytes at n hay is s h fails =
+sought-first look test begins u before bytes at n hay low is s e =
     sought-on look u before bytes at n s
-    (seek-past look test begins u (byte_before before (take at bytes)) n (drop at bytes) (omega (arith, ap length is))
-    (λ k l. subst (λ (xs : List ℕ). ¬ (test (slice_index xs k) ≡ true)) is (fails k (omega arith) l)))
+    (subst (λ (m : ℕ). Sought look u (byte_before before (take at bytes)) (drop at bytes) m)
+    (sym (e ∙ length-prefix_len (λ b. not (test b)) hay ∙ ap (prefix_len (λ b. not (test b))) is))
+    (seek-past look test begins u (byte_before before (take at bytes)) (drop at bytes)
+    (λ k. subst (λ (b : ℕ). b < 256) (sym (get_or-drop at bytes k 0)) (low (at + k)))))
 
 pub looked-at : (look : Looker) (u : Bool) (before r : Option ℕ) (bytes slice : List ℕ) (place : ℕ) (l : Look) → r ≡ byte_before before (take place bytes) →
     slice ≡ drop place bytes → l ≡ look r slice u → look (byte_before before (take place bytes)) (drop place bytes) u ≡ l
@@ -190,3 +189,14 @@ byte_before-last before (suc (suc n)) (b ∷ bytes) some h =
     let a : suc (suc n) - 1 ≡ suc n = omega arith in
     let b' : suc n - 1 ≡ n = omega arith in
     ap (λ k. Some (get_or (b ∷ bytes) k 0)) a ∙ ap (λ k. Some (get_or bytes k 0)) (sym b') ∙ byte_before-last (Some b) (suc n) bytes (omega arith) (omega arith)
+
+-- what the code's answer tells
+looked-sized : (look : Looker) → IsStable look → (u : Bool) (before : Option ℕ) (bytes : List ℕ) (l : Looked) → look_of l ≡ look before bytes u → IsSized l (length bytes)
+looked-sized look stable u before bytes No e = tt
+looked-sized look stable u before bytes More e = tt
+looked-sized look stable u before bytes (Match from to n) e = stable.sized before bytes u from to n (sym e)
+
+pub answer-sized : {E : Type 0} (look : Looker) → IsStable look → (u : Bool) (before : Option ℕ) (bytes : List ℕ) (r : Result Looked E) →
+    IfOk r (λ l. look_of l ≡ look before bytes u) → IfOk r (λ l. IsSized l (length bytes))
+answer-sized look stable u before bytes (Ok l) e = looked-sized look stable u before bytes l e
+answer-sized look stable u before bytes (Err x) e = e

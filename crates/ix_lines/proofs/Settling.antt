@@ -9,7 +9,7 @@ use Rattle.ix_base.specs.Stream.{Dated, bytes_of}
 use Rattle.ix_lines.specs.Walk.{Looker, Walked, preceded, walk}
 use Rattle.ix_lines.specs.Lines.{line_of}
 use Rattle.ix_lines.specs.Laws.{IsStable}
-use Rattle.ix_lines.specs.Kept.{Keeps, IsPart, AddsSome, first_moment}
+use Rattle.ix_lines.specs.Kept.{Keeps, IsPart, first_moment}
 use Rattle.ix_lines.specs.Seek.{byte_before, seek}
 use Rattle.ix_lines.specs.Settle.{CameTo, Settles, part}
 use Rattle.ix_lines.specs.declared.kept.Kept.{Kept}
@@ -61,16 +61,6 @@ before-on first all at n =
 rest-on : (stretch all : List Dated) (start at n : ℕ) → start ≤ at → (stretch ++ part start at all) ++ take n (drop at all) ≡ stretch ++ part start (at + n) all
 rest-on stretch all start at n h =
     append_assoc stretch (part start at all) (take n (drop at all)) ∙ ap (λ l. stretch ++ l) (part-on start at n all h)
-
-pub came-start : (look : Looker) (u : Bool) (t : ℕ) (first : Option ℕ) (all stretch : List Dated) (kept : Kept) (out : List Line) → Keeps t stretch kept →
-    CameTo look u t (walk look u first stretch 0 all) first all 0 0 kept out out
-came-start look u t first all stretch kept out keeps = record {
-  stretch = stretch;
-  done = [];
-  keeps = keeps;
-  written = sym (append-nil out);
-  walk_on = ap (λ l. walk look u first l 0 all) (sym (append-nil stretch));
-}
 
 pub came-break : (look : Looker) → IsStable look → (u : Bool) (t : ℕ) (whole : Walked) (first : Option ℕ) (all : List Dated) (start at from to n : ℕ)
     (kept kept' : Kept) (old out out' : List Line) (bytes : List ℕ) (m : ℤ) →
@@ -126,18 +116,6 @@ came-stop look stable u t whole first all start at n kept kept' old out bytes m 
       left_is = refl;
       written = c.written ∙ ap (λ d. old ++ flat_map (line_of t) d) (sym (append-nil c.done));
     })
-
--- what was written is the first part of what the walk settles
-pub came-some : (look : Looker) (u : Bool) (t : ℕ) (whole : Walked) (first : Option ℕ) (all : List Dated) (start at : ℕ) (kept : Kept) (old out : List Line) →
-    CameTo look u t whole first all start at kept old out → AddsSome (flat_map (line_of t) whole.done) old out
-came-some look u t whole first all start at kept old out c =
-    let v : Walked = walk look u (byte_before first (bytes_of (take at all))) (c.stretch ++ part start at all) 0 (drop at all) in
-    record {
-      first = flat_map (line_of t) c.done;
-      others = flat_map (line_of t) v.done;
-      lines_are = ap (λ w. flat_map (line_of t) w.done) c.walk_on ∙ flat_map-append (line_of t) c.done v.done;
-      written = c.written;
-    }
 
 -- the part up to the end
 pub rest-part : (bs : List ℕ) (ms : List ℤ) (start : ℕ) (m : ℤ) → length bs ≡ length ms → (start < length ms → m ≡ get_or ms start (pos 0)) →

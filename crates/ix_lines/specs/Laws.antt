@@ -1,5 +1,5 @@
 -- What a continuation leaves as it was.
-use Rattle.std.specs.Prelude.{◌≡◌, ℕ, ◌<◌, ◌≤◌, Bool, true, List, ◌∷◌, ◌++◌, length, Option}
+use Rattle.std.specs.Prelude.{◌≡◌, ℕ, ◌<◌, ◌≤◌, Bool, true, false, List, ◌∷◌, ◌++◌, length, Option}
 use Rattle.ix_base.specs.Stream.{Dated}
 use Rattle.ix_lines.specs.Walk.{match, no_match, more, Looker}
 use Rattle.ix_lines.specs.Lines.{settled, all_lines}
@@ -16,7 +16,7 @@ pub record IsStable (look : Looker) : Type 0 where
 
 -- a match begins with a byte that passes the test
 abbrev pub BeginsBy : Looker → (ℕ → Bool) → Type 0
-BeginsBy look test = (before : Option ℕ) (b : ℕ) (bytes : List ℕ) (u : Bool) → ¬ (test b ≡ true) → look before (b ∷ bytes) u ≡ no_match
+BeginsBy look test = (before : Option ℕ) (b : ℕ) (bytes : List ℕ) (u : Bool) → b < 256 → test b ≡ false → look before (b ∷ bytes) u ≡ no_match
 
 -- an attempt that waits has fewer bytes than it can see
 abbrev pub WaitsWithin : Looker → ℕ → Type 0

@@ -1,5 +1,6 @@
 pub mod Walk
 pub mod Lines
+pub mod Breaks
 pub mod Newlines
 pub mod Laws
 pub mod Runs
@@ -7,3 +8,4 @@ pub mod Kept
 pub mod Seek
 pub mod Settle
 pub mod Parts
+pub mod Carry

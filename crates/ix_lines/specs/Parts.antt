@@ -1,7 +1,10 @@
 -- What a value keeps of a stream.
-use Rattle.std.specs.Prelude.{◌≡◌, ℕ, ◌+◌, ℤ, Bool, true, false, List, ◌++◌, Option, take}
+use Rattle.std.specs.Prelude.{◌≡◌, ℕ, ◌+◌, ◌<◌, ℤ, Bool, true, false, List, ◌++◌, Option, take}
 use Rattle.ix_base.specs.Stream.{Dated, bytes_of}
+use Rattle.ix_pattern.specs.Piece.{least_length}
+use Rattle.ix_pattern.specs.Rows.{Shape, tree}
 use Rattle.ix_lines.specs.Walk.{Looker, walk_of}
+use Rattle.ix_lines.specs.Breaks.{breaks_by}
 use Rattle.ix_lines.specs.Lines.{settled, all_lines}
 use Rattle.ix_lines.specs.Kept.{first_moment, AddsSome}
 use Rattle.ix_lines.specs.declared.kept.Line.{Line}
@@ -58,3 +61,18 @@ pub record EndsPart (look : Looker) (t : ℕ) (stream : List Dated) (old new : L
   pub added : List Line
   pub settles : all_lines look t stream ≡ settled look t stream ++ added
   pub written : AddsSome added old new
+
+-- what a value is to its callers
+pub record Held : Type 0 where
+  -- the pattern of breaks
+  pub breaker : Shape
+  pub parts : Parts
+
+-- the value has taken in this stream
+abbrev pub Holds : List Dated → Held → Type 0
+Holds stream lines = StandsFor (breaks_by lines.breaker) lines.parts.truncate stream lines.parts
+
+-- the pattern has a capturing group, and a match takes a byte
+pub record IsBreaker (p : Shape) : Type 0 where
+  pub some_group : 0 < p.groups
+  pub takes : 0 < least_length (tree p.rows)

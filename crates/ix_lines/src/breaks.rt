@@ -1,13 +1,19 @@
 //! Breaks between lines.
 
-ghost use Rattle.std.specs.Prelude.{◌≡◌, ℕ, ◌+◌, ◌<◌, ◌≤◌, ◌&&◌, ◌==◌, Option, length, take, nat_lt};
-ghost use Rattle.ix_lines.specs.Newlines.{newlines, reach, run_length, is_newline};
+ghost use Rattle.std.specs.Prelude.{◌≡◌, ℕ, ◌+◌, ◌<◌, ◌≤◌, length, take, IfOk, Option};
+ghost use Rattle.ix_pattern.specs.Piece.{least_length};
+ghost use Rattle.ix_pattern.specs.Rows.{tree};
+ghost use Rattle.ix_match.specs.Attempt.{reach};
+ghost use Rattle.ix_lines.specs.Breaks.{break_of, breaks_by};
+ghost use Rattle.ix_lines.specs.Laws.{IsStable};
 ghost use Rattle.ix_lines.specs.Seek.{look_of, IsSized, seek, byte_before, IsWithin};
 
-use memchr::memchr2;
-
-/// How many bytes an attempt to match a break sees, from the place at which it begins.
-pub const REACH: usize = 16384;
+use ix_base::{NoMemory, Steps};
+use ix_match::{Look, Scan};
+use ix_pattern::Pattern;
+use std::alloc::Global;
+use std::marker::Model;
+use std::sync::ledger::Ledger;
 
 /// What an attempt at a place comes to. Places count from that place.
 #[derive(Clone, Copy)]
@@ -29,54 +35,11 @@ pub enum Found {
     Stop(usize),
 }
 
-fn is_newline(b: u8) -> bool
-    ensures { result ≡ is_newline b }
-{
-    b == b'\n' || b == b'\r'
-}
-
 /// The first bytes, as many as this at the most.
 pub fn first(bytes: &[u8], n: usize) -> &[u8]
     ensures { result.now ≡ take n bytes.now }
 {
     if bytes.len() < n { bytes } else { &bytes[..n] }
-}
-
-#[tactic(auto, unfolding(crate::specs::Newlines::reach))]
-fn run_length(bytes: &[u8]) -> usize
-    ensures { result ≡ run_length bytes.now }
-{
-    first(bytes, REACH)
-        .iter()
-        .take_while(|b| is_newline(**b))
-        .count()
-}
-
-/// Whether a run of this length may go on behind the last byte.
-#[tactic(auto, unfolding(crate::specs::Newlines::reach))]
-fn may_go_on(n: usize, len: usize, unfinished: bool) -> bool
-    ensures { result ≡ (unfinished && (n == len) && nat_lt n reach) }
-{
-    unfinished && n == len && n < REACH
-}
-
-/// The attempt at the first of these bytes.
-fn look(before: Option<u8>, bytes: &[u8], unfinished: bool) -> Looked
-    ensures is { look_of result ≡ newlines before bytes.now unfinished }
-    ensures sized { IsSized result (length bytes.now) }
-{
-    let n = run_length(bytes);
-    if n == 0 {
-        return Looked::No;
-    }
-    if may_go_on(n, bytes.len(), unfinished) {
-        return Looked::More;
-    }
-    Looked::Match {
-        from: 0,
-        to: n,
-        end: n,
-    }
 }
 
 /// The byte before a place: one of these bytes, or the one before them.
@@ -91,32 +54,125 @@ pub fn byte_before(before: Option<u8>, bytes: &[u8], place: usize) -> Option<u8>
     }
 }
 
-/// The first break from the first of these bytes on. The bytes with which no break begins are passed over at once.
-pub fn seek(before: Option<u8>, bytes: &[u8], unfinished: bool) -> Found
-    ensures is { result ≡ seek newlines unfinished before bytes.now }
-    ensures within { IsWithin result (length bytes.now) reach }
+/// The span of the first group that took part, or the empty one at the match's start.
+fn break_of(groups: &[Option<(usize, usize)>]) -> (usize, usize)
+    ensures { result ≡ break_of groups.now }
 {
-    let mut at: usize = 0;
-    while at < bytes.len() {
-        let Some(n) = memchr2(b'\n', b'\r', &bytes[at..]) else {
-            return Found::Stop(bytes.len());
-        };
-        let place = at + n;
-        match look(
-            byte_before(before, bytes, place),
-            &bytes[place..],
-            unfinished,
-        ) {
-            Looked::No => at = place + 1,
-            Looked::More => return Found::Stop(place),
-            Looked::Match { from, to, end } => {
-                return Found::Break {
-                    from: place + from,
-                    to: place + to,
-                    end: place + end,
-                };
-            }
+    for group in groups {
+        if let Some(span) = group {
+            return *span;
         }
     }
-    Found::Stop(at)
+    (0, 0)
+}
+
+/// A pattern of breaks, with what its attempts keep. Contracts see the pattern.
+#[derive(Drop)]
+pub struct Breaker {
+    pattern: Pattern,
+    scan: Scan,
+}
+
+impl Model for Breaker {
+    ghost use Rattle.std.specs.Prelude.{◌<◌};
+    ghost use Rattle.ix_pattern.specs.Piece.{IsSound, least_length};
+    ghost use Rattle.ix_pattern.specs.Rows.{Shape, tree};
+    ghost use Rattle.ix_match.specs.Starts.{AreStarts};
+
+    ghost Value = { Shape };
+
+    ghost view = { λ b. b.pattern };
+
+    ghost invariant = { λ b. IsSound (tree b.pattern.rows) × (0 < least_length (tree b.pattern.rows))
+        × AreStarts b.pattern b.scan.starts };
+}
+
+impl Breaker {
+    /// A pattern whose matches take at least one byte.
+    pub fn new(alloc: Global, pattern: Pattern) -> Result<Breaker, NoMemory>
+        requires { 0 < least_length (tree pattern.rows) }
+        ensures is { IfOk result (λ breaker. breaker ≡ pattern) }
+        ensures stable { IfOk result (λ breaker. IsStable (breaks_by breaker)) }
+    {
+        let _ = pattern.root();
+        let scan = Scan::new(alloc, &pattern)?;
+        Ok(Breaker { pattern, scan })
+    }
+
+    /// The attempt at the first of these bytes.
+    fn look<L: Ledger>(
+        &mut self,
+        before: Option<u8>,
+        bytes: &[u8],
+        unfinished: bool,
+        steps: &mut Steps<L>,
+    ) -> Result<Looked, NoMemory>
+        ensures is { IfOk result (λ l. look_of l ≡ breaks_by self.old before bytes.now unfinished) }
+        ensures sized { IfOk result (λ l. IsSized l (length bytes.now)) }
+        ensures same { self.new ≡ self.old }
+        ensures later { steps.old ≤ steps.new }
+    {
+        self.scan.reset();
+        match self
+            .scan
+            .advance(&self.pattern, before, bytes, !unfinished, steps)?
+        {
+            Look::Found(found) => {
+                let (from, to) = break_of(found.groups.as_slice());
+                let end = found.end;
+                Ok(Looked::Match { from, to, end })
+            }
+            Look::No => Ok(Looked::No),
+            Look::More => Ok(Looked::More),
+        }
+    }
+
+    /// The first break from the first of these bytes on. The bytes with which no match begins are passed over at once.
+    pub fn seek<L: Ledger>(
+        &mut self,
+        before: Option<u8>,
+        bytes: &[u8],
+        unfinished: bool,
+        steps: &mut Steps<L>,
+    ) -> Result<Found, NoMemory>
+        ensures is { IfOk result (λ found. found ≡ seek (breaks_by self.old) unfinished before bytes.now) }
+        ensures within { IfOk result (λ found. IsWithin found (length bytes.now) reach) }
+        ensures same { self.new ≡ self.old }
+        ensures later { steps.old ≤ steps.new }
+    {
+        let mut at: usize = 0;
+        while at < bytes.len() {
+            let place = at + self.scan.passed_over(&bytes[at..]);
+            if place == bytes.len() {
+                return Ok(Found::Stop(place));
+            }
+            match self.look(
+                byte_before(before, bytes, place),
+                &bytes[place..],
+                unfinished,
+                steps,
+            )? {
+                Looked::No => at = place + 1,
+                Looked::More => return Ok(Found::Stop(place)),
+                Looked::Match { from, to, end } => {
+                    return Ok(Found::Break {
+                        from: place + from,
+                        to: place + to,
+                        end: place + end,
+                    });
+                }
+            }
+        }
+        Ok(Found::Stop(at))
+    }
+
+    /// A copy of it.
+    pub fn copy(&self) -> Result<Breaker, NoMemory>
+        ensures { IfOk result (λ copy. copy ≡ self.now) }
+    {
+        Ok(Breaker {
+            pattern: self.pattern.copy()?,
+            scan: self.scan.copy(),
+        })
+    }
 }

@@ -4,6 +4,7 @@ ghost use Rattle.std.specs.Prelude.{◌≡◌, ℕ, ◌+◌, ◌<◌, ◌≤◌,
 ghost use Rattle.ix_base.specs.Stream.{Dated};
 ghost use Rattle.ix_lines.specs.Lines.{line_of, goes_on, step_back, cut, unless_empty};
 ghost use Rattle.ix_lines.specs.Kept.{Keeps, IsPart};
+ghost use Rattle.ix_lines.specs.Carry.{open_line};
 
 use crate::breaks::first;
 use ix_base::{Bytes, NoMemory, Sequence};
@@ -133,6 +134,32 @@ impl Kept {
         self.bytes.clear();
         self.moment = None;
         Ok(())
+    }
+
+    /// What is kept, as a line; there is none where nothing is.
+    pub fn line(&self) -> Result<Option<Line>, NoMemory>
+        ensures { IfOk result (λ line. (t : ℕ) (stretch : List Dated) → Keeps t stretch self.now → line ≡ open_line t stretch) }
+    {
+        match self.moment {
+            None => Ok(None),
+            Some(moment) => {
+                let bytes = self.bytes.copy()?;
+                Ok(Some(Line { bytes, moment }))
+            }
+        }
+    }
+
+    /// The open line of which this is kept. It takes no memory.
+    pub fn of_line(alloc: Global, line: Option<Line>) -> Kept
+        ensures { (t : ℕ) (stretch : List Dated) → line ≡ open_line t stretch → Keeps t stretch result }
+    {
+        match line {
+            None => Kept::new(alloc),
+            Some(line) => Kept {
+                bytes: line.bytes,
+                moment: Some(line.moment),
+            },
+        }
     }
 
     /// A copy of it.

@@ -2,22 +2,30 @@
 #![tactic(auto)]
 
 mod breaks;
+mod carry;
 mod kept;
+mod newlines;
 mod runs;
 mod settle;
 mod stream;
 #[cfg(test)]
 mod tests;
 
+ghost use Rattle.std.specs.Prelude.{◌≡◌, ◌<◌};
+ghost use Rattle.ix_pattern.specs.Piece.{IsSound, least_length};
+ghost use Rattle.ix_pattern.specs.Rows.{Shape, tree};
 ghost use Rattle.ix_lines.specs.Laws.{LinesStay};
+ghost use Rattle.ix_lines.specs.Breaks.{breaks_by};
 ghost use Rattle.ix_lines.specs.Newlines.{newlines};
 
-pub use breaks::REACH;
+pub use carry::LineParts;
 pub use kept::{Line, LineList};
+pub use newlines::default_breaker;
 pub use stream::Lines;
 
 /// A law about the definitions, and no code: the lines that an open stream has settled are the first lines of every
-/// stream that begins with it, open or closed.
+/// stream that begins with it, open or closed; by a pattern whose matches take a byte, and by runs of newlines.
 pub fn lines_stay()
-    ensures { LinesStay newlines }
+    ensures patterns { (p : Shape) → IsSound (tree p.rows) → 0 < least_length (tree p.rows) → LinesStay (breaks_by p) }
+    ensures newlines { LinesStay newlines }
 {}

@@ -85,6 +85,15 @@ impl Moments {
         }
     }
 
+    /// The list as runs, some of which may be empty.
+    pub fn all_runs(&self) -> Result<Vec<Run>, NoMemory>
+        ensures { IfOk result (λ runs. moments_of runs.items ≡ self.now) }
+    {
+        let mut runs = self.runs.to_vec(*self.runs.allocator())?;
+        runs.push(self.last)?;
+        Ok(runs)
+    }
+
     /// A copy of the list.
     pub fn copy(&self) -> Result<Moments, NoMemory>
         ensures { IfOk result (λ copy. copy ≡ self.now) }

@@ -4,3 +4,4 @@ pub mod PieceRules
 pub mod SearchLemmas
 pub mod ClosedLemmas
 pub mod FindLemmas
+pub mod StartLemmas

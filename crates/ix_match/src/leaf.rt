@@ -1,7 +1,6 @@
 //! The steps that look at no other piece.
 
-ghost use Rattle.std.specs.Prelude.{◌≡◌, ℕ, ◌<◌, ◌+◌, List, [], ◌∷◌, length, Option, Some, slice_get, if◌then◌else◌};
-ghost use Rattle.ix_pattern.specs.Piece.{in_set};
+ghost use Rattle.std.specs.Prelude.{◌≡◌, ℕ, ◌<◌, ◌≤◌, ◌+◌, List, [], ◌∷◌, length, Option, Some, slice_get, if◌then◌else◌};
 ghost use Rattle.ix_pattern.specs.Ways.{Reached, edge, here, is_start, is_word_byte, is_word, byte_ways, finish_ways, word_ways};
 ghost use Rattle.ix_pattern.specs.Rows.{node_at, set_at};
 ghost use Rattle.ix_match.specs.Leaf.{leaf_ways, text_of, at};
@@ -9,8 +8,7 @@ ghost use Rattle.ix_match.specs.Leaf.{leaf_ways, text_of, at};
 use crate::input::{Input, byte_before};
 use ix_base::Steps;
 use ix_pattern::{Node, Pattern};
-use std::marker::Brand;
-use std::sync::ledger::{Blank, Ledger};
+use std::sync::ledger::Ledger;
 
 /// What a step comes to: an end here, an end a byte later, nothing, or an edge.
 #[derive(Clone, Copy)]
@@ -52,36 +50,24 @@ fn at_end(unfinished: bool, closed: Leaf) -> Leaf
     if unfinished { Leaf::Edge } else { closed }
 }
 
-fn counted<L: Ledger>(p: &Pattern, piece: usize, byte: u8, blank: Blank) -> bool
-    requires piece { node_at p.now.rows piece ≡ Some Node.Bytes }
-    requires name { blank.name ≡ L.name }
-    requires parts { blank.parts ≡ L.parts }
-    requires some { 0 < blank.parts }
-    ensures { result ≡ in_set (set_at p.now.rows piece) byte }
-{
-    let mut steps = Steps::<L>::new(blank);
-    p.accepts(piece, byte, &mut steps)
-}
-
-/// Whether the byte piece with this number takes the byte. Nobody counts it.
-fn accepts(p: &Pattern, piece: usize, byte: u8) -> bool
-    requires { node_at p.now.rows piece ≡ Some Node.Bytes }
-    ensures { result ≡ in_set (set_at p.now.rows piece) byte }
-{
-    counted::<Brand>(p, piece, byte, Blank::new(1))
-}
-
 /// One byte of a set.
-pub fn byte(p: &Pattern, piece: usize, input: Input<'_>, place: usize) -> Leaf
+pub fn byte<L: Ledger>(
+    p: &Pattern,
+    piece: usize,
+    input: Input<'_>,
+    place: usize,
+    steps: &mut Steps<L>,
+) -> Leaf
     requires { node_at p.now.rows piece ≡ Some Node.Bytes }
     ensures within { result ≡ Leaf.Next → place < length input.entry.bytes.now }
     ensures ways { (groups : List (Option (ℕ × ℕ))) → leaf_ways result (at place groups)
         ≡ byte_ways (set_at p.now.rows piece) (text_of input.entry) (at place groups) (slice_get input.entry.bytes.now place) }
+    ensures later { steps.old ≤ steps.new }
 {
     match input.bytes.get(place) {
         None => at_end(input.unfinished, Leaf::Never),
         Some(b) => {
-            if accepts(p, piece, *b) {
+            if p.accepts(piece, *b, steps) {
                 Leaf::Next
             } else {
                 Leaf::Never

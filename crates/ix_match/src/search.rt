@@ -1,6 +1,6 @@
 //! The head of a list of ways.
 
-ghost use Rattle.std.specs.Prelude.{◌≡◌, ℕ, ◌<◌, IfOk, OnOk, List, length, slice_get};
+ghost use Rattle.std.specs.Prelude.{◌≡◌, ℕ, ◌<◌, ◌≤◌, IfOk, OnOk, List, length, slice_get};
 ghost use Rattle.ix_pattern.specs.Ways.{Reached, Way, ways, look};
 ghost use Rattle.ix_pattern.specs.Rows.{piece_at};
 ghost use Rattle.ix_match.specs.Stack.{head_of};
@@ -11,9 +11,10 @@ use crate::frames::{Frame, Task, closed};
 use crate::input::{Input, in_sight};
 use crate::leaf::Leaf;
 use crate::steps::{piece_step, turns};
-use ix_base::NoMemory;
+use ix_base::{NoMemory, Steps as StepCount};
 use ix_pattern::{Node, Pattern};
 use std::alloc::Global;
+use std::sync::ledger::Ledger;
 
 /// The head of a list of ways: an end with its place and groups, nothing where the list is empty, or an edge.
 #[derive(Drop)]
@@ -50,17 +51,19 @@ fn ahead_leaf(outcome: Outcome, wanted: bool) -> Leaf
 
 /// Takes up one task. The answer is whether it is an edge.
 #[cycle(search)]
-fn step(
+fn step<L: Ledger>(
     alloc: Global,
     p: &Pattern,
     task: Task,
     input: Input<'_>,
     frame: Frame,
     stack: &mut Vec<Frame>,
+    steps: &mut StepCount<L>,
 ) -> Result<bool, NoMemory>
     requires { task_number task < length p.now.rows }
     ensures steps { IfOk result (λ is_edge. Steps p.now.rows (text_of input.entry) frame task stack.old.items stack.new.items is_edge) }
     ensures fits { OnOk result ((top : ℕ) → Fits top task → AllFit top frame.todo.items → EachFits top stack.old.items → EachFits top stack.new.items) }
+    ensures later { steps.old ≤ steps.new }
 {
     match task {
         Task::Turns {
@@ -87,12 +90,13 @@ fn step(
                     in_sight(input, frame.place),
                     frame.place,
                     groups,
+                    steps,
                 )?;
                 let seen = ahead_leaf(outcome, wanted);
-                let is_edge = piece_step(alloc, p, piece, input, seen, frame, stack)?;
+                let is_edge = piece_step(alloc, p, piece, input, seen, frame, stack, steps)?;
                 return Ok(is_edge);
             }
-            let is_edge = piece_step(alloc, p, piece, input, Leaf::Never, frame, stack)?;
+            let is_edge = piece_step(alloc, p, piece, input, Leaf::Never, frame, stack, steps)?;
             Ok(is_edge)
         }
     }
@@ -101,16 +105,18 @@ fn step(
 /// The head of the ordered list of ways of the piece with this number, at a place of a text, with the groups as they
 /// stand there.
 #[cycle(search)]
-pub fn head(
+pub fn head<L: Ledger>(
     alloc: Global,
     p: &Pattern,
     piece: usize,
     input: Input<'_>,
     place: usize,
     groups: Vec<Option<(usize, usize)>>,
+    steps: &mut StepCount<L>,
 ) -> Result<Outcome, NoMemory>
     requires { piece < length p.now.rows }
-    ensures { IfOk result (λ o. slice_get (ways (piece_at p.now.rows piece) (text_of input.entry) (at place groups.items)) 0 ≡ head_of o) }
+    ensures head { IfOk result (λ o. slice_get (ways (piece_at p.now.rows piece) (text_of input.entry) (at place groups.items)) 0 ≡ head_of o) }
+    ensures later { steps.old ≤ steps.new }
 {
     let mut todo: Vec<Task> = Vec::new(alloc);
     todo.push(Task::Piece(piece))?;
@@ -127,7 +133,7 @@ pub fn head(
                 groups: frame.groups,
             });
         };
-        let is_edge = step(alloc, p, task, input, frame, &mut stack)?;
+        let is_edge = step(alloc, p, task, input, frame, &mut stack, steps)?;
         if is_edge {
             return Ok(Outcome::More);
         }

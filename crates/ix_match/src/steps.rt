@@ -11,9 +11,10 @@ use crate::frames::{Frame, Task, also, also_two, copy_of};
 use crate::input::{Input, byte_before, further_turns};
 use crate::leaf;
 use crate::leaf::Leaf;
-use ix_base::NoMemory;
+use ix_base::{NoMemory, Steps as StepCount};
 use ix_pattern::{Node, Pattern};
 use std::alloc::Global;
+use std::sync::ledger::Ledger;
 
 /// Puts the turns of a count, or what comes after them, in the place of the task.
 pub fn turns(
@@ -88,7 +89,7 @@ pub fn leaf_step(leaf: Leaf, mut frame: Frame, stack: &mut Vec<Frame>) -> Result
 
 /// Puts what a piece asks for in the place of the task. The answer is whether it is an edge. What a lookahead came to
 /// is given.
-pub fn piece_step(
+pub fn piece_step<L: Ledger>(
     alloc: Global,
     p: &Pattern,
     piece: usize,
@@ -96,6 +97,7 @@ pub fn piece_step(
     seen: Leaf,
     frame: Frame,
     stack: &mut Vec<Frame>,
+    steps: &mut StepCount<L>,
 ) -> Result<bool, NoMemory>
     requires piece { piece < length p.now.rows }
     requires seen { (inside : Piece) (wanted : Bool) → piece_at p.now.rows piece ≡ ahead inside wanted →
@@ -103,6 +105,7 @@ pub fn piece_step(
     requires short { seen ≡ Leaf.Next → frame.place + 1 < 2 ^ 64 }
     ensures steps { IfOk result (λ is_edge. Steps p.now.rows (text_of input.entry) frame (Task.Piece piece) stack.old.items stack.new.items is_edge) }
     ensures fits { OnOk result ((top : ℕ) → piece ≤ top → AllFit top frame.todo.items → EachFits top stack.old.items → EachFits top stack.new.items) }
+    ensures later { steps.old ≤ steps.new }
 {
     match p.node(piece) {
         Node::Nothing => {
@@ -110,7 +113,7 @@ pub fn piece_step(
             Ok(is_edge)
         }
         Node::Bytes => {
-            let leaf = leaf::byte(p, piece, input, frame.place);
+            let leaf = leaf::byte(p, piece, input, frame.place, steps);
             let is_edge = leaf_step(leaf, frame, stack)?;
             Ok(is_edge)
         }

@@ -1,9 +1,14 @@
-//! Matches as another engine finds them.
+//! Matches as another engine finds them, and attempts at one place.
 
-use crate::{Found, find};
+ghost use Rattle.std.specs.Prelude.{◌≡◌, ◌<◌, ◌≤◌, length, OnOk};
+
+use crate::{Found, Look, Scan, find};
+use ix_base::Steps;
 use ix_pattern::Pattern;
 use std::alloc::{AllocError, Global};
+use std::marker::Brand;
 use std::process::Abort;
+use std::sync::ledger::{Blank, Ledger};
 use std::test::Fail;
 
 /// Patterns, texts, places to begin at and the matches there with their groups, with `|` between. In the first two `\n`, `\r`,
@@ -211,11 +216,25 @@ fn unescaped(alloc: Global, text: &[u8]) -> Result<Vec<u8>, AllocError> {
     Ok(bytes)
 }
 
-/// The places of a match and of its groups, in short.
+/// The places of a match and of its groups, in short, if there is one.
 fn shown(alloc: Global, found: &Option<Found>) -> Result<String, AllocError> {
-    let Some(found) = found else {
-        return format!(in alloc; "none");
-    };
+    match found {
+        Some(found) => places(alloc, found),
+        None => format!(in alloc; "none"),
+    }
+}
+
+/// What an attempt comes to, in short.
+fn look_shown(alloc: Global, look: &Look) -> Result<String, AllocError> {
+    match look {
+        Look::Found(found) => places(alloc, found),
+        Look::No => format!(in alloc; "none"),
+        Look::More => format!(in alloc; "more"),
+    }
+}
+
+/// The places of a match and of its groups, in short.
+fn places(alloc: Global, found: &Found) -> Result<String, AllocError> {
     let mut text = format!(in alloc; "{}-{}", found.start, found.end)?;
     for group in found.groups.as_slice() {
         match group {
@@ -266,4 +285,123 @@ fn a_lookahead_sees_so_far(rt: HostRuntime) -> Result<(), Fail> {
         assert!(rt; shown.as_str() == want, "it is {shown}");
     }
     Ok(())
+}
+
+/// Attempts at the first place of a text: the pattern, the byte before, what stands in the text and how often, whether the text is
+/// closed, and what the attempt comes to.
+fn check_attempts<L: Ledger>(rt: &impl Abort, alloc: Global, blank: Blank) -> Result<(), Fail>
+    requires name { blank.name ≡ L.name }
+    requires parts { blank.parts ≡ L.parts }
+    requires some { 0 < blank.parts }
+{
+    let mut steps = Steps::<L>::new(blank);
+    for (pattern, before, text, times, closed, want) in [
+        ("a", None, "a", 1, false, "0-1"),
+        ("a", None, "b", 1, false, "none"),
+        ("a", None, "", 1, false, "more"),
+        ("a", None, "", 1, true, "none"),
+        ("a*", None, "", 1, false, "more"),
+        ("a*", None, "", 1, true, "0-0"),
+        ("a*?", None, "", 1, false, "0-0"),
+        ("a+", None, "aa", 1, false, "more"),
+        ("a+", None, "aa", 1, true, "0-2"),
+        ("a+", None, "aab", 1, false, "0-2"),
+        ("a|ab", None, "a", 1, false, "0-1"),
+        ("ab|a", None, "a", 1, false, "more"),
+        ("ab|a", None, "a", 1, true, "0-1"),
+        ("(a)(b)?", None, "a", 1, false, "more"),
+        ("(a)(b)?", None, "a", 1, true, "0-1 0-1 -"),
+        ("(a)(b)?", None, "ab", 1, false, "0-2 0-1 1-2"),
+        ("^a", None, "a", 1, false, "0-1"),
+        ("^a", Some(b'\n'), "a", 1, false, "none"),
+        ("(?m)^a", Some(b'\n'), "a", 1, false, "0-1"),
+        ("(?m)^a", Some(b'b'), "a", 1, false, "none"),
+        ("\\ba", None, "a", 1, false, "0-1"),
+        ("\\ba", Some(b' '), "a", 1, false, "0-1"),
+        ("\\ba", Some(b'_'), "a", 1, false, "none"),
+        ("\\b", Some(b'a'), " ", 1, false, "0-0"),
+        ("\\b", Some(b'a'), "", 1, false, "more"),
+        ("\\b", Some(b'a'), "", 1, true, "0-0"),
+        ("\\b", Some(b' '), "", 1, true, "none"),
+        ("a$", None, "a", 1, false, "more"),
+        ("a$", None, "a", 1, true, "0-1"),
+        ("a$", None, "a\n", 1, false, "more"),
+        ("a$", None, "a\n", 1, true, "0-1"),
+        ("a$", None, "a\nb", 1, false, "none"),
+        ("(?m)a$", None, "a\n", 1, false, "0-1"),
+        ("a(?=b)", None, "a", 1, false, "more"),
+        ("a(?=b)", None, "a", 1, true, "none"),
+        ("a(?=b)", None, "ab", 1, false, "0-1"),
+        ("a(?!b)", None, "a", 1, false, "more"),
+        ("a(?!b)", None, "a", 1, true, "0-1"),
+        ("a(?!a*b)", None, "a", 255, false, "more"),
+        ("a(?!a*b)", None, "a", 256, false, "0-1"),
+        ("[ab]+", None, "a", 16383, false, "more"),
+        ("[ab]+", None, "a", 16383, true, "0-16383"),
+        ("[ab]+", None, "a", 16384, false, "0-16384"),
+        ("[ab]+$", None, "ab", 8193, false, "0-16384"),
+    ] {
+        let p = Pattern::read(alloc, pattern.as_bytes())?;
+        let mut scan = Scan::new(alloc, &p)?;
+        let bytes = text.repeat(alloc, times)?;
+        let look = scan.advance(&p, before, bytes.as_bytes(), closed, &mut steps)?;
+        let shown = look_shown(alloc, &look)?;
+        assert!(rt;
+            shown.as_str() == want,
+            "{pattern} before {times} times {text:?}: it is {shown}"
+        );
+    }
+    Ok(())
+}
+
+#[test]
+fn an_attempt_depends_on_what_is_still_to_come(rt: HostRuntime) -> Result<(), Fail> {
+    check_attempts::<Brand>(&rt, rt.alloc(), Blank::new(1))
+}
+
+/// What an attempt at these bytes comes to, at the start of a text.
+fn next<L: Ledger>(
+    alloc: Global,
+    p: &Pattern,
+    scan: &mut Scan,
+    text: &str,
+    closed: bool,
+    steps: &mut Steps<L>,
+) -> Result<String, Fail>
+    requires { scan.old.given ≤ length text.now }
+    ensures { OnOk result (scan.new.given ≡ length text.now) }
+{
+    let look = scan.advance(p, None, text.as_bytes(), closed, steps)?;
+    let shown = look_shown(alloc, &look)?;
+    Ok(shown)
+}
+
+/// A scan goes on with more bytes, a copy of it apart from it, and it begins anew with fewer.
+fn check_scan<L: Ledger>(rt: &impl Abort, alloc: Global, blank: Blank) -> Result<(), Fail>
+    requires name { blank.name ≡ L.name }
+    requires parts { blank.parts ≡ L.parts }
+    requires some { 0 < blank.parts }
+{
+    let mut steps = Steps::<L>::new(blank);
+    let p = Pattern::read(alloc, b"[ab]c+")?;
+    let mut scan = Scan::new(alloc, &p)?;
+    for (text, want) in [("", 0), ("ba", 0), ("xcca", 3), ("xyz", 3)] {
+        assert_eq!(rt; scan.passed_over(text.as_bytes()), want, "of {text}");
+    }
+    let first = next(alloc, &p, &mut scan, "ac", false, &mut steps)?;
+    let mut copy = scan.copy();
+    let second = next(alloc, &p, &mut scan, "accx", false, &mut steps)?;
+    let of_copy = next(alloc, &p, &mut copy, "ac", true, &mut steps)?;
+    scan.reset();
+    let anew = next(alloc, &p, &mut scan, "b", false, &mut steps)?;
+    assert_eq!(rt; first.as_str(), "more");
+    assert_eq!(rt; second.as_str(), "0-3");
+    assert_eq!(rt; of_copy.as_str(), "0-2");
+    assert_eq!(rt; anew.as_str(), "more");
+    Ok(())
+}
+
+#[test]
+fn a_scan_goes_on_begins_anew_and_is_copied(rt: HostRuntime) -> Result<(), Fail> {
+    check_scan::<Brand>(&rt, rt.alloc(), Blank::new(1))
 }

@@ -4,7 +4,7 @@ use Rattle.ix_base.specs.Stream.{Dated}
 use Rattle.ix_base.specs.declared.events.ChannelMeta.{ChannelMeta}
 use Rattle.ix_base.specs.declared.events.Event.{Event}
 use Rattle.ix_lines.specs.declared.kept.Line.{Line}
-use Rattle.ix_lines.specs.Newlines.{newlines}
+use Rattle.ix_lines.specs.Walk.{Looker}
 use Rattle.ix_lines.specs.Lines as lines
 use Rattle.ix_parse.specs.declared.routed.Routed.{Routed}
 use Rattle.ix_parse.specs.declared.routed.Routed.TheVariants.{To}
@@ -29,16 +29,17 @@ event_of meta line = record {
 abbrev pub outcome_of : ChannelMeta → Line → Routed
 outcome_of meta line = To (event_of meta line)
 
--- the lines of a stream, those of an open one that later bytes cannot change or all of a closed one, each cut at t bytes
-abbrev pub lines_of : ℕ → List Dated → Bool → List Line
-lines_of t stream false = lines.settled newlines t stream
-lines_of t stream true = lines.all_lines newlines t stream
+-- the lines of a stream by a way of looking for breaks, those of an open one that later bytes cannot change or all of a
+-- closed one, each cut at t bytes
+abbrev pub lines_of : Looker → ℕ → List Dated → Bool → List Line
+lines_of look t stream false = lines.settled look t stream
+lines_of look t stream true = lines.all_lines look t stream
 
 -- what is settled of a stream
-abbrev pub settled : ℕ → ChannelMeta → List Dated → Bool → List Routed
-settled t meta stream closed = map (outcome_of meta) (lines_of t stream closed)
+abbrev pub settled : Looker → ℕ → ChannelMeta → List Dated → Bool → List Routed
+settled look t meta stream closed = map (outcome_of meta) (lines_of look t stream closed)
 
 -- what is settled of an open stream is the front of what is of each continuation, open or closed
-abbrev pub SettledStays : Type 0
-SettledStays = (t : ℕ) (meta : ChannelMeta) (stream later : List Dated) (closed : Bool) →
-    (added : List Routed) × (settled t meta (stream ++ later) closed ≡ settled t meta stream false ++ added)
+abbrev pub SettledStays : Looker → Type 0
+SettledStays look = (t : ℕ) (meta : ChannelMeta) (stream later : List Dated) (closed : Bool) →
+    (added : List Routed) × (settled look t meta (stream ++ later) closed ≡ settled look t meta stream false ++ added)

@@ -1,15 +1,21 @@
 //! A channel.
 
-ghost use Rattle.std.specs.Prelude.{◌≡◌, ℕ, List, [], ◌++◌, map, IfOk, IsSome, false, true, unwrap_or, codes};
+ghost use Rattle.std.specs.Prelude.{◌≡◌, ◌<◌, ◌≤◌, ℕ, List, [], ◌++◌, map, IfOk, IsSome, false, true, unwrap_or, codes};
 ghost use Rattle.ix_base.specs.Stream.{Dated, dated};
 ghost use Rattle.ix_base.specs.declared.events.ChannelMeta.{ChannelMeta};
+ghost use Rattle.ix_lines.specs.Breaks.{breaks_by};
 ghost use Rattle.ix_lines.specs.Lines.{effective};
+ghost use Rattle.ix_lines.specs.Parts.{IsBreaker};
+ghost use Rattle.ix_lines.specs.Walk.{Looker};
 ghost use Rattle.ix_parse.specs.Settled.{event_of, outcome_of, settled};
 
 use crate::routed::{Routed, RoutedList};
-use ix_base::{Bytes, ChannelMeta, Event, NoMemory};
+use ix_base::{Bytes, ChannelMeta, Event, NoMemory, Steps};
 use ix_lines::{Line, LineList, Lines};
+use ix_pattern::Pattern;
 use std::alloc::Global;
+use std::marker::Brand;
+use std::sync::ledger::{Blank, Ledger};
 
 /// A stream of bytes with what is known of it. It holds back what later bytes may still change.
 #[derive(Drop)]
@@ -59,44 +65,69 @@ fn route(alloc: Global, meta: &ChannelMeta, lines: LineList) -> Result<RoutedLis
 impl Channel {
     ghost use Rattle.ix_parse.specs.Standing.{StandsFor};
 
-    /// A channel that has no byte yet. `truncate` is the number of bytes at which a line is cut; 0, and all above
+    /// A channel that has no byte yet. Its lines stand between the breaks of `breaker`, which has a capturing group, and
+    /// a match of which takes at least one byte. `truncate` is the number of bytes at which a line is cut; 0, and all above
     /// 1,048,576, count as 1,048,576. The metadata name the index.
-    pub fn start(alloc: Global, truncate: u32, meta: ChannelMeta) -> Result<Channel, NoMemory>
-        requires { IsSome meta.index }
-        ensures { IfOk result (λ channel. StandsFor (effective truncate) meta [] channel) }
+    pub fn start(
+        alloc: Global,
+        breaker: Pattern,
+        truncate: u32,
+        meta: ChannelMeta,
+    ) -> Result<Channel, NoMemory>
+        requires meta { IsSome meta.index }
+        requires breaker { IsBreaker breaker }
+        ensures { IfOk result (λ channel. StandsFor (breaks_by breaker) (effective truncate) meta [] channel) }
     {
-        Ok(Channel {
-            alloc,
-            meta,
-            lines: Lines::new(alloc, truncate),
-        })
+        let lines = Lines::new(alloc, breaker, truncate)?;
+        Ok(Channel { alloc, meta, lines })
     }
 
     /// The channel once these bytes have come, all at one moment (microseconds since 1970-01-01T00:00:00Z), and what
-    /// they settle. This channel stays as it is.
-    pub fn fed(&self, bytes: &[u8], moment: i64) -> Result<(Channel, RoutedList), NoMemory>
-        ensures { IfOk result (λ fed. (t : ℕ) (meta : ChannelMeta) (stream : List Dated) → StandsFor t meta stream self.now →
-            StandsFor t meta (stream ++ dated bytes.now moment) fed.0
-            × (settled t meta (stream ++ dated bytes.now moment) false ≡ settled t meta stream false ++ fed.1)) }
+    /// they settle. This channel stays as it is. Each test of a byte against the breaker counts as a step.
+    pub fn fed<L: Ledger>(
+        &self,
+        bytes: &[u8],
+        moment: i64,
+        steps: &mut Steps<L>,
+    ) -> Result<(Channel, RoutedList), NoMemory>
+        ensures settles { IfOk result (λ fed. (look : Looker) (t : ℕ) (meta : ChannelMeta) (stream : List Dated) →
+            StandsFor look t meta stream self.now →
+            StandsFor look t meta (stream ++ dated bytes.now moment) fed.0
+            × (settled look t meta (stream ++ dated bytes.now moment) false ≡ settled look t meta stream false ++ fed.1)) }
+        ensures later { steps.old ≤ steps.new }
     {
         let mut lines = self.lines.copy()?;
         let mut settled = LineList::new(self.alloc);
-        lines.feed(bytes, moment, &mut settled)?;
+        lines.feed(bytes, moment, &mut settled, steps)?;
         let routed = route(self.alloc, &self.meta, settled)?;
         let meta = self.meta.copy()?;
         let alloc = self.alloc;
         Ok((Channel { alloc, meta, lines }, routed))
     }
 
-    /// What closing the stream settles. This channel stays as it is.
-    pub fn ended(&self) -> Result<RoutedList, NoMemory>
-        ensures { IfOk result (λ ended. (t : ℕ) (meta : ChannelMeta) (stream : List Dated) → StandsFor t meta stream self.now →
-            settled t meta stream true ≡ settled t meta stream false ++ ended) }
+    /// What closing the stream settles, counted in the ledger that the blank one opens.
+    fn counted_end<L: Ledger>(&self, blank: Blank) -> Result<RoutedList, NoMemory>
+        requires name { blank.name ≡ L.name }
+        requires parts { blank.parts ≡ L.parts }
+        requires some { 0 < blank.parts }
+        ensures { IfOk result (λ ended. (look : Looker) (t : ℕ) (meta : ChannelMeta) (stream : List Dated) →
+            StandsFor look t meta stream self.now →
+            settled look t meta stream true ≡ settled look t meta stream false ++ ended) }
     {
+        let mut steps = Steps::<L>::new(blank);
         let lines = self.lines.copy()?;
         let mut last = LineList::new(self.alloc);
-        lines.close(&mut last)?;
+        lines.close(&mut last, &mut steps)?;
         let routed = route(self.alloc, &self.meta, last)?;
         Ok(routed)
+    }
+
+    /// What closing the stream settles. This channel stays as it is.
+    pub fn ended(&self) -> Result<RoutedList, NoMemory>
+        ensures { IfOk result (λ ended. (look : Looker) (t : ℕ) (meta : ChannelMeta) (stream : List Dated) →
+            StandsFor look t meta stream self.now →
+            settled look t meta stream true ≡ settled look t meta stream false ++ ended) }
+    {
+        self.counted_end::<Brand>(Blank::new(1))
     }
 }

@@ -1,4 +1,4 @@
-use Rattle.std.proofs.Common.{◌≡◌, ◌≤◌, ◌<◌, ◌-◌, length, vec_len}
+use Rattle.std.proofs.Common.{◌≡◌, ◌≤◌, ◌<◌, ◌-◌, length}
 use Rattle.indexd_core.specs.Settings.{IsBegun}
 use Rattle.indexd_core.proofs.settings.read_bytes.Given as goal
 

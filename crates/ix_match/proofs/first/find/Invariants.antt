@@ -1,7 +1,5 @@
-use Rattle.std.proofs.Common.{◌≡◌, ℕ, ◌≤◌, ◌<◌, []}
-use Rattle.ix_match.specs.Matches.{ways_from}
 use Rattle.ix_match.proofs.first.find.Given as goal
 
--- no place so far has a way
-abbrev pub invariant-loop-place : goal.invariant-loop-place
-invariant-loop-place l = (place : ℕ) → l.from ≤ place → place < l.place → ways_from l.p l.text place ≡ []
+-- the ledger of the blank one
+abbrev pub ghosts-counted : goal.ghosts-counted
+ghosts-counted a = record { name = a.blank.name; parts = a.blank.parts }

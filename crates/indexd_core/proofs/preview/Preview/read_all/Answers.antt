@@ -1,4 +1,4 @@
-use Rattle.std.proofs.Common.{rules, ◌≡◌, ◌≤◌, ◌<◌, ◌^◌, ◌+◌, ◌++◌, ℕ, List, length, take, arith, sym, ◌∙◌, ap}
+use Rattle.std.proofs.Common.{◌≤◌, ◌++◌, ℕ, List, length, take, arith, ◌∙◌}
 use Rattle.std.proofs.lemmas.List.{length-append, length-take, length-take-le}
 use Rattle.std.proofs.lemmas.Result.{err_from_is_err_and}
 use Rattle.indexd_core.proofs.PreviewLemmas.{run-stops}

@@ -1,6 +1,7 @@
 use Rattle.std.proofs.Common.{◌≡◌, ◌≤◌, ◌-◌, ◌^◌, ℕ, List, [], length}
 use Rattle.ix_base.specs.declared.events.ChannelMeta.{ChannelMeta}
 use Rattle.ix_lines.specs.Lines.{effective}
+use Rattle.ix_lines.specs.Newlines.{newlines}
 use Rattle.ix_parse.specs.Standing.{StandsFor}
 use Rattle.indexd_core.specs.Steps.{IsAt}
 use Rattle.indexd_core.proofs.preview.Preview.read_all.Given as goal
@@ -8,7 +9,7 @@ use Rattle.indexd_core.proofs.preview.Preview.read_all.Given as goal
 abbrev pub invariant-loop-taken : goal.invariant-loop-taken
 invariant-loop-taken g l = record {
   within : l.taken ≤ 2 ^ 40;
-  came : (meta : ChannelMeta) → StandsFor (effective 10000) meta [] l.initial.self.channel →
+  came : (meta : ChannelMeta) → StandsFor newlines (effective 10000) meta [] l.initial.self.channel →
       (bytes : List ℕ) × (length bytes ≡ l.taken)
       × IsAt meta (g.S.Source.left l.initial.input) (g.W.Sink.given l.initial.output) bytes l.self (g.S.Source.left l.input) (g.W.Sink.given l.output);
   moment : l.self.moment ≡ l.initial.self.moment;

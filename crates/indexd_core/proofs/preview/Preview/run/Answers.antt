@@ -1,6 +1,5 @@
-use Rattle.std.proofs.Common.{◌≡◌, List, ℕ, refl, sym, ap, ◌∙◌, subst}
+use Rattle.std.proofs.Common.{sym, subst}
 use Rattle.indexd_core.specs.Preview.{Runs}
-use Rattle.indexd_core.specs.Stops.{stop_status}
 use Rattle.indexd_core.specs.declared.status.Status.{Status}
 use Rattle.indexd_core.proofs.PreviewLemmas.{rose-since}
 use Rattle.indexd_core.proofs.RunLemmas.{no-room, stopped, endless, done, stopped-at-end}
@@ -24,7 +23,7 @@ returns-in-Err-clause-run g c = λ meta stands.
     (g.S.Source.faults c.args.input.now) (g.S.Source.faults c.read_all.new.input) (g.W.Sink.faults c.args.output.now) (g.W.Sink.faults c.read_all.new.output)
     (g.S.Source.left c.args.input.now) (g.S.Source.left c.read_all.new.input) (g.W.Sink.given c.args.output.now) (g.W.Sink.given c.read_all.new.output))
     (sym c.status.ensures)
-    (stopped c.settled_stays.ensures c.in-Err.stop meta c.args.self.now.moment
+    (stopped c.settled_stays.ensures.newlines c.in-Err.stop meta c.args.self.now.moment
     (g.S.Source.faults c.args.input.now) (g.S.Source.faults c.read_all.new.input) (g.W.Sink.faults c.args.output.now) (g.W.Sink.faults c.read_all.new.output)
     (g.S.Source.left c.args.input.now) (g.S.Source.left c.read_all.new.input) (g.W.Sink.given c.args.output.now) (g.W.Sink.given c.read_all.new.output)
     (c.in-Err.ensures.stopped meta stands))
@@ -43,7 +42,7 @@ returns-clause-run g c = λ meta stands.
     (g.S.Source.faults c.args.input.now) (g.S.Source.faults c.read_all.new.input) (g.W.Sink.faults c.args.output.now) (g.W.Sink.faults c.finish.new.output)
     (g.S.Source.left c.args.input.now) (g.S.Source.left c.read_all.new.input) (g.W.Sink.given c.args.output.now) (g.W.Sink.given c.finish.new.output))
     (sym c.status-in-Err-finish.ensures)
-    (stopped-at-end c.settled_stays.ensures c.in-Err-finish.stop meta c.read_all.new.self c.args.self.now.moment
+    (stopped-at-end c.settled_stays.ensures.newlines c.in-Err-finish.stop meta c.read_all.new.self c.args.self.now.moment
     (g.S.Source.faults c.args.input.now) (g.S.Source.faults c.read_all.new.input) (g.W.Sink.faults c.args.output.now)
     (g.W.Sink.faults c.read_all.new.output) (g.W.Sink.faults c.finish.new.output)
     (g.S.Source.left c.args.input.now) (g.S.Source.left c.read_all.new.input) (g.W.Sink.given c.args.output.now)

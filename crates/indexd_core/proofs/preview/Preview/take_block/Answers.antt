@@ -13,7 +13,7 @@ returns-in_err-put_events-clause-stopped g c =
     (g.S.Source.faults c.args.input.now) (g.S.Source.faults c.read.new.self) (g.W.Sink.faults c.args.output.now)
     (g.W.Sink.faults c.put_events.new.output) (g.S.Source.left c.args.input.now) (g.S.Source.left c.read.new.self)
     (g.W.Sink.given c.args.output.now) (g.W.Sink.given c.put_events.new.output)
-    c.in-Ok.ensures.bytes (simp to_z-of_z at c.in-Ok-fed.ensures) c.in_err-put_events.ensures.stopped)
+    c.in-Ok.ensures.bytes (simp to_z-of_z at c.in-Ok-fed.ensures.settles) c.in_err-put_events.ensures.stopped)
 
 pub returns-clause-taken : goal.returns-clause-taken
 returns-clause-taken g c =
@@ -22,5 +22,5 @@ returns-clause-taken g c =
       advances c.args.self.now (record { alloc = c.args.self.now.alloc; channel = c.in-Ok-fed.fed.0; moment = c.args.self.now.moment })
           (take c.in-Ok.n c.read.new.buf) c.in-Ok-fed.fed.1 (g.S.Source.left c.args.input.now) (g.S.Source.left c.read.new.self)
           (g.W.Sink.given c.args.output.now) (g.W.Sink.given c.put_events.new.output)
-          refl c.in-Ok.ensures.bytes c.in_ok-put_events.ensures.written (simp to_z-of_z at c.in-Ok-fed.ensures),
+          refl c.in-Ok.ensures.bytes c.in_ok-put_events.ensures.written (simp to_z-of_z at c.in-Ok-fed.ensures.settles),
     )

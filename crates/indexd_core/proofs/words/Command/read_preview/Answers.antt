@@ -1,4 +1,4 @@
-use Rattle.std.proofs.Common.{rules, arith, ◌≡◌, List, ℕ, ◌∷◌, [], ◌∙◌, sym}
+use Rattle.std.proofs.Common.{rules, arith, ◌∷◌, [], ◌∙◌, sym}
 use Rattle.std.specs.Prelude.{codes}
 use Rattle.indexd_core.proofs.WordLemmas.{five}
 use Rattle.indexd_core.proofs.words.Command.read_preview.Goals as goal

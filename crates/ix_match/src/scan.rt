@@ -1,0 +1,170 @@
+//! One attempt at a place of a stream, of which more bytes may come.
+
+ghost use Rattle.std.specs.Prelude.{◌≡◌, ℕ, ◌<◌, ◌≤◌, ◌∷◌, List, Bool, not, length, take_while, slice_get, IfOk, OnOk, OnErr};
+ghost use Rattle.ix_pattern.specs.Piece.{in_set};
+ghost use Rattle.ix_pattern.specs.Ways.{sight};
+ghost use Rattle.ix_match.specs.Attempt.{reach, attempt};
+ghost use Rattle.ix_match.specs.Leaf.{text_of};
+ghost use Rattle.ix_match.specs.Stack.{head_of as outcome_head};
+ghost use Rattle.ix_match.specs.Starts.{AreStarts};
+ghost use Rattle.ix_match.specs.Scans.{head_of, BeginsAtOnce};
+
+use crate::first::{Found, GroupList};
+use crate::input::Input;
+use crate::search::{Outcome, head};
+use crate::starts::starts_of;
+use ix_base::{NoMemory, Steps};
+use ix_pattern::Pattern;
+use std::alloc::Global;
+use std::marker::Model;
+use std::sync::ledger::Ledger;
+
+/// How many bytes an attempt sees, from the place at which it begins.
+pub const REACH: usize = 16384;
+
+/// What an attempt comes to.
+#[derive(Drop)]
+pub enum Look {
+    /// A match: the preferred one of those that begin here. Its places count from here.
+    Found(Found),
+    /// No match begins here.
+    No,
+    /// It depends on bytes that have not come.
+    More,
+}
+
+/// One attempt at the first place of a text of which more bytes may come. Contracts see for each byte whether a match
+/// may begin with it, and how many bytes of the text were given since it was made or reset.
+#[derive(Drop)]
+pub struct Scan {
+    alloc: Global,
+    starts: [bool; 256],
+    given: usize,
+}
+
+impl Model for Scan {
+    ghost use Rattle.ix_match.specs.Scans.{Scanned};
+
+    ghost Value = { Scanned };
+
+    ghost view = { λ s. record { starts = s.starts; given = s.given } };
+}
+
+/// What an attempt sees of the bytes that have come.
+#[tactic(auto, unfolding(crate::specs::Attempt::reach))]
+fn seen(before: Option<u8>, bytes: &[u8], closed: bool) -> Input<'_>
+    ensures { text_of result ≡ sight reach (record { before = before; bytes = bytes.now; unfinished = not closed }) }
+{
+    if bytes.len() >= REACH {
+        Input {
+            before,
+            bytes: &bytes[..REACH],
+            unfinished: false,
+        }
+    } else {
+        Input {
+            before,
+            bytes,
+            unfinished: !closed,
+        }
+    }
+}
+
+impl Scan {
+    /// An attempt that was given no byte yet.
+    pub fn new(alloc: Global, p: &Pattern) -> Result<Scan, NoMemory>
+        ensures given { IfOk result (λ scan. scan.given ≡ 0) }
+        ensures starts { IfOk result (λ scan. AreStarts p.now scan.starts) }
+    {
+        Ok(Scan {
+            alloc,
+            starts: starts_of(alloc, p)?,
+            given: 0,
+        })
+    }
+
+    /// The attempt at the first of these bytes, by the pattern that the scan was made for. `before` is the byte before
+    /// them; there is none at the start of the stream. The bytes go on from those of the last call since `new` or
+    /// `reset`. An attempt sees the first 16,384 of them; where there are so many, or the stream is `closed`, its text
+    /// ends there. Each test of a byte counts as a step.
+    ///
+    /// It is `Found` with the preferred one of the matches that begin here, `No` exactly where none does, and `More`
+    /// exactly where that depends on bytes that have not come. After `NoMemory` the scan is as after `reset`.
+    pub fn advance<L: Ledger>(
+        &mut self,
+        p: &Pattern,
+        before: Option<u8>,
+        text: &[u8],
+        closed: bool,
+        steps: &mut Steps<L>,
+    ) -> Result<Look, NoMemory>
+        requires { self.old.given ≤ length text.now }
+        ensures head { IfOk result (λ look. slice_get (attempt p.now (record { before = before; bytes = text.now; unfinished = not closed })) 0 ≡ head_of look) }
+        ensures begins { IfOk result BeginsAtOnce }
+        ensures given { OnOk result (self.new ≡ record self.old { given = length text.now }) }
+        ensures reset { OnErr result (self.new ≡ record self.old { given = 0 }) }
+        ensures later { steps.old ≤ steps.new }
+    {
+        self.given = 0;
+        let groups = vec![in self.alloc; None; p.groups()]?;
+        let outcome = head(
+            self.alloc,
+            p,
+            p.root(),
+            seen(before, text, closed),
+            0,
+            groups,
+            steps,
+        )?;
+        self.given = text.len();
+        Ok(look_of(outcome))
+    }
+
+    /// Begins anew, at another place or in another text. It takes no memory.
+    pub fn reset(&mut self)
+        ensures { self.new ≡ record self.old { given = 0 } }
+    {
+        self.given = 0;
+    }
+
+    /// Whether a match may begin with the byte.
+    pub fn may_begin(&self, byte: u8) -> bool
+        ensures { result ≡ in_set self.now.starts byte }
+    {
+        self.starts[byte as usize]
+    }
+
+    /// How many of these bytes stand before the first one with which a match may begin.
+    pub fn passed_over(&self, bytes: &[u8]) -> usize
+        ensures { result ≡ length (take_while (λ b. not (in_set self.now.starts b)) bytes.now) }
+    {
+        bytes.iter().take_while(|b| !self.may_begin(**b)).count()
+    }
+
+    /// A copy of it.
+    pub fn copy(&self) -> Scan
+        ensures { result ≡ self.now }
+    {
+        Scan {
+            alloc: self.alloc,
+            starts: self.starts,
+            given: self.given,
+        }
+    }
+}
+
+/// The answer that an outcome at the first place stands for.
+fn look_of(outcome: Outcome) -> Look
+    ensures head { head_of result ≡ outcome_head outcome }
+    ensures begins { BeginsAtOnce result }
+{
+    match outcome {
+        Outcome::End { place, groups } => Look::Found(Found {
+            start: 0,
+            end: place,
+            groups: GroupList::from_vec(groups),
+        }),
+        Outcome::No => Look::No,
+        Outcome::More => Look::More,
+    }
+}
