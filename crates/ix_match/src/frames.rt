@@ -33,11 +33,13 @@ pub struct Frame {
     pub todo: Vec<Task>,
 }
 
+/// A copy of the frame, with room for two tasks more.
 pub fn copy_of(alloc: Global, frame: &Frame) -> Result<Frame, NoMemory>
     ensures { IfOk result (λ f. Stands frame.now f frame.now.todo.items) }
 {
     let groups = frame.groups.as_slice().to_vec(alloc)?;
-    let todo = frame.todo.as_slice().to_vec(alloc)?;
+    let mut todo = Vec::with_capacity(alloc, frame.todo.len() + 2)?;
+    todo.extend_from_slice(frame.todo.as_slice())?;
     Ok(Frame {
         place: frame.place,
         groups,

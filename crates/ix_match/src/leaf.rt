@@ -1,8 +1,8 @@
 //! The steps that look at no other piece.
 
-ghost use Rattle.std.specs.Prelude.{◌≡◌, ℕ, ◌<◌, ◌≤◌, ◌+◌, List, [], ◌∷◌, length, Option, Some, slice_get, if◌then◌else◌};
-ghost use Rattle.ix_pattern.specs.Ways.{Reached, edge, here, is_start, is_word_byte, is_word, byte_ways, finish_ways, word_ways};
-ghost use Rattle.ix_pattern.specs.Rows.{node_at, set_at};
+ghost use Rattle.std.specs.Prelude.{◌≡◌, ℕ, ◌<◌, ◌≤◌, ◌+◌, true, List, [], ◌∷◌, length, Option, Some, slice_get, if◌then◌else◌};
+ghost use Rattle.ix_pattern.specs.Ways.{Reached, edge, here, is_start, is_word_byte, is_word, byte_ways, finish_ways, word_ways, ways};
+ghost use Rattle.ix_pattern.specs.Rows.{node_at, set_at, piece_at};
 ghost use Rattle.ix_match.specs.Leaf.{leaf_ways, text_of, at};
 
 use crate::input::{Input, byte_before};
@@ -73,6 +73,31 @@ pub fn byte<L: Ledger>(
                 Leaf::Never
             }
         }
+    }
+}
+
+/// Whether it is seen at once that the piece has no way from the place: it is one byte of a set, and that byte is not
+/// there.
+#[tactic(auto, unfolding(ix_pattern::specs::Ways::ways))]
+pub fn has_no_way<L: Ledger>(
+    p: &Pattern,
+    piece: usize,
+    input: Input<'_>,
+    place: usize,
+    steps: &mut Steps<L>,
+) -> bool
+    ensures none { result ≡ true → (groups : List (Option (ℕ × ℕ))) → ways (piece_at p.now.rows piece) (text_of input.entry) (at place groups) ≡ [] }
+    ensures later { steps.old ≤ steps.new }
+{
+    if piece > p.root() {
+        return false;
+    }
+    match p.node(piece) {
+        Node::Bytes => {
+            let leaf = byte(p, piece, input, place, steps);
+            matches!(leaf, Leaf::Never)
+        }
+        _ => false,
     }
 }
 

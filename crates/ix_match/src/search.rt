@@ -10,7 +10,7 @@ ghost use Rattle.ix_match.specs.Steps.{task_number, Steps, Fits, AllFit, EachFit
 use crate::frames::{Frame, Task, closed};
 use crate::input::{Input, in_sight};
 use crate::leaf::Leaf;
-use crate::steps::{piece_step, turns};
+use crate::steps::{piece_step, turns, turns_to_try};
 use ix_base::{NoMemory, Steps as StepCount};
 use ix_pattern::{Node, Pattern};
 use std::alloc::Global;
@@ -72,7 +72,8 @@ fn step<L: Ledger>(
             further,
             lazy,
         } => {
-            turns(alloc, inside, least, further, lazy, frame, stack)?;
+            let tried = turns_to_try(p, inside, least, further, input, frame.place, steps);
+            turns(alloc, inside, least, tried, lazy, frame, stack)?;
             Ok(false)
         }
         Task::Close { number, from } => {

@@ -1,6 +1,6 @@
 //! The steps of a search: a task is taken up, and others are put in its place.
 
-ghost use Rattle.std.specs.Prelude.{◌≡◌, ℕ, ◌+◌, ◌^◌, ◌<◌, ◌≤◌, false, Bool, IfOk, OnOk, length};
+ghost use Rattle.std.specs.Prelude.{◌≡◌, ℕ, ◌+◌, ◌^◌, ◌<◌, ◌≤◌, ◌⊎◌, false, Bool, List, [], Option, IfOk, OnOk, length};
 ghost use Rattle.ix_pattern.specs.Piece.{Piece, ahead};
 ghost use Rattle.ix_pattern.specs.Ways.{Text, ways};
 ghost use Rattle.ix_pattern.specs.Rows.{Rows, piece_at};
@@ -15,6 +15,31 @@ use ix_base::{NoMemory, Steps as StepCount};
 use ix_pattern::{Node, Pattern};
 use std::alloc::Global;
 use std::sync::ledger::Ledger;
+
+/// How many of the further turns of a count need to be tried at a place: none, where it is seen at once that the piece
+/// inside has no way from there. A try copies the frame.
+pub fn turns_to_try<L: Ledger>(
+    p: &Pattern,
+    inside: usize,
+    least: u32,
+    further: usize,
+    input: Input<'_>,
+    place: usize,
+    steps: &mut StepCount<L>,
+) -> usize
+    ensures same { (result ≡ further)
+        ⊎ ((least ≡ 0) × (result ≡ 0) × ((groups : List (Option (ℕ × ℕ))) → ways (piece_at p.now.rows inside) (text_of input.entry) (at place groups) ≡ [])) }
+    ensures later { steps.old ≤ steps.new }
+{
+    if least > 0 || further == 0 {
+        return further;
+    }
+    if leaf::has_no_way(p, inside, input, place, steps) {
+        0
+    } else {
+        further
+    }
+}
 
 /// Puts the turns of a count, or what comes after them, in the place of the task.
 pub fn turns(
