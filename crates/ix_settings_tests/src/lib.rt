@@ -1,0 +1,9 @@
+//! Tests of settings and of the rules that they give, each by its public calls.
+#![tactic(auto)]
+
+#[cfg(test)]
+mod conf;
+#[cfg(test)]
+mod life;
+#[cfg(test)]
+mod props;
