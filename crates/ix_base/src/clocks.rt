@@ -1,11 +1,22 @@
-//! Clocks.
+//! Clocks, and the range of the moments that are taken from them.
 
 ghost use Rattle.std.specs.Prelude.{◌≡◌, ◌+◌, Some, None, ℕ, Option};
 ghost use Rattle.ix_base.specs.Told.{Told};
-ghost use Rattle.ix_base.specs.Clocks.{Moments, Answered, moments_from};
+ghost use Rattle.ix_base.specs.Clocks.{Moments, Answered, moments_from, clamped};
 
 use std::rt::Clock as ReadsClock;
 use std::time::{SystemTime, UNIX_EPOCH};
+
+/// The last moment that is taken: the beginning of the year 2100, in microseconds since 1970-01-01T00:00:00Z.
+pub const LATEST_MOMENT: i64 = 4_102_444_800_000_000;
+
+/// A moment brought between the beginning of 1970 and that of 2100: a lower one becomes 0, a higher one
+/// `LATEST_MOMENT`. Each call that takes a moment from its caller begins with this.
+pub fn clamped(moment: i64) -> i64
+    ensures { result ≡ clamped moment }
+{
+    moment.clamp(0, LATEST_MOMENT)
+}
 
 /// A clock. It answers any number, in microseconds since 1970-01-01T00:00:00Z.
 pub trait Clock {

@@ -1,9 +1,9 @@
-//! Events, and what is known of the channel that they came by.
+//! Lines, events, what an event comes to, and what is known of the channel that it came by.
 
 ghost use Rattle.std.specs.Prelude.{◌≡◌, IfOk};
 
 use crate::faults::NoMemory;
-use crate::sequences::Bytes;
+use crate::sequences::{Bytes, Sequence};
 
 /// An event with its fields. `time` and `arrival` are microseconds since 1970-01-01T00:00:00Z.
 #[derive(Drop)]
@@ -22,6 +22,30 @@ pub struct Event {
     /// The text.
     pub raw: Bytes,
 }
+
+/// A line of a stream, without the break that ended it. It is not empty.
+#[derive(Drop)]
+pub struct Line {
+    /// Its bytes.
+    pub bytes: Bytes,
+    /// When its first byte came, in microseconds since 1970-01-01T00:00:00Z.
+    pub moment: i64,
+}
+
+/// Lines, the first one first.
+pub type LineList = Sequence<Line>;
+
+/// What an event comes to.
+#[derive(Drop)]
+pub enum Routed {
+    /// It goes to the index that it names.
+    To(Event),
+    /// It goes to the null queue: it is counted and not kept.
+    Null,
+}
+
+/// What events come to, the first one first.
+pub type RoutedList = Sequence<Routed>;
 
 /// An event whose fields are lent.
 #[derive(Clone, Copy)]

@@ -16,9 +16,9 @@ mod sources;
 mod tests;
 mod trees;
 
-pub use clocks::{Clock, HostClock, MemClock};
+pub use clocks::{Clock, HostClock, LATEST_MOMENT, MemClock, clamped};
 pub use counter::Steps;
-pub use events::{ChannelMeta, Event, EventRef, Range, Spot};
+pub use events::{ChannelMeta, Event, EventRef, Line, LineList, Range, Routed, RoutedList, Spot};
 pub use faults::{BadRecord, FailPlan, Failed, NoMemory};
 pub use files::{Area, File};
 pub use lines::write_line;
