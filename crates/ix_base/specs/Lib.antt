@@ -1,4 +1,5 @@
 pub mod Faults
+pub mod Plans
 pub mod Told
 pub mod Clocks
 pub mod EventLine

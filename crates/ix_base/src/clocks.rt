@@ -66,7 +66,9 @@ pub struct HostClock<R: ReadsClock + Drop> {
 
 impl<R: ReadsClock + Drop> HostClock<R> {
     /// The clock that this runtime reads.
-    pub fn new(rt: R) -> Self {
+    pub fn new(rt: R) -> Self
+        ensures { ⟦<HostClock<R> as Clock>⟧.ahead result ≡ None }
+    {
         HostClock { rt }
     }
 }

@@ -1,6 +1,6 @@
 //! Failures.
 
-ghost use Rattle.std.specs.Prelude.{◌≡◌, ◌≤◌, IsTrue};
+ghost use Rattle.std.specs.Prelude.{◌≡◌, ◌≤◌, []};
 ghost use Rattle.ix_base.specs.Faults.{Rose};
 
 use std::alloc::{AllocError, AllocFailed, Global};
@@ -29,18 +29,25 @@ impl<T: Drop> From<AllocFailed<T>> for NoMemory {
 #[derive(Clone, Copy, Debug, PartialEq, Eq)]
 pub struct BadRecord;
 
-/// Which calls of an object in memory are to fail, and how many have. Calls are numbered from 0.
+/// Which calls of an object in memory are to fail, and how many have failed. Calls are numbered from 0.
 #[derive(Drop)]
 pub struct FailPlan {
-    calls: u64,
-    failing: Vec<u64>,
+    /// The number of the next call. It stands at 2^64 - 1.
+    pub calls: u64,
+    /// The numbers of the calls that are to fail, in any order.
+    pub failing: Vec<u64>,
+    /// How many calls have failed, those that were not to fail among them. It stands at 2^64 - 1.
     pub faults: u64,
 }
 
 impl FailPlan {
+    ghost use Rattle.ix_base.specs.Plans.{is_due, counted, CountsCall};
+
     /// The calls with these numbers are to fail.
     pub fn new(failing: Vec<u64>) -> Self
-        ensures { result.faults ≡ 0 }
+        ensures first { result.calls ≡ 0 }
+        ensures failing { result.failing ≡ failing }
+        ensures faults { result.faults ≡ 0 }
     {
         FailPlan {
             calls: 0,
@@ -51,24 +58,31 @@ impl FailPlan {
 
     /// No call is to fail. It takes no memory.
     pub fn none(alloc: Global) -> Self
-        ensures { result.faults ≡ 0 }
+        ensures first { result.calls ≡ 0 }
+        ensures failing { result.failing.items ≡ [] }
+        ensures faults { result.faults ≡ 0 }
     {
         FailPlan::new(Vec::new(alloc))
     }
 
     /// Counts a call, and tells whether it is to fail.
     pub fn is_due(&mut self) -> bool
-        ensures { self.new.faults ≡ self.old.faults }
+        ensures due { result ≡ is_due self.old }
+        ensures counted { CountsCall self.old self.new }
+        ensures faults { self.new.faults ≡ self.old.faults }
     {
         let number = self.calls;
         self.calls = self.calls.saturating_add(1);
-        !self.failing.is_empty() && self.failing.iter().any(|n| *n == number)
+        self.failing.iter().any(|n| *n == number)
     }
 
     /// Counts a fault.
     pub fn fail(&mut self) -> Failed
         ensures rose { Rose self.old.faults self.new.faults }
         ensures later { self.old.faults ≤ self.new.faults }
+        ensures counted { self.new.faults ≡ counted self.old.faults }
+        ensures calls { self.new.calls ≡ self.old.calls }
+        ensures failing { self.new.failing ≡ self.old.failing }
     {
         self.faults = self.faults.saturating_add(1);
         Failed

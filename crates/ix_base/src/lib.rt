@@ -12,8 +12,6 @@ mod lines;
 mod sequences;
 mod sinks;
 mod sources;
-#[cfg(test)]
-mod tests;
 mod trees;
 
 pub use clocks::{Clock, HostClock, LATEST_MOMENT, MemClock, clamped};

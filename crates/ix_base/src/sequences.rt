@@ -1,6 +1,6 @@
 //! Lists that contracts see as lists.
 
-ghost use Rattle.std.specs.Prelude.{◌≡◌, ◌≤◌, ◌+◌, ◌-◌, ◌++◌, ◌∷◌, [], length, take, drop, replicate, min, OnOk, OnErr, IfOk, ◌==◌, string_bytes};
+ghost use Rattle.std.specs.Prelude.{◌≡◌, ◌≤◌, ◌+◌, ◌-◌, ◌++◌, ◌∷◌, [], length, take, drop, replicate, min, OnOk, OnErr, IfOk, ◌==◌, string_bytes, option_to_list, IsSome, ◌↔◌, ◌<◌};
 ghost use Rattle.std.specs.Str.{IsUtf8};
 
 use crate::faults::NoMemory;
@@ -82,6 +82,14 @@ impl<T> Sequence<T> {
         ensures { result.now ≡ self.now }
     {
         self.items.as_slice()
+    }
+
+    /// Takes the last value off, if there is one.
+    pub fn pop(&mut self) -> Option<T>
+        ensures last { self.old ≡ self.new ++ option_to_list result }
+        ensures some { IsSome result ↔ (0 < length self.old) }
+    {
+        self.items.pop()
     }
 }
 
@@ -169,7 +177,7 @@ pub struct Text {
 }
 
 impl Model for Text {
-    ghost use Rattle.std.specs.Prelude.{List, ℕ, string_bytes};
+    ghost use Rattle.std.specs.Prelude.{List, ℕ, string_bytes, option_to_list, IsSome, ◌↔◌, ◌<◌};
 
     ghost Value = { List ℕ };
 

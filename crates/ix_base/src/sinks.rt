@@ -1,6 +1,8 @@
 //! What bytes are written to.
 
-ghost use Rattle.std.specs.Prelude.{◌≡◌, ◌≤◌, ◌<◌, ℕ, List, [], ◌++◌, Option, Some, None, length, take, drop, OnOk, OnErr};
+ghost use Rattle.std.specs.Prelude.{◌≡◌, ◌≤◌, ◌<◌, ℕ, List, [], ◌++◌, Option, Some, None, length, take, drop, OnOk, OnErr, IsTrue, IsErr};
+ghost use Rattle.std.specs.Bool.{OnFalse};
+ghost use Rattle.ix_base.specs.Plans.{is_due, CountsCall};
 ghost use Rattle.ix_base.specs.Faults.{HasCause, Rose};
 ghost use Rattle.ix_base.specs.Told.{Began, HasWritten, HasBegun};
 
@@ -28,7 +30,8 @@ pub trait Sink {
 #[derive(Drop)]
 pub struct MemSink {
     bytes: Bytes,
-    plan: FailPlan,
+    /// Which calls of `put` are to fail.
+    pub plan: FailPlan,
 }
 
 impl MemSink {
@@ -36,6 +39,7 @@ impl MemSink {
     pub fn new(alloc: Global, plan: FailPlan) -> Self
         ensures given { ⟦<MemSink as Sink>⟧.given result ≡ Some [] }
         ensures faults { ⟦<MemSink as Sink>⟧.faults result ≡ plan.faults }
+        ensures plan { result.plan ≡ plan }
     {
         MemSink {
             bytes: Bytes::new(alloc),
@@ -53,7 +57,7 @@ impl MemSink {
     /// Forgets the bytes written so far.
     pub fn clear(&mut self)
         ensures given { ⟦<MemSink as Sink>⟧.given self.new ≡ Some [] }
-        ensures faults { ⟦<MemSink as Sink>⟧.faults self.new ≡ ⟦<MemSink as Sink>⟧.faults self.old }
+        ensures plan { self.new.plan ≡ self.old.plan }
     {
         self.bytes.clear();
     }
@@ -72,7 +76,16 @@ impl Sink for MemSink {
 
     ghost faults = { λ s. s.plan.faults };
 
-    fn put(&mut self, bytes: &[u8]) -> Result<(), Failed> {
+    /// It fails where the plan has this call due. Another call fails only where there is no room, and writes nothing then.
+    fn put(&mut self, bytes: &[u8]) -> Result<(), Failed>
+        ensures written { OnOk result (HasWritten bytes.now (Some self.old.bytes) (Some self.new.bytes)) }
+        ensures begun { OnErr result (HasBegun bytes.now (Some self.old.bytes) (Some self.new.bytes)) }
+        ensures cause { HasCause self.old.plan.faults self.new.plan.faults result }
+        ensures due { IsTrue (is_due self.old.plan) → IsErr result }
+        ensures full { OnErr result (OnFalse (is_due self.old.plan) (self.new.bytes ≡ self.old.bytes)) }
+        ensures counted { CountsCall self.old.plan self.new.plan }
+        ensures faults { OnOk result (self.new.plan.faults ≡ self.old.plan.faults) }
+    {
         if self.plan.is_due() {
             begin(&mut self.bytes, bytes);
             return Err(self.plan.fail());
@@ -93,7 +106,9 @@ pub struct StdSink<W: Write + Drop> {
 
 impl<W: Write + Drop> StdSink<W> {
     /// The sink that writes by the writer, which is to keep nothing back.
-    pub fn new(inner: W) -> Self {
+    pub fn new(inner: W) -> Self
+        ensures { ⟦<StdSink<W> as Sink>⟧.faults result ≡ 0 }
+    {
         StdSink { inner, faults: 0 }
     }
 

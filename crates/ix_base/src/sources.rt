@@ -1,6 +1,7 @@
 //! What bytes are read from.
 
-ghost use Rattle.std.specs.Prelude.{◌≡◌, ◌≤◌, ◌<◌, ℕ, List, [], Option, Some, None, length, take, drop, IfOk, IfSome, OnErr};
+ghost use Rattle.std.specs.Prelude.{◌≡◌, ◌≤◌, ◌<◌, ℕ, List, [], Option, Some, None, length, take, drop, IfOk, IfSome, OnOk, OnErr, is_ok, not};
+ghost use Rattle.ix_base.specs.Plans.{is_due, CountsCall};
 ghost use Rattle.ix_base.specs.Faults.{HasCause, Rose};
 ghost use Rattle.ix_base.specs.Told.{Told, Took};
 
@@ -32,7 +33,8 @@ pub struct MemSource {
     bytes: Bytes,
     at: usize,
     most: usize,
-    plan: FailPlan,
+    /// Which reads are to fail.
+    pub plan: FailPlan,
     ghost within: { at ≤ length bytes },
     ghost moves: { 0 < most },
 }
@@ -42,6 +44,7 @@ impl MemSource {
     pub fn new(bytes: Bytes, plan: FailPlan) -> Self
         ensures left { ⟦<MemSource as Source>⟧.left result ≡ Some bytes }
         ensures faults { ⟦<MemSource as Source>⟧.faults result ≡ plan.faults }
+        ensures plan { result.plan ≡ plan }
     {
         MemSource::in_pieces(bytes, usize::MAX, plan)
     }
@@ -50,6 +53,7 @@ impl MemSource {
     pub fn in_pieces(bytes: Bytes, most: usize, plan: FailPlan) -> Self
         ensures left { ⟦<MemSource as Source>⟧.left result ≡ Some bytes }
         ensures faults { ⟦<MemSource as Source>⟧.faults result ≡ plan.faults }
+        ensures plan { result.plan ≡ plan }
     {
         MemSource {
             bytes,
@@ -78,7 +82,17 @@ impl Source for MemSource {
 
     ghost faults = { λ s. s.plan.faults };
 
-    fn read(&mut self, buf: &mut [u8]) -> Result<usize, Failed> {
+    /// It fails exactly where the plan has this call due.
+    fn read(&mut self, buf: &mut [u8]) -> Result<usize, Failed>
+        ensures count { IfOk result (λ n. n ≤ length buf.old) }
+        ensures bytes { IfOk result (λ n. Told (Took (take n buf.new)) (Some (drop self.old.at self.old.bytes)) (Some (drop self.new.at self.new.bytes))) }
+        ensures end { IfOk result (λ n. n ≡ 0 → 0 < length buf.old → IfSome (Some (drop self.old.at self.old.bytes)) (λ bytes. bytes ≡ [])) }
+        ensures failed { OnErr result (Some (drop self.new.at self.new.bytes) ≡ Some (drop self.old.at self.old.bytes)) }
+        ensures cause { HasCause self.old.plan.faults self.new.plan.faults result }
+        ensures due { is_ok result ≡ not (is_due self.old.plan) }
+        ensures counted { CountsCall self.old.plan self.new.plan }
+        ensures faults { OnOk result (self.new.plan.faults ≡ self.old.plan.faults) }
+    {
         if self.plan.is_due() {
             return Err(self.plan.fail());
         }
@@ -97,7 +111,9 @@ pub struct StdSource<R: Read + Drop> {
 
 impl<R: Read + Drop> StdSource<R> {
     /// The source of what the reader reads.
-    pub fn new(inner: R) -> Self {
+    pub fn new(inner: R) -> Self
+        ensures { ⟦<StdSource<R> as Source>⟧.faults result ≡ 0 }
+    {
         StdSource { inner, faults: 0 }
     }
 }

@@ -1,8 +1,10 @@
 //! Files under paths.
 
-ghost use Rattle.std.specs.Prelude.{◌≡◌, ◌≤◌, ◌<◌, ◌++◌, ℕ, List, [], Option, Some, None, length, take, drop, IfOk, OnOk, IfSome, IfErr, IsErrOf, filter_map};
+ghost use Rattle.std.specs.Prelude.{◌≡◌, ◌≤◌, ◌<◌, ◌++◌, ℕ, List, [], Option, Some, None, length, take, drop, IfOk, OnOk, IfSome, IsErrOf, IsTrue, ◌↔◌};
 ghost use Rattle.std.specs.Option.{option_map, option_copied};
 ghost use Rattle.ix_base.specs.Faults.{Rose};
+ghost use Rattle.ix_base.specs.Plans.{is_due, CountsCall};
+ghost use Rattle.ix_base.specs.declared.trees.TreeFault.TheVariants.{Failed, Missing};
 ghost use Rattle.ix_base.specs.Trees.{bytes_at, names_in, name_in, behind, front_of, first_segment, with_name, with_option, in_order, IsPlaceOf, HasSize, ReadsAt, GivesAt, HasTreeCause};
 
 use crate::faults::{FailPlan, NoMemory};
@@ -15,8 +17,6 @@ use std::os::unix::fs::FileExt;
 use std::rt::Files;
 use std::str;
 
-#[cfg(test)]
-mod tests;
 
 /// Why a call of a tree was refused.
 #[derive(Clone, Copy, Debug, PartialEq, Eq)]
@@ -52,7 +52,9 @@ pub type TreeFileList = Sequence<TreeFile>;
 
 /// Files under paths, in folders. No call changes it.
 pub trait Tree {
-    ghost use Rattle.ix_base.specs.Trees.{bytes_at, names_in, HasSize, ReadsAt, HasTreeCause};
+    ghost use Rattle.ix_base.specs.Plans.{is_due, CountsCall};
+ghost use Rattle.ix_base.specs.declared.trees.TreeFault.TheVariants.{Failed, Missing};
+ghost use Rattle.ix_base.specs.Trees.{bytes_at, names_in, HasSize, ReadsAt, HasTreeCause};
     ghost use Rattle.ix_base.specs.declared.trees.TreeFile.{TreeFile};
     ghost use Rattle.ix_base.specs.declared.trees.TreeFault.TheVariants.{Missing};
 
@@ -93,8 +95,10 @@ pub trait Tree {
 #[derive(Drop)]
 pub struct MemTree {
     files: TreeFileList,
-    plan: FailPlan,
-    missing: u64,
+    /// Which calls are to fail.
+    pub plan: FailPlan,
+    /// How often it has answered `Missing`. It stands at 2^64 - 1.
+    pub missing: u64,
 }
 
 impl MemTree {
@@ -103,6 +107,7 @@ impl MemTree {
         ensures files { ⟦<MemTree as Tree>⟧.files result ≡ Some files }
         ensures faults { ⟦<MemTree as Tree>⟧.faults result ≡ plan.faults }
         ensures missing { ⟦<MemTree as Tree>⟧.missing result ≡ 0 }
+        ensures plan { result.plan ≡ plan }
     {
         MemTree {
             files,
@@ -116,6 +121,8 @@ impl MemTree {
         ensures later { self.old.plan.faults ≤ self.new.plan.faults }
         ensures missing { self.new.missing ≡ self.old.missing }
         ensures files { self.new.files ≡ self.old.files }
+        ensures calls { self.new.plan.calls ≡ self.old.plan.calls }
+        ensures failing { self.new.plan.failing ≡ self.old.plan.failing }
         ensures failed { result ≡ TreeFault.Failed }
     {
         let _ = self.plan.fail();
@@ -125,7 +132,7 @@ impl MemTree {
     fn miss(&mut self) -> TreeFault
         ensures rose { Rose self.old.missing self.new.missing }
         ensures later { self.old.missing ≤ self.new.missing }
-        ensures faults { self.new.plan.faults ≡ self.old.plan.faults }
+        ensures plan { self.new.plan ≡ self.old.plan }
         ensures files { self.new.files ≡ self.old.files }
         ensures missing { result ≡ TreeFault.Missing }
     {
@@ -257,7 +264,15 @@ impl Tree for MemTree {
 
     ghost missing = { λ t. t.missing };
 
-    fn list(&mut self, alloc: Global, path: &[u8]) -> Result<Names, TreeFault> {
+    /// It answers `Failed` exactly where the plan has this call due, as each call here.
+    fn list(&mut self, alloc: Global, path: &[u8]) -> Result<Names, TreeFault>
+        ensures names { IfOk result (λ names. IfSome (Some self.old.files) (λ all. (names ≡ names_in all path.now) × (0 < length names))) }
+        ensures absent { IsErrOf result Missing → IfSome (Some self.old.files) (λ all. names_in all path.now ≡ []) }
+        ensures same { Some self.new.files ≡ Some self.old.files }
+        ensures cause { HasTreeCause self.old.plan.faults self.new.plan.faults self.old.missing self.new.missing result }
+        ensures due { IsErrOf result Failed ↔ IsTrue (is_due self.old.plan) }
+        ensures counted { CountsCall self.old.plan self.new.plan }
+    {
         if self.plan.is_due() {
             return Err(self.fail());
         }
@@ -268,7 +283,14 @@ impl Tree for MemTree {
         Ok(names)
     }
 
-    fn size(&mut self, path: &[u8]) -> Result<u64, TreeFault> {
+    fn size(&mut self, path: &[u8]) -> Result<u64, TreeFault>
+        ensures size { IfOk result (λ n. IfSome (Some self.old.files) (λ all. HasSize (bytes_at all path.now) n)) }
+        ensures absent { IsErrOf result Missing → IfSome (Some self.old.files) (λ all. bytes_at all path.now ≡ None) }
+        ensures same { Some self.new.files ≡ Some self.old.files }
+        ensures cause { HasTreeCause self.old.plan.faults self.new.plan.faults self.old.missing self.new.missing result }
+        ensures due { IsErrOf result Failed ↔ IsTrue (is_due self.old.plan) }
+        ensures counted { CountsCall self.old.plan self.new.plan }
+    {
         if self.plan.is_due() {
             return Err(self.fail());
         }
@@ -278,7 +300,15 @@ impl Tree for MemTree {
         }
     }
 
-    fn read(&mut self, path: &[u8], at: u64, buf: &mut [u8]) -> Result<usize, TreeFault> {
+    fn read(&mut self, path: &[u8], at: u64, buf: &mut [u8]) -> Result<usize, TreeFault>
+        ensures count { IfOk result (λ n. n ≤ length buf.old) }
+        ensures bytes { IfOk result (λ n. IfSome (Some self.old.files) (λ all. ReadsAt (bytes_at all path.now) at n buf.new)) }
+        ensures absent { IsErrOf result Missing → IfSome (Some self.old.files) (λ all. bytes_at all path.now ≡ None) }
+        ensures same { Some self.new.files ≡ Some self.old.files }
+        ensures cause { HasTreeCause self.old.plan.faults self.new.plan.faults self.old.missing self.new.missing result }
+        ensures due { IsErrOf result Failed ↔ IsTrue (is_due self.old.plan) }
+        ensures counted { CountsCall self.old.plan self.new.plan }
+    {
         if self.plan.is_due() {
             return Err(self.fail());
         }
