@@ -1,7 +1,8 @@
 -- A tree of files under paths, and its folders.
-use Rattle.std.specs.Prelude.{◌≡◌, ◌≤◌, ◌<◌, ◌-◌, ◌==◌, if◌then◌else◌, ℕ, List, [], ◌∷◌, ◌++◌, length, take, drop, Option, None, Some, Result, IsErrOf, find, filter_map}
+use Rattle.std.specs.Prelude.{◌≡◌, ◌≤◌, ◌<◌, ◌-◌, ◌==◌, if◌then◌else◌, ℕ, List, [], ◌∷◌, ◌++◌, length, take, drop, Option, None, Some, Result, IsErrOf, find, filter_map, Any, Contains, ◌↔◌}
 use Rattle.std.specs.Option.{option_map}
 use Rattle.std.specs.Str.{bytes_eq}
+use Rattle.std.specs.List.Sorted.{IsStrictlySortedBy}
 use Rattle.std.specs.declared.cmp.Ordering.{Ordering}
 use Rattle.std.specs.declared.cmp.Ordering.TheVariants.{Less, Equal, Greater}
 use Rattle.std.specs.Ordering.{nat_cmp}
@@ -54,6 +55,19 @@ with_option (Some name) names = with_name name names
 -- the names that stand directly in a folder, in ASCII order, each once
 abbrev pub names_in : List TreeFile → List ℕ → List (List ℕ)
 names_in files folder = in_order (filter_map (name_in (front_of folder)) files)
+
+-- a file stands below the folder, and of its path behind the folder the bytes before the first slash are the name
+abbrev pub StandsIn : List TreeFile → List ℕ → List ℕ → Type 0
+StandsIn files folder name =
+    Any (λ (file : TreeFile). (rest : List ℕ) × (file.path ≡ front_of folder ++ rest) × (first_segment rest ≡ name)) files
+
+-- The names in a folder are strictly ascending in ASCII order, and they are those that stand in it.
+pub record IsNamesOf (files : List TreeFile) (folder : List ℕ) (names : List (List ℕ)) : Type 0 where
+  pub ascending : IsStrictlySortedBy (slice_cmp nat_cmp) names
+  pub exact : (name : List ℕ) → Contains names name ↔ StandsIn files folder name
+
+abbrev pub NamesInOrder : Type 0
+NamesInOrder = (files : List TreeFile) (folder : List ℕ) → IsNamesOf files folder (names_in files folder)
 
 -- where a name that is missing belongs among the names
 abbrev pub IsPlaceOf : Option ℕ → List ℕ → List (List ℕ) → Type 0

@@ -23,4 +23,4 @@ pub use lines::write_line;
 pub use sequences::{Bytes, Names, NumberList, Sequence, Text};
 pub use sinks::{MemSink, Sink, StdSink};
 pub use sources::{MemSource, Source, StdSource};
-pub use trees::{HostTree, MemTree, Tree, TreeFault, TreeFile, TreeFileList};
+pub use trees::{HostTree, MemTree, Tree, TreeFault, TreeFile, TreeFileList, names_are_in_order};

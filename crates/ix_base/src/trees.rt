@@ -5,7 +5,7 @@ ghost use Rattle.std.specs.Option.{option_map, option_copied};
 ghost use Rattle.ix_base.specs.Faults.{Rose};
 ghost use Rattle.ix_base.specs.Plans.{is_due, CountsCall};
 ghost use Rattle.ix_base.specs.declared.trees.TreeFault.TheVariants.{Failed, Missing};
-ghost use Rattle.ix_base.specs.Trees.{bytes_at, names_in, name_in, behind, front_of, first_segment, with_name, with_option, in_order, IsPlaceOf, HasSize, ReadsAt, GivesAt, HasTreeCause};
+ghost use Rattle.ix_base.specs.Trees.{bytes_at, names_in, name_in, behind, front_of, first_segment, with_name, with_option, in_order, IsPlaceOf, NamesInOrder, HasSize, ReadsAt, GivesAt, HasTreeCause};
 
 use crate::faults::{FailPlan, NoMemory};
 use crate::sequences::{Bytes, Names, Sequence};
@@ -232,6 +232,13 @@ fn names_in(alloc: Global, files: &[TreeFile], folder: &[u8]) -> Result<Names, N
         )?;
     }
     Ok(Names::from_vec(names))
+}
+
+/// A law of the names in a folder, as `Tree::list` tells them: each comes before the next one in ASCII order, and
+/// they are exactly the names that stand directly in the folder, of files and of folders.
+pub fn names_are_in_order()
+    ensures { NamesInOrder }
+{
 }
 
 /// The bytes of the file at a path.
