@@ -1,8 +1,8 @@
 -- The text of a field, from its front.
-use Rattle.std.proofs.Common.{◌≡◌, ℕ, suc, ◌+◌, ◌<◌, ◌≤◌, Bool, true, false, List, [], ◌∷◌, ◌++◌, length, take, drop, get_or, cond, refl, sym, ◌∙◌, ap, subst, arith}
-use Rattle.std.specs.Prelude.{Option}
-use Rattle.std.specs.List.{prefix_len}
-use Rattle.std.proofs.lemmas.List.{take-append-drop, append-nil}
+use Rattle.std.proofs.Common.{◌≡◌, ℕ, zero, suc, zero-add, true≢false, ◌+◌, ◌<◌, ◌≤◌, Bool, true, false, List, [], ◌∷◌, ◌++◌, length, take, drop, get_or, cond, refl, sym, ◌∙◌, ap, subst, arith}
+use Rattle.std.specs.Prelude.{Option, ◌&&◌}
+use Rattle.std.specs.List.{prefix_len, list_all}
+use Rattle.std.proofs.lemmas.List.{take-append-drop, append-nil, drop-drop}
 use Rattle.std.proofs.lemmas.Grind.{flat_map-append}
 use Rattle.std.proofs.Math.Seq.{take-add}
 use Rattle.ix_base.specs.EventLine.{is_plain, escape, escaped, field}
@@ -72,3 +72,22 @@ pub begun-next : (n : ℕ) (xs : List ℕ) {x y z : Option (List ℕ)} →
 begun-next n xs {x} {y} {z} p q =
     let P : List ℕ → Type 0 = λ l. HasBegun l x z in
     subst P (sym (field-split n xs)) (then_begun p q)
+
+-- behind bytes that are all plain the count goes on
+pub plain-more : (n : ℕ) (xs : List ℕ) → n ≤ length xs → list_all is_plain (take n xs) ≡ true → prefix_len is_plain xs ≡ n + prefix_len is_plain (drop n xs)
+plain-more zero xs within all = sym (zero-add (prefix_len is_plain xs))
+plain-more (suc n) [] within all = absurd (omega (arith, within))
+plain-more (suc n) (x ∷ xs) within all = by (is_plain x) refl all (plain-more n xs (omega (arith, within)))
+  where
+    by : (b : Bool) → is_plain x ≡ b → (b && list_all is_plain (take n xs)) ≡ true →
+        (list_all is_plain (take n xs) ≡ true → prefix_len is_plain xs ≡ n + prefix_len is_plain (drop n xs)) →
+        cond b (1 + prefix_len is_plain xs) 0 ≡ suc n + prefix_len is_plain (drop n xs)
+    by true e rest f = omega (arith, f rest)
+    by false e rest f = absurd (true≢false (sym rest))
+
+-- behind a plain chunk the count goes on
+pub plain-on : (at n : ℕ) (xs rest : List ℕ) → rest ≡ drop at xs → prefix_len is_plain xs ≡ at + prefix_len is_plain (drop at xs) →
+    prefix_len is_plain rest ≡ n + prefix_len is_plain (drop n rest) → prefix_len is_plain xs ≡ at + n + prefix_len is_plain (drop (at + n) xs)
+plain-on at n xs rest is before more =
+    let P : List ℕ → Type 0 = λ l. prefix_len is_plain l ≡ n + prefix_len is_plain (drop n l) in
+    omega (arith, before, subst P is more, ap (λ l. prefix_len is_plain l) (drop-drop n at xs))

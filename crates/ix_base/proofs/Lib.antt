@@ -1,3 +1,4 @@
 pub mod ToldLemmas
 pub mod FieldLemmas
 pub mod NameLemmas
+pub mod LineLemmas

@@ -44,6 +44,11 @@ line event =
     field event.index ++ 9 ∷ time_text event.time ++ 9 ∷ field event.host ++ 9 ∷ field event.source
     ++ 9 ∷ field event.sourcetype ++ 9 ∷ field event.meta ++ 9 ∷ field event.raw ++ 10 ∷ []
 
+-- the part of a line between the time and the raw text
+abbrev pub middle : List ℕ → List ℕ → List ℕ → List ℕ → List ℕ
+middle host source sourcetype meta =
+    9 ∷ field host ++ 9 ∷ field source ++ 9 ∷ field sourcetype ++ 9 ∷ field meta ++ 9 ∷ []
+
 -- one line for each event
 abbrev pub lines : List Event → List ℕ
 lines events = flat_map line events

@@ -8,6 +8,8 @@ mod events;
 mod faults;
 mod files;
 #[tactic(auto, using(crate::proofs::ToldLemmas::puts))]
+mod line_writer;
+#[tactic(auto, using(crate::proofs::ToldLemmas::puts))]
 mod lines;
 mod sequences;
 mod sinks;
@@ -19,6 +21,7 @@ pub use counter::Steps;
 pub use events::{ChannelMeta, Event, EventRef, Line, LineList, Range, Routed, RoutedList, Spot};
 pub use faults::{BadRecord, FailPlan, Failed, NoMemory};
 pub use files::{Area, File};
+pub use line_writer::LineWriter;
 pub use lines::write_line;
 pub use sequences::{Bytes, Names, NumberList, Sequence, Text};
 pub use sinks::{MemSink, Sink, StdSink};

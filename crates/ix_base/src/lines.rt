@@ -1,12 +1,12 @@
 //! The text of an event.
 
-ghost use Rattle.std.specs.Prelude.{◌≡◌, ◌≤◌, ◌<◌, ◌-◌, ◌+◌, ◌/◌, ◌%◌, ◌^◌, ℕ, [], ◌∷◌, ◌++◌, length, take, drop, slice_index, OnOk, OnErr, IfOk, false};
+ghost use Rattle.std.specs.Prelude.{◌≡◌, ◌≤◌, ◌<◌, ◌-◌, ◌+◌, ◌/◌, ◌%◌, ◌^◌, ℕ, [], ◌∷◌, ◌++◌, length, take, drop, slice_index, OnOk, OnErr, IfOk, IsTrue, false};
 ghost use Rattle.ix_base.specs.Faults.{HasCause};
 ghost use Rattle.ix_base.specs.Told.{HasWritten, HasBegun};
 ghost use Rattle.ix_base.specs.EventLine.{is_plain, escape, escaped, field, line, six_digits, seconds_text, sign_text, time_text};
 ghost use Rattle.ix_base.specs.Lent.{lent_event};
 ghost use Rattle.std.specs.Prelude.{codes};
-ghost use Rattle.std.specs.List.{prefix_len};
+ghost use Rattle.std.specs.List.{prefix_len, list_all};
 ghost use Rattle.hex.specs.Hex.{encode_lower};
 
 use crate::events::EventRef;
@@ -34,7 +34,7 @@ pub fn write_line<W: Sink>(event: &EventRef, out: &mut W) -> Result<(), Failed>
     Ok(())
 }
 
-fn put_tabbed_time<W: Sink>(event: &EventRef, out: &mut W) -> Result<(), Failed>
+pub(crate) fn put_tabbed_time<W: Sink>(event: &EventRef, out: &mut W) -> Result<(), Failed>
     ensures written { OnOk result (HasWritten (9 ∷ time_text event.now.time) (W.given out.old) (W.given out.new)) }
     ensures begun { OnErr result (HasBegun (9 ∷ time_text event.now.time) (W.given out.old) (W.given out.new)) }
     ensures cause { HasCause (W.faults out.old) (W.faults out.new) result }
@@ -91,7 +91,7 @@ fn put_seconds<W: Sink>(micros: u64, out: &mut W) -> Result<(), Failed>
     Ok(())
 }
 
-fn put_tabbed<W: Sink>(bytes: &[u8], out: &mut W) -> Result<(), Failed>
+pub(crate) fn put_tabbed<W: Sink>(bytes: &[u8], out: &mut W) -> Result<(), Failed>
     ensures written { OnOk result (HasWritten (9 ∷ field bytes.now) (W.given out.old) (W.given out.new)) }
     ensures begun { OnErr result (HasBegun (9 ∷ field bytes.now) (W.given out.old) (W.given out.new)) }
     ensures cause { HasCause (W.faults out.old) (W.faults out.new) result }
@@ -101,7 +101,7 @@ fn put_tabbed<W: Sink>(bytes: &[u8], out: &mut W) -> Result<(), Failed>
     Ok(())
 }
 
-fn put_field<W: Sink>(bytes: &[u8], out: &mut W) -> Result<(), Failed>
+pub(crate) fn put_field<W: Sink>(bytes: &[u8], out: &mut W) -> Result<(), Failed>
     ensures written { OnOk result (HasWritten (field bytes.now) (W.given out.old) (W.given out.new)) }
     ensures begun { OnErr result (HasBegun (field bytes.now) (W.given out.old) (W.given out.new)) }
     ensures cause { HasCause (W.faults out.old) (W.faults out.new) result }
@@ -119,11 +119,45 @@ fn is_plain(b: u8) -> bool
     b >= 0x20 && b <= 0x7E && b != b'\\'
 }
 
+/// How many bytes are looked at before it is asked whether one of them is not plain.
+const CHUNK: usize = 32;
+
+/// Whether all bytes are plain. It looks at each of them, so that they can be compared many at a time.
+fn all_plain(bytes: &[u8]) -> bool
+    ensures { result ≡ list_all is_plain bytes.now }
+{
+    let mut all = true;
+    for b in bytes {
+        all &= is_plain(*b);
+    }
+    all
+}
+
+/// Whether a whole chunk stands at the front whose bytes are plain.
+fn has_plain_chunk(bytes: &[u8]) -> bool
+    ensures within { IsTrue result → 32 ≤ length bytes.now }
+    ensures plain { IsTrue result → prefix_len is_plain bytes.now ≡ 32 + prefix_len is_plain (drop 32 bytes.now) }
+{
+    bytes.len() >= CHUNK && all_plain(&bytes[..CHUNK])
+}
+
+/// The same as `plain_length`, byte by byte.
+fn plain_length_by_bytes(bytes: &[u8]) -> usize
+    ensures counted { result ≡ prefix_len is_plain bytes.now }
+    ensures within { result ≤ length bytes.now }
+{
+    bytes.iter().take_while(|b| is_plain(**b)).count()
+}
+
 /// How many bytes at the front stand in a field as themselves.
 fn plain_length(bytes: &[u8]) -> usize
     ensures { result ≡ prefix_len is_plain bytes.now }
 {
-    bytes.iter().take_while(|b| is_plain(**b)).count()
+    let mut at = 0;
+    while has_plain_chunk(&bytes[at..]) {
+        at += CHUNK;
+    }
+    at + plain_length_by_bytes(&bytes[at..])
 }
 
 /// Writes the first bytes of a field, one at least, and answers how many of them.

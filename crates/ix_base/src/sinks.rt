@@ -54,6 +54,13 @@ impl MemSink {
         self.bytes.as_slice()
     }
 
+    /// The bytes written so far. It takes no memory.
+    pub fn into_bytes(self) -> Bytes
+        ensures { ⟦<MemSink as Sink>⟧.given self ≡ Some result }
+    {
+        self.bytes
+    }
+
     /// Forgets the bytes written so far.
     pub fn clear(&mut self)
         ensures given { ⟦<MemSink as Sink>⟧.given self.new ≡ Some [] }
