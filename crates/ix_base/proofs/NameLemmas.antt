@@ -1,6 +1,6 @@
 -- The names in a folder are in order, and are those that stand in it.
-use Rattle.std.proofs.Common.{◌≡◌, ℕ, zero, suc, ◌+◌, ◌<◌, ◌≤◌, Bool, true, false, List, [], ◌∷◌, ◌++◌, length, take, drop, get_or, refl, sym, ◌∙◌, ap, subst, arith, inl, inr}
-use Rattle.std.specs.Prelude.{Option, Some, None, Any, Contains, ◌↔◌, ◌⊎◌, filter_map, if◌then◌else◌, unwrap_or}
+use Rattle.std.proofs.Common.{◌≡◌, ℕ, zero, suc, Bool, true, false, List, [], ◌∷◌, ◌++◌, length, take, drop, refl, sym, ◌∙◌, ap, subst, arith, inl, inr}
+use Rattle.std.specs.Prelude.{Option, Some, None, Any, Contains, ◌⊎◌, filter_map, if◌then◌else◌, unwrap_or}
 use Rattle.std.specs.List.{AllByRecursion, cons_option}
 use Rattle.std.specs.List.Sorted.{IsStrictlySortedBy}
 use Rattle.std.specs.Option.{option_map}
@@ -14,7 +14,7 @@ use Rattle.std.proofs.lemmas.Map.Lookups.{exact_bytes}
 use Rattle.std.proofs.lemmas.List.{take-append-drop}
 use Rattle.std.proofs.Math.Seq.{take-append_seam, drop-append_seam}
 use Rattle.ix_base.specs.declared.trees.TreeFile.{TreeFile}
-use Rattle.ix_base.specs.Trees.{front_of, behind, first_segment, name_in, beside, with_name, in_order, names_in, StandsIn, IsNamesOf, NamesInOrder}
+use Rattle.ix_base.specs.Trees.{front_of, first_segment, name_in, beside, with_name, in_order, NamesInOrder}
 
 abbrev IsBefore : List ℕ → List ℕ → Type 0
 IsBefore a b = slice_cmp nat_cmp a b ≡ Less
@@ -76,9 +76,11 @@ with-to name y (other ∷ others) h = by (slice_cmp nat_cmp name other) h (with-
     later : (name ≡ y) ⊎ Contains others y → (name ≡ y) ⊎ Contains (other ∷ others) y
     later (inl e) = inl e
     later (inr k) = inr (there other y others k)
+
     more : (Contains (with_name name others) y → (name ≡ y) ⊎ Contains others y) → (other ≡ y) ⊎ Contains (with_name name others) y → (name ≡ y) ⊎ Contains (other ∷ others) y
     more f (inl e) = inr (here other y others e)
     more f (inr g) = later (f g)
+
     by : (o : Ordering) → Contains (beside o name other others (with_name name others)) y →
         (Contains (with_name name others) y → (name ≡ y) ⊎ Contains others y) → (name ≡ y) ⊎ Contains (other ∷ others) y
     by Less g f = split name y (other ∷ others) g
@@ -101,6 +103,7 @@ with-others name y (other ∷ others) h = by (slice_cmp nat_cmp name other) (wit
     more : (Contains others y → Contains (with_name name others) y) → (other ≡ y) ⊎ Contains others y → Contains (other ∷ with_name name others) y
     more f (inl e) = here other y (with_name name others) e
     more f (inr g) = there other y (with_name name others) (f g)
+
     by : (o : Ordering) → (Contains others y → Contains (with_name name others) y) → Contains (beside o name other others (with_name name others)) y
     by Less f = there name y (other ∷ others) h
     by Equal f = h
@@ -115,7 +118,7 @@ in-from : (y : List ℕ) (names : List (List ℕ)) → Contains names y → Cont
 in-from y [] h = h
 in-from y (name ∷ names) h =
     elim (split name y names h) [
-      inl e ↦ subst (λ (z : List ℕ). Contains (in_order (name ∷ names)) z) e (with-name name (in_order names))
+      | inl e ↦ subst (λ (z : List ℕ). Contains (in_order (name ∷ names)) z) e (with-name name (in_order names))
       | inr k ↦ with-others name y (in_order names) (in-from y names k)
     ]
 
@@ -147,6 +150,7 @@ filter-from {X} {Y} h y (x ∷ xs) a = elim (any-split (λ x. h x ≡ Some y) x 
   where
     first : (o : Option Y) → o ≡ Some y → Contains (cons_option o (filter_map h xs)) y
     first o e = subst (λ (o : Option Y). Contains (cons_option o (filter_map h xs)) y) (sym e) (here y y (filter_map h xs) refl)
+
     more : (o : Option Y) → Contains (filter_map h xs) y → Contains (cons_option o (filter_map h xs)) y
     more None k = k
     more (Some z) k = there z y (filter_map h xs) k
@@ -160,10 +164,11 @@ named-to front name file e = by (bytes_eq (take (length front) file.path) front)
   where
     by : (b : Bool) → bytes_eq (take (length front) file.path) front ≡ b → option_map first_segment (if b then Some (drop (length front) file.path) else None) ≡ Some name → Named front name file
     by true is g =
-        let same : take (length front) file.path ≡ front = (bytes_decides (take (length front) file.path) front).0 is in
-        (drop (length front) file.path,
-        sym (take-append-drop (length front) file.path) ∙ ap (λ l. l ++ drop (length front) file.path) same,
-        some_inj (first_segment (drop (length front) file.path)) name g)
+        let same : take (length front) file.path ≡ front = (bytes_decides (take (length front) file.path) front).0 is in (
+          drop (length front) file.path,
+          sym (take-append-drop (length front) file.path) ∙ ap (λ l. l ++ drop (length front) file.path) same,
+          some_inj (first_segment (drop (length front) file.path)) name g,
+        )
     by false is g = absurd (none_some name g)
 
 named-from : (front name : List ℕ) (file : TreeFile) → Named front name file → name_in front file ≡ Some name
@@ -181,7 +186,8 @@ names-in-order files folder =
     let front : List ℕ = front_of folder in
     record {
       ascending = sorted-in (filter_map (name_in front) files);
-      exact = λ name.
-        (λ c. any-map files (named-to front name) (filter-to (name_in front) name files (in-to name (filter_map (name_in front) files) c)),
-        λ s. in-from name (filter_map (name_in front) files) (filter-from (name_in front) name files (any-map files (named-from front name) s)));
+      exact = λ name. (
+        λ c. any-map files (named-to front name) (filter-to (name_in front) name files (in-to name (filter_map (name_in front) files) c)),
+        λ s. in-from name (filter_map (name_in front) files) (filter-from (name_in front) name files (any-map files (named-from front name) s)),
+      );
     }

@@ -17,7 +17,6 @@ use std::os::unix::fs::FileExt;
 use std::rt::Files;
 use std::str;
 
-
 /// Why a call of a tree was refused.
 #[derive(Clone, Copy, Debug, PartialEq, Eq)]
 pub enum TreeFault {
@@ -53,8 +52,8 @@ pub type TreeFileList = Sequence<TreeFile>;
 /// Files under paths, in folders. No call changes it.
 pub trait Tree {
     ghost use Rattle.ix_base.specs.Plans.{is_due, CountsCall};
-ghost use Rattle.ix_base.specs.declared.trees.TreeFault.TheVariants.{Failed, Missing};
-ghost use Rattle.ix_base.specs.Trees.{bytes_at, names_in, HasSize, ReadsAt, HasTreeCause};
+    ghost use Rattle.ix_base.specs.declared.trees.TreeFault.TheVariants.{Failed, Missing};
+    ghost use Rattle.ix_base.specs.Trees.{bytes_at, names_in, HasSize, ReadsAt, HasTreeCause};
     ghost use Rattle.ix_base.specs.declared.trees.TreeFile.{TreeFile};
     ghost use Rattle.ix_base.specs.declared.trees.TreeFault.TheVariants.{Missing};
 
@@ -238,8 +237,7 @@ fn names_in(alloc: Global, files: &[TreeFile], folder: &[u8]) -> Result<Names, N
 /// they are exactly the names that stand directly in the folder, of files and of folders.
 pub fn names_are_in_order()
     ensures { NamesInOrder }
-{
-}
+{}
 
 /// The bytes of the file at a path.
 fn bytes_at<'a>(files: &'a [TreeFile], path: &[u8]) -> Option<&'a [u8]>

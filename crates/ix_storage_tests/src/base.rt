@@ -58,7 +58,10 @@ fn events_have_lines(rt: HostRuntime) -> Result<(), Fail> {
         assert!(rt; wrote.is_ok() && out.bytes() == want, "{time}");
         let mut out = MemSink::new(alloc, FailPlan::none(alloc));
         let wrote = writer.write(&event.lend(), &mut out);
-        assert!(rt; wrote.is_ok() && out.into_bytes().as_slice() == want, "{time}");
+        assert!(rt;
+            wrote.is_ok() && out.into_bytes().as_slice() == want,
+            "{time}"
+        );
     }
     Ok(())
 }
@@ -143,7 +146,9 @@ fn lists_are_lists(rt: HostRuntime) -> Result<(), Fail> {
         index: Some(Bytes::copy_of(alloc, b"main")?),
     };
     let copy = meta.copy()?;
-    assert!(rt; copy.host.as_slice() == b"h".as_slice() && copy.sourcetype.is_none() && copy.index.is_some());
+    assert!(rt;
+        copy.host.as_slice() == b"h".as_slice() && copy.sourcetype.is_none() && copy.index.is_some()
+    );
     let mut numbers = NumberList::new(alloc);
     for n in 1..5 {
         numbers.push(n)?;
@@ -223,7 +228,10 @@ fn a_tree_in_memory_has_folders_and_files(rt: HostRuntime) -> Result<(), Fail> {
     names_are_in_order();
     let mut tree = tree_of(alloc, vec![in alloc; 8, 10, 11]?)?;
     for (path, want) in FOLDERS {
-        assert!(rt; listed(alloc, &mut tree, path)?.as_slice() == want, "{path:?}");
+        assert!(rt;
+            listed(alloc, &mut tree, path)?.as_slice() == want,
+            "{path:?}"
+        );
     }
     assert!(rt; tree.size(b"etc/apps/note") == Ok(5));
     assert!(rt; listed(alloc, &mut tree, b"etc")?.as_slice() == b"failed".as_slice());
@@ -251,7 +259,10 @@ fn the_tree_of_the_system_reads_real_files(rt: HostRuntime) -> Result<(), Fail> 
         (b"real/no", b"missing"),
     ];
     for (path, want) in folders {
-        assert!(rt; listed(alloc, &mut tree, path)?.as_slice() == want, "{path:?}");
+        assert!(rt;
+            listed(alloc, &mut tree, path)?.as_slice() == want,
+            "{path:?}"
+        );
     }
     assert!(rt; tree.size(b"real/apps/10") == Ok(7));
     assert!(rt; reads(&mut tree, b"real/apps/10", 4, b"ten"));
