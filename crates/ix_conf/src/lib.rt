@@ -10,8 +10,6 @@ mod merged;
 mod merging;
 mod names;
 mod reading;
-#[cfg(test)]
-mod tests;
 mod tokens;
 mod zones;
 
