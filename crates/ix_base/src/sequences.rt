@@ -1,11 +1,12 @@
 //! Lists that contracts see as lists.
 
-ghost use Rattle.std.specs.Prelude.{◌≡◌, ◌≤◌, ◌+◌, ◌-◌, ◌++◌, ◌∷◌, [], length, take, drop, replicate, min, OnOk, OnErr, IfOk, ◌==◌, string_bytes, option_to_list, IsSome, ◌↔◌, ◌<◌};
+ghost use Rattle.std.specs.Prelude.{◌≡◌, ◌≤◌, ◌+◌, ◌-◌, ◌++◌, ◌∷◌, [], length, take, drop, replicate, min, OnOk, OnErr, IfOk, ◌==◌, string_bytes, option_to_list, IsSome, ◌↔◌, ◌<◌, slice_set, slice_get, Some};
 ghost use Rattle.std.specs.Str.{IsUtf8};
 
 use crate::faults::NoMemory;
 use std::alloc::Global;
 use std::marker::Model;
+use std::mem;
 
 /// A list of values in memory. Contracts see it as the list of its values.
 #[derive(Drop)]
@@ -105,6 +106,15 @@ impl<T: Drop> Sequence<T> {
         }
     }
 
+    /// Puts a value in place of the one that stands there, and answers that one.
+    pub fn replace(&mut self, at: usize, value: T) -> T
+        requires { at < length self.old }
+        ensures items { self.new ≡ slice_set self.old at value }
+        ensures there { slice_get self.old at ≡ Some result }
+    {
+        mem::replace(&mut self.items[at], value)
+    }
+
     /// Drops all values. The room that they had is kept for others.
     pub fn clear(&mut self)
         ensures { self.new ≡ [] }
@@ -177,7 +187,7 @@ pub struct Text {
 }
 
 impl Model for Text {
-    ghost use Rattle.std.specs.Prelude.{List, ℕ, string_bytes, option_to_list, IsSome, ◌↔◌, ◌<◌};
+    ghost use Rattle.std.specs.Prelude.{List, ℕ, string_bytes};
 
     ghost Value = { List ℕ };
 
