@@ -1,0 +1,3 @@
+mod LeastLemmas
+mod OrderLemmas
+mod PrefixLemmas

@@ -1,0 +1,5 @@
+pub mod Times
+pub mod Placing
+pub mod Order
+pub mod Prefix
+pub mod Housekeeping
