@@ -1,0 +1,21 @@
+use Rattle.std.proofs.Common.{◌∙◌, sym}
+use Rattle.ix_values.proofs.EscapeLemmas.{parts_escaped, parts_backslash, parts_plain}
+use Rattle.ix_values.proofs.escapes.read_parts.Goals as goal
+use Rattle.ix_values.proofs.escapes.read_parts.Goals.{then-escaped+in-Some+in_ok-push, else-escaped+then-byte-eq92, else-escaped+else-byte-eq92+in_ok-push-2}
+
+pub loop-byte-preserved : goal.loop-byte-preserved
+loop-byte-preserved c =
+    elim c.if-escaped.branch [
+      | then-escaped+in-Some+in_ok-push w ↦
+          rw (w.found-is, w.in_ok-push.ensures.ok, w.escaped-is)
+          (sym (parts_escaped c.args.text.now c.loop-byte.byte-index c.loop-byte.found w.in-Some.part c.loop-byte-test.true (sym w.in-Some.ensures))
+          ∙ (rw w.if-escaped.true at c.loop-byte.invariant))
+      | else-escaped+then-byte-eq92 w ↦
+          rw (w.found-is, w.escaped-is)
+          (sym (parts_backslash c.args.text.now c.loop-byte.byte-index c.loop-byte.found c.loop-byte-test.true w.if-byte-eq92.true)
+          ∙ (rw w.if-escaped.false at c.loop-byte.invariant))
+      | else-escaped+else-byte-eq92+in_ok-push-2 w ↦
+          rw (w.found-is, w.in_ok-push-2.ensures.ok, w.escaped-is, w.if-escaped.false)
+          (sym (parts_plain c.args.text.now c.loop-byte.byte-index c.loop-byte.found c.loop-byte-test.true w.if-byte-eq92.false)
+          ∙ (rw w.if-escaped.false at c.loop-byte.invariant))
+    ]

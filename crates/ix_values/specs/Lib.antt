@@ -1,0 +1,6 @@
+pub mod Plain
+pub mod Patterns
+pub mod Escapes
+pub mod Seds
+pub mod Formats
+pub mod Values
