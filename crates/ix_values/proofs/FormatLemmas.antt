@@ -1,5 +1,5 @@
 -- A format's text is read one byte after the other.
-use Rattle.std.proofs.Common.{◌≡◌, ◌∙◌, true, false, ℕ, suc, ◌+◌, ◌≤◌, ◌<◌, List, [], ◌++◌, get_or, drop, length, Option, Some, None, refl, arith, add-one, append_assoc, append-nil}
+use Rattle.std.proofs.Common.{◌≡◌, ◌∙◌, true, false, ℕ, suc, ◌+◌, ◌≤◌, ◌<◌, List, [], ◌++◌, get_or, drop, length, Option, Some, None, refl, add-one, append_assoc, append-nil}
 use Rattle.std.specs.Option.{option_map}
 use Rattle.std.specs.Prelude.{is_some}
 use Rattle.ix_values.specs.declared.formats.Place.TheVariants.{Plain, InSpace, Percent, Width}

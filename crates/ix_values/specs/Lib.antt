@@ -4,3 +4,5 @@ pub mod Escapes
 pub mod Seds
 pub mod Formats
 pub mod Values
+pub mod Transforms
+pub mod Lent

@@ -125,3 +125,11 @@ pub fn add_bytes(found: &mut PartList, bytes: &[u8]) -> Result<(), NoMemory>
     }
     Ok(())
 }
+
+/// A copy of parts.
+pub fn copy_parts(alloc: Global, parts: &[Part]) -> Result<PartList, NoMemory>
+    ensures { IfOk result (λ copy. copy ≡ parts.now) }
+{
+    let parts = parts.to_vec(alloc)?;
+    Ok(Sequence::from_vec(parts))
+}

@@ -6,6 +6,7 @@ mod formats;
 mod patterns;
 mod plain;
 mod seds;
+mod transforms;
 mod values;
 
 pub use escapes::{Part, PartList};
@@ -13,3 +14,5 @@ pub use formats::{Directive, FormatFault, TimeFormat};
 pub use patterns::read_pattern;
 pub use plain::{read_boolean, read_count, read_digits, read_number};
 pub use seds::{Sed, SedFault, SedList, Which};
+pub use transforms::{Key, Transform, TransformFault, TransformList};
+pub use values::{own_value, value_of};

@@ -4,7 +4,7 @@ ghost use Rattle.std.specs.Prelude.{◌≡◌, ◌≢◌, IfOk, IfErr, Some, Non
 ghost use Rattle.ix_values.specs.Seds.{Form, which, replacement, swapping, bytes_of, form, IsSedOf, RefusesSed, IsApplicable};
 ghost use Rattle.ix_values.specs.Patterns.{Refuses};
 
-use crate::escapes::{Part, PartList, cut, plain_bytes, read_parts};
+use crate::escapes::{PartList, copy_parts, cut, plain_bytes, read_parts};
 use crate::patterns::read_pattern;
 use crate::plain::read_digits;
 use ix_base::{Bytes, NoMemory, Sequence};
@@ -163,6 +163,27 @@ impl Sed {
             [b's', b'/', rest @ ..] => read_replacement(alloc, rest),
             [b'y', b'/', rest @ ..] => read_swapping(alloc, rest),
             _ => Err(SedFault::BadValue),
+        }
+    }
+
+    /// A copy of it.
+    pub fn copy(&self, alloc: Global) -> Result<Sed, NoMemory>
+        ensures { IfOk result (λ copy. copy ≡ self.now) }
+    {
+        match self {
+            Sed::Replace {
+                pattern,
+                parts,
+                which,
+            } => Ok(Sed::Replace {
+                pattern: pattern.copy()?,
+                parts: copy_parts(alloc, parts.as_slice())?,
+                which: *which,
+            }),
+            Sed::Swap { from, to } => Ok(Sed::Swap {
+                from: from.copy()?,
+                to: to.copy()?,
+            }),
         }
     }
 }
