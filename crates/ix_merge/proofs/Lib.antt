@@ -1,0 +1,5 @@
+pub mod ListLemmas
+pub mod GroupLemmas
+pub mod MarkLemmas
+pub mod Adding
+pub mod Laws
