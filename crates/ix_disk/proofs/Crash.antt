@@ -4,10 +4,11 @@ use Rattle.std.proofs.lemmas.List.{length-replicate, take_all, take_at, drop_at,
 use Rattle.ix_base.specs.declared.files.File.{File}
 use Rattle.ix_disk.specs.Files.{is_same, same_file, other_file, is_it}
 use Rattle.ix_disk.specs.Image.{Torn}
-use Rattle.ix_disk.specs.Contents.{ones, ones_in}
-use Rattle.ix_disk.specs.declared.memory.Call.{Call}
-use Rattle.ix_disk.specs.declared.memory.Call.TheVariants.{Made, Wrote, Settled, Removed, Asked}
-use Rattle.ix_disk.specs.Memory.{see, Tears, Leaves, left_all, tear, tear_all, crashed, LeftBy, Torn-refl, seen_all}
+use Rattle.ix_disk.specs.Contents.{ones, ones_in, find, left_of, present, torn_in}
+use Rattle.ix_disk.specs.declared.held.Held.{Held}
+use Rattle.ix_disk.specs.declared.past.Call.{Call}
+use Rattle.ix_disk.specs.declared.past.Call.TheVariants.{Made, Wrote, Settled, Removed, Asked}
+use Rattle.ix_disk.specs.Memory.{see, Tears, Leaves, left_all, tear, tear_all, crashed, seen_after, torn_after, LeftBy, Torn-refl, seen_all}
 
 module _ (at n : ℕ) (old : List ℕ) where
   front : List ℕ
@@ -67,13 +68,14 @@ tears_a_leaving (Wrote file at bytes done) f seen torn = go (is_same f file) ref
     go : (told : Bool) → is_same f file ≡ told → Leaves (Wrote file at bytes done) f seen torn (if told then ones_in at (length bytes) torn else torn)
     go true is = inl (same_file f file is, marks at (length bytes) torn)
     go false is = inr (other_file f file is, refl)
-tears_a_leaving (Settled file) f seen torn = go (is_same f file) refl
+tears_a_leaving (Settled file true) f seen torn = go (is_same f file) refl
   where
-    go : (told : Bool) → is_same f file ≡ told → Leaves (Settled file) f seen torn (if told then seen else torn)
+    go : (told : Bool) → is_same f file ≡ told → Leaves (Settled file true) f seen torn (if told then seen else torn)
     go true is = inl (same_file f file is, refl)
     go false is = inr (other_file f file is, refl)
+tears_a_leaving (Settled file false) f seen torn = refl
 tears_a_leaving (Removed file done) f seen torn = ⊎_elim (λ is. inl (is, inl refl)) (λ ne. inr (ne, refl)) (is_it f file)
-tears_a_leaving Asked f seen torn = refl
+tears_a_leaving (Asked file) f seen torn = refl
 
 tear_left : (calls : List Call) (f : File) (seen torn : Option (List ℕ)) (images : Option (List ℕ) → Type 0) → images torn → left_all calls f seen images (tear_all calls f seen torn)
 tear_left [] f seen torn images is = is
@@ -82,3 +84,9 @@ tear_left (call ∷ calls) f seen torn images is = tear_left calls f (see call f
 pub crashed_left : (torn : Bool) (calls : List Call) → LeftBy calls (crashed torn calls)
 crashed_left true calls f = tear_left calls f None None (λ old. old ≡ None) refl
 crashed_left false calls f = seen_all calls f None (λ old. old ≡ None) refl
+
+-- the files in memory are those that a crash leaves
+pub left_crashed : (torn : Bool) (held : List Held) (calls : List Call) → ((f : File) → present held f ≡ seen_after calls f) → ((f : File) → torn_in held f ≡ torn_after calls f)
+    → (f : File) → find (left_of torn) held f ≡ crashed torn calls f
+left_crashed true held calls seen torn f = torn f
+left_crashed false held calls seen torn f = seen f

@@ -4,11 +4,11 @@ use Rattle.std.proofs.lemmas.Bool.Decides.{nat_tests}
 use Rattle.std.proofs.lemmas.List.{take_all, take-append-le}
 use Rattle.ix_base.specs.declared.files.File.{File}
 use Rattle.ix_disk.specs.Image.{Image, content, bytes_in, MayWrite, Writes, MayRemove, Removes, Stays, Reached, Passes}
-use Rattle.ix_disk.specs.declared.memory.Call.{Call}
-use Rattle.ix_disk.specs.declared.memory.Call.TheVariants.{Wrote, Settled, Removed, Asked}
+use Rattle.ix_disk.specs.declared.past.Call.{Call}
+use Rattle.ix_disk.specs.declared.past.Call.TheVariants.{Wrote, Settled, Removed, Asked}
 use Rattle.ix_disk.specs.Files.{is_same, same_file, told_same, told_other}
 use Rattle.ix_disk.specs.Contents.{changed, over, ones_in, become}
-use Rattle.ix_disk.specs.Memory.{see, see_all, seen_after, tear, tear_all, torn_after, Leaves, left_all, LeftBy, LeftSince, Torn-refl, seen_all}
+use Rattle.ix_disk.specs.Memory.{see, see_all, seen_after, tear, tear_all, torn_after, Leaves, left_all, LeftBy, LeftSince, Grows, Torn-refl, seen_all}
 
 pub see_push : (calls : List Call) (call : Call) (f : File) (seen : Option (List ℕ)) → see_all (calls ++ call ∷ []) f seen ≡ see call f (see_all calls f seen)
 see_push [] call f seen = refl
@@ -18,10 +18,6 @@ left_push : (calls : List Call) (call : Call) (f : File) (seen : Option (List �
     → (old : Option (List ℕ)) × left_all calls f seen images old × Leaves call f (see_all calls f seen) old new
 left_push [] call f seen images new left = left
 left_push (c ∷ calls) call f seen images new left = left_push calls call f (see c f seen) _ new left
-
--- The record as a disk's members, for a disk that is a record of calls.
-abbrev pub Grows : List Call → List Call → (Image → Image → Type 0) → Type 0
-Grows = Passes LeftBy length LeftSince
 
 -- a call that is not kept
 pub not_kept : (calls : List Call) (step : Image → Image → Type 0) → ((image : Image) → step image image) → Grows calls calls step
@@ -85,25 +81,28 @@ pub removed : (calls : List Call) (file : File) (done : Bool) → Grows calls (c
 removed calls file done = is_kept calls (Removed file done) _ (by_file calls (Removed file done) _ (λ old new each.
     record { others = λ f ne. elsewhere f file _ _ _ ne (each f); either = here file _ _ (each file) }))
 
-pub asked : (calls : List Call) → Grows calls (calls ++ Asked ∷ []) Stays
-asked calls = is_kept calls Asked _ (by_file calls Asked _ (λ old new each. λ i f. each f i))
+pub asked : (calls : List Call) (file : File) → Grows calls (calls ++ Asked file ∷ []) Stays
+asked calls file = is_kept calls (Asked file) _ (by_file calls (Asked file) _ (λ old new each. λ i f. each f i))
+
+pub unsettled : (calls : List Call) (file : File) → Grows calls (calls ++ Settled file false ∷ []) Stays
+unsettled calls file = is_kept calls (Settled file false) _ (by_file calls (Settled file false) _ (λ old new each. λ i f. each f i))
 
 -- a sync takes outcomes away, and leaves what a read gives
-settled_leads : (calls : List Call) (file : File) (image : Image) → LeftBy (calls ++ Settled file ∷ []) image → LeftBy calls image
+settled_leads : (calls : List Call) (file : File) (image : Image) → LeftBy (calls ++ Settled file true ∷ []) image → LeftBy calls image
 settled_leads calls file image left f =
-    let from = left_push calls (Settled file) f None (λ old. old ≡ None) (image f) (left f) in
+    let from = left_push calls (Settled file true) f None (λ old. old ≡ None) (image f) (left f) in
     go from.0 from.1 from.2
   where
-    go : (old : Option (List ℕ)) → left_all calls f None (λ old. old ≡ None) old → Leaves (Settled file) f (seen_after calls f) old (image f) → left_all calls f None (λ old. old ≡ None) (image f)
+    go : (old : Option (List ℕ)) → left_all calls f None (λ old. old ≡ None) old → Leaves (Settled file true) f (seen_after calls f) old (image f) → left_all calls f None (λ old. old ≡ None) (image f)
     go old before (inl is) = subst (λ (o : Option (List ℕ)). left_all calls f None (λ old. old ≡ None) o) (sym is.1) (seen_all calls f None (λ old. old ≡ None) refl)
     go old before (inr ne) = subst (λ (o : Option (List ℕ)). left_all calls f None (λ old. old ≡ None) o) (sym ne.1) before
 
-pub settled : (calls : List Call) (file : File) → Grows calls (calls ++ Settled file ∷ []) Stays
-settled calls file = is_kept calls (Settled file) _ (λ image left. (image, settled_leads calls file image left, refl))
+pub settled : (calls : List Call) (file : File) → Grows calls (calls ++ Settled file true ∷ []) Stays
+settled calls file = is_kept calls (Settled file true) _ (λ image left. (image, settled_leads calls file image left, refl))
 
-pub settled_file : (calls : List Call) (file : File) (image : Image) → LeftBy (calls ++ Settled file ∷ []) image → image file ≡ seen_after calls file
+pub settled_file : (calls : List Call) (file : File) (image : Image) → LeftBy (calls ++ Settled file true ∷ []) image → image file ≡ seen_after calls file
 settled_file calls file image left =
-    let from = left_push calls (Settled file) file None (λ old. old ≡ None) (image file) (left file) in
+    let from = left_push calls (Settled file true) file None (λ old. old ≡ None) (image file) (left file) in
     here file _ _ from.2
 
 -- what a read gives after each of them
@@ -162,16 +161,11 @@ removed_seen calls file = record {
 pub unremoved_seen : (calls : List Call) (file : File) → seen_after (calls ++ Removed file false ∷ []) ≡ seen_after calls
 unremoved_seen calls file = same_seen calls (Removed file false) (λ f. refl)
 
-pub settled_seen : (calls : List Call) (file : File) → seen_after (calls ++ Settled file ∷ []) ≡ seen_after calls
-settled_seen calls file = same_seen calls (Settled file) (λ f. refl)
+pub settled_seen : (calls : List Call) (file : File) (done : Bool) → seen_after (calls ++ Settled file done ∷ []) ≡ seen_after calls
+settled_seen calls file done = same_seen calls (Settled file done) (λ f. refl)
 
-pub asked_seen : (calls : List Call) → seen_after (calls ++ Asked ∷ []) ≡ seen_after calls
-asked_seen calls = same_seen calls Asked (λ f. refl)
-
--- a call that is kept or isn't
-pub either : (calls later : List Call) (call : Call) (P : List Call → Type 0) → P (calls ++ call ∷ []) → P calls → (later ≡ calls ++ call ∷ []) ⊎ (later ≡ calls) → P later
-either calls later call P kept not (inl is) = subst P (sym is) kept
-either calls later call P kept not (inr is) = subst P (sym is) not
+pub asked_seen : (calls : List Call) (file : File) → seen_after (calls ++ Asked file ∷ []) ≡ seen_after calls
+asked_seen calls file = same_seen calls (Asked file) (λ f. refl)
 
 -- what the worst of crashes leaves after one call more
 tear_push : (calls : List Call) (call : Call) (f : File) (seen torn : Option (List ℕ))
@@ -183,14 +177,17 @@ pub wrote_torn : (calls : List Call) (file : File) (at : ℕ) (bytes : List ℕ)
     → torn_after (calls ++ Wrote file at bytes done ∷ []) f ≡ changed file (ones_in at (length bytes)) f (torn_after calls f)
 wrote_torn calls file at bytes done f = tear_push calls (Wrote file at bytes done) f None None
 
-pub settled_torn : (calls : List Call) (file f : File) → torn_after (calls ++ Settled file ∷ []) f ≡ changed file (become (seen_after calls f)) f (torn_after calls f)
-settled_torn calls file f = tear_push calls (Settled file) f None None
+pub settled_torn : (calls : List Call) (file f : File) → torn_after (calls ++ Settled file true ∷ []) f ≡ changed file (become (seen_after calls f)) f (torn_after calls f)
+settled_torn calls file f = tear_push calls (Settled file true) f None None
+
+pub unsettled_torn : (calls : List Call) (file f : File) → torn_after (calls ++ Settled file false ∷ []) f ≡ torn_after calls f
+unsettled_torn calls file f = tear_push calls (Settled file false) f None None
 
 pub removed_torn : (calls : List Call) (file : File) (done : Bool) (f : File) → torn_after (calls ++ Removed file done ∷ []) f ≡ torn_after calls f
 removed_torn calls file done f = tear_push calls (Removed file done) f None None
 
-pub asked_torn : (calls : List Call) (f : File) → torn_after (calls ++ Asked ∷ []) f ≡ torn_after calls f
-asked_torn calls f = tear_push calls Asked f None None
+pub asked_torn : (calls : List Call) (file f : File) → torn_after (calls ++ Asked file ∷ []) f ≡ torn_after calls f
+asked_torn calls file f = tear_push calls (Asked file) f None None
 
 -- a sync gives the file what a read gives of it
 pub settled_here : (image : Image) (file f : File) (old : Option (List ℕ)) → changed file (become (image file)) f old ≡ changed file (become (image f)) f old
@@ -208,18 +205,50 @@ passes calls_of old new step k = record { later = k.later; now = k.now; since = 
 pub grown : (calls now later : List Call) (step : Image → Image → Type 0) → now ≡ later → Grows calls later step → Grows calls now step
 grown calls now later step is grows = subst (λ (l : List Call). Grows calls l step) (sym is) grows
 
-pub seen_in : (now later : List Call) → now ≡ later → (f : File) → seen_after now f ≡ seen_after later f
-seen_in now later is f = ap (λ (l : List Call). seen_after l f) is
+pub seen_by : (now later : List Call) → now ≡ later → (f : File) → seen_after now f ≡ seen_after later f
+seen_by now later is f = ap (λ (l : List Call). seen_after l f) is
 
-pub torn_in : (now later : List Call) → now ≡ later → (f : File) → torn_after now f ≡ torn_after later f
-torn_in now later is f = ap (λ (l : List Call). torn_after l f) is
+pub torn_by : (now later : List Call) → now ≡ later → (f : File) → torn_after now f ≡ torn_after later f
+torn_by now later is f = ap (λ (l : List Call). torn_after l f) is
 
-module _ (calls now : List Call) (kept : (now ≡ calls ++ Asked ∷ []) ⊎ (now ≡ calls)) where
+-- a call that is kept or isn't
+either : (calls now : List Call) (call : Call) (P : List Call → Type 0) → P (calls ++ call ∷ []) → P calls → (now ≡ calls ++ call ∷ []) ⊎ (now ≡ calls) → P now
+either calls now call P kept not (inl is) = subst P (sym is) kept
+either calls now call P kept not (inr is) = subst P (sym is) not
+
+module _ (calls now : List Call) (file : File) (kept : (now ≡ calls ++ Asked file ∷ []) ⊎ (now ≡ calls)) where
   pub ask_grows : Grows calls now Stays
-  ask_grows = either calls now Asked (λ (l : List Call). Grows calls l Stays) (asked calls) (not_kept calls Stays (λ image. refl)) kept
+  ask_grows = either calls now (Asked file) (λ (l : List Call). Grows calls l Stays) (asked calls file) (not_kept calls Stays (λ image. refl)) kept
 
   pub ask_seen : (f : File) → seen_after now f ≡ seen_after calls f
-  ask_seen f = either calls now Asked (λ (l : List Call). seen_after l f ≡ seen_after calls f) (see_push calls Asked f None) refl kept
+  ask_seen f = either calls now (Asked file) (λ (l : List Call). seen_after l f ≡ seen_after calls f) (see_push calls (Asked file) f None) refl kept
 
   pub ask_torn : (f : File) → torn_after now f ≡ torn_after calls f
-  ask_torn f = either calls now Asked (λ (l : List Call). torn_after l f ≡ torn_after calls f) (asked_torn calls f) refl kept
+  ask_torn f = either calls now (Asked file) (λ (l : List Call). torn_after l f ≡ torn_after calls f) (asked_torn calls file f) refl kept
+
+-- a write of a copy of the bytes, behind calls that are the same
+copied_write : (calls mid : List Call) (file : File) (at : ℕ) (copy bytes : List ℕ) (done : Bool) → mid ≡ calls → copy ≡ bytes → mid ++ Wrote file at copy done ∷ [] ≡ calls ++ Wrote file at bytes done ∷ []
+copied_write calls mid file at copy bytes done same copied =
+    ap (λ (l : List Call). l ++ Wrote file at copy done ∷ []) same ∙ ap (λ (b : List ℕ). calls ++ Wrote file at b done ∷ []) copied
+
+module _ (A : Type 0) (calls mid now : List Call) (file : File) (at : ℕ) (copy bytes : List ℕ) (same : mid ≡ calls) (copied : copy ≡ bytes) (kept : (now ≡ mid ++ Wrote file at copy false ∷ []) ⊎ (A × (now ≡ mid))) where
+  begun_kept : (now ≡ calls ++ Wrote file at bytes false ∷ []) ⊎ (now ≡ calls)
+  begun_kept = ⊎_elim (λ is. inl (is ∙ copied_write calls mid file at copy bytes false same copied)) (λ is. inr (is.1 ∙ same)) kept
+
+  -- one that fails
+  pub begun_goes : Grows calls now (MayWrite file at (length bytes))
+  begun_goes = either calls now (Wrote file at bytes false) (λ (l : List Call). Grows calls l (MayWrite file at (length bytes)))
+      (wrote calls file at bytes false) (not_kept calls _ (as_it_was at (length bytes) file)) begun_kept
+
+  pub begun_sees : MayWrite file at (length bytes) (seen_after calls) (seen_after now)
+  begun_sees = either calls now (Wrote file at bytes false) (λ (l : List Call). MayWrite file at (length bytes) (seen_after calls) (seen_after l))
+      (subst (λ (i : Image). MayWrite file at (length bytes) (seen_after calls) i) (sym (unwritten_seen calls file at bytes)) (as_it_was at (length bytes) file (seen_after calls)))
+      (as_it_was at (length bytes) file (seen_after calls)) begun_kept
+
+module _ (calls mid now : List Call) (file : File) (at : ℕ) (copy bytes : List ℕ) (same : mid ≡ calls) (copied : copy ≡ bytes) (kept : now ≡ mid ++ Wrote file at copy true ∷ []) where
+  -- one that succeeds
+  pub done_goes : Grows calls now (MayWrite file at (length bytes))
+  done_goes = grown calls now _ _ (kept ∙ copied_write calls mid file at copy bytes true same copied) (wrote calls file at bytes true)
+
+  pub done_sees : at ≤ length (bytes_in (seen_after calls) file) → Writes file at bytes (seen_after calls) (seen_after now)
+  done_sees le = subst (λ (l : List Call). Writes file at bytes (seen_after calls) (seen_after l)) (sym (kept ∙ copied_write calls mid file at copy bytes true same copied)) (wrote_seen calls file at bytes le)

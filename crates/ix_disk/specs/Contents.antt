@@ -1,14 +1,41 @@
--- Files in memory: which bytes a list of them gives to each file, and what a change makes of the bytes of one.
-use Rattle.std.specs.Prelude.{◌≡◌, ◌+◌, ◌-◌, ℕ, zero, suc, min, List, [], ◌∷◌, ◌++◌, length, take, drop, replicate, true, false, if◌then◌else◌, Option, None, Some}
+-- Files in memory: the bytes that a list of them gives to each file, what the worst crash leaves of each, and what a
+-- change makes of the bytes of one.
+use Rattle.std.specs.Prelude.{◌≡◌, ◌+◌, ◌-◌, ℕ, zero, suc, min, List, [], ◌∷◌, ◌++◌, length, take, drop, replicate, Bool, true, false, if◌then◌else◌, Option, None, Some}
 use Rattle.ix_base.specs.declared.files.File.{File}
 use Rattle.ix_disk.specs.Files.{is_same}
 use Rattle.ix_disk.specs.Image.{Image, content, overwritten}
-use Rattle.ix_disk.specs.declared.contents.Held.{Held}
+use Rattle.ix_disk.specs.declared.held.Held.{Held}
+
+-- what a read gives of a file
+abbrev pub seen_of : Held → Option (List ℕ)
+seen_of h = h.bytes
+
+-- the front of some bytes, and others behind it; or no file, where there are none behind it
+abbrev pub with_rest : Option (List ℕ) → ℕ → Option (List ℕ) → Option (List ℕ)
+with_rest bytes same None = None
+with_rest bytes same (Some rest) = Some (take same (content bytes) ++ rest)
+
+-- what the worst crash leaves of a file
+abbrev pub torn_of : Held → Option (List ℕ)
+torn_of h = with_rest h.bytes h.same h.rest
+
+-- what a crash leaves of a file where it tears it, or else what a read gives
+abbrev pub left_of : Bool → Held → Option (List ℕ)
+left_of true h = torn_of h
+left_of false h = seen_of h
 
 -- the first entry of a file is what counts
+abbrev pub find : (Held → Option (List ℕ)) → List Held → Image
+find view [] f = None
+find view (h ∷ held) f = if is_same f h.file then view h else find view held f
+
+-- what a read gives of each file
 abbrev pub present : List Held → Image
-present [] f = None
-present (h ∷ held) f = if is_same f h.file then h.bytes else present held f
+present = find seen_of
+
+-- what the worst crash leaves of each
+abbrev pub torn_in : List Held → Image
+torn_in = find torn_of
 
 -- the first entry of the file stands at that place
 abbrev pub IsFirst : List Held → File → ℕ → Type 0

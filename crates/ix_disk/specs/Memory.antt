@@ -5,20 +5,20 @@ use Rattle.std.proofs.lemmas.Bool.Decides.{nat_tests}
 use Rattle.std.proofs.lemmas.List.{take_all, take_at, drop_at}
 use Rattle.ix_base.specs.declared.files.File.{File}
 use Rattle.ix_disk.specs.Files.{is_same, same_file, other_file, is_it}
-use Rattle.ix_disk.specs.Image.{Image, content, Torn, overwritten}
+use Rattle.ix_disk.specs.Image.{Image, content, Torn, overwritten, Passes}
 use Rattle.ix_disk.specs.Contents.{present, changed, over, ones_in, become}
-use Rattle.ix_disk.specs.declared.memory.Call.{Call}
-use Rattle.ix_disk.specs.declared.memory.Call.TheVariants.{Made, Wrote, Settled, Removed, Asked}
+use Rattle.ix_disk.specs.declared.past.Call.{Call}
+use Rattle.ix_disk.specs.declared.past.Call.TheVariants.{Made, Wrote, Settled, Removed, Asked}
 
 -- the file in hand after a call, as a read gives it; no write begins past its end
 abbrev pub see : Call → File → Option (List ℕ) → Option (List ℕ)
 see (Made contents) f now = present contents.files.items f
 see (Wrote file at bytes true) f now = if nat_le at (length (content now)) then changed file (over at bytes) f now else now
 see (Wrote file at bytes false) f now = now
-see (Settled file) f now = now
+see (Settled file done) f now = now
 see (Removed file true) f now = changed file (become None) f now
 see (Removed file false) f now = now
-see Asked f now = now
+see (Asked file) f now = now
 
 -- after these calls, the first of them first
 abbrev pub see_all : List Call → File → Option (List ℕ) → Option (List ℕ)
@@ -33,9 +33,10 @@ pub record Tears (at n : ℕ) (old new : Option (List ℕ)) : Type 0 where
 abbrev pub Leaves : Call → File → Option (List ℕ) → Option (List ℕ) → Option (List ℕ) → Type 0
 Leaves (Made contents) f seen old new = new ≡ present contents.files.items f
 Leaves (Wrote file at bytes done) f seen old new = ((f ≡ file) × Tears at (length bytes) old new) ⊎ ((f ≢ file) × (new ≡ old))
-Leaves (Settled file) f seen old new = ((f ≡ file) × (new ≡ seen)) ⊎ ((f ≢ file) × (new ≡ old))
+Leaves (Settled file true) f seen old new = ((f ≡ file) × (new ≡ seen)) ⊎ ((f ≢ file) × (new ≡ old))
+Leaves (Settled file false) f seen old new = new ≡ old
 Leaves (Removed file done) f seen old new = ((f ≡ file) × ((new ≡ old) ⊎ (new ≡ None))) ⊎ ((f ≢ file) × (new ≡ old))
-Leaves Asked f seen old new = new ≡ old
+Leaves (Asked file) f seen old new = new ≡ old
 
 abbrev pub left_all : List Call → File → Option (List ℕ) → (Option (List ℕ) → Type 0) → Option (List ℕ) → Type 0
 left_all [] f seen images new = images new
@@ -46,13 +47,22 @@ left_all (call ∷ calls) f seen images new = left_all calls f (see call f seen)
 abbrev pub tear : Call → File → Option (List ℕ) → Option (List ℕ) → Option (List ℕ)
 tear (Made contents) f seen torn = present contents.files.items f
 tear (Wrote file at bytes done) f seen torn = changed file (ones_in at (length bytes)) f torn
-tear (Settled file) f seen torn = changed file (become seen) f torn
+tear (Settled file true) f seen torn = changed file (become seen) f torn
+tear (Settled file false) f seen torn = torn
 tear (Removed file done) f seen torn = torn
-tear Asked f seen torn = torn
+tear (Asked file) f seen torn = torn
 
 abbrev pub tear_all : List Call → File → Option (List ℕ) → Option (List ℕ) → Option (List ℕ)
 tear_all [] f seen torn = torn
 tear_all (call ∷ calls) f seen torn = tear_all calls f (see call f seen) (tear call f seen torn)
+
+-- the call asks for the length or the bytes of the file
+abbrev pub asks : File → Call → Bool
+asks file (Made contents) = false
+asks file (Wrote other at bytes done) = false
+asks file (Settled other done) = false
+asks file (Removed other done) = false
+asks file (Asked other) = is_same file other
 
 -- what a read gives, and what a crash may leave, of each file after these calls on an empty disk
 abbrev pub seen_after : List Call → Image
@@ -71,6 +81,10 @@ LeftBy calls image = (f : File) → left_all calls f None (λ old. old ≡ None)
 
 abbrev pub LeftSince : List Call → ℕ → Image → Type 0
 LeftSince calls t image = (k : ℕ) × (t ≤ k) × (k ≤ length calls) × LeftBy (take k calls) image
+
+-- the images go through the step as the record of calls goes from the old to the new
+abbrev pub Grows : List Call → List Call → (Image → Image → Type 0) → Type 0
+Grows = Passes LeftBy length LeftSince
 
 pub Torn-refl : (at n : ℕ) (file : List ℕ) → Torn at n file file
 Torn-refl at n file = record { before = refl; after = refl; no_shorter = omega arith; no_longer = omega arith }
@@ -99,14 +113,15 @@ sees_a_leaving (Wrote file at bytes true) f seen = go (is_same f file) refl (nat
     go false is true why = inr (other_file f file is, refl)
     go false is false why = inr (other_file f file is, refl)
 sees_a_leaving (Wrote file at bytes false) f seen = ⊎_elim (λ is. inl (is, record { torn = Torn-refl at (length bytes) (content seen); missing = λ e. e })) (λ ne. inr (ne, refl)) (is_it f file)
-sees_a_leaving (Settled file) f seen = ⊎_elim (λ is. inl (is, refl)) (λ ne. inr (ne, refl)) (is_it f file)
+sees_a_leaving (Settled file true) f seen = ⊎_elim (λ is. inl (is, refl)) (λ ne. inr (ne, refl)) (is_it f file)
+sees_a_leaving (Settled file false) f seen = refl
 sees_a_leaving (Removed file true) f seen = go (is_same f file) refl
   where
     go : (told : Bool) → is_same f file ≡ told → Leaves (Removed file true) f seen seen (if told then None else seen)
     go true is = inl (same_file f file is, inr refl)
     go false is = inr (other_file f file is, refl)
 sees_a_leaving (Removed file false) f seen = ⊎_elim (λ is. inl (is, inl refl)) (λ ne. inr (ne, refl)) (is_it f file)
-sees_a_leaving Asked f seen = refl
+sees_a_leaving (Asked file) f seen = refl
 
 pub seen_all : (calls : List Call) (f : File) (seen : Option (List ℕ)) (images : Option (List ℕ) → Type 0) → images seen → left_all calls f seen images (see_all calls f seen)
 seen_all [] f seen images is = is

@@ -1,19 +1,13 @@
-//! The bytes of files in memory.
+//! The files of a disk in memory, as a read gives them and as the worst crash leaves them.
 
-ghost use Rattle.std.specs.Prelude.{◌≡◌, ◌≤◌, ◌<◌, [], length, Some, None, OnOk, OnErr, IfOk, IfSome, IfNone, position};
+ghost use Rattle.std.specs.Prelude.{◌≡◌, ◌≤◌, ◌<◌, [], length, map, Some, None, OnOk, OnErr, IfOk, IfSome, IfNone, position};
 ghost use Rattle.ix_disk.specs.Files.{is_same};
-ghost use Rattle.ix_disk.specs.Contents.{present, IsFirst, IsAbsent, changed, over, ones_in, become};
+ghost use Rattle.ix_disk.specs.Contents.{seen_of, torn_of, left_of, find, present, torn_in, IsFirst, IsAbsent, changed, over, ones_in, become};
 ghost use Rattle.ix_disk.specs.Image.{content, bytes_in};
 
-use ix_base::{Bytes, File, NoMemory};
+use crate::held::Held;
+use ix_base::{File, NoMemory};
 use std::alloc::Global;
-
-/// A file with its bytes, or one that is missing.
-#[derive(Drop)]
-pub struct Held {
-    file: File,
-    bytes: Option<Bytes>,
-}
 
 /// Files with their bytes. One that is not among them is missing.
 #[derive(Drop)]
@@ -23,7 +17,7 @@ pub struct Contents {
 }
 
 /// Whether the two are one file.
-fn is_same_file(a: File, b: File) -> bool
+pub fn is_same_file(a: File, b: File) -> bool
     ensures { result ≡ is_same a b }
 {
     a.area as u8 == b.area as u8 && a.number == b.number
@@ -34,55 +28,6 @@ fn first_place(files: &[Held], file: File) -> Option<usize>
     ensures { result ≡ position (λ held. is_same file held.file) files.now }
 {
     files.iter().position(|held| is_same_file(file, held.file))
-}
-
-/// Copies bytes where there are any.
-fn copy_some(bytes: &Option<Bytes>) -> Result<Option<Bytes>, NoMemory>
-    ensures { IfOk result (λ copy. copy ≡ bytes.now) }
-{
-    match bytes {
-        Some(bytes) => Ok(Some(bytes.copy()?)),
-        None => Ok(None),
-    }
-}
-
-/// The bytes, or none where they are missing.
-fn lend(bytes: &Option<Bytes>) -> &[u8]
-    ensures { result.now ≡ content bytes.now }
-{
-    match bytes {
-        Some(bytes) => bytes.as_slice(),
-        None => &[],
-    }
-}
-
-/// Writes bytes over those at a place, and past the end. Bytes that were missing are there then.
-fn write_over(
-    alloc: Global,
-    old: &mut Option<Bytes>,
-    at: usize,
-    bytes: &[u8],
-) -> Result<(), NoMemory>
-    requires { at ≤ length (content old.old) }
-    ensures ok { OnOk result (old.new ≡ over at bytes.now old.old) }
-    ensures err { OnErr result (old.new ≡ old.old) }
-{
-    match old {
-        Some(old) => old.overwrite(at, bytes),
-        None => {
-            *old = Some(Bytes::copy_of(alloc, bytes)?);
-            Ok(())
-        }
-    }
-}
-
-/// Sets bytes to 1, as far as there are any.
-fn mark_some(bytes: &mut Option<Bytes>, at: usize, count: usize)
-    ensures { bytes.new ≡ ones_in at count bytes.old }
-{
-    if let Some(bytes) = bytes {
-        bytes.fill(at, count, 1);
-    }
 }
 
 impl Contents {
@@ -96,17 +41,16 @@ impl Contents {
         }
     }
 
-    /// A copy of them.
-    pub fn copy(&self) -> Result<Self, NoMemory>
-        ensures { IfOk result (λ copy. copy.files.items ≡ self.now.files.items) }
+    /// New files as a crash leaves these where it tears them, or else as a read gives them. A crash of the new ones leaves
+    /// what a read of them gives.
+    pub fn left(&self, torn: bool) -> Result<Self, NoMemory>
+        ensures seen { IfOk result (λ left. (f : File) → present left.files.items f ≡ find (left_of torn) self.now.files.items f) }
+        ensures torn { IfOk result (λ left. (f : File) → torn_in left.files.items f ≡ find (left_of torn) self.now.files.items f) }
     {
         let mut files = Vec::new(self.alloc);
         for held in &self.files {
-            let bytes = copy_some(&held.bytes)?;
-            files.push(Held {
-                file: held.file,
-                bytes,
-            })?;
+            let bytes = held.left(self.alloc, torn)?;
+            files.push(Held::settled(self.alloc, held.file, bytes))?;
         }
         Ok(Contents {
             alloc: self.alloc,
@@ -127,13 +71,14 @@ impl Contents {
     fn place_made(&mut self, file: File) -> Result<usize, NoMemory>
         ensures within { IfOk result (λ i. i < length self.new.files.items) }
         ensures found { IfOk result (λ i. IsFirst self.new.files.items file i) }
-        ensures same { (f : File) → present self.new.files.items f ≡ present self.old.files.items f }
+        ensures seen { (f : File) → present self.new.files.items f ≡ present self.old.files.items f }
+        ensures torn { (f : File) → torn_in self.new.files.items f ≡ torn_in self.old.files.items f }
     {
         if let Some(place) = self.place(file) {
             return Ok(place);
         }
         let place = self.files.len();
-        self.files.push(Held { file, bytes: None })?;
+        self.files.push(Held::missing(file))?;
         Ok(place)
     }
 
@@ -144,58 +89,57 @@ impl Contents {
         let Some(place) = self.place(file) else {
             return &[];
         };
-        lend(&self.files[place].bytes)
+        self.files[place].bytes()
     }
 
-    /// Writes bytes over those of the file, and past its end. It makes a missing file.
+    /// Writes bytes over those of the file, and past its end. It makes a missing file. The worst crash leaves 1 for each of
+    /// them, as far as it leaves any.
     pub fn write(&mut self, file: File, at: usize, bytes: &[u8]) -> Result<(), NoMemory>
         requires { at ≤ length (bytes_in (present self.old.files.items) file) }
-        ensures ok { OnOk result ((f : File) → present self.new.files.items f ≡ changed file (over at bytes.now) f (present self.old.files.items f)) }
-        ensures err { OnErr result ((f : File) → present self.new.files.items f ≡ present self.old.files.items f) }
+        ensures seen { OnOk result ((f : File) → present self.new.files.items f ≡ changed file (over at bytes.now) f (present self.old.files.items f)) }
+        ensures torn { OnOk result ((f : File) → torn_in self.new.files.items f ≡ changed file (ones_in at (length bytes.now)) f (torn_in self.old.files.items f)) }
+        ensures same_seen { OnErr result ((f : File) → present self.new.files.items f ≡ present self.old.files.items f) }
+        ensures same_torn { OnErr result ((f : File) → torn_in self.new.files.items f ≡ torn_in self.old.files.items f) }
     {
         let place = self.place_made(file)?;
-        write_over(self.alloc, &mut self.files[place].bytes, at, bytes)?;
+        self.files[place].write(self.alloc, at, bytes)?;
         Ok(())
     }
 
-    /// Sets bytes of the file to 1, as far as it goes.
-    pub fn mark(&mut self, file: File, at: usize, count: usize)
-        ensures { (f : File) → present self.new.files.items f ≡ changed file (ones_in at count) f (present self.old.files.items f) }
+    /// Sets bytes to 1 of what the worst crash leaves of the file, as far as it goes.
+    pub fn mark(&mut self, file: File, at: usize, count: usize) -> Result<(), NoMemory>
+        ensures seen { (f : File) → present self.new.files.items f ≡ present self.old.files.items f }
+        ensures torn { OnOk result ((f : File) → torn_in self.new.files.items f ≡ changed file (ones_in at count) f (torn_in self.old.files.items f)) }
+        ensures same_torn { OnErr result ((f : File) → torn_in self.new.files.items f ≡ torn_in self.old.files.items f) }
+    {
+        let Some(place) = self.place(file) else {
+            return Ok(());
+        };
+        self.files[place].mark(self.alloc, at, count)?;
+        Ok(())
+    }
+
+    /// From now on a crash leaves of the file what a read gives.
+    pub fn settle(&mut self, file: File)
+        ensures seen { (f : File) → present self.new.files.items f ≡ present self.old.files.items f }
+        ensures torn { (f : File) → torn_in self.new.files.items f ≡ changed file (become (present self.old.files.items file)) f (torn_in self.old.files.items f) }
     {
         let Some(place) = self.place(file) else {
             return;
         };
-        mark_some(&mut self.files[place].bytes, at, count);
+        self.files[place].settle(self.alloc);
     }
 
-    /// Removes the file.
-    pub fn remove(&mut self, file: File)
-        ensures { (f : File) → present self.new.files.items f ≡ changed file (become None) f (present self.old.files.items f) }
+    /// Removes the file. The worst crash brings it back.
+    pub fn remove(&mut self, file: File) -> Result<(), NoMemory>
+        ensures seen { OnOk result ((f : File) → present self.new.files.items f ≡ changed file (become None) f (present self.old.files.items f)) }
+        ensures same_seen { OnErr result ((f : File) → present self.new.files.items f ≡ present self.old.files.items f) }
+        ensures torn { (f : File) → torn_in self.new.files.items f ≡ torn_in self.old.files.items f }
     {
         let Some(place) = self.place(file) else {
-            return;
+            return Ok(());
         };
-        self.files[place].bytes = None;
-    }
-
-    /// A copy of the bytes of the file, or nothing where it is missing.
-    fn copy_bytes(&self, file: File) -> Result<Option<Bytes>, NoMemory>
-        ensures { IfOk result (λ copy. copy ≡ present self.now.files.items file) }
-    {
-        let Some(place) = self.place(file) else {
-            return Ok(None);
-        };
-        copy_some(&self.files[place].bytes)
-    }
-
-    /// Gives the file the bytes that it has in other contents, or makes it missing where it is there.
-    pub fn take_over(&mut self, other: &Contents, file: File) -> Result<(), NoMemory>
-        ensures ok { OnOk result ((f : File) → present self.new.files.items f ≡ changed file (become (present other.now.files.items file)) f (present self.old.files.items f)) }
-        ensures err { OnErr result ((f : File) → present self.new.files.items f ≡ present self.old.files.items f) }
-    {
-        let bytes = other.copy_bytes(file)?;
-        let place = self.place_made(file)?;
-        self.files[place].bytes = bytes;
+        self.files[place].remove(self.alloc)?;
         Ok(())
     }
 }

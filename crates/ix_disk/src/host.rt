@@ -5,39 +5,44 @@ ghost use Rattle.ix_base.specs.Faults.{Rose};
 ghost use Rattle.ix_disk.specs.Untold.{none_told};
 
 use crate::Disk;
-use ix_base::{Area, Failed, File};
-use std::fs::{OpenFile, OpenOptions};
+use crate::folders::{Folders, sync_open};
+use crate::paths::FilePath;
+use ix_base::{Failed, File};
+use std::fs::{Metadata, OpenFile, OpenOptions};
 use std::io::{Error, ErrorKind, Read, Seek, SeekFrom, Write};
+use std::os::unix::fs::MetadataExt;
 use std::rt::Files;
 use std::{fs, io};
 
 /// The disk over the files `var/<area>/<number>` of the current folder. A folder that is missing is made with the first
-/// file in it. It tells nothing of what the files hold. It counts each call of the system that failed in the end.
+/// file in it. It tells nothing of what the files hold. It counts each call of the system that failed in the end. It takes
+/// no memory.
+///
+/// The file that was written last stays open until another is written, so that a sync goes to the handle that was written
+/// and learns of each error of its writes. Once the system could not sync, no sync here answers `Ok` any more.
 #[derive(Drop)]
-pub struct HostDisk<R: Files + AllocGlobal + Drop> {
+pub struct HostDisk<R: Files + Drop> {
     rt: R,
     faults: u64,
+    written: Option<Written<R::File>>,
+    folders: Folders,
+    /// A sync of the system failed, so that bytes may be lost which a read still gives.
+    lost: bool,
+}
+
+/// A file that is open for writing.
+#[derive(Drop)]
+struct Written<H: Drop> {
+    file: File,
+    handle: H,
+    /// The device and the number by which the system knows it.
+    node: (u64, u64),
+    /// Something was written since its last sync.
+    dirty: bool,
 }
 
 /// No file gets as long as this.
 const MAX_LENGTH: u64 = 1 << 63;
-
-/// The folder of an area's files.
-fn folder_of(area: Area) -> &'static str {
-    match area {
-        Area::Meta => "var/meta",
-        Area::Home => "var/home",
-        Area::Cold => "var/cold",
-        Area::Frozen => "var/frozen",
-        Area::Thawed => "var/thawed",
-    }
-}
-
-/// The path of a file.
-fn path_of<R: AllocGlobal>(rt: &R, file: File) -> io::Result<String> {
-    let path = format!(in rt.alloc(); "{}/{}", folder_of(file.area), file.number)?;
-    Ok(path)
-}
 
 /// Nothing in place of the error that something is missing.
 fn if_there<T: Drop>(found: io::Result<T>) -> io::Result<Option<T>> {
@@ -48,22 +53,35 @@ fn if_there<T: Drop>(found: io::Result<T>) -> io::Result<Option<T>> {
     }
 }
 
-/// Opens a file for reading, where it is there.
-fn open_there<R: Files>(rt: &R, path: &str) -> io::Result<Option<R::File>> {
-    if_there(fs::open(rt, path))
+/// What the system knows of a file, where it is there. It fails where the path is no plain file.
+fn find<R: Files>(rt: &R, path: &str) -> io::Result<Option<Metadata>> {
+    let Some(found) = if_there(fs::metadata(rt, path))? else {
+        return Ok(None);
+    };
+    if !found.is_file() {
+        return Err(Error::from(ErrorKind::InvalidData));
+    }
+    Ok(Some(found))
+}
+
+/// The device and the number by which the system knows a file.
+fn node_of(found: &Metadata) -> (u64, u64) {
+    (found.dev(), found.ino())
 }
 
 /// How many bytes a file has; a missing one has none.
-fn length_of<R: Files>(rt: &R, path: &str) -> io::Result<u64>
+fn length_of<R: Files>(rt: &R, file: File) -> io::Result<u64>
     ensures { IfOk result (λ n. n < 2 ^ 63) }
 {
-    let Some(found) = if_there(fs::metadata(rt, path))? else {
+    let path = FilePath::of(file);
+    let Some(found) = find(rt, path.as_str())? else {
         return Ok(0);
     };
-    if !found.is_file() || found.len() >= MAX_LENGTH {
+    let length = found.len();
+    if length >= MAX_LENGTH {
         return Err(Error::from(ErrorKind::InvalidData));
     }
-    Ok(found.len())
+    Ok(length)
 }
 
 /// Reads from a place on until the buffer is full or the file ends.
@@ -86,6 +104,17 @@ fn fill<F: Read + Seek>(file: &mut F, at: u64, buf: &mut [u8]) -> io::Result<usi
     Ok(done)
 }
 
+fn read_file<R: Files>(rt: &R, file: File, at: u64, buf: &mut [u8]) -> io::Result<usize>
+    ensures { IfOk result (λ n. n ≤ length buf.old) }
+{
+    let path = FilePath::of(file);
+    if find(rt, path.as_str())?.is_none() || at >= MAX_LENGTH {
+        return Ok(0);
+    }
+    let mut opened = fs::open(rt, path.as_str())?;
+    fill(&mut opened, at, buf)
+}
+
 /// Writes all the bytes from a place on.
 fn put<F: Write + Seek>(file: &mut F, at: u64, bytes: &[u8]) -> io::Result<()> {
     file.seek(SeekFrom::Start(at))?;
@@ -104,86 +133,51 @@ fn put<F: Write + Seek>(file: &mut F, at: u64, bytes: &[u8]) -> io::Result<()> {
     Err(Error::from(ErrorKind::WriteZero))
 }
 
-/// Makes a folder where it is missing.
-fn make_folder<R: Files>(rt: &R, path: &str) -> io::Result<()> {
-    match fs::create_dir(rt, path) {
-        Err(fault) if fault.kind() != ErrorKind::AlreadyExists => Err(fault),
-        _ => Ok(()),
-    }
+/// Opens a file for writing that is there.
+fn open_there<R: Files>(rt: &R, path: &str) -> io::Result<R::File> {
+    let mut how = OpenOptions::new();
+    how.write(true);
+    how.open(rt, path)
 }
 
-/// Opens a file for writing, and makes it and its folder where they are missing.
-fn open_made<R: Files>(rt: &R, area: Area, path: &str) -> io::Result<R::File> {
+/// Makes a file and opens it for writing. It makes the folder of its area where that is missing.
+fn open_made<R: Files>(
+    rt: &R,
+    folders: &mut Folders,
+    file: File,
+    path: &str,
+) -> io::Result<R::File> {
     let mut how = OpenOptions::new();
-    how.write(true).create(true);
+    how.write(true).create_new(true);
+    folders.change(file.area);
     match how.open(rt, path) {
         Err(fault) if fault.kind() == ErrorKind::NotFound => {
-            make_folder(rt, "var")?;
-            make_folder(rt, folder_of(area))?;
+            folders.make(rt, file.area)?;
             how.open(rt, path)
         }
         opened => opened,
     }
 }
 
-/// Puts a file or a folder on the disk, where it is there.
-fn settle<R: Files>(rt: &R, path: &str) -> io::Result<()> {
-    match open_there(rt, path)? {
-        Some(file) => file.sync_all(),
-        None => Ok(()),
-    }
-}
-
-fn read_file<R: Files + AllocGlobal>(
-    rt: &R,
-    file: File,
-    at: u64,
-    buf: &mut [u8],
-) -> io::Result<usize>
-    ensures { IfOk result (λ n. n ≤ length buf.old) }
-{
-    if at >= MAX_LENGTH {
-        return Ok(0);
-    }
-    let path = path_of(rt, file)?;
-    match open_there(rt, path.as_str())? {
-        Some(mut opened) => fill(&mut opened, at, buf),
-        None => Ok(0),
-    }
-}
-
-fn write_file<R: Files + AllocGlobal>(rt: &R, file: File, at: u64, bytes: &[u8]) -> io::Result<()>
-    ensures { OnOk result (at + length bytes.now < 2 ^ 63) }
-{
-    if at >= MAX_LENGTH || bytes.len() as u64 >= MAX_LENGTH - at {
-        return Err(Error::from(ErrorKind::InvalidInput));
-    }
-    let path = path_of(rt, file)?;
-    let mut opened = open_made(rt, file.area, path.as_str())?;
-    put(&mut opened, at, bytes)
-}
-
-/// Puts the file on the disk, and the folders that lead to it.
-fn sync_file<R: Files + AllocGlobal>(rt: &R, file: File) -> io::Result<()> {
-    let path = path_of(rt, file)?;
-    settle(rt, path.as_str())?;
-    settle(rt, folder_of(file.area))?;
-    settle(rt, "var")?;
-    settle(rt, ".")
-}
-
-fn remove_file<R: Files + AllocGlobal>(rt: &R, file: File) -> io::Result<()> {
-    let path = path_of(rt, file)?;
-    if_there(fs::remove_file(rt, path.as_str()))?;
-    Ok(())
-}
-
-impl<R: Files + AllocGlobal + Drop> HostDisk<R> {
+impl<R: Files + Drop> HostDisk<R> {
     /// The disk of the current folder, by this runtime.
     pub fn new(rt: R) -> Self
         ensures { ⟦<HostDisk<R> as Disk>⟧.faults result ≡ 0 }
     {
-        HostDisk { rt, faults: 0 }
+        HostDisk {
+            rt,
+            faults: 0,
+            written: None,
+            folders: Folders::new(),
+            lost: false,
+        }
+    }
+
+    /// How many calls have failed.
+    pub fn faults(&self) -> u64
+        ensures { result ≡ ⟦<HostDisk<R> as Disk>⟧.faults self.now }
+    {
+        self.faults
     }
 
     /// Counts a fault.
@@ -194,9 +188,130 @@ impl<R: Files + AllocGlobal + Drop> HostDisk<R> {
         self.faults = self.faults.saturating_add(1);
         Failed
     }
+
+    /// Closes the file that was written last, and syncs it first where it has to be.
+    fn close(&mut self) -> io::Result<()>
+        ensures { self.new.faults ≡ self.old.faults }
+    {
+        let Some(written) = self.written.take() else {
+            return Ok(());
+        };
+        if written.dirty {
+            sync_open(&written.handle, &mut self.lost)?;
+        }
+        Ok(())
+    }
+
+    /// Whether the file that was written last is this one. Where another file has come into its place it is closed, and
+    /// bytes are lost that no sync has settled.
+    fn is_open(&mut self, file: File, found: &Option<Metadata>) -> io::Result<bool>
+        ensures { self.new.faults ≡ self.old.faults }
+    {
+        let Some(written) = &self.written else {
+            return Ok(false);
+        };
+        if written.file != file {
+            return Ok(false);
+        }
+        if found.as_ref().map(node_of) == Some(written.node) {
+            return Ok(true);
+        }
+        let dirty = written.dirty;
+        self.written = None;
+        if dirty {
+            self.lost = true;
+            return Err(Error::from(ErrorKind::InvalidData));
+        }
+        Ok(false)
+    }
+
+    /// Opens the file for writing, where it is not open yet. It makes a missing one.
+    fn open(&mut self, file: File) -> io::Result<()>
+        ensures { self.new.faults ≡ self.old.faults }
+    {
+        let path = FilePath::of(file);
+        let found = find(&self.rt, path.as_str())?;
+        if self.is_open(file, &found)? {
+            return Ok(());
+        }
+        self.close()?;
+        let handle = match found {
+            Some(_) => open_there(&self.rt, path.as_str())?,
+            None => open_made(&self.rt, &mut self.folders, file, path.as_str())?,
+        };
+        let node = node_of(&handle.metadata()?);
+        self.written = Some(Written {
+            file,
+            handle,
+            node,
+            dirty: false,
+        });
+        Ok(())
+    }
+
+    fn write_file(&mut self, file: File, at: u64, bytes: &[u8]) -> io::Result<()>
+        ensures bounded { OnOk result (at + length bytes.now < 2 ^ 63) }
+        ensures faults { self.new.faults ≡ self.old.faults }
+    {
+        if at >= MAX_LENGTH || bytes.len() as u64 >= MAX_LENGTH - at {
+            return Err(Error::from(ErrorKind::InvalidInput));
+        }
+        self.open(file)?;
+        let Some(written) = &mut self.written else {
+            return Err(Error::from(ErrorKind::NotFound));
+        };
+        written.dirty = true;
+        put(&mut written.handle, at, bytes)
+    }
+
+    /// Syncs the file, where it is there, and the folders that lead to it, where names in them changed.
+    fn sync_file(&mut self, file: File) -> io::Result<()>
+        ensures { self.new.faults ≡ self.old.faults }
+    {
+        if self.lost {
+            return Err(Error::from(ErrorKind::InvalidData));
+        }
+        let path = FilePath::of(file);
+        let found = find(&self.rt, path.as_str())?;
+        if self.is_open(file, &found)? {
+            self.sync_written()?;
+        } else if found.is_some() {
+            sync_open(&fs::open(&self.rt, path.as_str())?, &mut self.lost)?;
+        }
+        self.folders.settle(&self.rt, file.area, &mut self.lost)
+    }
+
+    /// Syncs the file that was written last, by the handle that it was written by.
+    fn sync_written(&mut self) -> io::Result<()>
+        ensures { self.new.faults ≡ self.old.faults }
+    {
+        if let Some(written) = &mut self.written {
+            sync_open(&written.handle, &mut self.lost)?;
+            written.dirty = false;
+        }
+        Ok(())
+    }
+
+    fn remove_file(&mut self, file: File) -> io::Result<()>
+        ensures { self.new.faults ≡ self.old.faults }
+    {
+        let path = FilePath::of(file);
+        if find(&self.rt, path.as_str())?.is_none() {
+            return Ok(());
+        }
+        if self
+            .written
+            .as_ref()
+            .is_some_and(|written| written.file == file)
+        {
+            self.written = None;
+        }
+        self.folders.change(file.area);
+        fs::remove_file(&self.rt, path.as_str())
+    }
 }
 
-impl<R: Files + AllocGlobal + Drop> Disk for HostDisk<R> {
+impl<R: Files + Drop> Disk for HostDisk<R> {
     ghost seen = { λ d. None };
 
     ghost may_leave = { λ d image. ⊥ };
@@ -214,10 +329,7 @@ impl<R: Files + AllocGlobal + Drop> Disk for HostDisk<R> {
     ghost only_now = { λ d image left. left };
 
     fn length(&mut self, file: File) -> Result<u64, Failed> {
-        let Ok(path) = path_of(&self.rt, file) else {
-            return Err(self.fail());
-        };
-        match length_of(&self.rt, path.as_str()) {
+        match length_of(&self.rt, file) {
             Ok(length) => Ok(length),
             Err(_) => Err(self.fail()),
         }
@@ -231,21 +343,21 @@ impl<R: Files + AllocGlobal + Drop> Disk for HostDisk<R> {
     }
 
     fn write_at(&mut self, file: File, at: u64, bytes: &[u8]) -> Result<(), Failed> {
-        match write_file(&self.rt, file, at, bytes) {
+        match self.write_file(file, at, bytes) {
             Ok(()) => Ok(()),
             Err(_) => Err(self.fail()),
         }
     }
 
     fn sync(&mut self, file: File) -> Result<(), Failed> {
-        match sync_file(&self.rt, file) {
+        match self.sync_file(file) {
             Ok(()) => Ok(()),
             Err(_) => Err(self.fail()),
         }
     }
 
     fn remove(&mut self, file: File) -> Result<(), Failed> {
-        match remove_file(&self.rt, file) {
+        match self.remove_file(file) {
             Ok(()) => Ok(()),
             Err(_) => Err(self.fail()),
         }

@@ -1,100 +1,30 @@
 //! A disk in memory, which can crash.
 
-ghost use Rattle.std.specs.Prelude.{◌≡◌, ◌≤◌, ◌-◌, ◌⊎◌, ◌++◌, [], ◌∷◌, ℕ, List, length, take, drop, min, Option, Some, None, true, false, if◌then◌else◌, OnOk, OnErr, IfOk};
+ghost use Rattle.std.specs.Prelude.{◌≡◌, ◌≤◌, ◌<◌, ◌-◌, ◌+◌, ◌^◌, ◌++◌, [], ◌∷◌, ℕ, List, ◌⊎◌, length, take, drop, min, Option, Some, None, true, false, IfOk, OnOk, OnErr, count_by};
 ghost use Rattle.std.proofs.Props.{props};
 ghost use Rattle.ix_base.specs.Faults.{HasCause, Rose};
+ghost use Rattle.ix_base.specs.Told.{Told};
 ghost use Rattle.ix_base.specs.declared.files.File.{File};
-ghost use Rattle.ix_disk.specs.Contents.{present};
+ghost use Rattle.ix_disk.specs.Contents.{present, torn_in};
 ghost use Rattle.ix_disk.specs.Memory.{seen_after, torn_after};
-ghost use Rattle.ix_disk.specs.Image.{Image, nothing, bytes_in};
-ghost use Rattle.ix_disk.specs.declared.memory.Call.TheVariants.{Asked};
+ghost use Rattle.ix_disk.specs.Image.{Image, nothing, bytes_in, MayWrite, Writes, MayRemove, Removes, Stays};
 
 use crate::Disk;
 use crate::contents::Contents;
+use crate::past::{Call, Past};
 use ix_base::{Bytes, FailPlan, Failed, File, NoMemory};
 use std::alloc::Global;
 
-/// What the record of a disk has of a call.
-#[derive(Drop)]
-pub enum Call {
-    /// The disk was made with these files.
-    Made {
-        contents: Contents,
-    },
-    /// A write that was begun, and whether it succeeded.
-    Wrote {
-        file: File,
-        at: u64,
-        bytes: Bytes,
-        done: bool,
-    },
-    /// A sync that succeeded.
-    Settled {
-        file: File,
-    },
-    /// A removal that was begun, and whether it succeeded.
-    Removed {
-        file: File,
-        done: bool,
-    },
-    /// A call that changes nothing.
-    Asked,
-}
-
-/// The calls that a disk has had, and those that are to fail.
-#[derive(Drop)]
-pub struct Past {
-    calls: Vec<Call>,
-    plan: FailPlan,
-}
-
-impl Past {
-    /// Keeps a call that succeeds. It fails where there is no room to keep it.
-    fn keep(&mut self, call: Call) -> Result<(), Failed>
-        ensures ok { OnOk result (self.new.calls.items ≡ self.old.calls.items ++ call ∷ []) }
-        ensures err { OnErr result (self.new.calls.items ≡ self.old.calls.items) }
-        ensures cause { HasCause self.old.plan.faults self.new.plan.faults result }
-    {
-        if self.calls.push(call).is_err() {
-            return Err(self.plan.fail());
-        }
-        Ok(())
-    }
-
-    /// Keeps a call that changes nothing. It fails where the plan says so, and where there is no room.
-    fn ask(&mut self) -> Result<(), Failed>
-        ensures kept { (self.new.calls.items ≡ self.old.calls.items ++ Asked ∷ []) ⊎ (self.new.calls.items ≡ self.old.calls.items) }
-        ensures cause { HasCause self.old.plan.faults self.new.plan.faults result }
-    {
-        let due = self.plan.is_due();
-        self.keep(Call::Asked)?;
-        if due {
-            return Err(self.plan.fail());
-        }
-        Ok(())
-    }
-
-    /// Takes the last call back, which fails after all.
-    fn take_back(&mut self) -> Failed
-        ensures back { (calls : List Call) (call : Call) → self.old.calls.items ≡ calls ++ call ∷ [] → self.new.calls.items ≡ calls }
-        ensures cause { Rose self.old.plan.faults self.new.plan.faults }
-        ensures later { self.old.plan.faults ≤ self.new.plan.faults }
-    {
-        let _ = self.calls.pop();
-        self.plan.fail()
-    }
-}
-
 /// A disk in memory. It keeps a record of all its calls, by which it tells the images of each moment, and the files as
-/// they stand. It fails a call for which it finds no room.
+/// they stand. A call for which it finds no room fails, and is not in the record.
 #[derive(Drop)]
 pub struct MemDisk {
     alloc: Global,
+    /// The record of its calls, and which are to fail.
     past: Past,
-    held: Contents,
-    torn: Contents,
-    ghost held_is: { (file : File) → present held.files.items file ≡ seen_after past.calls.items file } by { Prim.hlevel props },
-    ghost torn_is: { (file : File) → present torn.files.items file ≡ torn_after past.calls.items file } by { Prim.hlevel props },
+    files: Contents,
+    ghost seen_is: { (file : File) → present files.files.items file ≡ seen_after past.calls.items file } by { Prim.hlevel props },
+    ghost torn_is: { (file : File) → torn_in files.files.items file ≡ torn_after past.calls.items file } by { Prim.hlevel props },
 }
 
 const MAX_LENGTH: u64 = 1 << 63;
@@ -119,27 +49,48 @@ impl MemDisk {
         ensures seen { ⟦<MemDisk as Disk>⟧.seen result ≡ Some nothing }
         ensures left { (image : Image) → ⟦<MemDisk as Disk>⟧.may_leave result image → image ≡ nothing }
         ensures faults { ⟦<MemDisk as Disk>⟧.faults result ≡ plan.faults }
+        ensures calls { result.past.calls.items ≡ [] }
+        ensures plan { result.past.plan ≡ plan }
+        ensures shortages { result.past.shortages ≡ 0 }
     {
         MemDisk {
             alloc,
             past: Past {
                 calls: Vec::new(alloc),
                 plan,
+                shortages: 0,
             },
-            held: Contents::new(alloc),
-            torn: Contents::new(alloc),
+            files: Contents::new(alloc),
         }
     }
 }
 
 impl MemDisk {
-    ghost use Rattle.ix_disk.specs.Memory.{crashed, LeftBy};
+    ghost use Rattle.ix_disk.specs.Memory.{crashed, LeftBy, asks};
 
     /// How many calls the record has, which is the moment of the disk's clock.
     pub fn calls(&self) -> usize
         ensures { result ≡ ⟦<MemDisk as Disk>⟧.moment self.now }
     {
         self.past.calls.len()
+    }
+
+    /// How many calls in the record asked for the length or the bytes of the file.
+    pub fn asked(&self, file: File) -> usize
+        ensures { result ≡ count_by (asks file) self.now.past.calls.items }
+    {
+        self.past
+            .calls
+            .iter()
+            .filter(|call| call.asks(file))
+            .count()
+    }
+
+    /// How many calls found no room for what they had to keep.
+    pub fn shortages(&self) -> u64
+        ensures { result ≡ self.now.past.shortages }
+    {
+        self.past.shortages
     }
 
     /// A new disk as a crash now may leave this one, with no calls that are to fail. Where `torn` is false it holds what a
@@ -150,43 +101,91 @@ impl MemDisk {
         ensures seen { IfOk result (λ disk. ⟦<MemDisk as Disk>⟧.seen disk ≡ Some (crashed torn self.now.past.calls.items)) }
         ensures one { IfOk result (λ disk. (image : Image) → ⟦<MemDisk as Disk>⟧.may_leave disk image → ⟦<MemDisk as Disk>⟧.seen disk ≡ Some image) }
         ensures left { IfOk result (λ disk. (image : Image) → ⟦<MemDisk as Disk>⟧.may_leave disk image → ⟦<MemDisk as Disk>⟧.may_leave self.now image) }
+        ensures plan { IfOk result (λ disk. (disk.past.plan.calls ≡ 0) × (disk.past.plan.failing.items ≡ [])) }
         ensures faults { IfOk result (λ disk. ⟦<MemDisk as Disk>⟧.faults disk ≡ 0) }
     {
-        let disk = MemDisk::made(self.alloc, self.left(torn))?;
+        let contents = self.files.left(torn)?;
+        let disk = MemDisk::made(self.alloc, contents)?;
         Ok(disk)
     }
 
-    /// The files that a crash leaves.
-    fn left(&self, torn: bool) -> &Contents
-        ensures { (file : File) → present result.now.files.items file ≡ crashed torn self.now.past.calls.items file }
-    {
-        if torn { &self.torn } else { &self.held }
-    }
-
     /// A disk with these files and no calls that are to fail.
-    fn made(alloc: Global, contents: &Contents) -> Result<MemDisk, NoMemory>
-        ensures seen { IfOk result (λ disk. (file : File) → seen_after disk.past.calls.items file ≡ present contents.now.files.items file) }
-        ensures one { IfOk result (λ disk. (image : Image) → LeftBy disk.past.calls.items image → (file : File) → image file ≡ present contents.now.files.items file) }
+    fn made(alloc: Global, contents: Contents) -> Result<MemDisk, NoMemory>
+        ensures seen { IfOk result (λ disk. (file : File) → seen_after disk.past.calls.items file ≡ present contents.files.items file) }
+        ensures one { IfOk result (λ disk. (image : Image) → LeftBy disk.past.calls.items image → (file : File) → image file ≡ present contents.files.items file) }
+        ensures plan { IfOk result (λ disk. (disk.past.plan.calls ≡ 0) × (disk.past.plan.failing.items ≡ [])) }
         ensures faults { IfOk result (λ disk. disk.past.plan.faults ≡ 0) }
     {
+        let files = contents.left(false)?;
         let mut calls = Vec::new(alloc);
-        calls.push(Call::Made {
-            contents: contents.copy()?,
-        })?;
+        calls.push(Call::Made { contents })?;
         Ok(MemDisk {
             alloc,
             past: Past {
                 calls,
                 plan: FailPlan::none(alloc),
+                shortages: 0,
             },
-            held: contents.copy()?,
-            torn: contents.copy()?,
+            files,
         })
     }
 }
 
+impl MemDisk {
+    ghost use Rattle.std.specs.Prelude.{vec_len, vec_capacity};
+    ghost use Rattle.ix_disk.specs.declared.past.Call.TheVariants.{Wrote};
+
+    /// Keeps a write that was begun and fails.
+    fn begin_write(&mut self, file: File, at: u64, bytes: Bytes) -> Failed
+        requires { vec_len self.old.past.calls < vec_capacity self.old.past.calls }
+        ensures recorded { (self.new.past.calls.items ≡ self.old.past.calls.items ++ Wrote file at bytes false ∷ [])
+            ⊎ (Rose self.old.past.shortages self.new.past.shortages × (self.new.past.calls.items ≡ self.old.past.calls.items)) }
+        ensures rose { Rose self.old.past.plan.faults self.new.past.plan.faults }
+        ensures later { self.old.past.plan.faults ≤ self.new.past.plan.faults }
+        ensures number { self.new.past.plan.calls ≡ self.old.past.plan.calls }
+        ensures list { self.new.past.plan.failing ≡ self.old.past.plan.failing }
+    {
+        let Ok(()) = self.files.mark(file, at as usize, bytes.len()) else {
+            return self.past.run_short();
+        };
+        self.past.keep(Call::Wrote {
+            file,
+            at,
+            bytes,
+            done: false,
+        });
+        self.past.plan.fail()
+    }
+
+    /// Writes, and keeps the write.
+    fn write(&mut self, file: File, at: u64, bytes: Bytes) -> Result<(), Failed>
+        requires room { vec_len self.old.past.calls < vec_capacity self.old.past.calls }
+        requires place { at ≤ length (bytes_in (seen_after self.old.past.calls.items) file) }
+        ensures ok { OnOk result (self.new.past.calls.items ≡ self.old.past.calls.items ++ Wrote file at bytes true ∷ []) }
+        ensures short { OnErr result (Rose self.old.past.shortages self.new.past.shortages) }
+        ensures err { OnErr result (self.new.past.calls.items ≡ self.old.past.calls.items) }
+        ensures cause { HasCause self.old.past.plan.faults self.new.past.plan.faults result }
+        ensures number { self.new.past.plan.calls ≡ self.old.past.plan.calls }
+        ensures list { self.new.past.plan.failing ≡ self.old.past.plan.failing }
+    {
+        let Ok(()) = self.files.write(file, at as usize, bytes.as_slice()) else {
+            return Err(self.past.run_short());
+        };
+        self.past.keep(Call::Wrote {
+            file,
+            at,
+            bytes,
+            done: true,
+        });
+        Ok(())
+    }
+}
+
 impl Disk for MemDisk {
-    ghost use Rattle.ix_disk.specs.Memory.{LeftBy, LeftSince, memory_seen_stays, memory_counts_now, memory_only_now};
+    ghost use Rattle.ix_base.specs.Plans.{CountsCall};
+    ghost use Rattle.ix_disk.specs.Memory.{LeftBy, LeftSince, Grows, memory_seen_stays, memory_counts_now, memory_only_now};
+    ghost use Rattle.ix_disk.specs.Recorded.{Recorded};
+    ghost use Rattle.ix_disk.specs.declared.past.Call.TheVariants.{Wrote, Settled, Removed, Asked};
 
     ghost seen = { λ d. Some (seen_after d.past.calls.items) };
 
@@ -204,71 +203,99 @@ impl Disk for MemDisk {
 
     ghost only_now = { λ d image left. memory_only_now d.past.calls.items image left };
 
-    fn length(&mut self, file: File) -> Result<u64, Failed> {
-        self.past.ask()?;
-        let len = self.held.bytes(file).len() as u64;
+    /// It fails where the call is due to fail, where it finds no room, and where the file has 2^63 bytes.
+    fn length(&mut self, file: File) -> Result<u64, Failed>
+        ensures length { IfOk result (λ n. (image : Image) → Some (seen_after self.old.past.calls.items) ≡ Some image → n ≡ length (bytes_in image file)) }
+        ensures bounded { IfOk result (λ n. n < 2 ^ 63) }
+        ensures same { Some (seen_after self.new.past.calls.items) ≡ Some (seen_after self.old.past.calls.items) }
+        ensures images { Grows self.old.past.calls.items self.new.past.calls.items Stays }
+        ensures cause { HasCause self.old.past.plan.faults self.new.past.plan.faults result }
+        ensures recorded { Recorded self.old.past self.new.past (Asked file) (Asked file) (2 ^ 63 ≤ length (bytes_in (seen_after self.old.past.calls.items) file)) result }
+        ensures counted { CountsCall self.old.past.plan self.new.past.plan }
+    {
+        self.past.ask(file)?;
+        let len = self.files.bytes(file).len() as u64;
         if len >= MAX_LENGTH {
             return Err(self.past.plan.fail());
         }
         Ok(len)
     }
 
-    fn read(&mut self, file: File, at: u64, buf: &mut [u8]) -> Result<usize, Failed> {
-        self.past.ask()?;
-        Ok(copy_from(self.held.bytes(file), at, buf))
+    /// It fails where the call is due to fail, and where it finds no room.
+    fn read(&mut self, file: File, at: u64, buf: &mut [u8]) -> Result<usize, Failed>
+        ensures count { IfOk result (λ n. n ≤ length buf.old) }
+        ensures bytes { IfOk result (λ n. (image : Image) → Some (seen_after self.old.past.calls.items) ≡ Some image →
+            (n ≡ min (length buf.old) (length (bytes_in image file) - at))
+            × (buf.new ≡ take n (drop at (bytes_in image file)) ++ drop n buf.old)) }
+        ensures same { Some (seen_after self.new.past.calls.items) ≡ Some (seen_after self.old.past.calls.items) }
+        ensures images { Grows self.old.past.calls.items self.new.past.calls.items Stays }
+        ensures cause { HasCause self.old.past.plan.faults self.new.past.plan.faults result }
+        ensures recorded { Recorded self.old.past self.new.past (Asked file) (Asked file) ⊥ result }
+        ensures counted { CountsCall self.old.past.plan self.new.past.plan }
+    {
+        self.past.ask(file)?;
+        Ok(copy_from(self.files.bytes(file), at, buf))
     }
 
-    fn write_at(&mut self, file: File, at: u64, bytes: &[u8]) -> Result<(), Failed> {
-        let due = self.past.plan.is_due();
-        let past_the_end = at >= MAX_LENGTH || bytes.len() as u64 >= MAX_LENGTH - at;
+    /// It fails where the call is due to fail, where it finds no room, and where the file would come to 2^63 bytes.
+    fn write_at(&mut self, file: File, at: u64, bytes: &[u8]) -> Result<(), Failed>
+        requires { (image : Image) → Some (seen_after self.old.past.calls.items) ≡ Some image → at ≤ length (bytes_in image file) }
+        ensures written { OnOk result (Told (Writes file at bytes.now) (Some (seen_after self.old.past.calls.items)) (Some (seen_after self.new.past.calls.items))) }
+        ensures begun { OnErr result (Told (MayWrite file at (length bytes.now)) (Some (seen_after self.old.past.calls.items)) (Some (seen_after self.new.past.calls.items))) }
+        ensures bounded { OnOk result (at + length bytes.now < 2 ^ 63) }
+        ensures images { Grows self.old.past.calls.items self.new.past.calls.items (MayWrite file at (length bytes.now)) }
+        ensures cause { HasCause self.old.past.plan.faults self.new.past.plan.faults result }
+        ensures recorded { Recorded self.old.past self.new.past (Wrote file at bytes.now true) (Wrote file at bytes.now false) (2 ^ 63 ≤ at + length bytes.now) result }
+        ensures counted { CountsCall self.old.past.plan self.new.past.plan }
+    {
+        let due = self.past.begin()?;
         let Ok(copy) = Bytes::copy_of(self.alloc, bytes) else {
-            return Err(self.past.plan.fail());
+            return Err(self.past.run_short());
         };
-        if due || past_the_end {
-            self.past.keep(Call::Wrote {
-                file,
-                at,
-                bytes: copy,
-                done: false,
-            })?;
-            self.torn.mark(file, at as usize, bytes.len());
-            return Err(self.past.plan.fail());
+        if due || at >= MAX_LENGTH || bytes.len() as u64 >= MAX_LENGTH - at {
+            return Err(self.begin_write(file, at, copy));
         }
-        self.past.keep(Call::Wrote {
-            file,
-            at,
-            bytes: copy,
-            done: true,
-        })?;
-        let place = at as usize;
-        let Ok(()) = self.held.write(file, place, bytes) else {
-            return Err(self.past.take_back());
-        };
-        self.torn.mark(file, place, bytes.len());
+        self.write(file, at, copy)?;
         Ok(())
     }
 
-    fn sync(&mut self, file: File) -> Result<(), Failed> {
-        let due = self.past.plan.is_due();
+    /// It fails where the call is due to fail, and where it finds no room.
+    fn sync(&mut self, file: File) -> Result<(), Failed>
+        ensures settled { OnOk result ((image : Image) → LeftBy self.new.past.calls.items image → (read : Image) × (Some (seen_after self.new.past.calls.items) ≡ Some read) × (image file ≡ read file)) }
+        ensures same { Some (seen_after self.new.past.calls.items) ≡ Some (seen_after self.old.past.calls.items) }
+        ensures images { Grows self.old.past.calls.items self.new.past.calls.items Stays }
+        ensures cause { HasCause self.old.past.plan.faults self.new.past.plan.faults result }
+        ensures recorded { Recorded self.old.past self.new.past (Settled file true) (Settled file false) ⊥ result }
+        ensures counted { CountsCall self.old.past.plan self.new.past.plan }
+    {
+        let due = self.past.begin()?;
         if due {
-            self.past.keep(Call::Asked)?;
+            self.past.keep(Call::Settled { file, done: false });
             return Err(self.past.plan.fail());
         }
-        self.past.keep(Call::Settled { file })?;
-        let Ok(()) = self.torn.take_over(&self.held, file) else {
-            return Err(self.past.take_back());
-        };
+        self.past.keep(Call::Settled { file, done: true });
+        self.files.settle(file);
         Ok(())
     }
 
-    fn remove(&mut self, file: File) -> Result<(), Failed> {
-        let due = self.past.plan.is_due();
+    /// It fails where the call is due to fail, and where it finds no room.
+    fn remove(&mut self, file: File) -> Result<(), Failed>
+        ensures removed { OnOk result (Told (Removes file) (Some (seen_after self.old.past.calls.items)) (Some (seen_after self.new.past.calls.items))) }
+        ensures begun { OnErr result (Told (MayRemove file) (Some (seen_after self.old.past.calls.items)) (Some (seen_after self.new.past.calls.items))) }
+        ensures images { Grows self.old.past.calls.items self.new.past.calls.items (MayRemove file) }
+        ensures cause { HasCause self.old.past.plan.faults self.new.past.plan.faults result }
+        ensures recorded { Recorded self.old.past self.new.past (Removed file true) (Removed file false) ⊥ result }
+        ensures counted { CountsCall self.old.past.plan self.new.past.plan }
+    {
+        let due = self.past.begin()?;
         if due {
-            self.past.keep(Call::Removed { file, done: false })?;
+            self.past.keep(Call::Removed { file, done: false });
             return Err(self.past.plan.fail());
         }
-        self.past.keep(Call::Removed { file, done: true })?;
-        self.held.remove(file);
+        let Ok(()) = self.files.remove(file) else {
+            return Err(self.past.run_short());
+        };
+        self.past.keep(Call::Removed { file, done: true });
         Ok(())
     }
 }
