@@ -1,4 +1,4 @@
 pub mod Sizes
-pub mod Fields
 pub mod Records
 pub mod Shown
+pub mod Left

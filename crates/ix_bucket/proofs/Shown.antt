@@ -1,5 +1,5 @@
 -- What the bytes that a reader holds say of its file.
-use Rattle.std.proofs.Common.{◌≡◌, ℕ, ◌+◌, ◌-◌, ◌^◌, ◌<◌, ◌≤◌, Bool, true, false, ltb, List, [], ◌++◌, length, take, drop, Option, Some, None, refl, sym, ap, subst, ◌∙◌, arith, inl, inr}
+use Rattle.std.proofs.Common.{◌≡◌, ℕ, ◌+◌, ◌-◌, ◌^◌, ◌<◌, ◌≤◌, Bool, true, false, ltb, List, [], ◌++◌, length, take, drop, Option, Some, None, refl, sym, ap, subst, ◌∙◌, append_assoc, arith, inl, inr}
 use Rattle.std.specs.Prelude.{IsTrue}
 use Rattle.std.proofs.Common.{rules}
 use Rattle.std.specs.Int.{w32, from_be_bytes}
@@ -10,10 +10,12 @@ use Rattle.ix_base.specs.declared.events.Event.{Event}
 use Rattle.ix_disk.specs.Image.{Image, bytes_in}
 use Rattle.ix_disk.specs.declared.disk.Disk.{Ghosts}
 use Rattle.ix_bucket.specs.declared.ahead.Reader.{Reader}
-use Rattle.ix_bucket.specs.Record.{string, fields, event_bytes, IsRecordOf}
-use Rattle.ix_bucket.specs.Reading.{number_at}
-use Rattle.ix_bucket.specs.Ahead.{IsCurrent, between, HasNoRecord, size_by, needed, Shows}
-use Rattle.ix_bucket.proofs.Fields.{wide32, number_again}
+use Rattle.ix_fields.specs.Spelling.{four, string}
+use Rattle.ix_fields.specs.Reading.{number_at, four_at}
+use Rattle.ix_fields.proofs.Again.{four_again}
+use Rattle.ix_bucket.specs.Record.{fields, event_bytes, IsRecordOf}
+use Rattle.ix_bucket.specs.Ahead.{IsCurrent, HoldsNothing, between, HasNoRecord, size_by, needed, Shows}
+use Rattle.ix_bucket.proofs.Sizes.{length_event_bytes}
 
 least : (o : Option (ℕ × List ℕ)) → 4 ≤ size_by o
 least None = omega arith
@@ -42,11 +44,11 @@ needed_take n bytes le =
     ]
 
 needed_string : (bytes rest : List ℕ) → length bytes < 2 ^ 32 → needed (string bytes ++ rest) ≡ 4 + length bytes
-needed_string bytes rest lt = ap size_by (number_again w32 (2 ^ 32) wide32 (length bytes) (bytes ++ rest) lt)
+unfolding string four_at
+needed_string bytes rest lt = ap needed (append_assoc (four (length bytes)) bytes rest) ∙ ap size_by (four_again (length bytes) (bytes ++ rest) lt)
 
 record_size : (event : Event) → 4 + length (fields event) ≡ length (event_bytes event)
-unfolding event_bytes
-record_size event = omega arith
+record_size event = sym (length_event_bytes event)
 
 -- a record is as long as its first four bytes say
 pub needed_record : (k : ℕ) (bytes : List ℕ) (event : Event) → IsRecordOf (take k bytes) event → needed bytes ≡ length (event_bytes event)
@@ -111,6 +113,10 @@ next_within at until len view event short le h =
 module _ {D : Type 0} (g : Ghosts D) where
   pub empty_current : (reader : Reader) (disk : D) → reader.held.items ≡ [] → IsCurrent g reader disk
   empty_current reader disk none = record { held = λ image told. record { rest = drop reader.start (bytes_in image reader.file); whole_is = rw none refl } }
+
+  -- a reader that holds nothing holds what any disk has
+  pub nothing_current : (reader : Reader) (disk : D) → HoldsNothing reader → IsCurrent g reader disk
+  nothing_current reader disk holds = empty_current reader disk holds.none
 
   pub read_current : (reader : Reader) (old new : D) (len : ℕ) → g.seen new ≡ g.seen old → ((image : Image) → g.seen old ≡ Some image → reader.held.items ≡ take len (drop reader.start (bytes_in image reader.file))) → IsCurrent g reader new
   read_current reader old new len same read = record {

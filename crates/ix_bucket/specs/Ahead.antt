@@ -1,5 +1,5 @@
 -- What a reader of bucket files holds.
-use Rattle.std.specs.Prelude.{◌≡◌, ◌≤◌, ◌+◌, ◌-◌, ℕ, List, length, take, drop, Option, Some, None}
+use Rattle.std.specs.Prelude.{◌≡◌, ◌≤◌, ◌+◌, ◌-◌, ℕ, List, [], length, take, drop, Option, Some, None}
 use Rattle.std.specs.Int.{w32}
 use Rattle.ix_base.specs.Told.{IsFrontOf}
 use Rattle.ix_base.specs.declared.events.Event.{Event}
@@ -8,12 +8,16 @@ use Rattle.ix_disk.specs.declared.disk.Disk.{Ghosts}
 use Rattle.ix_bucket.specs.declared.ahead.Reader.{Reader}
 use Rattle.ix_bucket.specs.declared.ahead.ReadFault.{ReadFault}
 use Rattle.ix_bucket.specs.declared.ahead.ReadFault.TheVariants.{Disk, BadRecord, NoMemory}
-use Rattle.ix_bucket.specs.Record.{IsRecordOf}
-use Rattle.ix_bucket.specs.Reading.{number_at}
+use Rattle.ix_bucket.specs.Record.{event_bytes, IsRecordOf}
+use Rattle.ix_fields.specs.Reading.{number_at}
 
 -- The bytes that the reader holds are those that a read of its file gives there now, where the disk tells it.
 pub record IsCurrent {D : Type 0} (g : Ghosts D) (reader : Reader) (disk : D) : Type 0 where
   pub held : (image : Image) → g.seen disk ≡ Some image → IsFrontOf reader.held.items (drop reader.start (bytes_in image reader.file))
+
+-- the reader holds no bytes
+pub record HoldsNothing (reader : Reader) : Type 0 where
+  pub none : reader.held.items ≡ []
 
 -- the bytes of a file from one place to another
 abbrev pub between : ℕ → ℕ → List ℕ → List ℕ
@@ -22,6 +26,12 @@ between at until bytes = take (until - at) (drop at bytes)
 -- no record begins at the place and ends by the other one
 abbrev pub HasNoRecord : ℕ → ℕ → List ℕ → Type 0
 HasNoRecord at until bytes = (event : Event) (next : ℕ) → next ≤ until → IsRecordOf (between at next bytes) event → ⊥
+
+-- a record begins at the one place and ends at the other
+pub record HasRecord (at next : ℕ) (bytes : List ℕ) : Type 0 where
+  pub event : Event
+  pub is_record : IsRecordOf (between at next bytes) event
+  pub size : next ≡ at + length (event_bytes event)
 
 -- how many bytes the record takes that begins so, by its length; four where the length is not whole
 abbrev pub size_by : Option (ℕ × List ℕ) → ℕ

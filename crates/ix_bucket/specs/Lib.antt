@@ -2,3 +2,4 @@ pub mod Record
 pub mod Reading
 pub mod Append
 pub mod Ahead
+pub mod Count

@@ -8,12 +8,13 @@ ghost use Rattle.ix_base.specs.Faults.{Rose, HasCause};
 ghost use Rattle.ix_base.specs.Lent.{lent_event};
 ghost use Rattle.ix_disk.specs.Image.{Image, bytes_in, Stays};
 ghost use Rattle.ix_disk.specs.Moments.{Goes};
-ghost use Rattle.ix_bucket.specs.Record.{IsRecordOf};
-ghost use Rattle.ix_bucket.specs.Ahead.{IsCurrent, HasNoRecord, between, needed, Shows, view_of, OnBadRecord};
+ghost use Rattle.ix_bucket.specs.Record.{event_bytes, IsRecordOf};
+ghost use Rattle.ix_bucket.specs.Ahead.{IsCurrent, HoldsNothing, HasNoRecord, between, needed, Shows, view_of, OnBadRecord};
 
-use crate::reading::{decode, length_at};
+use crate::reading::decode;
 use ix_base::{Area, BadRecord, EventRef, Failed, File, NoMemory};
 use ix_disk::Disk;
+use ix_fields::read_u32;
 use std::alloc::{AllocError, Global};
 
 /// Why no record was read.
@@ -61,10 +62,11 @@ pub struct Reader {
 const PIECE: u64 = 1 << 20;
 
 /// How many bytes the record takes that begins so, by its length; four where the length is not whole.
+#[tactic(auto, unfolding(ix_fields::specs::Reading::four_at))]
 fn needed(bytes: &[u8]) -> u64
     ensures { result ≡ needed bytes.now }
 {
-    match length_at(bytes) {
+    match read_u32(bytes) {
         Ok((len, _)) => 4 + u64::from(len),
         Err(_) => 4,
     }
@@ -145,7 +147,7 @@ fn room<D: Disk>(disk: &mut D, file: File, at: u64, until: u64) -> Result<u64, F
 impl Reader {
     /// A reader that holds nothing yet.
     pub fn new(alloc: Global) -> Result<Reader, NoMemory>
-        ensures { IfOk result (λ reader. reader.held.items ≡ []) }
+        ensures { IfOk result (λ reader. HoldsNothing reader) }
     {
         let held = Vec::with_capacity(alloc, PIECE as usize)?;
         let file = File {
@@ -157,6 +159,14 @@ impl Reader {
             start: 0,
             held,
         })
+    }
+
+    /// Lets go of what was read ahead, and keeps the room for it. After somebody has changed a file, the reader reads
+    /// from the disk again.
+    pub fn forget(&mut self)
+        ensures { HoldsNothing self.new }
+    {
+        self.held.clear();
     }
 
     /// The bytes held from one place to another, from the first one held on.
@@ -241,7 +251,8 @@ impl Reader {
 
     /// The event of the record at `at`, with its fields lent from the reader, and the place after it, by `until` at the
     /// latest; `None` where `at` is `until`. The answers are those of the file as a read gives it now, where what the
-    /// reader holds is so too: a new reader holds nothing, and a call keeps it so as long as nobody changes the file.
+    /// reader holds is so too: a new reader holds nothing, as one that forgot, and a call keeps it so as long as nobody
+    /// changes the file.
     pub fn next<D: Disk>(
         &mut self,
         disk: &mut D,
@@ -251,6 +262,8 @@ impl Reader {
     ) -> Result<Option<(EventRef<'_>, u64)>, ReadFault>
         ensures end { (at ≡ until) ↔ IsOkAnd result (λ answer. IsNone answer) }
         ensures after { IfOk result (λ answer. IfSome answer (λ found. (at < found.1) × (found.1 ≤ until))) }
+        // The place after it is that of its record's end, whatever the file holds behind.
+        ensures size { IfOk result (λ answer. IfSome answer (λ found. found.1 ≡ at + length (event_bytes (lent_event found.0)))) }
         ensures found { IfOk result (λ answer. IfSome answer (λ found. (image : Image) → D.Disk.seen disk.old ≡ Some image → IsCurrent D.Disk self.old disk.old →
             IsRecordOf (between at found.1 (bytes_in image file)) (lent_event found.0))) }
         ensures place { IfErr result (λ fault. OnBadRecord fault (λ place. place ≡ at)) }

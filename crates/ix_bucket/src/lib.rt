@@ -3,13 +3,12 @@
 
 mod ahead;
 mod appending;
+mod counting;
 mod reading;
 mod writing;
 
 pub use ahead::{ReadFault, Reader};
 pub use appending::append;
+pub use counting::count_records;
 pub use reading::{decode, unique_reading};
 pub use writing::encode;
-
-#[cfg(test)]
-mod tests;

@@ -1,63 +1,30 @@
 //! Records read from bytes.
 
 ghost use Rattle.std.specs.Prelude.{◌≡◌, ◌≤◌, ◌++◌, ℕ, List, length, take, IfOk, OnErr, IsOkAnd};
-ghost use Rattle.std.specs.Int.{w32};
 ghost use Rattle.ix_base.specs.declared.events.Event.{Event};
 ghost use Rattle.ix_base.specs.Lent.{lent_event};
-ghost use Rattle.ix_bucket.specs.Record.{event_bytes, IsInRange, IsRecordOf};
-ghost use Rattle.ix_bucket.specs.Reading.{Gives, number_at, moment_at, string_at, fields_at, record_at};
+ghost use Rattle.ix_fields.specs.Reading.{Gives};
+ghost use Rattle.ix_fields.specs.Spelling.{IsSigned64};
+ghost use Rattle.ix_bucket.specs.Record.{fields, event_bytes, IsInRange, IsRecordOf};
+ghost use Rattle.ix_bucket.specs.Reading.{fields_at, record_at};
 
 use ix_base::{BadRecord, EventRef};
-
-pub(crate) fn length_at(bytes: &[u8]) -> Result<(u32, &[u8]), BadRecord>
-    ensures { Gives (λ x. (x.0, x.1.now)) result (number_at w32 bytes.now) }
-{
-    if bytes.len() < 4 {
-        return Err(BadRecord);
-    }
-    let (front, rest) = bytes.split_at(4);
-    let number = u32::from_be_bytes([front[0], front[1], front[2], front[3]]);
-    Ok((number, rest))
-}
-
-#[tactic(auto, unfolding(crate::specs::Reading::moment_at))]
-fn moment_at(bytes: &[u8]) -> Result<(i64, &[u8]), BadRecord>
-    ensures { Gives (λ x. (x.0, x.1.now)) result (moment_at bytes.now) }
-{
-    if bytes.len() < 8 {
-        return Err(BadRecord);
-    }
-    let (front, rest) = bytes.split_at(8);
-    let micros = i64::from_be_bytes([
-        front[0], front[1], front[2], front[3], front[4], front[5], front[6], front[7],
-    ]);
-    Ok((micros, rest))
-}
-
-#[tactic(auto, unfolding(crate::specs::Reading::string_at))]
-fn string_at(bytes: &[u8]) -> Result<(&[u8], &[u8]), BadRecord>
-    ensures { Gives (λ x. (x.0.now, x.1.now)) result (string_at bytes.now) }
-{
-    let (len, rest) = length_at(bytes)?;
-    let len = len as usize;
-    if rest.len() < len {
-        return Err(BadRecord);
-    }
-    Ok(rest.split_at(len))
-}
+use ix_fields::{BadField, read_i64, read_string};
 
 #[tactic(auto, unfolding(crate::specs::Reading::fields_at))]
-fn fields_at(bytes: &[u8]) -> Result<(EventRef<'_>, &[u8]), BadRecord>
-    ensures { Gives (λ x. (lent_event x.0, x.1.now)) result (fields_at bytes.now) }
+fn fields_at(bytes: &[u8]) -> Result<(EventRef<'_>, &[u8]), BadField>
+    ensures gives { Gives (λ x. (lent_event x.0, x.1.now)) result (fields_at bytes.now) }
+    ensures found { IfOk result (λ x. bytes.now ≡ fields (lent_event x.0) ++ x.1.now) }
+    ensures ranged { IfOk result (λ x. IsSigned64 x.0.time × IsSigned64 x.0.arrival) }
 {
-    let (time, rest) = moment_at(bytes)?;
-    let (arrival, rest) = moment_at(rest)?;
-    let (index, rest) = string_at(rest)?;
-    let (host, rest) = string_at(rest)?;
-    let (source, rest) = string_at(rest)?;
-    let (sourcetype, rest) = string_at(rest)?;
-    let (meta, rest) = string_at(rest)?;
-    let (raw, rest) = string_at(rest)?;
+    let (time, rest) = read_i64(bytes)?;
+    let (arrival, rest) = read_i64(rest)?;
+    let (index, rest) = read_string(rest)?;
+    let (host, rest) = read_string(rest)?;
+    let (source, rest) = read_string(rest)?;
+    let (sourcetype, rest) = read_string(rest)?;
+    let (meta, rest) = read_string(rest)?;
+    let (raw, rest) = read_string(rest)?;
     Ok((
         EventRef {
             time,
@@ -74,13 +41,15 @@ fn fields_at(bytes: &[u8]) -> Result<(EventRef<'_>, &[u8]), BadRecord>
 }
 
 #[tactic(auto, unfolding(crate::specs::Reading::record_at))]
-fn record_at(bytes: &[u8]) -> Result<(EventRef<'_>, &[u8]), BadRecord>
-    ensures { Gives (λ x. (lent_event x.0, x.1.now)) result (record_at bytes.now) }
+fn record_at(bytes: &[u8]) -> Result<(EventRef<'_>, &[u8]), BadField>
+    ensures gives { Gives (λ x. (lent_event x.0, x.1.now)) result (record_at bytes.now) }
+    ensures found { IfOk result (λ x. bytes.now ≡ event_bytes (lent_event x.0) ++ x.1.now) }
+    ensures ranged { IfOk result (λ x. IsInRange (lent_event x.0)) }
 {
-    let (fields, rest) = string_at(bytes)?;
+    let (fields, rest) = read_string(bytes)?;
     let (event, left) = fields_at(fields)?;
     if !left.is_empty() {
-        return Err(BadRecord);
+        return Err(BadField);
     }
     Ok((event, rest))
 }
@@ -97,8 +66,10 @@ pub fn decode<'a>(bytes: &'a [u8]) -> Result<(EventRef<'a>, usize), BadRecord>
     ensures only { (event : Event) (rest : List ℕ) → IsInRange event → bytes.now ≡ event_bytes event ++ rest →
         IsOkAnd result (λ found. (lent_event found.0 ≡ event) × (found.1 ≡ length (event_bytes event))) }
 {
-    let (event, rest) = record_at(bytes)?;
-    Ok((event, bytes.len() - rest.len()))
+    match record_at(bytes) {
+        Ok((event, rest)) => Ok((event, bytes.len() - rest.len())),
+        Err(BadField) => Err(BadRecord),
+    }
 }
 
 /// No record is the beginning of another, so bytes are read in one way.

@@ -1,5 +1,6 @@
 -- What is put behind bytes leaves them.
-use Rattle.std.proofs.Common.{◌≡◌, ℕ, List, [], ◌++◌, Result, Ok, Err, ◌∙◌, ap, append_assoc, sym}
+use Rattle.std.proofs.Common.{◌≡◌, ℕ, List, [], ◌++◌, length, take, Result, Ok, Err, refl, ◌∙◌, ap, append_assoc, sym}
+use Rattle.std.proofs.lemmas.List.{append-nil, take_at}
 use Rattle.std.specs.Prelude.{OnOk, OnErr}
 use Rattle.ix_base.specs.Told.{IsFrontOf}
 use Rattle.ix_fields.specs.Writing.{Extends}
@@ -14,3 +15,9 @@ extends_none old new front is f = record { rest = f.rest; whole_is = is ∙ f.wh
 pub extends_either : {T E : Type 0} (result : Result T E) (old new bytes front : List ℕ) → OnOk result (new ≡ old ++ bytes) → OnErr result (new ≡ old) → IsFrontOf front old → IsFrontOf front new
 extends_either (Ok x) old new bytes front ok err f = extends_ok old new bytes front ok f
 extends_either (Err e) old new bytes front ok err f = extends_none old new front err f
+
+-- what stood there, by its length
+pub extends_take : (old new : List ℕ) → Extends old new → take (length old) new ≡ old
+extends_take old new begun =
+    let front = begun old (record { rest = []; whole_is = sym (append-nil old) }) in
+    ap (take (length old)) front.whole_is ∙ take_at old front.rest (length old) refl

@@ -1,4 +1,3 @@
-pub mod Numbers
 pub mod Again
 pub mod Lists
 pub mod Rows

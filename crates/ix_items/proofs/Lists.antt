@@ -6,7 +6,8 @@ use Rattle.std.proofs.lemmas.List.Concat.{flat_map-cons}
 use Rattle.std.specs.List.{flat_map, AllByRecursion}
 use Rattle.ix_items.specs.declared.items.ItemFault.{ItemFault}
 use Rattle.ix_items.specs.declared.items.ItemFault.TheVariants as faults
-use Rattle.ix_items.specs.Reading.{◌>>=◌, Fails, list_at}
+use Rattle.ix_fields.specs.Reading.{◌>>=◌}
+use Rattle.ix_items.specs.Reading.{Fails, list_at}
 
 -- what was read before, and what is still read
 abbrev pub with_front : {A : Type 0} → List A → Option (List A × List ℕ) → Option (List A × List ℕ)

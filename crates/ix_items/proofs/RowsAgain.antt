@@ -14,9 +14,12 @@ use Rattle.ix_items.specs.declared.items.Item.{Item}
 use Rattle.ix_items.specs.declared.items.Item.TheVariants as items
 use Rattle.ix_items.specs.declared.items.ItemFault.{ItemFault}
 use Rattle.ix_items.specs.declared.items.ItemFault.TheVariants as faults
-use Rattle.ix_items.specs.Spelling.{byte, four, eight, signed, string, optional, area_byte, state_byte, rule_byte, archive_number, file_bytes, kept_bytes, files_bytes, settings_bytes, meta_bytes, bucket_bytes, entry_bytes, spot_bytes, kind_byte, field_bytes, item_bytes, body_bytes, IsShort, IsKept, IsMeta, IsWritable, Is64, BucketInRange, EntryInRange, IsInRange, HasSpelling}
-use Rattle.ix_items.specs.Reading.{Fails, byte_at, file_at, file_number_at, kept_at, settings_at, files_at, meta_at, bucket_at, archive_of, entry_at, spot_at, moments_at, channel_at, counts_at, named_at, in_index_at, fields_at, item_at}
-use Rattle.ix_items.proofs.Again.{byte_again, four_again, eight_again, signed_again, string_again, optional_again, area_again, state_again, rule_again}
+use Rattle.ix_items.specs.Spelling.{area_byte, state_byte, rule_byte, archive_number, file_bytes, kept_bytes, files_bytes, settings_bytes, meta_bytes, bucket_bytes, entry_bytes, spot_bytes, kind_byte, field_bytes, item_bytes, body_bytes, IsKept, IsMeta, IsWritable, BucketInRange, EntryInRange, IsInRange, HasSpelling}
+use Rattle.ix_items.specs.Reading.{Fails, file_at, file_number_at, kept_at, settings_at, files_at, meta_at, bucket_at, archive_of, entry_at, spot_at, moments_at, channel_at, counts_at, named_at, in_index_at, fields_at, item_at}
+use Rattle.ix_fields.specs.Spelling.{byte, four, eight, signed, string, option, IsShort, Is64}
+use Rattle.ix_fields.specs.Reading.{byte_at}
+use Rattle.ix_fields.proofs.Again.{byte_again, four_again, eight_again, signed_again, string_again, option_again}
+use Rattle.ix_items.proofs.Again.{area_again, state_again, rule_again}
 use Rattle.ix_items.proofs.Lists.{list_again}
 
 file_again : (f : File) (rest : List ℕ) → Is64 f.number → file_at (byte (area_byte f.area) ++ (eight f.number ++ rest)) ≡ Some (f, rest)
@@ -29,8 +32,8 @@ whole_file_again f rest h = ap file_at (append_assoc (byte (area_byte f.area)) (
 meta_again : (m : ChannelMeta) (rest : List ℕ) → IsMeta m → meta_at (meta_bytes m ++ rest) ≡ Some (m, rest)
 unfolding meta_at meta_bytes
 meta_again m rest h =
-    let split : meta_bytes m ++ rest ≡ string m.host ++ (string m.source ++ (optional m.sourcetype ++ (optional m.index ++ rest))) = simp append_assoc in
-    ap meta_at split ∙ rw (string_again m.host _ h.host, string_again m.source _ h.source, optional_again m.sourcetype _ h.sourcetype, optional_again m.index rest h.index) refl
+    let split : meta_bytes m ++ rest ≡ string m.host ++ (string m.source ++ (option string m.sourcetype ++ (option string m.index ++ rest))) = simp append_assoc in
+    ap meta_at split ∙ rw (string_again m.host _ h.host, string_again m.source _ h.source, option_again m.sourcetype _ h.sourcetype, option_again m.index rest h.index) refl
 
 bucket_again : (b : Bucket) (rest : List ℕ) → BucketInRange b → bucket_at (bucket_bytes b ++ rest) ≡ Some (b, rest)
 unfolding bucket_at bucket_bytes

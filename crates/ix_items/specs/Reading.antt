@@ -1,6 +1,6 @@
 -- Reading from left to right: a value and the bytes after it, or nothing.
-use Rattle.std.specs.Prelude.{◌≡◌, ℕ, ℤ, zero, suc, List, [], ◌∷◌, length, take, drop, Option, Some, None, Result, Ok, Err, nat_lt, nat_le, ◌==◌, ◌&&◌, if◌then◌else◌}
-use Rattle.std.specs.Int.{Width, w32, w64, byte_len, from_be_bytes, cast_signed}
+use Rattle.std.specs.Prelude.{◌≡◌, ℕ, zero, suc, List, [], ◌∷◌, Option, Some, None, Result, Ok, Err, nat_le, ◌==◌, ◌&&◌, if◌then◌else◌}
+use Rattle.ix_fields.specs.Reading.{◌>>=◌, byte_at, four_at, eight_at, signed_at, string_at, option_at}
 use Rattle.ix_base.specs.declared.files.Area.{Area}
 use Rattle.ix_base.specs.declared.files.Area.TheVariants.{Meta, Home, Cold, Frozen, Thawed}
 use Rattle.ix_base.specs.declared.files.File.{File}
@@ -18,11 +18,6 @@ use Rattle.ix_items.specs.declared.items.Item.TheVariants as items
 use Rattle.ix_items.specs.declared.items.ItemFault.{ItemFault}
 use Rattle.ix_items.specs.declared.items.ItemFault.TheVariants as faults
 
-infixl 10 ◌>>=◌
-abbrev pub ◌>>=◌ : {A B : Type 0} → Option A → (A → Option B) → Option B
-(Some x) >>= f = f x
-None >>= f = None
-
 -- What a function returned, seen by view, is what reading gives, unless memory ran out.
 abbrev pub Fails : {Y : Type 0} → ItemFault → Option Y → Type 0
 Fails faults.NoMemory read = Unit {0}
@@ -32,35 +27,7 @@ abbrev pub Gives : {X Y : Type 0} → (X → Y) → Result X ItemFault → Optio
 Gives view (Ok x) read = read ≡ Some (view x)
 Gives view (Err e) read = Fails e read
 
--- ---- fields
-
-abbrev pub number_at : Width → List ℕ → Option (ℕ × List ℕ)
-number_at w bytes = if nat_lt (length bytes) (byte_len w) then None else Some (from_be_bytes w (take (byte_len w) bytes), drop (byte_len w) bytes)
-
-unfoldable pub byte_at : List ℕ → Option (ℕ × List ℕ)
-byte_at [] = None
-byte_at (b ∷ rest) = Some (b, rest)
-
-unfoldable pub four_at : List ℕ → Option (ℕ × List ℕ)
-four_at bytes = number_at w32 bytes
-
-unfoldable pub eight_at : List ℕ → Option (ℕ × List ℕ)
-eight_at bytes = number_at w64 bytes
-
-unfoldable pub signed_at : List ℕ → Option (ℤ × List ℕ)
-signed_at bytes = do
-  n ← number_at w64 bytes
-  Some (cast_signed w64 n.0, n.1)
-
-unfoldable pub string_at : List ℕ → Option (List ℕ × List ℕ)
-string_at bytes = do
-  n ← four_at bytes
-  if nat_lt (length n.1) n.0 then None else Some (take n.0 n.1, drop n.0 n.1)
-
-unfoldable pub optional_at : List ℕ → Option (Option (List ℕ) × List ℕ)
-optional_at bytes = do
-  flag ← byte_at bytes
-  if flag.0 == 0 then Some (None, flag.1) else if flag.0 == 1 then (string_at flag.1 >>= λ s. Some (Some s.0, s.1)) else None
+-- ---- bytes that stand for a value
 
 unfoldable pub state_of : ℕ → Option State
 state_of n =
@@ -134,8 +101,8 @@ unfoldable pub meta_at : List ℕ → Option (ChannelMeta × List ℕ)
 meta_at bytes = do
   host ← string_at bytes
   source ← string_at host.1
-  sourcetype ← optional_at source.1
-  index ← optional_at sourcetype.1
+  sourcetype ← option_at string_at source.1
+  index ← option_at string_at sourcetype.1
   Some (record { host = host.0; source = source.0; sourcetype = sourcetype.0; index = index.0 }, index.1)
 
 unfoldable pub bucket_at : List ℕ → Option (Bucket × List ℕ)

@@ -1,8 +1,7 @@
 -- The bytes of an item. Each value has one spelling.
-use Rattle.std.specs.Prelude.{◌≡◌, ◌≢◌, ℕ, ℤ, ◌<◌, ◌≤◌, ◌^◌, List, [], ◌∷◌, ◌++◌, length, Option, Some, None, IfSome}
+use Rattle.std.specs.Prelude.{◌≡◌, ◌≢◌, ℕ, ◌≤◌, List, ◌++◌, length, Option, Some, None}
 use Rattle.std.specs.List.{flat_map, AllByRecursion}
-use Rattle.std.specs.Int.{w32, w64, to_be_bytes, cast_unsigned}
-use Rattle.std.specs.Int.RustNames.{FitsSigned}
+use Rattle.ix_fields.specs.Spelling.{byte, four, eight, signed, string, option, IsShort, IsShortOption, Is64, IsSigned64}
 use Rattle.ix_base.specs.declared.files.Area.{Area}
 use Rattle.ix_base.specs.declared.files.Area.TheVariants.{Meta, Home, Cold, Frozen, Thawed}
 use Rattle.ix_base.specs.declared.files.File.{File}
@@ -18,31 +17,7 @@ use Rattle.ix_items.specs.declared.items.Kept.{Kept}
 use Rattle.ix_items.specs.declared.items.Item.{Item}
 use Rattle.ix_items.specs.declared.items.Item.TheVariants as items
 
--- ---- fields
-
--- one byte
-unfoldable pub byte : ℕ → List ℕ
-byte n = n ∷ []
-
--- a number of four bytes, and one of eight, the first byte the highest
-unfoldable pub four : ℕ → List ℕ
-four n = to_be_bytes w32 n
-
-unfoldable pub eight : ℕ → List ℕ
-eight n = to_be_bytes w64 n
-
--- a signed number of eight bytes, in two's complement
-unfoldable pub signed : ℤ → List ℕ
-signed z = to_be_bytes w64 (cast_unsigned w64 z)
-
--- four bytes of length, and the bytes
-unfoldable pub string : List ℕ → List ℕ
-string bytes = four (length bytes) ++ bytes
-
--- a byte 0, or a byte 1 and the string
-unfoldable pub optional : Option (List ℕ) → List ℕ
-optional None = byte 0
-optional (Some bytes) = byte 1 ++ string bytes
+-- ---- bytes that stand for a value
 
 abbrev pub area_byte : Area → ℕ
 area_byte Meta = 1
@@ -83,7 +58,7 @@ unfoldable pub settings_bytes : List Kept → List ℕ
 settings_bytes kept = four (length kept) ++ flat_map kept_bytes kept
 
 unfoldable pub meta_bytes : ChannelMeta → List ℕ
-meta_bytes m = string m.host ++ string m.source ++ optional m.sourcetype ++ optional m.index
+meta_bytes m = string m.host ++ string m.source ++ option string m.sourcetype ++ option string m.index
 
 unfoldable pub bucket_bytes : Bucket → List ℕ
 bucket_bytes b =
@@ -139,10 +114,6 @@ body_bytes list = flat_map item_bytes list
 
 -- ---- what has a spelling
 
--- a string or a list whose length has four bytes
-abbrev pub IsShort : {A : Type 0} → List A → Type 0
-IsShort list = length list < 2 ^ 32
-
 pub record IsKept (kept : Kept) : Type 0 where
   pub from : 1 ≤ kept.file
   pub to : kept.file ≤ 4
@@ -153,8 +124,8 @@ pub record IsKept (kept : Kept) : Type 0 where
 pub record IsMeta (meta : ChannelMeta) : Type 0 where
   pub host : IsShort meta.host
   pub source : IsShort meta.source
-  pub sourcetype : IfSome meta.sourcetype (λ bytes. IsShort bytes)
-  pub index : IfSome meta.index (λ bytes. IsShort bytes)
+  pub sourcetype : IsShortOption meta.sourcetype
+  pub index : IsShortOption meta.index
 
 -- Each string and list is short, the file of each setting is 1 to 4, and no archive has the number 0.
 abbrev pub IsWritable : Item → Type 0
@@ -173,12 +144,6 @@ IsWritable (items.Removals files) = IsShort files
 IsWritable (items.NextId index id) = IsShort index
 
 -- ---- the numbers are of their types
-
-abbrev pub Is64 : ℕ → Type 0
-Is64 n = n < 2 ^ 64
-
-abbrev pub IsSigned64 : ℤ → Type 0
-IsSigned64 z = FitsSigned w64 z
 
 pub record BucketInRange (b : Bucket) : Type 0 where
   pub id : Is64 b.id

@@ -1,88 +1,34 @@
-//! The fields of items at the front of bytes: each reader gives the value and the bytes after it.
+//! The parts of items at the front of bytes: each reader gives the value and the bytes after it.
 
-ghost use Rattle.std.specs.Prelude.{◌≡◌, ◌≢◌, ◌<◌, ◌≤◌, ◌^◌, ◌++◌, ◌∷◌, [], List, length, IfOk, IfSome, Some};
-ghost use Rattle.ix_items.specs.Spelling.{byte, four, eight, signed, string, optional, area_byte, state_byte, rule_byte, archive_number, file_bytes, kept_bytes, meta_bytes, bucket_bytes, entry_bytes, spot_bytes, IsShort, IsKept, IsMeta, Is64, BucketInRange, EntryInRange};
-ghost use Rattle.ix_items.specs.Reading.{Gives, byte_at, four_at, eight_at, signed_at, string_at, optional_at, area_of, state_of, rule_of, archive_of, coded_at, file_at, file_number_at, kept_at, meta_at, bucket_at, entry_at, spot_at};
+ghost use Rattle.std.specs.Prelude.{◌≡◌, ◌≢◌, ◌≤◌, ◌++◌, IfOk, IfSome, Some};
+ghost use Rattle.ix_fields.specs.Spelling.{byte, string, option, IsShort, IsShortOption, Is64};
+ghost use Rattle.ix_fields.specs.Reading.{string_at, option_at};
+ghost use Rattle.ix_items.specs.Spelling.{area_byte, state_byte, rule_byte, archive_number, file_bytes, kept_bytes, meta_bytes, bucket_bytes, entry_bytes, spot_bytes, IsKept, IsMeta, BucketInRange, EntryInRange};
+ghost use Rattle.ix_items.specs.Reading.{Gives, area_of, state_of, rule_of, archive_of, coded_at, file_at, file_number_at, kept_at, meta_at, bucket_at, entry_at, spot_at};
 
 use crate::items::{Bucket, Entry, ItemFault, Kept, Rule, State};
 use ix_base::{Area, Bytes, ChannelMeta, File, Spot};
+use ix_fields::{read_byte, read_i64, read_option, read_string, read_u64};
 use std::alloc::Global;
 
-#[tactic(auto, unfolding(crate::specs::Reading::byte_at, crate::specs::Spelling::byte))]
-pub fn read_byte(bytes: &[u8]) -> Result<(u8, &[u8]), ItemFault>
-    ensures gives { Gives (λ x. (x.0, x.1.now)) result (byte_at bytes.now) }
-    ensures found { IfOk result (λ x. bytes.now ≡ byte x.0 ++ x.1.now) }
-{
-    match bytes {
-        [] => Err(ItemFault::BadItem),
-        [byte, rest @ ..] => Ok((*byte, rest)),
-    }
-}
-
-#[tactic(auto, unfolding(crate::specs::Reading::four_at))]
-pub fn read_four(bytes: &[u8]) -> Result<(u32, &[u8]), ItemFault>
-    ensures gives { Gives (λ x. (x.0, x.1.now)) result (four_at bytes.now) }
-    ensures found { IfOk result (λ x. bytes.now ≡ four x.0 ++ x.1.now) }
-{
-    if bytes.len() < 4 {
-        return Err(ItemFault::BadItem);
-    }
-    let (front, rest) = bytes.split_at(4);
-    let number = u32::from_be_bytes([front[0], front[1], front[2], front[3]]);
-    Ok((number, rest))
-}
-
-#[tactic(auto, unfolding(crate::specs::Reading::eight_at))]
-pub fn read_eight(bytes: &[u8]) -> Result<(u64, &[u8]), ItemFault>
-    ensures gives { Gives (λ x. (x.0, x.1.now)) result (eight_at bytes.now) }
-    ensures found { IfOk result (λ x. bytes.now ≡ eight x.0 ++ x.1.now) }
-{
-    if bytes.len() < 8 {
-        return Err(ItemFault::BadItem);
-    }
-    let (front, rest) = bytes.split_at(8);
-    let number = u64::from_be_bytes([
-        front[0], front[1], front[2], front[3], front[4], front[5], front[6], front[7],
-    ]);
-    Ok((number, rest))
-}
-
-#[tactic(auto, unfolding(crate::specs::Reading::signed_at, crate::specs::Reading::eight_at, crate::specs::Spelling::signed, crate::specs::Spelling::eight))]
-pub fn read_signed(bytes: &[u8]) -> Result<(i64, &[u8]), ItemFault>
-    ensures gives { Gives (λ x. (x.0, x.1.now)) result (signed_at bytes.now) }
-    ensures found { IfOk result (λ x. bytes.now ≡ signed x.0 ++ x.1.now) }
-{
-    let (number, rest) = read_eight(bytes)?;
-    Ok((number.cast_signed(), rest))
-}
-
-#[tactic(auto, unfolding(crate::specs::Reading::string_at, crate::specs::Spelling::string))]
-pub fn read_string(alloc: Global, bytes: &[u8]) -> Result<(Bytes, &[u8]), ItemFault>
+/// Reads a string, and copies it.
+pub fn copy_string(alloc: Global, bytes: &[u8]) -> Result<(Bytes, &[u8]), ItemFault>
     ensures gives { Gives (λ x. (x.0, x.1.now)) result (string_at bytes.now) }
     ensures found { IfOk result (λ x. (bytes.now ≡ string x.0 ++ x.1.now) × IsShort x.0) }
 {
-    let (len, rest) = read_four(bytes)?;
-    let len = len as usize;
-    if rest.len() < len {
-        return Err(ItemFault::BadItem);
-    }
-    let (front, rest) = rest.split_at(len);
-    Ok((Bytes::copy_of(alloc, front)?, rest))
+    let (text, rest) = read_string(bytes)?;
+    Ok((Bytes::copy_of(alloc, text)?, rest))
 }
 
-#[tactic(auto, unfolding(crate::specs::Reading::optional_at, crate::specs::Spelling::optional))]
-pub fn read_optional(alloc: Global, bytes: &[u8]) -> Result<(Option<Bytes>, &[u8]), ItemFault>
-    ensures gives { Gives (λ x. (x.0, x.1.now)) result (optional_at bytes.now) }
-    ensures found { IfOk result (λ x. (bytes.now ≡ optional x.0 ++ x.1.now) × IfSome x.0 (λ text. IsShort text)) }
+/// Reads a string that may be missing, and copies it.
+pub fn copy_option(alloc: Global, bytes: &[u8]) -> Result<(Option<Bytes>, &[u8]), ItemFault>
+    ensures gives { Gives (λ x. (x.0, x.1.now)) result (option_at string_at bytes.now) }
+    ensures found { IfOk result (λ x. (bytes.now ≡ option string x.0 ++ x.1.now) × IsShortOption x.0) }
 {
-    let (flag, rest) = read_byte(bytes)?;
-    match flag {
-        0 => Ok((None, rest)),
-        1 => {
-            let (text, rest) = read_string(alloc, rest)?;
-            Ok((Some(text), rest))
-        }
-        _ => Err(ItemFault::BadItem),
+    let (text, rest) = read_option(bytes)?;
+    match text {
+        None => Ok((None, rest)),
+        Some(text) => Ok((Some(Bytes::copy_of(alloc, text)?), rest)),
     }
 }
 
@@ -169,7 +115,7 @@ pub fn read_file(bytes: &[u8]) -> Result<(File, &[u8]), ItemFault>
     ensures ranged { IfOk result (λ x. Is64 x.0.number) }
 {
     let (area, rest) = read_area(bytes)?;
-    let (number, rest) = read_eight(rest)?;
+    let (number, rest) = read_u64(rest)?;
     Ok((File { area, number }, rest))
 }
 
@@ -192,9 +138,9 @@ pub fn read_kept(alloc: Global, bytes: &[u8]) -> Result<(Kept, &[u8]), ItemFault
     ensures found { IfOk result (λ x. (bytes.now ≡ kept_bytes x.0 ++ x.1.now) × IsKept x.0) }
 {
     let (file, rest) = read_file_number(bytes)?;
-    let (stanza, rest) = read_string(alloc, rest)?;
-    let (key, rest) = read_string(alloc, rest)?;
-    let (value, rest) = read_string(alloc, rest)?;
+    let (stanza, rest) = copy_string(alloc, rest)?;
+    let (key, rest) = copy_string(alloc, rest)?;
+    let (value, rest) = copy_string(alloc, rest)?;
     let kept = Kept {
         file,
         stanza,
@@ -209,10 +155,10 @@ pub fn read_meta(alloc: Global, bytes: &[u8]) -> Result<(ChannelMeta, &[u8]), It
     ensures gives { Gives (λ x. (x.0, x.1.now)) result (meta_at bytes.now) }
     ensures found { IfOk result (λ x. (bytes.now ≡ meta_bytes x.0 ++ x.1.now) × IsMeta x.0) }
 {
-    let (host, rest) = read_string(alloc, bytes)?;
-    let (source, rest) = read_string(alloc, rest)?;
-    let (sourcetype, rest) = read_optional(alloc, rest)?;
-    let (index, rest) = read_optional(alloc, rest)?;
+    let (host, rest) = copy_string(alloc, bytes)?;
+    let (source, rest) = copy_string(alloc, rest)?;
+    let (sourcetype, rest) = copy_option(alloc, rest)?;
+    let (index, rest) = copy_option(alloc, rest)?;
     let meta = ChannelMeta {
         host,
         source,
@@ -228,15 +174,15 @@ pub fn read_bucket(bytes: &[u8]) -> Result<(Bucket, &[u8]), ItemFault>
     ensures found { IfOk result (λ x. bytes.now ≡ bucket_bytes x.0 ++ x.1.now) }
     ensures ranged { IfOk result (λ x. BucketInRange x.0) }
 {
-    let (id, rest) = read_eight(bytes)?;
+    let (id, rest) = read_u64(bytes)?;
     let (state, rest) = read_state(rest)?;
     let (file, rest) = read_file(rest)?;
-    let (size, rest) = read_eight(rest)?;
-    let (count, rest) = read_eight(rest)?;
-    let (newest, rest) = read_signed(rest)?;
-    let (oldest, rest) = read_signed(rest)?;
-    let (used, rest) = read_eight(rest)?;
-    let (touched, rest) = read_signed(rest)?;
+    let (size, rest) = read_u64(rest)?;
+    let (count, rest) = read_u64(rest)?;
+    let (newest, rest) = read_i64(rest)?;
+    let (oldest, rest) = read_i64(rest)?;
+    let (used, rest) = read_u64(rest)?;
+    let (touched, rest) = read_i64(rest)?;
     let bucket = Bucket {
         id,
         state,
@@ -266,15 +212,15 @@ pub fn read_entry(alloc: Global, bytes: &[u8]) -> Result<(Entry, &[u8]), ItemFau
     ensures found { IfOk result (λ x. (bytes.now ≡ entry_bytes x.0 ++ x.1.now) × IsShort x.0.index × (x.0.archive ≢ Some 0)) }
     ensures ranged { IfOk result (λ x. EntryInRange x.0) }
 {
-    let (index, rest) = read_string(alloc, bytes)?;
-    let (id, rest) = read_eight(rest)?;
+    let (index, rest) = copy_string(alloc, bytes)?;
+    let (id, rest) = read_u64(rest)?;
     let (rule, rest) = read_rule(rest)?;
-    let (moment, rest) = read_signed(rest)?;
-    let (count, rest) = read_eight(rest)?;
-    let (newest, rest) = read_signed(rest)?;
-    let (oldest, rest) = read_signed(rest)?;
-    let (size, rest) = read_eight(rest)?;
-    let (archive, rest) = read_eight(rest)?;
+    let (moment, rest) = read_i64(rest)?;
+    let (count, rest) = read_u64(rest)?;
+    let (newest, rest) = read_i64(rest)?;
+    let (oldest, rest) = read_i64(rest)?;
+    let (size, rest) = read_u64(rest)?;
+    let (archive, rest) = read_u64(rest)?;
     let entry = Entry {
         index,
         id,
@@ -295,9 +241,9 @@ pub fn read_spot(alloc: Global, bytes: &[u8]) -> Result<(Spot, &[u8]), ItemFault
     ensures found { IfOk result (λ x. (bytes.now ≡ spot_bytes x.0 ++ x.1.now) × IsShort x.0.path × IsShort x.0.head) }
     ensures ranged { IfOk result (λ x. Is64 x.0.offset) }
 {
-    let (path, rest) = read_string(alloc, bytes)?;
-    let (head, rest) = read_string(alloc, rest)?;
-    let (offset, rest) = read_eight(rest)?;
+    let (path, rest) = copy_string(alloc, bytes)?;
+    let (head, rest) = copy_string(alloc, rest)?;
+    let (offset, rest) = read_u64(rest)?;
     let spot = Spot { path, head, offset };
     Ok((spot, rest))
 }

@@ -4,6 +4,7 @@ ghost use Rattle.std.specs.Prelude.{◌≡◌};
 ghost use Rattle.ix_items.specs.declared.items.ItemFault.TheVariants as faults;
 
 use ix_base::{Bytes, ChannelMeta, File, NoMemory as OutOfMemory, Sequence, Spot};
+use ix_fields::BadField;
 
 /// What a bucket does: a hot one and a quarantine take events, a warm one and a cold one are kept, a thawed one was
 /// brought back from its archive.
@@ -161,5 +162,13 @@ impl From<OutOfMemory> for ItemFault {
 
     fn from(_: OutOfMemory) -> ItemFault {
         ItemFault::NoMemory
+    }
+}
+
+impl From<BadField> for ItemFault {
+    ghost from_gives = { λ _ e. e ≡ faults.BadItem };
+
+    fn from(_: BadField) -> ItemFault {
+        ItemFault::BadItem
     }
 }

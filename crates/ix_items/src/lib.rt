@@ -12,6 +12,3 @@ pub use items::{Bucket, Entry, FileList, Item, ItemFault, Kept, KeptList, Rule, 
 pub use laws::{one_item, one_list};
 pub use reading::read_item;
 pub use writing::write_item;
-
-#[cfg(test)]
-mod tests;

@@ -1,62 +1,14 @@
 //! The fields of items, put behind what stands in a list of bytes. Where there is no room, a part of the field may
 //! stand there.
 
-ghost use Rattle.std.specs.Prelude.{◌≡◌, ◌≢◌, ◌<◌, ◌≤◌, ◌^◌, ◌++◌, ◌∷◌, [], length, OnOk, IfSome, Some};
-ghost use Rattle.ix_items.specs.Spelling.{byte, four, eight, signed, string, optional, area_byte, state_byte, rule_byte, archive_number, file_bytes, kept_bytes, meta_bytes, bucket_bytes, entry_bytes, spot_bytes, IsShort, IsKept, IsMeta};
+ghost use Rattle.std.specs.Prelude.{◌≡◌, ◌++◌, OnOk};
+ghost use Rattle.ix_fields.specs.Spelling.{byte, eight, signed, string, IsShort};
+ghost use Rattle.ix_fields.specs.Writing.{Extends};
+ghost use Rattle.ix_items.specs.Spelling.{area_byte, state_byte, rule_byte, archive_number, file_bytes, kept_bytes, meta_bytes, bucket_bytes, entry_bytes, spot_bytes, IsKept, IsMeta};
 
 use crate::items::{Bucket, Entry, Kept, Rule, State};
 use ix_base::{Area, Bytes, ChannelMeta, File, NoMemory, Spot};
-
-#[tactic(auto, unfolding(crate::specs::Spelling::byte))]
-pub fn put_byte(number: u8, out: &mut Bytes) -> Result<(), NoMemory>
-    ensures { OnOk result (out.new ≡ out.old ++ byte number) }
-{
-    out.push(number)
-}
-
-#[tactic(auto, unfolding(crate::specs::Spelling::four))]
-pub fn put_four(number: u32, out: &mut Bytes) -> Result<(), NoMemory>
-    ensures { OnOk result (out.new ≡ out.old ++ four number) }
-{
-    out.extend(&number.to_be_bytes())
-}
-
-#[tactic(auto, unfolding(crate::specs::Spelling::eight))]
-pub fn put_eight(number: u64, out: &mut Bytes) -> Result<(), NoMemory>
-    ensures { OnOk result (out.new ≡ out.old ++ eight number) }
-{
-    out.extend(&number.to_be_bytes())
-}
-
-#[tactic(auto, unfolding(crate::specs::Spelling::signed))]
-pub fn put_signed(number: i64, out: &mut Bytes) -> Result<(), NoMemory>
-    ensures { OnOk result (out.new ≡ out.old ++ signed number) }
-{
-    out.extend(&number.to_be_bytes())
-}
-
-#[tactic(auto, unfolding(crate::specs::Spelling::string))]
-pub fn put_string(text: &Bytes, out: &mut Bytes) -> Result<(), NoMemory>
-    requires { IsShort text.now }
-    ensures { OnOk result (out.new ≡ out.old ++ string text.now) }
-{
-    put_four(text.len() as u32, out)?;
-    out.extend(text.as_slice())
-}
-
-#[tactic(auto, unfolding(crate::specs::Spelling::optional))]
-pub fn put_optional(text: &Option<Bytes>, out: &mut Bytes) -> Result<(), NoMemory>
-    requires { IfSome text.now (λ bytes. IsShort bytes) }
-    ensures { OnOk result (out.new ≡ out.old ++ optional text.now) }
-{
-    match text {
-        None => put_byte(0, out),
-        Some(text) => {
-            put_byte(1, out)?;
-            put_string(text, out)
-        }
-    }
-}
+use ix_fields::{put_byte, put_i64, put_option, put_string, put_u64};
 
 fn byte_of_area(area: Area) -> u8
     ensures { result ≡ area_byte area }
@@ -99,96 +51,116 @@ fn number_of_archive(archive: Option<u64>) -> u64
 }
 
 pub fn put_file(file: File, out: &mut Bytes) -> Result<(), NoMemory>
-    ensures { OnOk result (out.new ≡ out.old ++ file_bytes file) }
+    ensures ok { OnOk result (out.new ≡ out.old ++ file_bytes file) }
+    ensures begun { Extends out.old out.new }
 {
     put_byte(byte_of_area(file.area), out)?;
-    put_eight(file.number, out)
+    put_u64(file.number, out)?;
+    Ok(())
 }
 
 pub fn put_kept(kept: &Kept, out: &mut Bytes) -> Result<(), NoMemory>
     requires { IsKept kept.now }
-    ensures { OnOk result (out.new ≡ out.old ++ kept_bytes kept.now) }
+    ensures ok { OnOk result (out.new ≡ out.old ++ kept_bytes kept.now) }
+    ensures begun { Extends out.old out.new }
 {
     put_byte(kept.file, out)?;
-    put_string(&kept.stanza, out)?;
-    put_string(&kept.key, out)?;
-    put_string(&kept.value, out)
+    put_string(kept.stanza.as_slice(), out)?;
+    put_string(kept.key.as_slice(), out)?;
+    put_string(kept.value.as_slice(), out)?;
+    Ok(())
 }
 
 #[tactic(auto, unfolding(crate::specs::Spelling::meta_bytes))]
 pub fn put_meta(meta: &ChannelMeta, out: &mut Bytes) -> Result<(), NoMemory>
     requires { IsMeta meta.now }
-    ensures { OnOk result (out.new ≡ out.old ++ meta_bytes meta.now) }
+    ensures ok { OnOk result (out.new ≡ out.old ++ meta_bytes meta.now) }
+    ensures begun { Extends out.old out.new }
 {
-    put_string(&meta.host, out)?;
-    put_string(&meta.source, out)?;
-    put_optional(&meta.sourcetype, out)?;
-    put_optional(&meta.index, out)
+    put_string(meta.host.as_slice(), out)?;
+    put_string(meta.source.as_slice(), out)?;
+    put_option(&meta.sourcetype, out)?;
+    put_option(&meta.index, out)?;
+    Ok(())
 }
 
 fn put_bucket_size(bucket: &Bucket, out: &mut Bytes) -> Result<(), NoMemory>
-    ensures { OnOk result (out.new ≡ out.old ++ (eight bucket.now.id ++ byte (state_byte bucket.now.state) ++ file_bytes bucket.now.file ++ eight bucket.now.bytes ++ eight bucket.now.count)) }
+    ensures ok { OnOk result (out.new ≡ out.old ++ (eight bucket.now.id ++ byte (state_byte bucket.now.state) ++ file_bytes bucket.now.file ++ eight bucket.now.bytes ++ eight bucket.now.count)) }
+    ensures begun { Extends out.old out.new }
 {
-    put_eight(bucket.id, out)?;
+    put_u64(bucket.id, out)?;
     put_byte(byte_of_state(bucket.state), out)?;
     put_file(bucket.file, out)?;
-    put_eight(bucket.bytes, out)?;
-    put_eight(bucket.count, out)
+    put_u64(bucket.bytes, out)?;
+    put_u64(bucket.count, out)?;
+    Ok(())
 }
 
 fn put_bucket_times(bucket: &Bucket, out: &mut Bytes) -> Result<(), NoMemory>
-    ensures { OnOk result (out.new ≡ out.old ++ (signed bucket.now.newest ++ signed bucket.now.oldest ++ eight bucket.now.used ++ signed bucket.now.touched)) }
+    ensures ok { OnOk result (out.new ≡ out.old ++ (signed bucket.now.newest ++ signed bucket.now.oldest ++ eight bucket.now.used ++ signed bucket.now.touched)) }
+    ensures begun { Extends out.old out.new }
 {
-    put_signed(bucket.newest, out)?;
-    put_signed(bucket.oldest, out)?;
-    put_eight(bucket.used, out)?;
-    put_signed(bucket.touched, out)
+    put_i64(bucket.newest, out)?;
+    put_i64(bucket.oldest, out)?;
+    put_u64(bucket.used, out)?;
+    put_i64(bucket.touched, out)?;
+    Ok(())
 }
 
 #[tactic(auto, unfolding(crate::specs::Spelling::bucket_bytes))]
 pub fn put_bucket(bucket: &Bucket, out: &mut Bytes) -> Result<(), NoMemory>
-    ensures { OnOk result (out.new ≡ out.old ++ bucket_bytes bucket.now) }
+    ensures ok { OnOk result (out.new ≡ out.old ++ bucket_bytes bucket.now) }
+    ensures begun { Extends out.old out.new }
 {
     put_bucket_size(bucket, out)?;
-    put_bucket_times(bucket, out)
+    put_bucket_times(bucket, out)?;
+    Ok(())
 }
 
 fn put_entry_name(entry: &Entry, out: &mut Bytes) -> Result<(), NoMemory>
     requires { IsShort entry.now.index }
-    ensures { OnOk result (out.new ≡ out.old ++ (string entry.now.index ++ eight entry.now.id ++ byte (rule_byte entry.now.rule) ++ signed entry.now.moment)) }
+    ensures ok { OnOk result (out.new ≡ out.old ++ (string entry.now.index ++ eight entry.now.id ++ byte (rule_byte entry.now.rule) ++ signed entry.now.moment)) }
+    ensures begun { Extends out.old out.new }
 {
-    put_string(&entry.index, out)?;
-    put_eight(entry.id, out)?;
+    put_string(entry.index.as_slice(), out)?;
+    put_u64(entry.id, out)?;
     put_byte(byte_of_rule(entry.rule), out)?;
-    put_signed(entry.moment, out)
+    put_i64(entry.moment, out)?;
+    Ok(())
 }
 
 fn put_entry_size(entry: &Entry, out: &mut Bytes) -> Result<(), NoMemory>
-    ensures { OnOk result (out.new ≡ out.old ++ (eight entry.now.count ++ signed entry.now.newest ++ signed entry.now.oldest ++ eight entry.now.bytes ++ eight (archive_number entry.now.archive))) }
+    ensures ok { OnOk result (out.new ≡ out.old ++ (eight entry.now.count ++ signed entry.now.newest ++ signed entry.now.oldest ++ eight entry.now.bytes ++ eight (archive_number entry.now.archive))) }
+    ensures begun { Extends out.old out.new }
 {
-    put_eight(entry.count, out)?;
-    put_signed(entry.newest, out)?;
-    put_signed(entry.oldest, out)?;
-    put_eight(entry.bytes, out)?;
-    put_eight(number_of_archive(entry.archive), out)
+    put_u64(entry.count, out)?;
+    put_i64(entry.newest, out)?;
+    put_i64(entry.oldest, out)?;
+    put_u64(entry.bytes, out)?;
+    put_u64(number_of_archive(entry.archive), out)?;
+    Ok(())
 }
 
 #[tactic(auto, unfolding(crate::specs::Spelling::entry_bytes))]
 pub fn put_entry(entry: &Entry, out: &mut Bytes) -> Result<(), NoMemory>
     requires { IsShort entry.now.index }
-    ensures { OnOk result (out.new ≡ out.old ++ entry_bytes entry.now) }
+    ensures ok { OnOk result (out.new ≡ out.old ++ entry_bytes entry.now) }
+    ensures begun { Extends out.old out.new }
 {
     put_entry_name(entry, out)?;
-    put_entry_size(entry, out)
+    put_entry_size(entry, out)?;
+    Ok(())
 }
 
 #[tactic(auto, unfolding(crate::specs::Spelling::spot_bytes))]
 pub fn put_spot(spot: &Spot, out: &mut Bytes) -> Result<(), NoMemory>
     requires path { IsShort spot.now.path }
     requires head { IsShort spot.now.head }
-    ensures { OnOk result (out.new ≡ out.old ++ spot_bytes spot.now) }
+    ensures ok { OnOk result (out.new ≡ out.old ++ spot_bytes spot.now) }
+    ensures begun { Extends out.old out.new }
 {
-    put_string(&spot.path, out)?;
-    put_string(&spot.head, out)?;
-    put_eight(spot.offset, out)
+    put_string(spot.path.as_slice(), out)?;
+    put_string(spot.head.as_slice(), out)?;
+    put_u64(spot.offset, out)?;
+    Ok(())
 }

@@ -1,18 +1,19 @@
 //! Reading items.
 
-ghost use Rattle.std.specs.Prelude.{◌≡◌, ◌≢◌, ℕ, ◌<◌, ◌≤◌, ◌^◌, ◌++◌, ◌∷◌, [], List, length, take, IfOk, Err};
+ghost use Rattle.std.specs.Prelude.{◌≡◌, ◌≢◌, ℕ, ◌<◌, ◌≤◌, ◌++◌, List, length, take, IfOk, Err};
+ghost use Rattle.ix_fields.specs.Spelling.{eight, string, IsShort, Is64};
 ghost use Rattle.std.specs.List.{flat_map, AllByRecursion};
 ghost use Rattle.ix_items.specs.declared.items.Item.{Item};
 ghost use Rattle.ix_items.specs.declared.items.ItemFault.{ItemFault};
-ghost use Rattle.ix_items.specs.Spelling.{item_bytes, kind_byte, field_bytes, file_bytes, kept_bytes, settings_bytes, files_bytes, IsWritable, IsShort, IsKept, HasSpelling, Is64, IsInRange, string, eight};
+ghost use Rattle.ix_items.specs.Spelling.{item_bytes, kind_byte, field_bytes, file_bytes, kept_bytes, settings_bytes, files_bytes, IsWritable, IsKept, HasSpelling, IsInRange};
 ghost use Rattle.ix_items.specs.Reading.{Gives, settings_at, files_at, moments_at, channel_at, counts_at, in_index_at, named_at, fields_at, item_at, list_at, kept_at, file_at};
 
 use crate::fields::{
-    read_bucket, read_byte, read_eight, read_entry, read_file, read_four, read_kept, read_meta,
-    read_signed, read_spot, read_string,
+    copy_string, read_bucket, read_entry, read_file, read_kept, read_meta, read_spot,
 };
 use crate::items::{FileList, Item, ItemFault, KeptList};
 use ix_base::{Bytes, Sequence};
+use ix_fields::{read_byte, read_i64, read_u32, read_u64};
 use std::alloc::Global;
 
 fn read_kept_list(alloc: Global, count: u32, bytes: &[u8]) -> Result<(KeptList, &[u8]), ItemFault>
@@ -49,7 +50,7 @@ fn read_settings(alloc: Global, bytes: &[u8]) -> Result<(KeptList, &[u8]), ItemF
     ensures gives { Gives (λ x. (x.0, x.1.now)) result (settings_at bytes.now) }
     ensures found { IfOk result (λ x. (bytes.now ≡ settings_bytes x.0 ++ x.1.now) × IsShort x.0 × AllByRecursion IsKept x.0) }
 {
-    let (count, rest) = read_four(bytes)?;
+    let (count, rest) = read_u32(bytes)?;
     let (list, rest) = read_kept_list(alloc, count, rest)?;
     Ok((list, rest))
 }
@@ -60,7 +61,7 @@ fn read_files(alloc: Global, bytes: &[u8]) -> Result<(FileList, &[u8]), ItemFaul
     ensures found { IfOk result (λ x. (bytes.now ≡ files_bytes x.0 ++ x.1.now) × IsShort x.0) }
     ensures ranged { IfOk result (λ x. AllByRecursion (λ f. Is64 f.number) x.0) }
 {
-    let (count, rest) = read_four(bytes)?;
+    let (count, rest) = read_u32(bytes)?;
     let (list, rest) = read_file_list(alloc, count, rest)?;
     Ok((list, rest))
 }
@@ -71,8 +72,8 @@ fn read_moments(bytes: &[u8]) -> Result<(Item, &[u8]), ItemFault>
     ensures found { IfOk result (λ x. (kind_byte x.0 ≡ 3) × (bytes.now ≡ field_bytes x.0 ++ x.1.now) × IsWritable x.0) }
     ensures ranged { IfOk result (λ x. IsInRange x.0) }
 {
-    let (last, rest) = read_signed(bytes)?;
-    let (tick, rest) = read_signed(rest)?;
+    let (last, rest) = read_i64(bytes)?;
+    let (tick, rest) = read_i64(rest)?;
     Ok((Item::Moments { last, tick }, rest))
 }
 
@@ -82,9 +83,9 @@ fn read_channel(alloc: Global, bytes: &[u8]) -> Result<(Item, &[u8]), ItemFault>
     ensures found { IfOk result (λ x. (kind_byte x.0 ≡ 4) × (bytes.now ≡ field_bytes x.0 ++ x.1.now) × IsWritable x.0) }
     ensures ranged { IfOk result (λ x. IsInRange x.0) }
 {
-    let (name, rest) = read_string(alloc, bytes)?;
+    let (name, rest) = copy_string(alloc, bytes)?;
     let (meta, rest) = read_meta(alloc, rest)?;
-    let (carry, rest) = read_string(alloc, rest)?;
+    let (carry, rest) = copy_string(alloc, rest)?;
     Ok((Item::Channel { name, meta, carry }, rest))
 }
 
@@ -94,7 +95,7 @@ fn read_in_index(alloc: Global, bytes: &[u8]) -> Result<(Item, &[u8]), ItemFault
     ensures found { IfOk result (λ x. (kind_byte x.0 ≡ 6) × (bytes.now ≡ field_bytes x.0 ++ x.1.now) × IsWritable x.0) }
     ensures ranged { IfOk result (λ x. IsInRange x.0) }
 {
-    let (index, rest) = read_string(alloc, bytes)?;
+    let (index, rest) = copy_string(alloc, bytes)?;
     let (bucket, rest) = read_bucket(rest)?;
     Ok((Item::Bucket { index, bucket }, rest))
 }
@@ -105,10 +106,10 @@ fn read_counts(bytes: &[u8]) -> Result<(Item, &[u8]), ItemFault>
     ensures found { IfOk result (λ x. (kind_byte x.0 ≡ 9) × (bytes.now ≡ field_bytes x.0 ++ x.1.now) × IsWritable x.0) }
     ensures ranged { IfOk result (λ x. IsInRange x.0) }
 {
-    let (settled, rest) = read_eight(bytes)?;
-    let (nulled, rest) = read_eight(rest)?;
-    let (dropped, rest) = read_eight(rest)?;
-    let (placed, rest) = read_eight(rest)?;
+    let (settled, rest) = read_u64(bytes)?;
+    let (nulled, rest) = read_u64(rest)?;
+    let (dropped, rest) = read_u64(rest)?;
+    let (placed, rest) = read_u64(rest)?;
     let counts = Item::Counts {
         settled,
         nulled,
@@ -125,8 +126,8 @@ fn read_named(alloc: Global, bytes: &[u8]) -> Result<((Bytes, u64), &[u8]), Item
     ensures found { IfOk result (λ x. (bytes.now ≡ string x.0.0 ++ eight x.0.1 ++ x.1.now) × IsShort x.0.0) }
     ensures ranged { IfOk result (λ x. Is64 x.0.1) }
 {
-    let (index, rest) = read_string(alloc, bytes)?;
-    let (id, rest) = read_eight(rest)?;
+    let (index, rest) = copy_string(alloc, bytes)?;
+    let (id, rest) = read_u64(rest)?;
     Ok(((index, id), rest))
 }
 
@@ -143,13 +144,13 @@ fn read_fields(alloc: Global, kind: u8, bytes: &[u8]) -> Result<(Item, &[u8]), I
             Ok((Item::Settings { kept }, rest))
         }
         2 => {
-            let (run, rest) = read_eight(bytes)?;
+            let (run, rest) = read_u64(bytes)?;
             Ok((Item::Run { run }, rest))
         }
         3 => read_moments(bytes),
         4 => read_channel(alloc, bytes),
         5 => {
-            let (name, rest) = read_string(alloc, bytes)?;
+            let (name, rest) = copy_string(alloc, bytes)?;
             Ok((Item::Ended { name }, rest))
         }
         6 => read_in_index(alloc, bytes),
@@ -167,7 +168,7 @@ fn read_fields(alloc: Global, kind: u8, bytes: &[u8]) -> Result<(Item, &[u8]), I
             Ok((Item::Spot { spot }, rest))
         }
         11 => {
-            let (number, rest) = read_eight(bytes)?;
+            let (number, rest) = read_u64(bytes)?;
             Ok((Item::NextFile { number }, rest))
         }
         12 => {
@@ -194,7 +195,8 @@ fn read_front(alloc: Global, bytes: &[u8]) -> Result<(Item, &[u8]), ItemFault>
 }
 
 /// Reads the item at the front of the bytes, and how many bytes it takes. Any bytes may stand behind it. It fails with
-/// `BadItem` exactly where no prefix of the bytes is an item, and takes no more memory than the bytes that it reads.
+/// `BadItem` exactly where no prefix of the bytes is an item. Beside the copies of its strings it takes memory for the
+/// values of its list alone.
 pub fn read_item(alloc: Global, bytes: &[u8]) -> Result<(Item, usize), ItemFault>
     // So many bytes are the item's.
     ensures found { IfOk result (λ x. (0 < x.1) × (x.1 ≤ length bytes.now) × (take x.1 bytes.now ≡ item_bytes x.0) × HasSpelling x.0) }

@@ -3,7 +3,7 @@ use Rattle.std.proofs.lemmas.Int.{to_z-of_z}
 use mir.Val.{SFits}
 use Rattle.std.specs.Int.{w64}
 use Rattle.ix_items.specs.declared.items.Entry.{Entry}
-use Rattle.ix_items.specs.Spelling.{eight}
+use Rattle.ix_fields.specs.Spelling.{eight}
 use Rattle.ix_items.proofs.Rows.{entry_found}
 use Rattle.ix_items.proofs.fields.read_entry.Goals as goal
 

@@ -1,6 +1,7 @@
 use Rattle.std.proofs.Common.{◌∷◌, [], arith, length-append}
 use Rattle.std.proofs.lemmas.Result.{err_from_is_err_and}
-use Rattle.ix_items.specs.Spelling.{file_bytes, Is64}
+use Rattle.ix_fields.specs.Spelling.{Is64}
+use Rattle.ix_items.specs.Spelling.{file_bytes}
 use Rattle.ix_items.specs.Reading.{list_at, file_at}
 use Rattle.ix_items.proofs.Lists.{goes_on, ends, is_done, push_found, all_push}
 use Rattle.ix_items.proofs.reading.read_file_list.Goals as goal
