@@ -6,7 +6,9 @@ use Rattle.std.proofs.lemmas.List.Concat.{flat_map-cons}
 use Rattle.std.proofs.Math.Seq.{take-add}
 use Rattle.ix_base.specs.declared.events.Event.{Event}
 use Rattle.ix_bucket.specs.Record.{fields, event_bytes, records, IsInRange, IsRecordOf}
-use Rattle.ix_bucket.specs.Ahead.{between, HasNoRecord, HasRecord}
+use Rattle.ix_bucket.specs.declared.ahead.ReadFault.{ReadFault}
+use Rattle.ix_bucket.specs.declared.ahead.ReadFault.TheVariants.{Disk, BadRecord, NoMemory}
+use Rattle.ix_bucket.specs.Ahead.{between, HasNoRecord, HasRecord, OnBadRecord}
 use Rattle.ix_bucket.specs.Count.{HasRecords}
 use Rattle.ix_bucket.proofs.Sizes.{length_event_bytes}
 use Rattle.ix_bucket.proofs.Records.{one_reading}
@@ -45,7 +47,7 @@ step events count at next until bytes [] all counted size spelled lt le has = ab
 step events count at next until bytes (event ∷ more) all counted size spelled lt le has =
     let low : at ≤ next = omega (arith, has.size) in
     let both : event_bytes has.event ++ between next until bytes ≡ event_bytes event ++ records more =
-        ap (λ (l : List ℕ). l ++ between next until bytes) (sym has.is_record.spelled) ∙ sym (split_between at next until bytes low le) ∙ spelled ∙ split_records event more in
+    ap (λ (l : List ℕ). l ++ between next until bytes) (sym has.is_record.spelled) ∙ sym (split_between at next until bytes low le) ∙ spelled ∙ split_records event more in
     let one = one_reading has.event event (between next until bytes) (records more) has.is_record.in_range all.0 both in
     let whole : length (records (event ∷ more)) ≡ length (event_bytes event) + length (records more) = ap length (split_records event more) ∙ length-append (event_bytes event) (records more) in
     let same : length (event_bytes has.event) ≡ length (event_bytes event) = ap (λ (e : Event). length (event_bytes e)) one.0 in
@@ -85,3 +87,9 @@ no_bad at until bytes (event ∷ more) all size spelled lt none =
 
 pub not_bad : (events : List Event) (count at until : ℕ) (bytes : List ℕ) → at < until → HasNoRecord at until bytes → IsLeft events count at until bytes → ⊥
 not_bad events count at until bytes lt none left = no_bad at until bytes left.more left.in_range left.size left.spelled lt none
+
+-- a fault that could only be of a bad record, where there is none
+pub no_fault : (fault : ReadFault) (X : Type 0) → (X → ⊥) → OnBadRecord fault (λ at. X) → OnBadRecord fault (λ at. ⊥)
+no_fault Disk X none bad = tt
+no_fault (BadRecord at) X none bad = none bad
+no_fault NoMemory X none bad = tt

@@ -2,7 +2,8 @@
 
 ghost use Rattle.std.specs.Prelude.{◌≡◌, ◌≤◌, ℕ, List, length, Some, OnOk};
 ghost use Rattle.ix_base.specs.Faults.{HasCause};
-ghost use Rattle.ix_disk.specs.Image.{Image, bytes_in};
+ghost use Rattle.ix_base.specs.Told.{Told};
+ghost use Rattle.ix_disk.specs.Image.{Image, bytes_in, Apart};
 ghost use Rattle.ix_disk.specs.Moments.{Goes, Holds};
 ghost use Rattle.ix_bucket.specs.Append.{Behind, HasAt};
 
@@ -17,6 +18,8 @@ pub fn append<D: Disk>(disk: &mut D, file: File, at: u64, bytes: &[u8]) -> Resul
     ensures images { Goes D.Disk disk.old disk.new (Behind file at) }
     // After Ok every image has the new bytes.
     ensures appended { OnOk result (Holds D.Disk disk.new file (HasAt at bytes.now)) }
+    // A read of the other files gives what it gave.
+    ensures seen { Told (Apart file) (D.Disk.seen disk.old) (D.Disk.seen disk.new) }
     ensures cause { HasCause (D.Disk.faults disk.old) (D.Disk.faults disk.new) result }
 {
     disk.write_at(file, at, bytes)?;
