@@ -30,6 +30,7 @@ impl From<Failed> for CopyFault {
 }
 
 /// Copies the bytes at a place, as many as the buffer has room for and the file has, and answers how many.
+#[tactic(auto, using(ix_disk::proofs::Others::others))]
 fn copy_piece<D: Disk>(
     disk: &mut D,
     from: File,
@@ -45,6 +46,7 @@ fn copy_piece<D: Disk>(
     ensures moved { IfOk result (λ n. Told (Moves from to at (at + n)) (D.Disk.seen disk.old) (D.Disk.seen disk.new)) }
     ensures short { IfErr result (λ fault. OnShort fault (λ place. (place ≡ at) × ((image : Image) → D.Disk.seen disk.old ≡ Some image → length (bytes_in image from) ≤ at))) }
     ensures images { Goes D.Disk disk.old disk.new (Apart to) }
+    ensures seen { Told (Apart to) (D.Disk.seen disk.old) (D.Disk.seen disk.new) }
     ensures cause { IsErrOf result CopyFault.Disk → Rose (D.Disk.faults disk.old) (D.Disk.faults disk.new) }
     ensures later { D.Disk.faults disk.old ≤ D.Disk.faults disk.new }
 {
@@ -57,6 +59,7 @@ fn copy_piece<D: Disk>(
 }
 
 /// Copies piece by piece. A file is its own copy.
+#[tactic(auto, using(ix_disk::proofs::Others::others))]
 fn copy_pieces<D: Disk>(
     disk: &mut D,
     from: File,
@@ -69,6 +72,7 @@ fn copy_pieces<D: Disk>(
     ensures moved { OnOk result (Told (Moves from to 0 len) (D.Disk.seen disk.old) (D.Disk.seen disk.new)) }
     ensures short { IfErr result (λ fault. OnShort fault (λ place. (place < len) × ((image : Image) → D.Disk.seen disk.old ≡ Some image → ⊥))) }
     ensures images { Goes D.Disk disk.old disk.new (Apart to) }
+    ensures seen { Told (Apart to) (D.Disk.seen disk.old) (D.Disk.seen disk.new) }
     ensures cause { IsErrOf result CopyFault.Disk → Rose (D.Disk.faults disk.old) (D.Disk.faults disk.new) }
     ensures later { D.Disk.faults disk.old ≤ D.Disk.faults disk.new }
 {
@@ -85,6 +89,7 @@ fn copy_pieces<D: Disk>(
 
 /// Writes the first bytes of a file at the front of another, piece by piece through the buffer, and syncs the other.
 /// `Short` comes where the first file has fewer bytes. It takes no memory.
+#[tactic(auto, using(ix_disk::proofs::Others::others))]
 pub fn copy<D: Disk>(
     disk: &mut D,
     from: File,
@@ -98,8 +103,9 @@ pub fn copy<D: Disk>(
     ensures long { OnOk result ((image : Image) → D.Disk.seen disk.old ≡ Some image → len ≤ length (bytes_in image from)) }
     ensures short { IfErr result (λ fault. OnShort fault (λ place. place < len)) }
     ensures place { IfErr result (λ fault. OnShort fault (λ place. (image : Image) → D.Disk.seen disk.old ≡ Some image → place ≡ length (bytes_in image from))) }
-    // Every image since the start has all other files.
+    // Every image since the start has all other files, and a read of them gives what it gave.
     ensures images { Goes D.Disk disk.old disk.new (Apart to) }
+    ensures seen { Told (Apart to) (D.Disk.seen disk.old) (D.Disk.seen disk.new) }
     ensures cause { IsErrOf result CopyFault.Disk → Rose (D.Disk.faults disk.old) (D.Disk.faults disk.new) }
     ensures later { D.Disk.faults disk.old ≤ D.Disk.faults disk.new }
 {

@@ -6,6 +6,3 @@ mod copying;
 
 pub use checking::check;
 pub use copying::{CopyFault, copy};
-
-#[cfg(test)]
-mod tests;

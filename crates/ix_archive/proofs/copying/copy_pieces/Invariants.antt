@@ -9,6 +9,7 @@ abbrev pub invariant-loop-at : goal.invariant-loop-at
 invariant-loop-at g l = record {
   within : l.at ≤ l.len;
   moved : Told (Moves l.from l.to 0 l.at) (g.D.Disk.seen l.fn.disk) (g.D.Disk.seen l.disk);
+  seen : Told (Apart l.to) (g.D.Disk.seen l.fn.disk) (g.D.Disk.seen l.disk);
   images : Goes g.D.Disk l.fn.disk l.disk (Apart l.to);
   later : g.D.Disk.faults l.fn.disk ≤ g.D.Disk.faults l.disk;
 }
