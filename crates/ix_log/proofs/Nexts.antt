@@ -12,7 +12,7 @@ use Rattle.ix_log.specs.Head.{IsHead}
 use Rattle.ix_log.specs.declared.head.Head.TheVariants.{End, Body, Cut}
 use Rattle.ix_log.specs.declared.log.LogFault.{LogFault}
 use Rattle.ix_log.specs.declared.log.LogFault.TheVariants.{Damaged}
-use Rattle.ix_log.proofs.Bytes.{blocks_push, all_push}
+use Rattle.ix_log.proofs.Blocks.{blocks_push, all_push}
 
 -- what a sync has settled stays so through calls that change nothing
 pub as_read_still : {D : Type 0} (g : Ghosts D) (old new : D) (file : File) → Goes g old new Stays → g.seen new ≡ g.seen old → IsAsRead g old file → IsAsRead g new file

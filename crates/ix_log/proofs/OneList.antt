@@ -6,7 +6,7 @@ use Rattle.std.specs.Int.{to_be_bytes, from_be_bytes, w32}
 use Rattle.ix_log.specs.Log.{block, blocks, AreShort, Gated, HasBodies, AtEnd}
 
 -- the block in front, and what stands behind it
-one_block : (x y a b : List ℕ) → length x < 2 ^ 32 → length y < 2 ^ 32 → block x ++ a ≡ block y ++ b → (x ≡ y) × (a ≡ b)
+pub one_block : (x y a b : List ℕ) → length x < 2 ^ 32 → length y < 2 ^ 32 → block x ++ a ≡ block y ++ b → (x ≡ y) × (a ≡ b)
 one_block x y a b short_x short_y is =
     let four_x = to_be_bytes w32 (length x) in
     let four_y = to_be_bytes w32 (length y) in

@@ -12,6 +12,10 @@ use Rattle.ix_log.specs.declared.log.Log.{Log}
 abbrev pub file_of : Log → File
 file_of log = log.file
 
+-- the place of the gate behind the bodies that were read or written
+abbrev pub place_of : Log → ℕ
+place_of log = log.at
+
 -- how many bytes of the next body were put
 abbrev pub put_so_far : Log → ℕ
 put_so_far log = log.len
@@ -66,14 +70,14 @@ AtEnd false bodies file = (bodies ≡ []) × (length file ≤ 1)
 
 -- the log stands behind the last of these bodies, in every image
 pub record IsAtEnd {D : Type 0} (g : Ghosts D) (log : Log) (disk : D) (bodies : List (List ℕ)) : Type 0 where
-  pub place : log.at ≡ length (blocks bodies)
+  pub place : place_of log ≡ length (blocks bodies)
   pub idle : log.begun ≡ false
   pub none_put : put_so_far log ≡ 0
   pub images : Holds g disk log.file (AtEnd log.closed bodies)
 
 -- bytes of a further body have been put
 pub record IsPutting {D : Type 0} (g : Ghosts D) (log : Log) (disk : D) (bodies : List (List ℕ)) (body : List ℕ) : Type 0 where
-  pub place : log.at ≡ length (blocks bodies)
+  pub place : place_of log ≡ length (blocks bodies)
   pub begun : log.begun ≡ true
   pub closed : log.closed ≡ true
   pub len : log.len ≡ length body
@@ -82,7 +86,7 @@ pub record IsPutting {D : Type 0} (g : Ghosts D) (log : Log) (disk : D) (bodies 
 
 -- the whole block is on the disk, and its gate is shut
 pub record IsWhole {D : Type 0} (g : Ghosts D) (log : Log) (disk : D) (bodies : List (List ℕ)) (body : List ℕ) : Type 0 where
-  pub place : log.at ≡ length (blocks bodies)
+  pub place : place_of log ≡ length (blocks bodies)
   pub len : log.len ≡ length body
   pub images : Holds g disk log.file (Whole bodies body)
 
@@ -109,7 +113,7 @@ IsAsRead g disk file = (image : Image) → g.may_leave disk image → (read : Im
 
 -- the log has read these bodies
 pub record IsReading {D : Type 0} (g : Ghosts D) (log : Log) (disk : D) (bodies : List (List ℕ)) : Type 0 where
-  pub place : log.at ≡ length (blocks bodies)
+  pub place : place_of log ≡ length (blocks bodies)
   pub idle : log.begun ≡ false
   pub none_put : put_so_far log ≡ 0
   pub fresh : log.closed ≡ false

@@ -8,6 +8,3 @@ mod log;
 
 pub use laws::one_list;
 pub use log::{Log, LogFault};
-
-#[cfg(test)]
-mod tests;

@@ -2,7 +2,8 @@
 
 ghost use Rattle.std.specs.Prelude.{◌≡◌, ◌<◌, ◌≤◌, ◌+◌, ◌^◌, ℕ, List, [], ◌∷◌, ◌++◌, length, true, IfOk, OnOk, OnErr, IsErrOf, take, drop, Some, Err};
 ghost use Rattle.ix_base.specs.Faults.{HasCause, Rose};
-ghost use Rattle.ix_disk.specs.Image.{Image, bytes_in, Stays};
+ghost use Rattle.ix_base.specs.Told.{Told};
+ghost use Rattle.ix_disk.specs.Image.{Image, bytes_in, Stays, Apart};
 ghost use Rattle.ix_disk.specs.Moments.{Goes, InFile, Holds};
 ghost use Rattle.ix_log.specs.declared.log.LogFault.TheVariants as faults;
 
@@ -81,7 +82,7 @@ pub struct Log {
 }
 
 impl Log {
-    ghost use Rattle.ix_log.specs.Log.{OnMore, IsMounted, IsReading, IsUsable, IsBegun, HasBodies, Gated, WithOrWithout, IsAtEnd, IsPutting, IsWhole, IsReady, IsCut, file_of, put_so_far, blocks};
+    ghost use Rattle.ix_log.specs.Log.{OnMore, IsMounted, IsReading, IsUsable, IsBegun, HasBodies, Gated, WithOrWithout, IsAtEnd, IsPutting, IsWhole, IsReady, IsCut, file_of, place_of, put_so_far, blocks};
 
     /// Settles the file by a sync, and stands before its first body. The bodies are judged by `next`, so this is never
     /// `Damaged`; and it takes no memory.
@@ -152,7 +153,15 @@ impl Log {
         }
     }
 
+    /// The place of the gate behind the bodies that were read or written: each call that puts a body writes from there on.
+    pub fn place(&self) -> u64
+        ensures { result ≡ place_of self.now }
+    {
+        self.at
+    }
+
     /// Puts a shut gate into a file that has no room for a body yet.
+    #[tactic(auto, using(ix_disk::proofs::Others::others))]
     fn shut<D: Disk>(&mut self, disk: &mut D) -> Result<(), Failed>
         requires { (bodies : List (List ℕ)) × IsAtEnd D.Disk self.old disk.old bodies }
         ensures shut { (bodies : List (List ℕ)) → IsAtEnd D.Disk self.old disk.old bodies →
@@ -161,6 +170,7 @@ impl Log {
             Goes D.Disk disk.old disk.new (InFile (file_of self.old) (HasBodies bodies)) }
         ensures counted { put_so_far self.new ≡ put_so_far self.old }
         ensures file { self.new.file ≡ self.old.file }
+        ensures seen { Told (Apart (file_of self.old)) (D.Disk.seen disk.old) (D.Disk.seen disk.new) }
         ensures cause { HasCause (D.Disk.faults disk.old) (D.Disk.faults disk.new) result }
     {
         if self.closed {
@@ -172,8 +182,9 @@ impl Log {
         Ok(())
     }
 
-    /// Makes the log ready for bytes of a body.
-    fn begin<D: Disk>(&mut self, disk: &mut D) -> Result<(), Failed>
+    /// Makes room for the length of the next body, whose bytes stand behind it.
+    #[tactic(auto, using(ix_disk::proofs::Others::others))]
+    fn start_body<D: Disk>(&mut self, disk: &mut D) -> Result<(), Failed>
         requires { (bodies : List (List ℕ)) × IsAtEnd D.Disk self.old disk.old bodies }
         ensures begun { (bodies : List (List ℕ)) → IsAtEnd D.Disk self.old disk.old bodies →
             OnOk result (IsPutting D.Disk self.new disk.new bodies []) }
@@ -181,6 +192,7 @@ impl Log {
             Goes D.Disk disk.old disk.new (InFile (file_of self.old) (HasBodies bodies)) }
         ensures counted { put_so_far self.new ≡ put_so_far self.old }
         ensures file { self.new.file ≡ self.old.file }
+        ensures seen { Told (Apart (file_of self.old)) (D.Disk.seen disk.old) (D.Disk.seen disk.new) }
         ensures cause { HasCause (D.Disk.faults disk.old) (D.Disk.faults disk.new) result }
     {
         self.shut(disk)?;
@@ -189,6 +201,7 @@ impl Log {
         Ok(())
     }
 
+    #[tactic(auto, using(ix_disk::proofs::Others::others))]
     fn ready<D: Disk>(&mut self, disk: &mut D) -> Result<(), Failed>
         requires { IsUsable D.Disk self.old disk.old }
         ensures begun { (bodies : List (List ℕ)) (body : List ℕ) → IsReady D.Disk self.old disk.old bodies body →
@@ -197,15 +210,18 @@ impl Log {
             Goes D.Disk disk.old disk.new (InFile (file_of self.old) (HasBodies bodies)) }
         ensures counted { put_so_far self.new ≡ put_so_far self.old }
         ensures file { self.new.file ≡ self.old.file }
+        ensures seen { Told (Apart (file_of self.old)) (D.Disk.seen disk.old) (D.Disk.seen disk.new) }
         ensures cause { HasCause (D.Disk.faults disk.old) (D.Disk.faults disk.new) result }
     {
         if self.begun {
             return Ok(());
         }
-        self.begin(disk)
+        self.start_body(disk)?;
+        Ok(())
     }
 
     /// Puts further bytes of the next body. No body counts before `finish`. After `Failed` the log is not used again.
+    #[tactic(auto, using(ix_disk::proofs::Others::others))]
     pub fn put<D: Disk>(&mut self, disk: &mut D, bytes: &[u8]) -> Result<(), Failed>
         requires usable { IsUsable D.Disk self.old disk.old }
         requires short { put_so_far self.old + length bytes.now < 2 ^ 32 }
@@ -218,6 +234,7 @@ impl Log {
         ensures images { (bodies : List (List ℕ)) (body : List ℕ) → IsReady D.Disk self.old disk.old bodies body →
             Goes D.Disk disk.old disk.new (InFile (file_of self.old) (HasBodies bodies)) }
         ensures file { file_of self.new ≡ file_of self.old }
+        ensures seen { Told (Apart (file_of self.old)) (D.Disk.seen disk.old) (D.Disk.seen disk.new) }
         ensures cause { HasCause (D.Disk.faults disk.old) (D.Disk.faults disk.new) result }
     {
         self.ready(disk)?;
@@ -227,6 +244,7 @@ impl Log {
     }
 
     /// Puts the whole block on the disk, but for its gate.
+    #[tactic(auto, using(ix_disk::proofs::Others::others))]
     fn close<D: Disk>(&self, disk: &mut D) -> Result<(), Failed>
         requires { (bodies : List (List ℕ)) × (body : List ℕ) × IsPutting D.Disk self.now disk.old bodies body }
         ensures whole { (bodies : List (List ℕ)) (body : List ℕ) → IsPutting D.Disk self.now disk.old bodies body →
@@ -234,6 +252,7 @@ impl Log {
         ensures images { (bodies : List (List ℕ)) (body : List ℕ) → IsPutting D.Disk self.now disk.old bodies body →
             Goes D.Disk disk.old disk.new (InFile self.now.file (Gated bodies)) }
         ensures bounded { OnOk result (self.now.at + 5 + self.now.len < 2 ^ 63) }
+        ensures seen { Told (Apart (file_of self.now)) (D.Disk.seen disk.old) (D.Disk.seen disk.new) }
         ensures cause { HasCause (D.Disk.faults disk.old) (D.Disk.faults disk.new) result }
     {
         let len = (self.len as u32).to_be_bytes();
@@ -244,12 +263,14 @@ impl Log {
     }
 
     /// Opens the gate of a block that is on the disk.
+    #[tactic(auto, using(ix_disk::proofs::Others::others))]
     fn open<D: Disk>(&self, disk: &mut D) -> Result<(), Failed>
         requires { (bodies : List (List ℕ)) × (body : List ℕ) × IsWhole D.Disk self.now disk.old bodies body }
         ensures opened { (bodies : List (List ℕ)) (body : List ℕ) → IsWhole D.Disk self.now disk.old bodies body →
             OnOk result (Holds D.Disk disk.new self.now.file (Gated (bodies ++ body ∷ []))) }
         ensures images { (bodies : List (List ℕ)) (body : List ℕ) → IsWhole D.Disk self.now disk.old bodies body →
             Goes D.Disk disk.old disk.new (InFile self.now.file (WithOrWithout bodies body)) }
+        ensures seen { Told (Apart (file_of self.now)) (D.Disk.seen disk.old) (D.Disk.seen disk.new) }
         ensures cause { HasCause (D.Disk.faults disk.old) (D.Disk.faults disk.new) result }
     {
         disk.write_at(self.file, self.at, &[1])?;
@@ -258,6 +279,7 @@ impl Log {
     }
 
     /// Makes the body that was put count. After `Failed` the log is not used again.
+    #[tactic(auto, using(ix_disk::proofs::Others::others))]
     pub fn finish<D: Disk>(&mut self, disk: &mut D) -> Result<(), Failed>
         requires { IsBegun D.Disk self.old disk.old }
         ensures usable { OnOk result (IsUsable D.Disk self.new disk.new) }
@@ -268,6 +290,7 @@ impl Log {
         ensures images { (bodies : List (List ℕ)) (body : List ℕ) → IsPutting D.Disk self.old disk.old bodies body →
             Goes D.Disk disk.old disk.new (InFile (file_of self.old) (WithOrWithout bodies body)) }
         ensures file { file_of self.new ≡ file_of self.old }
+        ensures seen { Told (Apart (file_of self.old)) (D.Disk.seen disk.old) (D.Disk.seen disk.new) }
         ensures cause { HasCause (D.Disk.faults disk.old) (D.Disk.faults disk.new) result }
     {
         self.close(disk)?;

@@ -2,7 +2,7 @@ use Rattle.std.proofs.Common.{◌++◌, [], ◌∷◌, Bool, inl, subst, sym, re
 use Rattle.ix_disk.specs.Moments.{Holds}
 use Rattle.ix_disk.proofs.Runs.{weaker, run_on}
 use Rattle.ix_log.specs.Log.{Gated, AtEnd, WithOrWithout}
-use Rattle.ix_log.proofs.Bytes.{length-blocks_push}
+use Rattle.ix_log.proofs.Blocks.{length-blocks_push}
 use Rattle.ix_log.proofs.log.Log.finish.Goals as goal
 
 pub returns-in_err-close-clause-images : goal.returns-in_err-close-clause-images

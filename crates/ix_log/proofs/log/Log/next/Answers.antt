@@ -2,7 +2,7 @@ use Rattle.std.proofs.Common.{refl, inl, rules, take, Err, ◌≡◌, ◌<◌, �
 use Rattle.ix_disk.specs.Image.{bytes_in}
 use Rattle.ix_disk.proofs.Runs.{settles}
 use Rattle.ix_log.specs.Log.{Gated}
-use Rattle.ix_log.proofs.Bytes.{length-blocks_push}
+use Rattle.ix_log.proofs.Blocks.{length-blocks_push}
 use Rattle.ix_log.proofs.Nexts.{as_read_still, gated_here, rest_left, room_for, body_here, cut_here, not_cut, damaged_is}
 use Rattle.std.proofs.lemmas.Result.{err_from_is_err_and}
 use Rattle.ix_log.specs.declared.log.LogFault.TheVariants.{Damaged}
