@@ -1,11 +1,11 @@
 -- The records that are left to be counted.
-use Rattle.std.proofs.Common.{◌≡◌, ℕ, zero, suc, ◌+◌, ◌-◌, ◌<◌, ◌≤◌, List, [], ◌∷◌, ◌++◌, length, take, drop, refl, sym, ap, subst, ◌∙◌, arith, length-append}
+use Rattle.std.proofs.Common.{◌≡◌, ℕ, ◌+◌, ◌-◌, ◌<◌, ◌≤◌, List, [], ◌∷◌, ◌++◌, length, take, drop, refl, sym, ap, ◌∙◌, arith, length-append}
 use Rattle.std.specs.List.{AllByRecursion}
-use Rattle.std.proofs.lemmas.List.{take_all, take_at, take-take, drop-drop, take-append-drop, length-take}
+use Rattle.std.proofs.lemmas.List.{take_at, take-take, drop-drop}
 use Rattle.std.proofs.lemmas.List.Concat.{flat_map-cons}
 use Rattle.std.proofs.Math.Seq.{take-add}
 use Rattle.ix_base.specs.declared.events.Event.{Event}
-use Rattle.ix_bucket.specs.Record.{fields, event_bytes, records, IsInRange, IsRecordOf}
+use Rattle.ix_bucket.specs.Record.{event_bytes, records, IsInRange}
 use Rattle.ix_bucket.specs.declared.ahead.ReadFault.{ReadFault}
 use Rattle.ix_bucket.specs.declared.ahead.ReadFault.TheVariants.{Disk, BadRecord, NoMemory}
 use Rattle.ix_bucket.specs.Ahead.{between, HasNoRecord, HasRecord, OnBadRecord}

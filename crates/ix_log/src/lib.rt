@@ -7,4 +7,4 @@ mod laws;
 mod log;
 
 pub use laws::one_list;
-pub use log::{Log, LogFault};
+pub use log::{BeginFault, Log, LogFault};

@@ -5,6 +5,7 @@ ghost use Rattle.ix_base.specs.Faults.{HasCause, Rose};
 ghost use Rattle.ix_base.specs.Told.{Told};
 ghost use Rattle.ix_disk.specs.Image.{Image, bytes_in, Stays, Apart};
 ghost use Rattle.ix_disk.specs.Moments.{Goes, InFile, Holds};
+ghost use Rattle.ix_log.specs.declared.log.BeginFault.TheVariants as begins;
 ghost use Rattle.ix_log.specs.declared.log.LogFault.TheVariants as faults;
 
 use crate::head::{Head, head_of};
@@ -29,6 +30,23 @@ impl From<Failed> for LogFault {
 
     fn from(_: Failed) -> Self {
         LogFault::Disk
+    }
+}
+
+/// Why no log was begun.
+#[derive(Clone, Copy, Debug, PartialEq, Eq)]
+pub enum BeginFault {
+    /// The disk has failed.
+    Disk,
+    /// There was no room in memory.
+    NoMemory,
+}
+
+impl From<Failed> for BeginFault {
+    ghost from_gives = { λ _ e. e ≡ begins.Disk };
+
+    fn from(_: Failed) -> Self {
+        BeginFault::Disk
     }
 }
 
@@ -106,6 +124,34 @@ impl Log {
             len: 0,
             begun: false,
             closed: false,
+        })
+    }
+
+    /// Makes the file an empty log, whatever it held: removes it, writes one closed gate, and syncs. Bytes of a body may
+    /// be put next. After a fault it is open what the file holds. It takes no memory.
+    pub fn begin<D: Disk>(alloc: Global, disk: &mut D, file: File) -> Result<Log, BeginFault>
+        // After Ok the list is empty in every image.
+        ensures empty { IfOk result (λ log. IsAtEnd D.Disk log disk.new []) }
+        ensures usable { IfOk result (λ log. IsUsable D.Disk log disk.new) }
+        ensures file { IfOk result (λ log. file_of log ≡ file) }
+        ensures counted { IfOk result (λ log. put_so_far log ≡ 0) }
+        // Every image since the start of the call has all other files, and a read of them gives what it gave.
+        ensures images { Goes D.Disk disk.old disk.new (Apart file) }
+        ensures seen { Told (Apart file) (D.Disk.seen disk.old) (D.Disk.seen disk.new) }
+        ensures later { D.Disk.faults disk.old ≤ D.Disk.faults disk.new }
+        ensures cause { OnErr result ((result ≡ Err BeginFault.Disk) × Rose (D.Disk.faults disk.old) (D.Disk.faults disk.new)) }
+    {
+        let _ = alloc;
+        disk.remove(file)?;
+        disk.write_at(file, 0, &[0])?;
+        disk.sync(file)?;
+        Ok(Log {
+            file,
+            size: 1,
+            at: 0,
+            len: 0,
+            begun: false,
+            closed: true,
         })
     }
 

@@ -1,4 +1,4 @@
-use Rattle.std.proofs.Common.{ap, ◌∙◌, List, ℕ, ◌++◌}
+use Rattle.std.proofs.Common.{ap, ◌∙◌, ℕ, ◌++◌}
 use Rattle.ix_fields.specs.Spelling.{four}
 use Rattle.ix_bucket.proofs.Sizes.{joined}
 use Rattle.ix_bucket.proofs.writing.put_record.Goals as goal
