@@ -8,7 +8,7 @@ use Rattle.ix_pattern.specs.Laws.{AllInOrder}
 use Rattle.ix_pattern.specs.Rows.{Shape, tree}
 use Rattle.ix_pattern.proofs.Ends.{EachEnd, EachEnd-append, EachEnd-onward, EachEnd-here, EachEnd-at_end, EachEnd-prefer, finish-ends, word-ends, look-ends, Within, ways-ends}
 use Rattle.ix_pattern.proofs.Spans.{Ordered, ways-keeps}
-use Rattle.ix_match.specs.Matches.{closed, ways_from}
+use Rattle.ix_match.specs.Matches.{closed, ways_from, AllWithin}
 
 -- no edge among them
 abbrev pub Known : List Way → Type 0
@@ -101,7 +101,49 @@ all-known (ahead inside wanted) text u r =
     Known-look wanted r (ways inside (sight (r.place + 255) text) r)
     (all-known inside (sight (r.place + 255) text) (sight-closed (r.place + 255) text u) r)
 
--- as many groups as before
+-- a fact about where a match has come to, which each byte and each group that ends there keep
+pub record Stays (P : Reached → Type 0) : Type 0 where
+  pub next : (r : Reached) → P r → P (record r { place = r.place + 1 })
+  pub closes : (r e : Reached) (number : ℕ) → P r → P e → P (record e { groups = slice_set e.groups (number - 1) (Some (r.place, e.place)) })
+
+abbrev KeptBy : (Reached → Type 0) → (Reached → List Way) → Type 0
+KeptBy P turn = (r : Reached) → P r → EachEnd P (turn r)
+
+onward-kept : (P : Reached → Type 0) (next : Reached → List Way) (xs : List Way) → EachEnd P xs → KeptBy P next → EachEnd P (onward next xs)
+onward-kept P next xs p k = EachEnd-onward P P next xs p k
+
+required-kept : (P : Reached → Type 0) (turn next : Reached → List Way) → KeptBy P turn → KeptBy P next → (m : ℕ) → KeptBy P (required turn m next)
+required-kept P turn next t f zero r p = f r p
+required-kept P turn next t f (suc m) r p = onward-kept P (required turn m next) (turn r) (t r p) (required-kept P turn next t f m)
+
+optional-kept : (P : Reached → Type 0) (lazy : Bool) (turn : Reached → List Way) → KeptBy P turn → (m : ℕ) → KeptBy P (optional lazy turn m)
+optional-kept P lazy turn t zero r p = (p, tt)
+optional-kept P lazy turn t (suc m) r p =
+    EachEnd-prefer P lazy (ends_at r ∷ []) (onward (optional lazy turn m) (turn r)) (p, tt)
+    (onward-kept P (optional lazy turn m) (turn r) (t r p) (optional-kept P lazy turn t m))
+
+bytes-kept : (P : Reached → Type 0) → Stays P → (set : List Bool) (text : Text) (r : Reached) (o : Option ℕ) → P r → EachEnd P (byte_ways set text r o)
+bytes-kept P s set text r None p = EachEnd-at_end P text.unfinished [] tt
+bytes-kept P s set text r (Some b) p = EachEnd-here P (in_set set b) (record r { place = r.place + 1 }) (s.next r p)
+
+pub ways-kept : (P : Reached → Type 0) → Stays P → (piece : Piece) (text : Text) → KeptBy P (ways piece text)
+unfolding ways
+ways-kept P s nothing text r p = (p, tt)
+ways-kept P s (byte_in set) text r p = bytes-kept P s set text r (slice_get text.bytes r.place) p
+ways-kept P s (start lines) text r p = EachEnd-here P (is_start lines (byte_before text.before text.bytes r.place)) r p
+ways-kept P s (finish lines) text r p = finish-ends P lines text r (slice_get text.bytes r.place) p
+ways-kept P s word text r p = word-ends P text r (slice_get text.bytes r.place) p
+ways-kept P s (seq first rest) text r p = onward-kept P (ways rest text) (ways first text r) (ways-kept P s first text r p) (ways-kept P s rest text)
+ways-kept P s (either first other) text r p =
+    EachEnd-append P (ways first text r) (ways other text r) (ways-kept P s first text r p) (ways-kept P s other text r p)
+ways-kept P s (count inside least most lazy) text r p =
+    required-kept P (ways inside text) (optional lazy (ways inside text) (further_turns text least most)) (ways-kept P s inside text)
+    (optional-kept P lazy (ways inside text) (ways-kept P s inside text) (further_turns text least most)) least r p
+ways-kept P s (group number inside) text r p =
+    EachEnd-onward P P (close_group number r.place) (ways inside text r) (ways-kept P s inside text r p) (λ e q. (s.closes r e number p q, tt))
+ways-kept P s (ahead inside wanted) text r p = look-ends P wanted r (ways inside (sight (r.place + 255) text) r) p
+
+-- as many groups as this
 abbrev pub SameCount : ℕ → Reached → Type 0
 SameCount n r = length r.groups ≡ n
 
@@ -110,47 +152,47 @@ length-set [] i g = refl
 length-set (h ∷ groups) zero g = refl
 length-set (h ∷ groups) (suc i) g = ap suc (length-set groups i g)
 
-abbrev KeepsCount : ℕ → (Reached → List Way) → Type 0
-KeepsCount n turn = (r : Reached) → SameCount n r → EachEnd (SameCount n) (turn r)
+count-stays : (n : ℕ) → Stays (SameCount n)
+count-stays n = record {
+  next = λ r p. p;
+  closes = λ r e number p q. length-set e.groups (number - 1) (Some (r.place, e.place)) ∙ q;
+}
 
-onward-count : (n : ℕ) (next : Reached → List Way) (xs : List Way) → EachEnd (SameCount n) xs → KeepsCount n next → EachEnd (SameCount n) (onward next xs)
-onward-count n next xs p k = EachEnd-onward (SameCount n) (SameCount n) next xs p k
+-- no group begins before this place
+abbrev pub AllFrom : ℕ → List (Option (ℕ × ℕ)) → Type 0
+AllFrom low [] = Unit {0}
+AllFrom low (None ∷ groups) = AllFrom low groups
+AllFrom low (Some span ∷ groups) = (low ≤ span.0) × AllFrom low groups
 
-required-count : (n : ℕ) (turn next : Reached → List Way) → KeepsCount n turn → KeepsCount n next → (m : ℕ) → KeepsCount n (required turn m next)
-required-count n turn next t f zero r p = f r p
-required-count n turn next t f (suc m) r p = onward-count n (required turn m next) (turn r) (t r p) (required-count n turn next t f m)
+AllFrom-set : (low : ℕ) (groups : List (Option (ℕ × ℕ))) (i a b : ℕ) → low ≤ a → AllFrom low groups → AllFrom low (slice_set groups i (Some (a, b)))
+AllFrom-set low [] i a b h all = tt
+AllFrom-set low (None ∷ groups) zero a b h all = (h, all)
+AllFrom-set low (Some span ∷ groups) zero a b h all = (h, all.1)
+AllFrom-set low (None ∷ groups) (suc i) a b h all = AllFrom-set low groups i a b h all
+AllFrom-set low (Some span ∷ groups) (suc i) a b h all = (all.0, AllFrom-set low groups i a b h all.1)
 
-optional-count : (n : ℕ) (lazy : Bool) (turn : Reached → List Way) → KeepsCount n turn → (m : ℕ) → KeepsCount n (optional lazy turn m)
-optional-count n lazy turn t zero r p = (p, tt)
-optional-count n lazy turn t (suc m) r p =
-    EachEnd-prefer (SameCount n) lazy (ends_at r ∷ []) (onward (optional lazy turn m) (turn r)) (p, tt)
-    (onward-count n (optional lazy turn m) (turn r) (t r p) (optional-count n lazy turn t m))
+pub record From (low : ℕ) (r : Reached) : Type 0 where
+  pub place : low ≤ r.place
+  pub groups : AllFrom low r.groups
 
-bytes-count : (n : ℕ) (set : List Bool) (text : Text) (r : Reached) (o : Option ℕ) → SameCount n r → EachEnd (SameCount n) (byte_ways set text r o)
-bytes-count n set text r None p = EachEnd-at_end (SameCount n) text.unfinished [] tt
-bytes-count n set text r (Some b) p = EachEnd-here (SameCount n) (in_set set b) (record r { place = r.place + 1 }) p
+from-stays : (low : ℕ) → Stays (From low)
+from-stays low = record {
+  next = λ r p. record { place = omega (arith, p.place); groups = p.groups };
+  closes = λ r e number p q. record { place = q.place; groups = AllFrom-set low e.groups (number - 1) r.place e.place p.place q.groups };
+}
 
-pub ways-count : (n : ℕ) (piece : Piece) (text : Text) → KeepsCount n (ways piece text)
-unfolding ways
-ways-count n nothing text r p = (p, tt)
-ways-count n (byte_in set) text r p = bytes-count n set text r (slice_get text.bytes r.place) p
-ways-count n (start lines) text r p = EachEnd-here (SameCount n) (is_start lines (byte_before text.before text.bytes r.place)) r p
-ways-count n (finish lines) text r p = finish-ends (SameCount n) lines text r (slice_get text.bytes r.place) p
-ways-count n word text r p = word-ends (SameCount n) text r (slice_get text.bytes r.place) p
-ways-count n (seq first rest) text r p = onward-count n (ways rest text) (ways first text r) (ways-count n first text r p) (ways-count n rest text)
-ways-count n (either first other) text r p =
-    EachEnd-append (SameCount n) (ways first text r) (ways other text r) (ways-count n first text r p) (ways-count n other text r p)
-ways-count n (count inside least most lazy) text r p =
-    required-count n (ways inside text) (optional lazy (ways inside text) (further_turns text least most)) (ways-count n inside text)
-    (optional-count n lazy (ways inside text) (ways-count n inside text) (further_turns text least most)) least r p
-ways-count n (group number inside) text r p =
-    EachEnd-onward (SameCount n) (SameCount n) (close_group number r.place) (ways inside text r) (ways-count n inside text r p)
-    (λ e q. (length-set e.groups (number - 1) (Some (r.place, e.place)) ∙ q, tt))
-ways-count n (ahead inside wanted) text r p = look-ends (SameCount n) wanted r (ways inside (sight (r.place + 255) text) r) p
+none-from : (count low : ℕ) → AllFrom low (replicate count None)
+none-from zero low = tt
+none-from (suc n) low = none-from n low
 
 none-set : (count place : ℕ) → AllInOrder place (replicate count None)
 none-set zero place = tt
 none-set (suc n) place = (tt, none-set n place)
+
+all-within : (low high : ℕ) (groups : List (Option (ℕ × ℕ))) → AllFrom low groups → AllInOrder high groups → AllWithin low high groups
+all-within low high [] f o = tt
+all-within low high (None ∷ groups) f o = (tt, all-within low high groups f o.1)
+all-within low high (Some span ∷ groups) f o = ((f.0, o.0.0, o.0.1), all-within low high groups f.1 o.1)
 
 -- the first of a list has what each of its ends has
 head-end : (P : Reached → Type 0) (xs : List Way) (r : Reached) → EachEnd P xs → slice_get xs 0 ≡ Some (ends_at r) → P r
@@ -158,22 +200,24 @@ head-end P [] r all e = grind (arith, e)
 head-end P (edge ∷ xs) r all e = grind (arith, e)
 head-end P (ends_at s ∷ xs) r all e = let same : s ≡ r = cc in subst P same all.0
 
--- what the first of a closed text's ways tells of the groups and of the end
-pub record Lies (p : Shape) (text : List ℕ) (place : ℕ) (r : Reached) : Type 0 where
+-- what the first of the ways from a place tells of the groups and of the end
+pub record Lies (text : Text) (n place : ℕ) (r : Reached) : Type 0 where
   pub order : place ≤ r.place
-  pub within : r.place ≤ length text
-  pub groups : length r.groups ≡ p.groups
-  pub spans : AllInOrder r.place r.groups
+  pub within : r.place ≤ length text.bytes
+  pub groups : length r.groups ≡ n
+  pub spans : AllWithin place r.place r.groups
 
-pub first-lies : (p : Shape) (text : List ℕ) (place : ℕ) (r : Reached) → place ≤ length text →
-    slice_get (ways_from p text place) 0 ≡ Some (ends_at r) → Lies p text place r
-first-lies p text place r h e =
-    let start : Reached = record { place = place; groups = replicate p.groups None } in
-    let w = head-end (Within (closed text) (place + least_length (tree p.rows))) (ways_from p text place) r (ways-ends (tree p.rows) (closed text) start h) e in
-    let o = head-end (Ordered place) (ways_from p text place) r (ways-keeps (tree p.rows) (closed text) start (none-set p.groups place)) e in
-    let c = head-end (SameCount p.groups) (ways_from p text place) r
-    (ways-count p.groups (tree p.rows) (closed text) start (length-replicate p.groups None)) e in
-    record { order = omega (arith, w.low); within = w.high; groups = c; spans = o.spans }
+pub head-lies : (piece : Piece) (text : Text) (n place : ℕ) (r : Reached) → place ≤ length text.bytes →
+    slice_get (ways piece text (record { place = place; groups = replicate n None })) 0 ≡ Some (ends_at r) → Lies text n place r
+head-lies piece text n place r h e =
+    let begun : Reached = record { place = place; groups = replicate n None } in
+    let w = head-end (Within text (place + least_length piece)) (ways piece text begun) r (ways-ends piece text begun h) e in
+    let o = head-end (Ordered place) (ways piece text begun) r (ways-keeps piece text begun (none-set n place)) e in
+    let c = head-end (SameCount n) (ways piece text begun) r
+    (ways-kept (SameCount n) (count-stays n) piece text begun (length-replicate n None)) e in
+    let f = head-end (From place) (ways piece text begun) r
+    (ways-kept (From place) (from-stays place) piece text begun (record { place = omega arith; groups = none-from n place })) e in
+    record { order = omega (arith, w.low); within = w.high; groups = c; spans = all-within place r.place r.groups f.groups o.spans }
 
 Known-head : (xs : List Way) → Known xs → slice_get xs 0 ≡ Some edge → ⊥
 Known-head [] k e = grind (arith, e)

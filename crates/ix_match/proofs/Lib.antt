@@ -1,7 +1,10 @@
+pub mod Walks
 pub mod StackLemmas
 pub mod Rules
 pub mod PieceRules
 pub mod SearchLemmas
 pub mod ClosedLemmas
 pub mod FindLemmas
+pub mod ScanLemmas
+pub mod FewLemmas
 pub mod StartLemmas

@@ -4,5 +4,6 @@ pub mod Costs
 pub mod Steps
 pub mod Attempt
 pub mod Starts
-pub mod Scans
 pub mod Matches
+pub mod Scans
+pub mod Few

@@ -1,8 +1,7 @@
 -- The first match in a text.
-use Rattle.std.specs.Prelude.{◌≡◌, ℕ, ◌<◌, ◌≤◌, false, List, [], length, Option, Some, None, slice_get, replicate}
+use Rattle.std.specs.Prelude.{◌≡◌, ℕ, ◌<◌, ◌≤◌, false, List, [], ◌∷◌, length, Option, Some, None, slice_get, replicate}
 use Rattle.ix_pattern.specs.Ways.{Text, Way, ends_at, ways}
 use Rattle.ix_pattern.specs.Rows.{Shape, tree}
-use Rattle.ix_pattern.specs.Laws.{AllInOrder}
 use Rattle.ix_match.specs.declared.first.Found.{Found}
 
 -- a whole text
@@ -25,10 +24,19 @@ IsFirst p text from None = (place : ℕ) → from ≤ place → place ≤ length
 IsFirst p text from (Some found) =
     ((place : ℕ) → from ≤ place → place < found.start → ways_from p text place ≡ []) × MatchesAt p text found.start (Some found)
 
--- It lies in the text, and the span of each of the groups is in order and does not go past its end.
+-- the span of a group that took part is in order and lies between these places
+abbrev pub LiesWithin : ℕ → ℕ → Option (ℕ × ℕ) → Type 0
+LiesWithin start end None = Unit {0}
+LiesWithin start end (Some span) = (start ≤ span.0) × (span.0 ≤ span.1) × (span.1 ≤ end)
+
+abbrev pub AllWithin : ℕ → ℕ → List (Option (ℕ × ℕ)) → Type 0
+AllWithin start end [] = Unit {0}
+AllWithin start end (group ∷ groups) = LiesWithin start end group × AllWithin start end groups
+
+-- It lies in the text, and the spans of its groups lie in it.
 pub record LiesIn (text : List ℕ) (from count : ℕ) (found : Found) : Type 0 where
   pub begins : from ≤ found.start
   pub order : found.start ≤ found.end
   pub within : found.end ≤ length text
   pub groups : length found.groups ≡ count
-  pub spans : AllInOrder found.end found.groups
+  pub spans : AllWithin found.start found.end found.groups

@@ -1,6 +1,7 @@
 //! Searching a text for a pattern, by going back and trying again.
 #![tactic(auto)]
 
+mod few;
 mod first;
 mod frames;
 mod input;
@@ -9,8 +10,7 @@ mod scan;
 mod search;
 mod starts;
 mod steps;
-#[cfg(test)]
-mod tests;
+mod told;
 
 pub use first::{Found, GroupList, find};
 pub use scan::{Look, REACH, Scan};

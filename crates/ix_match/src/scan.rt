@@ -7,12 +7,15 @@ ghost use Rattle.ix_match.specs.Attempt.{reach, attempt};
 ghost use Rattle.ix_match.specs.Leaf.{text_of};
 ghost use Rattle.ix_match.specs.Stack.{head_of as outcome_head};
 ghost use Rattle.ix_match.specs.Starts.{AreStarts};
-ghost use Rattle.ix_match.specs.Scans.{head_of, BeginsAtOnce};
+ghost use Rattle.ix_match.specs.Scans.{GoesOn, emptied, head_of, BeginsAtOnce, LiesInReach};
 
+use crate::few;
+use crate::few::{Few, few_of};
 use crate::first::{Found, GroupList};
 use crate::input::Input;
 use crate::search::{Outcome, head};
 use crate::starts::starts_of;
+use crate::told::Told;
 use ix_base::{NoMemory, Steps};
 use ix_pattern::Pattern;
 use std::alloc::Global;
@@ -33,21 +36,27 @@ pub enum Look {
     More,
 }
 
-/// One attempt at the first place of a text of which more bytes may come. Contracts see for each byte whether a match
-/// may begin with it, and how many bytes of the text were given since it was made or reset.
+/// One attempt at the first place of a text of which more bytes may come. Contracts see the pattern that it was made
+/// for, for each byte whether a match may begin with it, and since it was made or reset the byte before its text and
+/// the bytes that were given.
 #[derive(Drop)]
 pub struct Scan {
     alloc: Global,
     starts: [bool; 256],
-    given: usize,
+    few: Few,
+    before: Option<u8>,
+    told: Told,
 }
 
 impl Model for Scan {
+    ghost use Rattle.ix_match.specs.Few.{Lists};
     ghost use Rattle.ix_match.specs.Scans.{Scanned};
 
     ghost Value = { Scanned };
 
-    ghost view = { λ s. record { starts = s.starts; given = s.given } };
+    ghost view = { λ s. record { pattern = s.told.pattern; starts = s.starts; before = s.before; given = s.told.bytes } };
+
+    ghost invariant = { λ s. Lists s.few s.starts };
 }
 
 /// What an attempt sees of the bytes that have come.
@@ -73,20 +82,24 @@ fn seen(before: Option<u8>, bytes: &[u8], closed: bool) -> Input<'_>
 impl Scan {
     /// An attempt that was given no byte yet.
     pub fn new(alloc: Global, p: &Pattern) -> Result<Scan, NoMemory>
-        ensures given { IfOk result (λ scan. scan.given ≡ 0) }
+        ensures pattern { IfOk result (λ scan. scan.pattern ≡ p.now) }
+        ensures given { IfOk result (λ scan. scan ≡ emptied scan) }
         ensures starts { IfOk result (λ scan. AreStarts p.now scan.starts) }
     {
+        let starts = starts_of(alloc, p)?;
         Ok(Scan {
             alloc,
-            starts: starts_of(alloc, p)?,
-            given: 0,
+            few: few_of(&starts),
+            starts,
+            before: None,
+            told: Told::of(p, &[]),
         })
     }
 
     /// The attempt at the first of these bytes, by the pattern that the scan was made for. `before` is the byte before
     /// them; there is none at the start of the stream. The bytes go on from those of the last call since `new` or
-    /// `reset`. An attempt sees the first 16,384 of them; where there are so many, or the stream is `closed`, its text
-    /// ends there. Each test of a byte counts as a step.
+    /// `reset`, behind the same byte. An attempt sees the first 16,384 of them; where there are so many, or the stream
+    /// is `closed`, its text ends there. Each test of a byte counts as a step.
     ///
     /// It is `Found` with the preferred one of the matches that begin here, `No` exactly where none does, and `More`
     /// exactly where that depends on bytes that have not come. After `NoMemory` the scan is as after `reset`.
@@ -98,14 +111,16 @@ impl Scan {
         closed: bool,
         steps: &mut Steps<L>,
     ) -> Result<Look, NoMemory>
-        requires { self.old.given ≤ length text.now }
+        requires pattern { p.now ≡ self.old.pattern }
+        requires goes_on { GoesOn self.old before text.now }
         ensures head { IfOk result (λ look. slice_get (attempt p.now (record { before = before; bytes = text.now; unfinished = not closed })) 0 ≡ head_of look) }
         ensures begins { IfOk result BeginsAtOnce }
-        ensures given { OnOk result (self.new ≡ record self.old { given = length text.now }) }
-        ensures reset { OnErr result (self.new ≡ record self.old { given = 0 }) }
+        ensures lies { IfOk result (LiesInReach text.now p.now.groups) }
+        ensures given { OnOk result (self.new ≡ record self.old { before = before; given = text.now }) }
+        ensures reset { OnErr result (self.new ≡ emptied self.old) }
         ensures later { steps.old ≤ steps.new }
     {
-        self.given = 0;
+        self.reset();
         let groups = vec![in self.alloc; None; p.groups()]?;
         let outcome = head(
             self.alloc,
@@ -116,40 +131,44 @@ impl Scan {
             groups,
             steps,
         )?;
-        self.given = text.len();
+        self.before = before;
+        self.told = Told::of(p, text);
         Ok(look_of(outcome))
     }
 
     /// Begins anew, at another place or in another text. It takes no memory.
     pub fn reset(&mut self)
-        ensures { self.new ≡ record self.old { given = 0 } }
+        ensures { self.new ≡ emptied self.old }
     {
-        self.given = 0;
+        self.before = None;
+        self.told = self.told.emptied();
     }
 
     /// Whether a match may begin with the byte.
     pub fn may_begin(&self, byte: u8) -> bool
         ensures { result ≡ in_set self.now.starts byte }
     {
-        self.starts[byte as usize]
+        few::contains(&self.starts, byte)
     }
 
     /// How many of these bytes stand before the first one with which a match may begin.
     pub fn passed_over(&self, bytes: &[u8]) -> usize
         ensures { result ≡ length (take_while (λ b. not (in_set self.now.starts b)) bytes.now) }
     {
-        bytes.iter().take_while(|b| !self.may_begin(**b)).count()
+        few::passed_over(&self.starts, self.few, bytes)
     }
 
-    /// A copy of it.
-    pub fn copy(&self) -> Scan
-        ensures { result ≡ self.now }
+    /// A copy of it, which goes on apart from it.
+    pub fn copy(&self) -> Result<Scan, NoMemory>
+        ensures { IfOk result (λ copy. copy ≡ self.now) }
     {
-        Scan {
+        Ok(Scan {
             alloc: self.alloc,
             starts: self.starts,
-            given: self.given,
-        }
+            few: self.few,
+            before: self.before,
+            told: self.told.again(),
+        })
     }
 }
 
