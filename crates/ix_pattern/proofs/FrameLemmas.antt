@@ -1,7 +1,7 @@
 -- What becomes of levels when pieces are added.
 use Rattle.std.proofs.Common.{◌≡◌, ℕ, ◌+◌, min, max, Bool, ◌&&◌, ◌||◌, List, [], ◌∷◌, Option, Some, None, unwrap_or, refl, ◌∙◌, subst, arith}
 use Rattle.ix_pattern.specs.Made.{Made}
-use Rattle.ix_pattern.specs.Parts.{IsPart, IsOptional, Grew, Adds}
+use Rattle.ix_pattern.specs.Parts.{IsPart, IsOptional, Grew, GrewBy, Adds}
 use Rattle.ix_pattern.specs.Syntax.{Syntax, leaf, paren, pieces, weights, whole, whole_weight, joined, repeated, repeated_weight, leaf_piece, paren_piece, paren_weight, opened, groups, is_plain_opening, is_high}
 use Rattle.ix_pattern.specs.Run.{Level, level}
 use Rattle.ix_pattern.specs.Frames.{IsFrame, AreFrames, Holds}
@@ -12,7 +12,7 @@ use Rattle.ix_pattern.specs.declared.tokens.Opening.{Opening}
 use Rattle.ix_pattern.specs.declared.tokens.Repeat.{Repeat}
 use Rattle.ix_pattern.proofs.PartLemmas.{lift-optional, below-optional, Grew-then}
 
-pub lift-frame : (old new : Made) (n : ℕ) (frame : Frame) (times : Option Repeat) (s : Syntax) → Grew old new →
+pub lift-frame : {b : ℕ} (old new : Made) (n : ℕ) (frame : Frame) (times : Option Repeat) (s : Syntax) → GrewBy b old new →
     IsFrame old.rows n frame times s → IsFrame new.rows n frame times s
 lift-frame old new n frame times s g f = record {
   waits = f.waits;
@@ -23,7 +23,7 @@ lift-frame old new n frame times s g f = record {
   high = f.high;
 }
 
-pub lift-frames : (old new : Made) (n : ℕ) (frames : List Frame) (levels : List Level) → Grew old new →
+pub lift-frames : {b : ℕ} (old new : Made) (n : ℕ) (frames : List Frame) (levels : List Level) → GrewBy b old new →
     AreFrames old.rows n frames levels → AreFrames new.rows n frames levels
 lift-frames old new n frames [] g a = a
 lift-frames old new n frames (level times s ∷ levels) g a =
@@ -36,7 +36,7 @@ frame-holds made n frame times s f = record {
 }
 
 pub leaf-frame : (old mid new : Made) (here frame : Frame) (x : Part) (n : ℕ) (times : Option Repeat) (s : Syntax) (l : Leaf) (high : Bool) →
-    Grew old mid → IsFrame old.rows n here times s → frame.waiting ≡ None → frame.sequence ≡ Some x → frame.others ≡ here.others →
+    GrewBy 1 old mid → IsFrame old.rows n here times s → frame.waiting ≡ None → frame.sequence ≡ Some x → frame.others ≡ here.others →
     frame.plain ≡ here.plain → frame.depth ≡ here.depth → frame.high ≡ (high || here.high) → high ≡ is_high here.waiting →
     Adds mid new x (joined (repeated (leaf_piece l) here.waiting) (pieces n s).first) (repeated_weight 1 here.waiting + unwrap_or (weights s).first 0) →
     IsFrame new.rows n frame None (leaf l times s)

@@ -4,18 +4,18 @@ use Rattle.std.specs.Prelude.{◌==◌}
 use Rattle.std.specs.Option.{is_some}
 use Rattle.std.proofs.lemmas.Bool.Decides.{nat_tests}
 use Rattle.std.proofs.lemmas.Bool.{ltb-false}
-use Rattle.ix_pattern.specs.Rows.{Shape, tree}
+use Rattle.ix_pattern.specs.Rows.{Shape, tree, byte_pieces}
 use Rattle.ix_pattern.specs.Tokens.{tokens_of}
 use Rattle.ix_pattern.specs.Syntax.{Syntax, spelled, IsSpelledBy, groups, tree_of, weight_of, is_too_large, counts_high, depth}
 use Rattle.ix_pattern.specs.Run.{level, State, state, run}
-use Rattle.ix_pattern.specs.Frames.{IsFrame, IsReading, HasRead, ReadsAll, captures}
+use Rattle.ix_pattern.specs.Frames.{IsFrame, IsReading, HasRead, ReadsAll, captures, leaves}
 use Rattle.ix_pattern.specs.Parsed.{Read, Parses}
 use Rattle.ix_pattern.specs.Reads.{IsPatternOf}
 use Rattle.ix_pattern.specs.declared.reader.Reader.{Reader}
 use Rattle.ix_pattern.specs.declared.tokens.Token.{Token}
 use Rattle.ix_pattern.proofs.Grammar.{given-is-spelled, spelled-is-given}
 use Rattle.ix_pattern.proofs.StepLemmas.{snoc-nil}
-use Rattle.ix_pattern.proofs.ReadsLemmas.{captures-spelled, or-none}
+use Rattle.ix_pattern.proofs.ReadsLemmas.{captures-spelled, tokens-weigh, or-none}
 
 spelled-so : (text : List ℕ) (ts : List Token) (s : Syntax) → Some ts ≡ tokens_of text → IsSpelledBy s text → run ts ≡ Some (state (level None s) [])
 spelled-so text ts s e p =
@@ -49,8 +49,8 @@ still-open text ts found reader e r is w s p =
     w f.1
 
 ends : (text : List ℕ) (ts : List Token) (reader : Reader) (st : State) → Some ts ≡ tokens_of text → HasRead reader ts st → reader.opened ≡ 0 →
-    reader.work.groups ≡ captures ts → reader.here.waiting ≡ None → reader.outer.items ≡ [] → (s : Syntax) × Read reader text s
-ends text ts reader (state (level None s) []) e h z g w o =
+    reader.work.groups ≡ captures ts → byte_pieces reader.work.rows ≤ leaves ts → reader.here.waiting ≡ None → reader.outer.items ≡ [] → (s : Syntax) × Read reader text s
+ends text ts reader (state (level None s) []) e h z g b w o =
     let given = given-is-spelled ts (state (level None s) []) s h.run refl in (
       s,
       record {
@@ -59,19 +59,20 @@ ends text ts reader (state (level None s) []) e h z g w o =
           frame = subst (λ n. IsFrame reader.work.rows n reader.here None s) z h.reading.0;
           counted = g ∙ ap captures (sym given.0) ∙ captures-spelled s;
           allowed = given.1;
+          bytes = omega (arith, b, ap leaves (sym given.0), tokens-weigh s);
         };
       },
     )
-ends text ts reader (state (level (Some times) s) levels) e h z g w o =
+ends text ts reader (state (level (Some times) s) levels) e h z g b w o =
     absurd (let v = h.reading.0.waits in let f : None ≡ Some times = sym w ∙ v in cc)
-ends text ts reader (state (level None s) (level times t ∷ levels)) e h z g w o =
+ends text ts reader (state (level None s) (level times t ∷ levels)) e h z g b w o =
     absurd (snoc-nil h.reading.1.0 h.reading.1.1 (sym h.reading.1.2 ∙ o))
 
 pub parsed : (text : List ℕ) (ts : List Token) (found : Option Reader) (reader : Reader) → Some ts ≡ tokens_of text → ReadsAll found ts → found ≡ Some reader →
     reader.here.waiting ≡ None → reader.outer.items ≡ [] → (s : Syntax) × Read reader text s
 parsed text ts found reader e r is w o =
     let all : ReadsAll (Some reader) ts = subst (λ f. ReadsAll f ts) is r in
-    ends text ts reader all.0.0 e all.0.1 all.1 all.2 w o
+    ends text ts reader all.0.0 e all.0.1 all.1 all.2 all.3 w o
 
 -- ---- limits
 
@@ -93,6 +94,13 @@ pub weight-small : (s : Syntax) → is_too_large s ≡ false → weight_of s ≤
 weight-small s e =
     let all = or-none (counts_high s || nat_lt 32 (groups s) || nat_lt 64 (depth s)) (nat_lt 200000 (weight_of s)) e in
     ltb-false 200000 (weight_of s) all.1
+
+pub groups-few : (s : Syntax) → is_too_large s ≡ false → groups s ≤ 32
+groups-few s e =
+    let all = or-none (counts_high s || nat_lt 32 (groups s) || nat_lt 64 (depth s)) (nat_lt 200000 (weight_of s)) e in
+    let most = or-none (counts_high s || nat_lt 32 (groups s)) (nat_lt 64 (depth s)) all.0 in
+    let groups_few = or-none (counts_high s) (nat_lt 32 (groups s)) most.0 in
+    ltb-false 32 (groups s) groups_few.1
 
 pub pattern-is : (shape made : Shape) (s : Syntax) → shape ≡ made → tree made.rows ≡ tree_of s → made.groups ≡ groups s →
     made.weight ≡ min (weight_of s) 200001 → is_too_large s ≡ false → IsPatternOf s shape

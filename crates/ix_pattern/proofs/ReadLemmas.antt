@@ -1,13 +1,13 @@
 -- Reading all tokens.
-use Rattle.std.proofs.Common.{◌≡◌, ℕ, ◌+◌, Bool, true, false, List, [], ◌∷◌, ◌++◌, Option, Some, None, refl, sym, ◌∙◌, ap, subst, arith, append-nil, append_assoc, count_by, cond, Vec, Global}
+use Rattle.std.proofs.Common.{◌≡◌, ℕ, ◌+◌, ◌≤◌, Bool, true, false, List, [], ◌∷◌, ◌++◌, Option, Some, None, refl, sym, ◌∙◌, ap, subst, arith, append-nil, append_assoc, count_by, cond, Vec, Global}
 use Rattle.ix_pattern.specs.Syntax.{opened, done}
-use Rattle.ix_pattern.specs.Rows.{Rows}
+use Rattle.ix_pattern.specs.Rows.{Rows, byte_pieces}
 use Rattle.ix_pattern.specs.Made.{Made}
 use Rattle.ix_pattern.specs.declared.frames.Frame.{Frame}
 use Rattle.std.proofs.lemmas.List.Sums.{sum_by-cons}
 use Rattle.ix_pattern.specs.Tokens.{◌>>=◌}
 use Rattle.ix_pattern.specs.Run.{level, State, state, step, run}
-use Rattle.ix_pattern.specs.Frames.{IsFrame, Goes, Stepped, CanStep, captures, opened_by, is_capture, HasRead, ReadsAll}
+use Rattle.ix_pattern.specs.Frames.{IsFrame, Goes, Stepped, CanStep, captures, leaves, leaf_of, opened_by, is_capture, HasRead, ReadsAll}
 use Rattle.ix_pattern.specs.declared.reader.Reader.{Reader}
 use Rattle.ix_pattern.specs.declared.tokens.Opening.TheVariants.{Capture, Plain, Ahead}
 use Rattle.ix_pattern.specs.declared.tokens.Token.{Token}
@@ -20,6 +20,10 @@ captures-snoc (x ∷ xs) t = omega (arith, captures-snoc xs t)
 pub captures-append : (xs ys : List Token) → captures (xs ++ ys) ≡ captures xs + captures ys
 captures-append [] ys = omega arith
 captures-append (x ∷ xs) ys = omega (arith, captures-append xs ys)
+
+pub leaves-append : (xs ys : List Token) → leaves (xs ++ ys) ≡ leaves xs + leaves ys
+leaves-append [] ys = omega arith
+leaves-append (x ∷ xs) ys = omega (arith, leaves-append xs ys)
 
 one-capture : (t : Token) → cond (is_capture t) 1 0 ≡ opened_by t
 one-capture (Leaf l) = refl
@@ -45,6 +49,7 @@ pub record HasCome (reader : Reader) (all left : List Token) : Type 0 where
   pub has : HasRead reader read st
   pub opens : reader.opened ≡ captures left
   pub known : reader.work.groups ≡ captures all
+  pub bytes : byte_pieces reader.work.rows ≤ leaves read
 
 pub come-can : (reader : Reader) (all left before : List Token) (t : Token) → HasCome reader all left → left ≡ before ++ t ∷ [] → CanStep t reader
 come-can reader all left before t h e = record {
@@ -65,6 +70,7 @@ come-on old new all left before t h e s = by (step t h.st) refl (s.goes h.st h.h
       has = record { run = ap (λ o. o >>= step t) h.has.run ∙ f; reading = g };
       opens = omega (arith, s.left refl, h.opens, ap captures e, captures-snoc before t);
       known = s.known ∙ h.known;
+      bytes = omega (arith, s.bytes, h.bytes);
     }
 
 run-none : (xs ys : List Token) → run ys ≡ None → run (xs ++ ys) ≡ None
@@ -84,18 +90,19 @@ come-not old new all left before t h e s = by (step t h.st) refl (s.goes h.st h.
 pub come-all : (reader : Reader) (all left : List Token) → HasCome reader all left → left ≡ [] → ReadsAll (Some reader) all
 come-all reader all left h e =
     let same : h.read ≡ all = sym (h.all_are ∙ ap (λ l. l ++ h.read) e) in
-    ((h.st, subst (λ l. HasRead reader l h.st) same h.has), h.opens ∙ ap captures e, h.known)
+    ((h.st, subst (λ l. HasRead reader l h.st) same h.has), h.opens ∙ ap captures e, h.known, omega (arith, h.bytes, ap leaves same))
 
 pub come-begins : (work : Made) (here : Frame) (outer : Vec Frame Global) (opened : ℕ) (all : List Token) → opened ≡ captures all →
-    ((rows : Rows) (n : ℕ) → IsFrame rows n here None done) → outer.items ≡ [] → work.groups ≡ opened →
+    ((rows : Rows) (n : ℕ) → IsFrame rows n here None done) → outer.items ≡ [] → work.groups ≡ opened → work.rows ≡ [] →
     HasCome (record { work = work; here = here; outer = outer; opened = opened }) all all
-come-begins work here outer opened all e m o g = record {
+come-begins work here outer opened all e m o g none = record {
   read = [];
   all_are = sym (append-nil all);
   st = state (level None done) [];
   has = record { run = refl; reading = (m work.rows opened, o) };
   opens = e;
   known = g ∙ e;
+  bytes = omega (arith, ap byte_pieces none);
 }
 
 pub going-on : (t : Token) (going : Bool) (old new : Reader) → going ≡ true → Stepped t going old new → Stepped t true old new

@@ -1,19 +1,22 @@
 -- The pattern of a syntax.
-use Rattle.std.proofs.Common.{◌≡◌, ℕ, zero, suc, ◌+◌, ◌<◌, Bool, true, false, ◌&&◌, ◌||◌, [], ◌∷◌, ◌++◌, Option, Some, None, unwrap_or, refl, sym, ◌∙◌, ap, arith}
+use Rattle.std.proofs.Common.{◌≡◌, ℕ, zero, suc, ◌+◌, ◌*◌, ◌<◌, ◌≤◌, max, Bool, true, false, ◌&&◌, ◌||◌, [], ◌∷◌, ◌++◌, Option, Some, None, unwrap_or, refl, sym, ◌∙◌, ap, arith}
 use Rattle.std.specs.Prelude.{◌==◌}
 use Rattle.ix_pattern.specs.Piece.{Piece, nothing, least_length, IsSound, IsPlain, TakesIfUnlimited}
-use Rattle.ix_pattern.specs.Syntax.{Syntax, done, bar, leaf, paren, spelled, spelled_count, groups, opened, pieces, whole, alternatives, joined, repeated, leaf_piece, paren_piece, is_plain, is_plain_opening, is_allowed, may_hold, repeats_empty, is_none, most_of}
+use Rattle.ix_pattern.specs.Syntax.{Syntax, done, bar, leaf, paren, spelled, spelled_count, groups, opened, pieces, whole, alternatives, joined, repeated, leaf_piece, paren_piece, is_plain, is_plain_opening, is_allowed, may_hold, repeats_empty, is_none, most_of, times_weight, repeated_weight, paren_weight, alternatives_weight, whole_weight, weights, weight_of}
 use Rattle.ix_pattern.specs.Run.{level, state, run}
-use Rattle.ix_pattern.specs.Frames.{captures}
+use Rattle.ix_pattern.specs.Frames.{captures, leaves}
 use Rattle.ix_pattern.specs.Reads.{OneSyntax}
 use Rattle.ix_pattern.specs.declared.tokens.Leaf.{Leaf}
 use Rattle.ix_pattern.specs.declared.tokens.Leaf.TheVariants.{Bytes, Start, Finish, Word}
 use Rattle.ix_pattern.specs.declared.tokens.Opening.{Opening}
 use Rattle.ix_pattern.specs.declared.tokens.Opening.TheVariants.{Capture, Plain, Ahead}
 use Rattle.ix_pattern.specs.declared.tokens.Repeat.{Repeat}
+use Rattle.ix_pattern.specs.declared.tokens.Times.{Times}
+use Rattle.ix_pattern.specs.declared.tokens.Times.TheVariants.{Maybe, Limited, Unlimited}
+use Rattle.ix_pattern.specs.declared.tokens.Token.{Token}
 use Rattle.ix_pattern.specs.declared.tokens.Token.TheVariants as token
 use Rattle.ix_pattern.proofs.Grammar.{spelled-is-given}
-use Rattle.ix_pattern.proofs.ReadLemmas.{captures-append}
+use Rattle.ix_pattern.proofs.ReadLemmas.{captures-append, leaves-append}
 
 pub one-syntax : OneSyntax
 one-syntax text s t p q =
@@ -41,6 +44,75 @@ captures-spelled (paren opening inside times rest) =
       captures-spelled inside,
       captures-spelled rest,
     )
+
+-- ---- what a syntax weighs at least
+
+-- how many pieces without others inside it has
+abbrev pub leaf_count : Syntax → ℕ
+leaf_count done = 0
+leaf_count (bar rest) = leaf_count rest
+leaf_count (leaf l times rest) = 1 + leaf_count rest
+leaf_count (paren opening inside times rest) = leaf_count inside + leaf_count rest
+
+leaves-times : (times : Option Repeat) → leaves (spelled_count times) ≡ 0
+leaves-times None = refl
+leaves-times (Some repeat) = omega arith
+
+leaves-spelled : (s : Syntax) → leaves (spelled s) ≡ leaf_count s
+leaves-spelled done = refl
+leaves-spelled (bar rest) = omega (arith, leaves-spelled rest)
+leaves-spelled (leaf l times rest) =
+    omega (arith, leaves-append (spelled_count times) (spelled rest), leaves-times times, leaves-spelled rest)
+leaves-spelled (paren opening inside times rest) =
+    omega (
+      arith,
+      leaves-append (spelled inside) (token.Close ∷ (spelled_count times ++ spelled rest)),
+      leaves-append (spelled_count times) (spelled rest),
+      leaves-times times,
+      leaves-spelled inside,
+      leaves-spelled rest,
+    )
+
+grows : (k w : ℕ) → 0 < k → w ≤ k * (w + 1)
+grows zero w h = absurd (omega arith)
+grows (suc k) w h = let more : suc k * (w + 1) ≡ (w + 1) + k * (w + 1) = omega arith in omega (arith, more)
+
+times-weigh : (w : ℕ) (times : Times) → w ≤ times_weight w times
+times-weigh w Maybe = omega arith
+times-weigh w (Limited least most) = omega (arith, grows (max most 1) w (omega arith))
+times-weigh w (Unlimited least) = grows (least + 1) w (omega arith)
+
+repeated-weigh : (w : ℕ) (times : Option Repeat) → w ≤ repeated_weight w times
+repeated-weigh w None = omega arith
+repeated-weigh w (Some repeat) = times-weigh w repeat.times
+
+paren-weigh : (opening : Opening) (w : ℕ) → w ≤ paren_weight opening w
+paren-weigh Capture w = omega arith
+paren-weigh Plain w = omega arith
+paren-weigh (Ahead wanted) w = omega arith
+
+all-weigh : (first others : Option ℕ) (more : ℕ) → unwrap_or first 0 + unwrap_or others 0 ≤ alternatives_weight (unwrap_or first 1) others more
+all-weigh None None more = omega arith
+all-weigh (Some f) None more = omega arith
+all-weigh None (Some o) more = omega arith
+all-weigh (Some f) (Some o) more = omega arith
+
+leaves-weigh : (s : Syntax) → leaf_count s ≤ unwrap_or (weights s).first 0 + unwrap_or (weights s).others 0
+leaves-weigh done = omega arith
+leaves-weigh (bar rest) = omega (arith, leaves-weigh rest, all-weigh (weights rest).first (weights rest).others 0)
+leaves-weigh (leaf l times rest) = omega (arith, leaves-weigh rest, repeated-weigh 1 times)
+leaves-weigh (paren opening inside times rest) =
+    omega (
+      arith,
+      leaves-weigh inside,
+      leaves-weigh rest,
+      all-weigh (weights inside).first (weights inside).others 1,
+      paren-weigh opening (whole_weight (weights inside)),
+      repeated-weigh (paren_weight opening (whole_weight (weights inside))) times,
+    )
+
+pub tokens-weigh : (s : Syntax) → leaves (spelled s) ≤ weight_of s
+tokens-weigh s = omega (arith, leaves-spelled s, leaves-weigh s, all-weigh (weights s).first (weights s).others 1)
 
 -- ---- what is plain, and what is sound
 

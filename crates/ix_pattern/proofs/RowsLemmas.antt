@@ -1,16 +1,16 @@
 -- Each tree of the list is made of its node, and the list may grow.
-use Rattle.std.proofs.Common.{◌≡◌, ℕ, zero, suc, ◌+◌, ◌<◌, Bool, List, [], ◌∷◌, ◌++◌, length, take, drop, get_or, Some, refl, sym, ◌∙◌, ap, subst, arith}
+use Rattle.std.proofs.Common.{◌≡◌, ℕ, zero, suc, ◌+◌, ◌<◌, ◌≤◌, Bool, List, [], ◌∷◌, ◌++◌, length, take, drop, get_or, Some, refl, sym, ◌∙◌, ap, subst, arith}
 use Rattle.std.specs.Prelude.{slice_get, unwrap_or}
 use Rattle.std.specs.Option.{option_map}
 use Rattle.std.proofs.lemmas.List.{length-append, length-map, map-append, length-take-le, take-append-drop, take-map}
 use Rattle.std.proofs.lemmas.Option.{slice_get-map, slice_get_read}
 use Rattle.ix_pattern.specs.Piece.{Piece, nothing}
 use Rattle.ix_pattern.specs.Made.{Made}
-use Rattle.ix_pattern.specs.Parts.{Grew}
+use Rattle.ix_pattern.specs.Parts.{GrewBy}
 use Rattle.ix_pattern.specs.declared.pattern.Node.{Node}
 use Rattle.ix_pattern.specs.declared.pattern.Node.TheVariants.{Nothing, Bytes, Start, Finish, Word, Seq, Either, Count, Group, Ahead}
 use Rattle.ix_pattern.specs.declared.pattern.Row.{Row}
-use Rattle.ix_pattern.specs.Rows.{Rows, tree, rows_of, piece_at, piece_in, made, pieces_from, pieces, IsInside, AllInside, set_at, set_of, node_of, node_at, Shape, IsPattern}
+use Rattle.ix_pattern.specs.Rows.{Rows, tree, rows_of, piece_at, piece_in, made, pieces_from, pieces, IsInside, AllInside, set_at, set_of, node_of, node_at, Shape, IsPattern, one_if_bytes, byte_pieces}
 
 pub AllInside-push : (groups : ℕ) (k : ℕ) (rows : Rows) (node : Node) (set : List Bool) → AllInside groups k rows → IsInside groups node (k + length rows) →
     AllInside groups k (rows ++ (node, set) ∷ [])
@@ -122,11 +122,16 @@ push-stay rows row k h =
     ∙ ap (λ o. unwrap_or o nothing)
     (slice_get-append (pieces rows) (made (pieces rows) row.0 row.1 ∷ []) k (omega (arith, length-pieces [] rows)))
 
-pub push-grew : (old new : Made) (row : Node × List Bool) → new.groups ≡ old.groups → new.rows ≡ old.rows ++ row ∷ [] → Grew old new
+byte_pieces-append : (xs ys : Rows) → byte_pieces (xs ++ ys) ≡ byte_pieces xs + byte_pieces ys
+byte_pieces-append [] ys = omega arith
+byte_pieces-append (x ∷ xs) ys = omega (arith, byte_pieces-append xs ys)
+
+pub push-grew : (old new : Made) (row : Node × List Bool) → new.groups ≡ old.groups → new.rows ≡ old.rows ++ row ∷ [] → GrewBy (one_if_bytes row.0) old new
 push-grew old new row g e = record {
   groups = g;
   longer = omega (arith, ap length e, length-append old.rows (row ∷ []));
   stay = λ k h. ap (λ r. piece_at r k) e ∙ push-stay old.rows row k h;
+  bytes = omega (arith, ap byte_pieces e, byte_pieces-append old.rows (row ∷ []));
 }
 
 rows-more : (rows more : List Row) (row : Row) → more ≡ rows ++ row ∷ [] → rows_of more ≡ rows_of rows ++ (row.node, row.set) ∷ []
@@ -150,7 +155,7 @@ work-made rows more groups now row k is at e =
     ∙ push-made now.rows (row.node, row.set)
 
 pub work-grew : (rows more : List Row) (groups : ℕ) (now : Made) (row : Row) → record { rows = rows_of rows; groups = groups } ≡ now →
-    more ≡ rows ++ row ∷ [] → Grew now (record { rows = rows_of more; groups = groups })
+    more ≡ rows ++ row ∷ [] → GrewBy (one_if_bytes row.node) now (record { rows = rows_of more; groups = groups })
 work-grew rows more groups now row is e =
     push-grew now (record { rows = rows_of more; groups = groups }) (row.node, row.set) (ap (λ (m : Made). m.groups) is)
     (rows-more rows more row e ∙ ap (λ (m : Made). m.rows ++ (row.node, row.set) ∷ []) is)
@@ -190,3 +195,8 @@ pub cut-inside : (rows : List Row) (groups : ℕ) (n : ℕ) → AllInside groups
 cut-inside rows groups n all =
     subst (AllInside groups 0) (take-map (λ (r : Row). (r.node, r.set)) n rows)
     (AllInside-front groups 0 (take n (rows_of rows)) (drop n (rows_of rows)) (subst (AllInside groups 0) (sym (take-append-drop n (rows_of rows))) all))
+
+pub cut-bytes : (rows : List Row) (value : Rows) (n : ℕ) → rows_of rows ≡ value → byte_pieces (rows_of (take n rows)) ≤ byte_pieces value
+cut-bytes rows value n is =
+    let cut : rows_of (take n rows) ≡ take n value = sym (take-map (λ (r : Row). (r.node, r.set)) n rows) ∙ ap (take n) is in
+    omega (arith, ap byte_pieces cut, byte_pieces-append (take n value) (drop n value), ap byte_pieces (take-append-drop n value))

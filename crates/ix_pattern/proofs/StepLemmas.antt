@@ -1,9 +1,9 @@
 -- What a step of the reader comes to.
-use Rattle.std.proofs.Common.{◌≡◌, ℕ, ◌+◌, true, false, List, [], ◌∷◌, ◌++◌, Option, Some, None, Vec, Global, refl, sym, ◌∙◌, subst, arith, add-zero}
+use Rattle.std.proofs.Common.{◌≡◌, ℕ, ◌+◌, ◌≤◌, true, false, List, [], ◌∷◌, ◌++◌, Option, Some, None, Vec, Global, refl, sym, ◌∙◌, ap, subst, arith, add-zero}
 use Rattle.std.specs.Option.{is_some}
-use Rattle.ix_pattern.specs.Rows.{Rows}
+use Rattle.ix_pattern.specs.Rows.{Rows, byte_pieces}
 use Rattle.ix_pattern.specs.Made.{Made}
-use Rattle.ix_pattern.specs.Parts.{Grew}
+use Rattle.ix_pattern.specs.Parts.{Grew, GrewBy}
 use Rattle.ix_pattern.specs.Syntax.{Syntax, done, bar, leaf, paren, groups, opened, may_hold}
 use Rattle.ix_pattern.specs.Run.{Level, level, State, state, step, opened_level}
 use Rattle.ix_pattern.specs.Frames.{IsFrame, AreFrames, IsReading, Holds, Goes, Stepped}
@@ -18,10 +18,10 @@ use Rattle.ix_pattern.proofs.FrameLemmas.{lift-frames, frame-holds}
 pub reading-holds : (reader : Reader) (st : State) → IsReading reader st → Holds reader.work.rows reader.here
 reading-holds reader (state (level times s) levels) r = frame-holds reader.work reader.opened reader.here times s r.0
 
-pub leaf-stepped : (old : Reader) (work : Made) (here : Frame) (l : Leaf) → Grew old.work work →
+pub leaf-stepped : (old : Reader) (work : Made) (here : Frame) (l : Leaf) → GrewBy 1 old.work work →
     ((n : ℕ) (times : Option Repeat) (s : Syntax) → IsFrame old.work.rows n old.here times s → IsFrame work.rows n here None (leaf l times s)) →
     Stepped (token.Leaf l) true old (record old { work = work; here = here })
-leaf-stepped old work here l g m = record { goes = goes; left = λ t. add-zero old.opened; known = g.groups }
+leaf-stepped old work here l g m = record { goes = goes; left = λ t. add-zero old.opened; known = g.groups; bytes = g.bytes }
   where
     goes : (st : State) → IsReading old st → Goes true (step (token.Leaf l) st) (record old { work = work; here = here })
     goes (state (level times s) levels) r = (m old.opened times s r.0, lift-frames old.work work (old.opened + groups s) old.outer.items levels g r.1)
@@ -29,7 +29,7 @@ leaf-stepped old work here l g m = record { goes = goes; left = λ t. add-zero o
 pub bar-stepped : (old : Reader) (work : Made) (here : Frame) → old.here.waiting ≡ None → Grew old.work work →
     ((n : ℕ) (s : Syntax) → IsFrame old.work.rows n old.here None s → IsFrame work.rows n here None (bar s)) →
     Stepped token.Bar true old (record old { work = work; here = here })
-bar-stepped old work here e g m = record { goes = goes; left = λ t. add-zero old.opened; known = g.groups }
+bar-stepped old work here e g m = record { goes = goes; left = λ t. add-zero old.opened; known = g.groups; bytes = g.bytes }
   where
     goes : (st : State) → IsReading old st → Goes true (step token.Bar st) (record old { work = work; here = here })
     goes (state (level None s) levels) r = (m old.opened s r.0, lift-frames old.work work (old.opened + groups s) old.outer.items levels g r.1)
@@ -38,7 +38,7 @@ bar-stepped old work here e g m = record { goes = goes; left = λ t. add-zero ol
 pub close-stepped : (old : Reader) (outer : Vec Frame Global) (here : Frame) → outer.items ≡ old.outer.items ++ old.here ∷ [] →
     ((rows : Rows) (n : ℕ) → IsFrame rows n here None done) →
     Stepped token.Close true old (record old { here = here; outer = outer })
-close-stepped old outer here e m = record { goes = goes; left = λ t. add-zero old.opened; known = refl }
+close-stepped old outer here e m = record { goes = goes; left = λ t. add-zero old.opened; known = refl; bytes = omega arith }
   where
     goes : (st : State) → IsReading old st → Goes true (step token.Close st) (record old { here = here; outer = outer })
     goes (state (level times s) levels) r = (
@@ -92,12 +92,13 @@ popped-holds reader (state (level times s) levels) front f r e =
     let p = popped reader.work.rows (reader.opened + groups s) reader.outer.items front f levels r.1 e in
     frame-holds reader.work (reader.opened + groups s) f p.times p.s p.here
 
-not-opened : (old new : Reader) (opening : Opening) → new.work.groups ≡ old.work.groups →
+not-opened : (old new : Reader) (opening : Opening) → new.work ≡ old.work →
     ((st : State) → IsReading old st → step (token.Open opening) st ≡ None) → Stepped (token.Open opening) false old new
 not-opened old new opening g m = record {
   goes = λ st r. subst (λ o. Goes false o new) (sym (m st r)) tt;
   left = λ t. absurd (cc);
-  known = g;
+  known = ap (λ (m : Made). m.groups) g;
+  bytes = omega (arith, ap (λ (m : Made). byte_pieces m.rows) g);
 }
 
 pub waiting-stepped : (old : Reader) (opening : Opening) → is_some old.here.waiting ≡ true → Stepped (token.Open opening) false old old
@@ -130,7 +131,7 @@ pub open-stepped : (old : Reader) (work : Made) (here f : Frame) (outer : Vec Fr
     ((n : ℕ) (times : Option Repeat) (within s : Syntax) → old.opened ≡ n + opened opening → IsFrame old.work.rows old.opened old.here None within →
     IsFrame old.work.rows (old.opened + groups within) f times s → IsFrame work.rows n here None (paren opening within times s)) →
     Stepped (token.Open opening) true old (record { work = work; here = here; outer = outer; opened = left })
-open-stepped old work here f outer left opening w h e g l m = record { goes = goes; left = λ t. l; known = g.groups }
+open-stepped old work here f outer left opening w h e g l m = record { goes = goes; left = λ t. l; known = g.groups; bytes = g.bytes }
   where
     go : (within : Syntax) (levels : List Level) → IsFrame old.work.rows old.opened old.here None within →
         Popped old.work.rows (old.opened + groups within) outer.items f levels →

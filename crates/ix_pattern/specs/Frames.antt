@@ -1,6 +1,6 @@
 -- What the reader of a pattern keeps of the levels of parentheses that are open.
 use Rattle.std.specs.Prelude.{◌≡◌, ℕ, ◌+◌, ◌≤◌, min, Bool, true, false, List, [], ◌∷◌, ◌++◌, Option, Some, None}
-use Rattle.ix_pattern.specs.Rows.{Rows}
+use Rattle.ix_pattern.specs.Rows.{Rows, byte_pieces}
 use Rattle.ix_pattern.specs.Parts.{IsOptional, IsBelow}
 use Rattle.ix_pattern.specs.Syntax.{Syntax, pieces, weights, is_plain, depth, counts_high, groups, opened}
 use Rattle.ix_pattern.specs.Run.{Level, level, State, state, step, run}
@@ -50,6 +50,14 @@ opened_by Close = 0
 opened_by Bar = 0
 opened_by (Count repeat) = 0
 
+-- how many pieces without others inside a token is
+abbrev pub leaf_of : Token → ℕ
+leaf_of (Leaf l) = 1
+leaf_of (Open opening) = 0
+leaf_of Close = 0
+leaf_of Bar = 0
+leaf_of (Count repeat) = 0
+
 -- what a reader needs to take the token
 pub record CanStep (token : Token) (reader : Reader) : Type 0 where
   pub left : opened_by token ≤ reader.opened
@@ -60,11 +68,17 @@ pub record Stepped (token : Token) (going : Bool) (old new : Reader) : Type 0 wh
   pub goes : (st : State) → IsReading old st → Goes going (step token st) new
   pub left : going ≡ true → new.opened + opened_by token ≡ old.opened
   pub known : new.work.groups ≡ old.work.groups
+  pub bytes : byte_pieces new.work.rows ≤ byte_pieces old.work.rows + leaf_of token
 
 -- how many capturing groups the tokens open
 abbrev pub captures : List Token → ℕ
 captures [] = 0
 captures (t ∷ tokens) = opened_by t + captures tokens
+
+-- how many of the tokens are pieces without others inside
+abbrev pub leaves : List Token → ℕ
+leaves [] = 0
+leaves (t ∷ tokens) = leaf_of t + leaves tokens
 
 abbrev pub is_capture : Token → Bool
 is_capture (Leaf l) = false
@@ -85,3 +99,4 @@ abbrev pub ReadsAll : Option Reader → List Token → Type 0
 ReadsAll None tokens = run tokens ≡ None
 ReadsAll (Some reader) tokens =
     ((st : State) × HasRead reader tokens st) × (reader.opened ≡ 0) × (reader.work.groups ≡ captures tokens)
+    × (byte_pieces reader.work.rows ≤ leaves tokens)

@@ -1,5 +1,5 @@
 -- A pattern as a list of nodes, each of which names earlier ones by their numbers.
-use Rattle.std.specs.Prelude.{ℕ, suc, ◌-◌, ◌<◌, ◌≤◌, Bool, List, [], ◌∷◌, ◌++◌, length, Option, Some, None, slice_get, unwrap_or, map}
+use Rattle.std.specs.Prelude.{ℕ, suc, ◌+◌, ◌-◌, ◌<◌, ◌≤◌, Bool, List, [], ◌∷◌, ◌++◌, length, Option, Some, None, slice_get, unwrap_or, map}
 use Rattle.ix_pattern.specs.Piece.{Piece, nothing, byte_in, start, finish, word, seq, either, count, group, ahead, IsSound}
 use Rattle.ix_pattern.specs.declared.pattern.Node.{Node}
 use Rattle.ix_pattern.specs.declared.pattern.Node.TheVariants.{Nothing, Bytes, Start, Finish, Word, Seq, Either, Count, Group, Ahead}
@@ -85,8 +85,29 @@ abbrev pub AllInside : ℕ → ℕ → Rows → Type 0
 AllInside groups k [] = Unit {0}
 AllInside groups k (row ∷ rows) = IsInside groups row.0 k × AllInside groups (suc k) rows
 
+-- one for a byte piece
+abbrev pub one_if_bytes : Node → ℕ
+one_if_bytes Nothing = 0
+one_if_bytes Bytes = 1
+one_if_bytes (Start lines) = 0
+one_if_bytes (Finish lines) = 0
+one_if_bytes Word = 0
+one_if_bytes (Seq first rest) = 0
+one_if_bytes (Either first other) = 0
+one_if_bytes (Count inside least most lazy) = 0
+one_if_bytes (Group number inside) = 0
+one_if_bytes (Ahead inside wanted) = 0
+
+-- how many byte pieces there are
+abbrev pub byte_pieces : Rows → ℕ
+byte_pieces [] = 0
+byte_pieces (row ∷ rows) = one_if_bytes row.0 + byte_pieces rows
+
 -- what every pattern keeps
 pub record IsPattern (shape : Shape) : Type 0 where
   pub rooted : 0 < length shape.rows
   pub inside : AllInside shape.groups 0 shape.rows
   pub sound : IsSound (tree shape.rows)
+  pub few_groups : shape.groups ≤ 32
+  pub light : shape.weight ≤ 200000
+  pub few_bytes : byte_pieces shape.rows ≤ shape.weight

@@ -12,6 +12,6 @@ pub struct Part {
     /// It takes at least one byte.
     pub takes: bool,
     /// A piece that may take no byte repeats without a limit in it.
-    pub empty: bool,
+    pub repeats_empty: bool,
     ghost light: { weight ≤ 200001 },
 }

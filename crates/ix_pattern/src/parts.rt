@@ -3,7 +3,7 @@
 ghost use Rattle.std.specs.Prelude.{◌≡◌, ◌+◌, ◌<◌, ◌≤◌, ◌*◌, ℕ, Option, length, IfOk, min, unwrap_or, Some, None};
 ghost use Rattle.ix_pattern.specs.Piece.{Piece, nothing, seq, either, count, group, ahead};
 ghost use Rattle.ix_pattern.specs.Syntax.{opened, joined, leaf_piece, is_none, least_of, most_of, repeated, paren_piece, times_weight, paren_weight, repeated_weight, alternatives, alternatives_weight};
-ghost use Rattle.ix_pattern.specs.Parts.{IsPart, IsOptional, IsBelow, Grew, Adds};
+ghost use Rattle.ix_pattern.specs.Parts.{IsPart, IsOptional, IsBelow, Grew, Adds, AddsBy};
 
 use crate::part::Part;
 use crate::pattern::Node;
@@ -24,7 +24,7 @@ fn limited(weight: u64) -> u64
 
 /// A piece that has none inside.
 pub fn leaf(work: &mut Work, leaf: Leaf) -> Result<Part, NoMemory>
-    ensures { IfOk result (λ part. Adds work.old work.new part (leaf_piece leaf) 1) }
+    ensures { IfOk result (λ part. AddsBy 1 work.old work.new part (leaf_piece leaf) 1) }
 {
     let (node, set, takes) = match leaf {
         Leaf::Bytes(set) => (Node::Bytes, set, true),
@@ -37,7 +37,7 @@ pub fn leaf(work: &mut Work, leaf: Leaf) -> Result<Part, NoMemory>
         piece,
         weight: 1,
         takes,
-        empty: false,
+        repeats_empty: false,
     })
 }
 
@@ -51,7 +51,7 @@ fn nothing(work: &mut Work) -> Result<Part, NoMemory>
         piece,
         weight: 1,
         takes: false,
-        empty: false,
+        repeats_empty: false,
     })
 }
 
@@ -72,18 +72,18 @@ fn sequence(work: &mut Work, first: Part, rest: Part) -> Result<Part, NoMemory>
         piece,
         weight: limited(first.weight + rest.weight),
         takes: first.takes | rest.takes,
-        empty: first.empty | rest.empty,
+        repeats_empty: first.repeats_empty | rest.repeats_empty,
     })
 }
 
-/// One piece or the other. It weighs so much more than their sum.
-fn either(work: &mut Work, first: Part, other: Part, more: u64) -> Result<Part, NoMemory>
+/// One piece or the other. What it weighs beside their sum is given.
+fn either(work: &mut Work, first: Part, other: Part, own_weight: u64) -> Result<Part, NoMemory>
     requires first { first.piece < length work.old.rows }
     requires other { other.piece < length work.old.rows }
-    requires more { more ≤ 1 }
+    requires own_weight { own_weight ≤ 1 }
     ensures kept { IfOk result (λ x. Grew work.old work.new × (x.piece < length work.new.rows)) }
     ensures meaning { (p q : Piece) → (v w : ℕ) → IsPart work.old.rows first p v → IsPart work.old.rows other q w →
-        IfOk result (λ part. Adds work.old work.new part (either p q) (v + w + more)) }
+        IfOk result (λ part. Adds work.old work.new part (either p q) (v + w + own_weight)) }
 {
     let node = Node::Either {
         first: first.piece,
@@ -92,9 +92,9 @@ fn either(work: &mut Work, first: Part, other: Part, more: u64) -> Result<Part, 
     let piece = work.push(node, none())?;
     Ok(Part {
         piece,
-        weight: limited(first.weight + other.weight + more),
+        weight: limited(first.weight + other.weight + own_weight),
         takes: first.takes & other.takes,
-        empty: first.empty | other.empty,
+        repeats_empty: first.repeats_empty | other.repeats_empty,
     })
 }
 
@@ -158,7 +158,7 @@ fn repeat(work: &mut Work, inside: Part, repeat: Repeat) -> Result<Part, NoMemor
         piece,
         weight: limited(times_weight(inside.weight, repeat.times)),
         takes: (0 < least) & inside.takes,
-        empty: inside.empty | is_unlimited(repeat.times) & !inside.takes,
+        repeats_empty: inside.repeats_empty | is_unlimited(repeat.times) & !inside.takes,
     })
 }
 
@@ -180,7 +180,7 @@ fn group(work: &mut Work, number: usize, inside: Part) -> Result<Part, NoMemory>
         piece,
         weight: limited(inside.weight + 2),
         takes: inside.takes,
-        empty: inside.empty,
+        repeats_empty: inside.repeats_empty,
     })
 }
 
@@ -200,7 +200,7 @@ fn ahead(work: &mut Work, wanted: bool, inside: Part) -> Result<Part, NoMemory>
         piece,
         weight: limited(256 * inside.weight + 1),
         takes: false,
-        empty: inside.empty,
+        repeats_empty: inside.repeats_empty,
     })
 }
 
@@ -244,23 +244,24 @@ pub fn first_of(work: &mut Work, part: Option<Part>) -> Result<Part, NoMemory>
     }
 }
 
-/// The alternative before the others. It weighs so much more than their sum.
+/// The alternative before the others. What they weigh beside their sum is given: alternatives have one, however many
+/// they are.
 pub fn alternatives(
     work: &mut Work,
     first: Part,
     others: Option<Part>,
-    more: u64,
+    own_weight: u64,
 ) -> Result<Part, NoMemory>
     requires first { first.piece < length work.old.rows }
     requires others { IsBelow work.old.rows others }
-    requires more { more ≤ 1 }
+    requires own_weight { own_weight ≤ 1 }
     ensures kept { IfOk result (λ x. Grew work.old work.new × (x.piece < length work.new.rows)) }
     ensures meaning { (p : Piece) → (w : ℕ) → (q : Option Piece) → (v : Option ℕ) → IsPart work.old.rows first p w → IsOptional work.old.rows others q v →
-        IfOk result (λ x. Adds work.old work.new x (alternatives p q) (alternatives_weight w v more)) }
+        IfOk result (λ x. Adds work.old work.new x (alternatives p q) (alternatives_weight w v own_weight)) }
 {
     match others {
         None => Ok(first),
-        Some(others) => either(work, first, others, more),
+        Some(others) => either(work, first, others, own_weight),
     }
 }
 

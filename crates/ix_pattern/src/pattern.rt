@@ -1,8 +1,8 @@
 //! Patterns.
 
-ghost use Rattle.std.specs.Prelude.{◌≡◌, ◌+◌, ◌<◌, length, nat_lt, Some, IfOk};
+ghost use Rattle.std.specs.Prelude.{◌≡◌, ◌+◌, ◌<◌, ◌≤◌, length, nat_lt, Some, IfOk};
 ghost use Rattle.ix_pattern.specs.Piece.{in_set, least_length, IsSound};
-ghost use Rattle.ix_pattern.specs.Rows.{pieces, piece_at, node_at, set_at, made, tree, IsInside, IsPattern, rows_of};
+ghost use Rattle.ix_pattern.specs.Rows.{pieces, piece_at, node_at, set_at, made, tree, IsInside, IsPattern, rows_of, byte_pieces};
 
 use ix_base::{NoMemory, Steps};
 use std::marker::Model;
@@ -108,14 +108,17 @@ impl Pattern {
 
     /// How many capturing groups it has, at most 32.
     pub fn groups(&self) -> usize
-        ensures { result ≡ self.now.groups }
+        ensures is { result ≡ self.now.groups }
+        ensures few { result ≤ 32 }
     {
         self.groups
     }
 
-    /// Its weight, at most 200,000: a measure of how long a search for it may take.
+    /// Its weight, at most 200,000. It has at most as many byte pieces.
     pub fn weight(&self) -> u64
-        ensures { result ≡ self.now.weight }
+        ensures is { result ≡ self.now.weight }
+        ensures light { result ≤ 200000 }
+        ensures bytes { byte_pieces self.now.rows ≤ result }
     {
         self.weight
     }

@@ -62,7 +62,7 @@ fn finish(reader: Reader) -> Result<Pattern, PatternFault>
     if is_too_large(here, groups, part.weight) {
         return Err(PatternFault::TooLarge);
     }
-    if part.empty {
+    if part.repeats_empty {
         return Err(PatternFault::EmptyRepeat);
     }
     let rows = work.into_rows(part.piece);

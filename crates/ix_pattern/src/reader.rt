@@ -3,7 +3,7 @@
 ghost use Rattle.std.specs.Prelude.{◌≡◌, ◌+◌, ◌-◌, ◌<◌, ◌≤◌, ℕ, List, Option, length, IfOk, Some, None, unwrap_or};
 ghost use Rattle.ix_pattern.specs.Piece.{Piece};
 ghost use Rattle.ix_pattern.specs.Syntax.{Syntax, done, bar, leaf, paren, groups, pieces, weights, whole, whole_weight, repeated, repeated_weight, joined, is_high, is_high_times, opened, paren_piece, paren_weight, is_plain_opening, leaf_piece, alternatives_weight};
-ghost use Rattle.ix_pattern.specs.Parts.{IsPart, IsOptional, IsBelow, Grew, Adds};
+ghost use Rattle.ix_pattern.specs.Parts.{IsPart, IsOptional, IsBelow, Grew, GrewBy, Adds};
 ghost use Rattle.ix_pattern.specs.Rows.{Rows};
 ghost use Rattle.ix_pattern.specs.declared.tokens.Repeat.{Repeat};
 ghost use Rattle.ix_pattern.specs.Run.{State};
@@ -85,16 +85,16 @@ fn before(work: &mut Work, part: Part, frame: Frame) -> Result<Part, NoMemory>
     joined(work, part, frame.sequence)
 }
 
-/// All alternatives of a level. They weigh so much more than their sum.
-pub fn whole(work: &mut Work, frame: Frame, more: u64) -> Result<Part, NoMemory>
+/// All alternatives of a level. What they weigh beside their sum is given: 1, or 0 where others come before them.
+pub fn whole(work: &mut Work, frame: Frame, own_weight: u64) -> Result<Part, NoMemory>
     requires holds { Holds work.old.rows frame }
-    requires more { more ≤ 1 }
+    requires own_weight { own_weight ≤ 1 }
     ensures kept { IfOk result (λ x. Grew work.old work.new × (x.piece < length work.new.rows)) }
     ensures meaning { (n : ℕ) → (s : Syntax) → (times : Option Repeat) → IsFrame work.old.rows n frame times s →
-        IfOk result (λ x. Adds work.old work.new x (whole (pieces n s)) (alternatives_weight (unwrap_or (weights s).first 1) (weights s).others more)) }
+        IfOk result (λ x. Adds work.old work.new x (whole (pieces n s)) (alternatives_weight (unwrap_or (weights s).first 1) (weights s).others own_weight)) }
 {
     let first = first_of(work, frame.sequence)?;
-    alternatives(work, first, frame.others, more)
+    alternatives(work, first, frame.others, own_weight)
 }
 
 /// The level with a `|` before it.
@@ -117,7 +117,7 @@ pub fn with_bar(work: &mut Work, here: Frame) -> Result<Frame, NoMemory>
 /// The level with a piece before it that has none inside.
 pub fn with_leaf(work: &mut Work, here: Frame, piece: Leaf) -> Result<Frame, NoMemory>
     requires { Holds work.old.rows here }
-    ensures kept { IfOk result (λ f. Grew work.old work.new) }
+    ensures kept { IfOk result (λ f. GrewBy 1 work.old work.new) }
     ensures meaning { (n : ℕ) → (times : Option Repeat) → (s : Syntax) → IsFrame work.old.rows n here times s →
         IfOk result (λ f. IsFrame work.new.rows n f None (leaf piece times s)) }
 {

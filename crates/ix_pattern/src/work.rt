@@ -1,8 +1,8 @@
 //! The pieces of a pattern while it is read.
 
-ghost use Rattle.std.specs.Prelude.{◌≡◌, ◌+◌, ◌<◌, length, IfOk, OnOk};
-ghost use Rattle.ix_pattern.specs.Rows.{pieces, piece_at, made, tree, IsInside, AllInside, rows_of};
-ghost use Rattle.ix_pattern.specs.Parts.{Grew};
+ghost use Rattle.std.specs.Prelude.{◌≡◌, ◌+◌, ◌<◌, ◌≤◌, length, [], IfOk, OnOk};
+ghost use Rattle.ix_pattern.specs.Rows.{pieces, piece_at, made, tree, IsInside, AllInside, rows_of, one_if_bytes, byte_pieces};
+ghost use Rattle.ix_pattern.specs.Parts.{GrewBy};
 
 use crate::pattern::{Node, Row};
 use crate::sets::ByteSet;
@@ -31,7 +31,8 @@ impl Model for Work {
 impl Work {
     /// No piece yet, of a pattern with so many groups.
     pub fn new(alloc: Global, groups: usize) -> Work
-        ensures { result.groups ≡ groups }
+        ensures groups { result.groups ≡ groups }
+        ensures none { result.rows ≡ [] }
     {
         Work {
             rows: Vec::new(alloc),
@@ -44,7 +45,7 @@ impl Work {
         requires { IsInside self.old.groups node (length self.old.rows) }
         ensures number { IfOk result (λ k. (k ≡ length self.old.rows) × (k < length self.new.rows)) }
         ensures made { IfOk result (λ k. piece_at self.new.rows k ≡ made (pieces self.old.rows) node set) }
-        ensures grew { OnOk result (Grew self.old self.new) }
+        ensures grew { OnOk result (GrewBy (one_if_bytes node) self.old self.new) }
     {
         let number = self.rows.len();
         self.rows.push(Row { node, set })?;
@@ -64,6 +65,7 @@ impl Work {
         ensures tree { tree (rows_of result.items) ≡ piece_at self.rows root }
         ensures rooted { 0 < length (rows_of result.items) }
         ensures inside { AllInside self.groups 0 (rows_of result.items) }
+        ensures bytes { byte_pieces (rows_of result.items) ≤ byte_pieces self.rows }
     {
         let mut rows = self.rows;
         rows.truncate(root + 1);

@@ -13,5 +13,5 @@ returns-clause-meaning c =
     ∙ ap (λ m. count (piece_at c.args.work.now.rows c.args.inside.piece) (least_of c.args.repeat.times) m c.args.repeat.lazy) c.most_of-most.ensures)
     (c.limited.ensures ∙ ap (λ n. min n 200001) c.times_weight.ensures)
     (ap (λ n. nat_lt 0 n && c.args.inside.takes) c.least_of-least.ensures)
-    (ap (λ b. c.args.inside.empty || (b && not c.args.inside.takes)) c.is_unlimited.ensures)
+    (ap (λ b. c.args.inside.repeats_empty || (b && not c.args.inside.takes)) c.is_unlimited.ensures)
     i
