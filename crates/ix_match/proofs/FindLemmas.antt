@@ -5,8 +5,8 @@ use Rattle.ix_pattern.specs.Ways.{Text, Way, ends_at, ways}
 use Rattle.ix_pattern.specs.Rows.{Shape, piece_at, tree}
 use Rattle.ix_match.specs.declared.search.Outcome.{Outcome}
 use Rattle.ix_match.specs.declared.search.Outcome.TheVariants.{No, More}
-use Rattle.ix_match.specs.Leaf.{at}
-use Rattle.ix_match.specs.Stack.{head_of}
+use Rattle.ix_match.specs.Verdict.{at}
+use Rattle.ix_match.specs.Stack.{outcome_head}
 use Rattle.ix_match.specs.Matches.{closed, ways_from, LiesIn}
 use Rattle.ix_match.proofs.ClosedLemmas.{head-lies, first-known, no-head}
 
@@ -27,10 +27,10 @@ end-lies p text place end groups kept h same e =
     let l = head-lies (tree p.rows) (closed text) p.groups place (record { place = end; groups = groups }) h e in
     rw same (record { begins = omega arith; order = l.order; within = l.within; groups = l.groups; spans = l.spans })
 
-pub none-here : (p : Shape) (text : List ℕ) (place : ℕ) (out : Outcome) → slice_get (ways_from p text place) 0 ≡ head_of out →
+pub none-here : (p : Shape) (text : List ℕ) (place : ℕ) (out : Outcome) → slice_get (ways_from p text place) 0 ≡ outcome_head out →
     (out ≡ No) ⊎ (out ≡ More) → ways_from p text place ≡ []
 none-here p text place out h is =
     elim is [
-      | inl e ↦ no-head (ways_from p text place) (h ∙ ap head_of e)
-      | inr e ↦ absurd (first-known p text place (h ∙ ap head_of e))
+      | inl e ↦ no-head (ways_from p text place) (h ∙ ap outcome_head e)
+      | inr e ↦ absurd (first-known p text place (h ∙ ap outcome_head e))
     ]

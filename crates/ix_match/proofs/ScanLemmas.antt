@@ -10,7 +10,7 @@ use Rattle.ix_match.specs.declared.scan.Look.TheVariants.{Found as Ended, No, Mo
 use Rattle.ix_match.specs.Attempt.{reach, attempt}
 use Rattle.ix_match.specs.Matches.{AllWithin}
 use Rattle.ix_match.specs.Scans.{head_of, BeginsAtOnce, LiesInReach}
-use Rattle.ix_match.specs.Leaf.{at}
+use Rattle.ix_match.specs.Verdict.{at}
 use Rattle.ix_match.proofs.ClosedLemmas.{head-lies}
 use Rattle.ix_match.proofs.FindLemmas.{of-root}
 

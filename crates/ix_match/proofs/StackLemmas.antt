@@ -3,10 +3,10 @@ use Rattle.std.proofs.Common.{◌≡◌, ℕ, ◌+◌, ◌<◌, false, List, [],
 use Rattle.std.proofs.lemmas.List.{append-nil}
 use Rattle.ix_pattern.specs.Ways.{Text, Reached, Way, ends_at, edge, onward}
 use Rattle.ix_pattern.specs.Rows.{Rows}
-use Rattle.ix_match.specs.declared.frames.Task.{Task}
-use Rattle.ix_match.specs.declared.frames.Frame.{Frame}
-use Rattle.ix_match.specs.Stack.{task_ways, todo_ways, stop, reached, frame_ways, stack_ways}
-use Rattle.ix_match.specs.Costs.{task_cost, todo_cost, one, frame_cost, stack_cost}
+use Rattle.ix_match.specs.declared.branches.Task.{Task}
+use Rattle.ix_match.specs.declared.branches.Branch.{Branch}
+use Rattle.ix_match.specs.Stack.{task_ways, todo_ways, stop, reached, branch_ways, stack_ways}
+use Rattle.ix_match.specs.Costs.{task_cost, todo_cost, one, branch_cost, stack_cost}
 use Rattle.ix_match.specs.Steps.{Steps, Fits, AllFit, EachFits}
 
 pub AllFit-push : (top : ℕ) (tasks : List Task) (task : Task) → AllFit top tasks → Fits top task → AllFit top (tasks ++ task ∷ [])
@@ -17,13 +17,13 @@ pub AllFit-pop : (top : ℕ) (tasks : List Task) (task : Task) → AllFit top (t
 AllFit-pop top [] task all = (tt, all.0)
 AllFit-pop top (first ∷ tasks) task all = let r = AllFit-pop top tasks task all.1 in ((all.0, r.0), r.1)
 
-pub EachFits-push : (top : ℕ) (frames : List Frame) (frame : Frame) → EachFits top frames → AllFit top frame.todo.items → EachFits top (frames ++ frame ∷ [])
-EachFits-push top [] frame all fits = (fits, tt)
-EachFits-push top (first ∷ frames) frame all fits = (all.0, EachFits-push top frames frame all.1 fits)
+pub EachFits-push : (top : ℕ) (branches : List Branch) (branch : Branch) → EachFits top branches → AllFit top branch.todo.items → EachFits top (branches ++ branch ∷ [])
+EachFits-push top [] branch all fits = (fits, tt)
+EachFits-push top (first ∷ branches) branch all fits = (all.0, EachFits-push top branches branch all.1 fits)
 
-pub EachFits-pop : (top : ℕ) (frames : List Frame) (frame : Frame) → EachFits top (frames ++ frame ∷ []) → EachFits top frames × AllFit top frame.todo.items
-EachFits-pop top [] frame all = (tt, all.0)
-EachFits-pop top (first ∷ frames) frame all = let r = EachFits-pop top frames frame all.1 in ((all.0, r.0), r.1)
+pub EachFits-pop : (top : ℕ) (branches : List Branch) (branch : Branch) → EachFits top (branches ++ branch ∷ []) → EachFits top branches × AllFit top branch.todo.items
+EachFits-pop top [] branch all = (tt, all.0)
+EachFits-pop top (first ∷ branches) branch all = let r = EachFits-pop top branches branch all.1 in ((all.0, r.0), r.1)
 
 pub onward-append : (next : Reached → List Way) (xs ys : List Way) → onward next (xs ++ ys) ≡ onward next xs ++ onward next ys
 onward-append next [] ys = refl
@@ -56,38 +56,38 @@ pub todo_ways-push-fn : (rows : Rows) (text : Text) (next : Reached → List Way
     todo_ways rows text next (tasks ++ task ∷ []) ≡ (λ r. onward (todo_ways rows text next tasks) (task_ways rows text task r))
 todo_ways-push-fn rows text next tasks task = λ i r. todo_ways-push rows text next tasks task r i
 
-pub stack_ways-push : (rows : Rows) (text : Text) (frames : List Frame) (frame : Frame) →
-    stack_ways rows text (frames ++ frame ∷ []) ≡ frame_ways rows text frame ++ stack_ways rows text frames
-stack_ways-push rows text [] frame = sym (append-nil (frame_ways rows text frame))
-stack_ways-push rows text (first ∷ frames) frame =
-    ap (λ l. l ++ frame_ways rows text first) (stack_ways-push rows text frames frame)
-    ∙ append_assoc (frame_ways rows text frame) (stack_ways rows text frames) (frame_ways rows text first)
+pub stack_ways-push : (rows : Rows) (text : Text) (branches : List Branch) (branch : Branch) →
+    stack_ways rows text (branches ++ branch ∷ []) ≡ branch_ways rows text branch ++ stack_ways rows text branches
+stack_ways-push rows text [] branch = sym (append-nil (branch_ways rows text branch))
+stack_ways-push rows text (first ∷ branches) branch =
+    ap (λ l. l ++ branch_ways rows text first) (stack_ways-push rows text branches branch)
+    ∙ append_assoc (branch_ways rows text branch) (stack_ways rows text branches) (branch_ways rows text first)
 
-pub stack_cost-push : (rows : Rows) (text : Text) (frames : List Frame) (frame : Frame) →
-    stack_cost rows text (frames ++ frame ∷ []) ≡ frame_cost rows text frame + stack_cost rows text frames
-stack_cost-push rows text [] frame = omega arith
-stack_cost-push rows text (first ∷ frames) frame = omega (arith, stack_cost-push rows text frames frame)
+pub stack_cost-push : (rows : Rows) (text : Text) (branches : List Branch) (branch : Branch) →
+    stack_cost rows text (branches ++ branch ∷ []) ≡ branch_cost rows text branch + stack_cost rows text branches
+stack_cost-push rows text [] branch = omega arith
+stack_cost-push rows text (first ∷ branches) branch = omega (arith, stack_cost-push rows text branches branch)
 
--- one frame in the place of the task
-pub pushed : (rows : Rows) (text : Text) (frame next : Frame) (task : Task) (old new : List Frame) → new ≡ old ++ next ∷ [] →
-    frame_ways rows text next ≡ onward (todo_ways rows text stop frame.todo.items) (task_ways rows text task (reached frame)) →
-    frame_cost rows text next < task_cost rows text task (todo_cost rows text one frame.todo.items) (reached frame) →
-    Steps rows text frame task old new false
-pushed rows text frame next task old new e w k =
+-- one branch in the place of the task
+pub pushed : (rows : Rows) (text : Text) (branch next : Branch) (task : Task) (old new : List Branch) → new ≡ old ++ next ∷ [] →
+    branch_ways rows text next ≡ onward (todo_ways rows text stop branch.todo.items) (task_ways rows text task (reached branch)) →
+    branch_cost rows text next < task_cost rows text task (todo_cost rows text one branch.todo.items) (reached branch) →
+    Steps rows text branch task old new false
+pushed rows text branch next task old new e w k =
     rw e (stack_ways-push rows text old next ∙ ap (λ l. l ++ stack_ways rows text old) w, omega (arith, stack_cost-push rows text old next))
 
--- two frames, of which the last is tried first
-pub pushed_two : (rows : Rows) (text : Text) (frame low high : Frame) (task : Task) (old new : List Frame) →
+-- two branches, of which the last is tried first
+pub pushed_two : (rows : Rows) (text : Text) (branch low high : Branch) (task : Task) (old new : List Branch) →
     new ≡ (old ++ low ∷ []) ++ high ∷ [] →
-    frame_ways rows text high ++ frame_ways rows text low
-    ≡ onward (todo_ways rows text stop frame.todo.items) (task_ways rows text task (reached frame)) →
-    frame_cost rows text high + frame_cost rows text low < task_cost rows text task (todo_cost rows text one frame.todo.items) (reached frame) →
-    Steps rows text frame task old new false
-pushed_two rows text frame low high task old new e w k =
+    branch_ways rows text high ++ branch_ways rows text low
+    ≡ onward (todo_ways rows text stop branch.todo.items) (task_ways rows text task (reached branch)) →
+    branch_cost rows text high + branch_cost rows text low < task_cost rows text task (todo_cost rows text one branch.todo.items) (reached branch) →
+    Steps rows text branch task old new false
+pushed_two rows text branch low high task old new e w k =
     rw e (
       stack_ways-push rows text (old ++ low ∷ []) high
-          ∙ ap (λ l. frame_ways rows text high ++ l) (stack_ways-push rows text old low)
-          ∙ sym (append_assoc (frame_ways rows text high) (frame_ways rows text low) (stack_ways rows text old))
+          ∙ ap (λ l. branch_ways rows text high ++ l) (stack_ways-push rows text old low)
+          ∙ sym (append_assoc (branch_ways rows text high) (branch_ways rows text low) (stack_ways rows text old))
           ∙ ap (λ l. l ++ stack_ways rows text old) w,
       omega (arith, stack_cost-push rows text (old ++ low ∷ []) high, stack_cost-push rows text old low),
     )

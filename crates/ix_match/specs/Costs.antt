@@ -3,9 +3,9 @@ use Rattle.std.specs.Prelude.{ℕ, zero, suc, ◌+◌, List, [], ◌∷◌}
 use Rattle.ix_pattern.specs.Piece.{Piece, nothing, byte_in, start, finish, word, seq, either, count, group, ahead}
 use Rattle.ix_pattern.specs.Ways.{Text, Reached, Way, ends_at, edge, further_turns, close_group, ways}
 use Rattle.ix_pattern.specs.Rows.{Rows, piece_at}
-use Rattle.ix_match.specs.declared.frames.Task.{Task}
-use Rattle.ix_match.specs.declared.frames.Task.TheVariants.{Piece as DoPiece, Turns, Close}
-use Rattle.ix_match.specs.declared.frames.Frame.{Frame}
+use Rattle.ix_match.specs.declared.branches.Task.{Task}
+use Rattle.ix_match.specs.declared.branches.Task.TheVariants.{Piece as DoPiece, Turns, Close}
+use Rattle.ix_match.specs.declared.branches.Branch.{Branch}
 use Rattle.ix_match.specs.Stack.{reached}
 
 abbrev pub sum_ends : (Reached → ℕ) → List Way → ℕ
@@ -45,13 +45,13 @@ abbrev pub todo_cost : Rows → Text → (Reached → ℕ) → List Task → Rea
 todo_cost rows text next [] r = next r
 todo_cost rows text next (task ∷ later) r = todo_cost rows text (task_cost rows text task next) later r
 
--- to take up a frame with nothing to do is one
+-- to take up a branch with nothing to do is one
 abbrev pub one : Reached → ℕ
 one r = 1
 
-abbrev pub frame_cost : Rows → Text → Frame → ℕ
-frame_cost rows text frame = todo_cost rows text one frame.todo.items (reached frame)
+abbrev pub branch_cost : Rows → Text → Branch → ℕ
+branch_cost rows text branch = todo_cost rows text one branch.todo.items (reached branch)
 
-abbrev pub stack_cost : Rows → Text → List Frame → ℕ
+abbrev pub stack_cost : Rows → Text → List Branch → ℕ
 stack_cost rows text [] = 0
-stack_cost rows text (frame ∷ frames) = stack_cost rows text frames + frame_cost rows text frame
+stack_cost rows text (branch ∷ branches) = stack_cost rows text branches + branch_cost rows text branch

@@ -1,5 +1,5 @@
 pub mod Stack
-pub mod Leaf
+pub mod Verdict
 pub mod Costs
 pub mod Steps
 pub mod Attempt

@@ -2,17 +2,17 @@
 use Rattle.std.specs.Prelude.{List, [], ◌∷◌, ◌++◌, Option, Some, None}
 use Rattle.ix_pattern.specs.Ways.{Text, Reached, Way, ends_at, edge, onward, required, optional, close_group, ways}
 use Rattle.ix_pattern.specs.Rows.{Rows, piece_at}
-use Rattle.ix_match.specs.declared.frames.Task.{Task}
-use Rattle.ix_match.specs.declared.frames.Task.TheVariants.{Piece as DoPiece, Turns, Close}
-use Rattle.ix_match.specs.declared.frames.Frame.{Frame}
+use Rattle.ix_match.specs.declared.branches.Task.{Task}
+use Rattle.ix_match.specs.declared.branches.Task.TheVariants.{Piece as DoPiece, Turns, Close}
+use Rattle.ix_match.specs.declared.branches.Branch.{Branch}
 use Rattle.ix_match.specs.declared.search.Outcome.{Outcome}
 use Rattle.ix_match.specs.declared.search.Outcome.TheVariants.{End, No, More}
 
 -- the head of the list that an outcome stands for
-abbrev pub head_of : Outcome → Option Way
-head_of (End place groups) = Some (ends_at (record { place = place; groups = groups.items }))
-head_of No = None
-head_of More = Some edge
+abbrev pub outcome_head : Outcome → Option Way
+outcome_head (End place groups) = Some (ends_at (record { place = place; groups = groups.items }))
+outcome_head No = None
+outcome_head More = Some edge
 
 abbrev pub task_ways : Rows → Text → Task → Reached → List Way
 task_ways rows text (DoPiece k) r = ways (piece_at rows k) text r
@@ -28,13 +28,13 @@ todo_ways rows text next (task ∷ later) r = todo_ways rows text (λ e. onward 
 abbrev pub stop : Reached → List Way
 stop r = ends_at r ∷ []
 
-abbrev pub reached : Frame → Reached
-reached frame = record { place = frame.place; groups = frame.groups.items }
+abbrev pub reached : Branch → Reached
+reached branch = record { place = branch.place; groups = branch.groups.items }
 
-abbrev pub frame_ways : Rows → Text → Frame → List Way
-frame_ways rows text frame = todo_ways rows text stop frame.todo.items (reached frame)
+abbrev pub branch_ways : Rows → Text → Branch → List Way
+branch_ways rows text branch = todo_ways rows text stop branch.todo.items (reached branch)
 
--- the last frame is tried first
-abbrev pub stack_ways : Rows → Text → List Frame → List Way
+-- the last branch is tried first
+abbrev pub stack_ways : Rows → Text → List Branch → List Way
 stack_ways rows text [] = []
-stack_ways rows text (frame ∷ frames) = stack_ways rows text frames ++ frame_ways rows text frame
+stack_ways rows text (branch ∷ branches) = stack_ways rows text branches ++ branch_ways rows text branch

@@ -51,8 +51,8 @@ fn find_at<L: Ledger>(
     }
 }
 
-/// The first match, counted in the ledger that the blank one opens.
-fn counted<L: Ledger>(
+/// The first match. Its steps are counted in the ledger that the blank one opens, which nobody reads.
+fn find_uncounted<L: Ledger>(
     alloc: Global,
     p: &Pattern,
     text: &[u8],
@@ -83,5 +83,5 @@ pub fn find(alloc: Global, p: &Pattern, text: &[u8], from: usize) -> Result<Opti
     ensures first { IfOk result (λ found. IsFirst p.now text.now from found) }
     ensures lies { IfOk result (λ found. IfSome found (λ f. LiesIn text.now from p.now.groups f)) }
 {
-    counted::<Brand>(alloc, p, text, from, Blank::new(1))
+    find_uncounted::<Brand>(alloc, p, text, from, Blank::new(1))
 }

@@ -2,7 +2,7 @@
 
 ghost use Rattle.std.specs.Prelude.{◌≡◌, ◌+◌, ℕ};
 ghost use Rattle.ix_pattern.specs.Ways.{byte_before, further_turns, sight};
-ghost use Rattle.ix_match.specs.Leaf.{text_of};
+ghost use Rattle.ix_match.specs.Verdict.{text_of};
 
 /// How many bytes a lookahead sees.
 const SIGHT: usize = 255;

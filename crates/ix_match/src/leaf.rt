@@ -3,7 +3,7 @@
 ghost use Rattle.std.specs.Prelude.{◌≡◌, ℕ, ◌<◌, ◌≤◌, ◌+◌, true, List, [], ◌∷◌, length, Option, Some, slice_get, if◌then◌else◌};
 ghost use Rattle.ix_pattern.specs.Ways.{Reached, edge, here, is_start, is_word_byte, is_word, byte_ways, finish_ways, word_ways, ways};
 ghost use Rattle.ix_pattern.specs.Rows.{node_at, set_at, piece_at};
-ghost use Rattle.ix_match.specs.Leaf.{leaf_ways, text_of, at};
+ghost use Rattle.ix_match.specs.Verdict.{verdict_ways, text_of, at};
 
 use crate::input::{Input, byte_before};
 use ix_base::Steps;
@@ -12,7 +12,7 @@ use std::sync::ledger::Ledger;
 
 /// What a step comes to: an end here, an end a byte later, nothing, or an edge.
 #[derive(Clone, Copy)]
-pub enum Leaf {
+pub enum Verdict {
     Here,
     Next,
     Never,
@@ -35,19 +35,19 @@ fn is_word(b: Option<u8>) -> bool
 }
 
 /// An end here, if the test holds.
-fn here(test: bool) -> Leaf
-    ensures within { result ≡ Leaf.Next → ⊥ }
-    ensures ways { (r : Reached) → leaf_ways result r ≡ here test r }
+fn here(test: bool) -> Verdict
+    ensures within { result ≡ Verdict.Next → ⊥ }
+    ensures ways { (r : Reached) → verdict_ways result r ≡ here test r }
 {
-    if test { Leaf::Here } else { Leaf::Never }
+    if test { Verdict::Here } else { Verdict::Never }
 }
 
 /// An edge, or what it is in a closed text.
-fn at_end(unfinished: bool, closed: Leaf) -> Leaf
-    ensures within { result ≡ Leaf.Next → closed ≡ Leaf.Next }
-    ensures ways { (r : Reached) → leaf_ways result r ≡ (if unfinished then edge ∷ [] else leaf_ways closed r) }
+fn at_end(unfinished: bool, closed: Verdict) -> Verdict
+    ensures within { result ≡ Verdict.Next → closed ≡ Verdict.Next }
+    ensures ways { (r : Reached) → verdict_ways result r ≡ (if unfinished then edge ∷ [] else verdict_ways closed r) }
 {
-    if unfinished { Leaf::Edge } else { closed }
+    if unfinished { Verdict::Edge } else { closed }
 }
 
 /// One byte of a set.
@@ -57,20 +57,20 @@ pub fn byte<L: Ledger>(
     input: Input<'_>,
     place: usize,
     steps: &mut Steps<L>,
-) -> Leaf
+) -> Verdict
     requires { node_at p.now.rows piece ≡ Some Node.Bytes }
-    ensures within { result ≡ Leaf.Next → place < length input.entry.bytes.now }
-    ensures ways { (groups : List (Option (ℕ × ℕ))) → leaf_ways result (at place groups)
+    ensures within { result ≡ Verdict.Next → place < length input.entry.bytes.now }
+    ensures ways { (groups : List (Option (ℕ × ℕ))) → verdict_ways result (at place groups)
         ≡ byte_ways (set_at p.now.rows piece) (text_of input.entry) (at place groups) (slice_get input.entry.bytes.now place) }
     ensures later { steps.old ≤ steps.new }
 {
     match input.bytes.get(place) {
-        None => at_end(input.unfinished, Leaf::Never),
+        None => at_end(input.unfinished, Verdict::Never),
         Some(b) => {
             if p.accepts(piece, *b, steps) {
-                Leaf::Next
+                Verdict::Next
             } else {
-                Leaf::Never
+                Verdict::Never
             }
         }
     }
@@ -95,47 +95,47 @@ pub fn has_no_way<L: Ledger>(
     match p.node(piece) {
         Node::Bytes => {
             let leaf = byte(p, piece, input, place, steps);
-            matches!(leaf, Leaf::Never)
+            matches!(leaf, Verdict::Never)
         }
         _ => false,
     }
 }
 
 /// `^`, by the byte before the place.
-pub fn start(lines: bool, before: Option<u8>) -> Leaf
-    ensures within { result ≡ Leaf.Next → ⊥ }
-    ensures ways { (r : Reached) → leaf_ways result r ≡ here (is_start lines before) r }
+pub fn start(lines: bool, before: Option<u8>) -> Verdict
+    ensures within { result ≡ Verdict.Next → ⊥ }
+    ensures ways { (r : Reached) → verdict_ways result r ≡ here (is_start lines before) r }
 {
     match before {
-        None => Leaf::Here,
+        None => Verdict::Here,
         Some(b) => here(lines && b == b'\n'),
     }
 }
 
 /// `$`.
-pub fn finish(lines: bool, input: Input<'_>, place: usize) -> Leaf
-    ensures within { result ≡ Leaf.Next → ⊥ }
-    ensures ways { (groups : List (Option (ℕ × ℕ))) → leaf_ways result (at place groups)
+pub fn finish(lines: bool, input: Input<'_>, place: usize) -> Verdict
+    ensures within { result ≡ Verdict.Next → ⊥ }
+    ensures ways { (groups : List (Option (ℕ × ℕ))) → verdict_ways result (at place groups)
         ≡ finish_ways lines (text_of input.entry) (at place groups) (slice_get input.entry.bytes.now place) }
 {
     match input.bytes.get(place) {
-        None => at_end(input.unfinished, Leaf::Here),
+        None => at_end(input.unfinished, Verdict::Here),
         Some(b) => {
             if lines {
                 here(*b == b'\n')
             } else if *b == b'\n' && place + 1 == input.bytes.len() {
-                at_end(input.unfinished, Leaf::Here)
+                at_end(input.unfinished, Verdict::Here)
             } else {
-                Leaf::Never
+                Verdict::Never
             }
         }
     }
 }
 
 /// `\b`.
-pub fn word(input: Input<'_>, place: usize) -> Leaf
-    ensures within { result ≡ Leaf.Next → ⊥ }
-    ensures ways { (groups : List (Option (ℕ × ℕ))) → leaf_ways result (at place groups)
+pub fn word(input: Input<'_>, place: usize) -> Verdict
+    ensures within { result ≡ Verdict.Next → ⊥ }
+    ensures ways { (groups : List (Option (ℕ × ℕ))) → verdict_ways result (at place groups)
         ≡ word_ways (text_of input.entry) (at place groups) (slice_get input.entry.bytes.now place) }
 {
     let word_before = is_word(byte_before(input, place));

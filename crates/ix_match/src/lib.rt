@@ -1,9 +1,9 @@
 //! Searching a text for a pattern, by going back and trying again.
 #![tactic(auto)]
 
+mod branches;
 mod few;
 mod first;
-mod frames;
 mod input;
 mod leaf;
 mod scan;

@@ -4,8 +4,8 @@ ghost use Rattle.std.specs.Prelude.{◌≡◌, ℕ, ◌<◌, ◌≤◌, ◌∷�
 ghost use Rattle.ix_pattern.specs.Piece.{in_set};
 ghost use Rattle.ix_pattern.specs.Ways.{sight};
 ghost use Rattle.ix_match.specs.Attempt.{reach, attempt};
-ghost use Rattle.ix_match.specs.Leaf.{text_of};
-ghost use Rattle.ix_match.specs.Stack.{head_of as outcome_head};
+ghost use Rattle.ix_match.specs.Verdict.{text_of};
+ghost use Rattle.ix_match.specs.Stack.{outcome_head};
 ghost use Rattle.ix_match.specs.Starts.{AreStarts};
 ghost use Rattle.ix_match.specs.Scans.{GoesOn, emptied, head_of, BeginsAtOnce, LiesInReach};
 

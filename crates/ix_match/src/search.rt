@@ -3,13 +3,13 @@
 ghost use Rattle.std.specs.Prelude.{◌≡◌, ℕ, ◌<◌, ◌≤◌, IfOk, OnOk, List, length, slice_get};
 ghost use Rattle.ix_pattern.specs.Ways.{Reached, Way, ways, look};
 ghost use Rattle.ix_pattern.specs.Rows.{piece_at};
-ghost use Rattle.ix_match.specs.Stack.{head_of};
-ghost use Rattle.ix_match.specs.Leaf.{leaf_ways, text_of, at};
+ghost use Rattle.ix_match.specs.Stack.{outcome_head};
+ghost use Rattle.ix_match.specs.Verdict.{verdict_ways, text_of, at};
 ghost use Rattle.ix_match.specs.Steps.{task_number, Steps, Fits, AllFit, EachFits};
 
-use crate::frames::{Frame, Task, closed};
+use crate::branches::{Branch, Task, closed};
 use crate::input::{Input, in_sight};
-use crate::leaf::Leaf;
+use crate::leaf::Verdict;
 use crate::steps::{piece_step, turns, turns_to_try};
 use ix_base::{NoMemory, Steps as StepCount};
 use ix_pattern::{Node, Pattern};
@@ -38,14 +38,26 @@ fn copy_of_groups(
 }
 
 /// What a lookahead comes to, by what its inside came to.
-fn ahead_leaf(outcome: Outcome, wanted: bool) -> Leaf
-    ensures within { result ≡ Leaf.Next → ⊥ }
-    ensures ways { (r : Reached) (inside : List Way) → slice_get inside 0 ≡ head_of outcome → look wanted r inside ≡ leaf_ways result r }
+fn ahead_verdict(outcome: Outcome, wanted: bool) -> Verdict
+    ensures within { result ≡ Verdict.Next → ⊥ }
+    ensures ways { (r : Reached) (inside : List Way) → slice_get inside 0 ≡ outcome_head outcome → look wanted r inside ≡ verdict_ways result r }
 {
     match outcome {
-        Outcome::End { .. } => { if wanted { Leaf::Here } else { Leaf::Never } }
-        Outcome::No => { if wanted { Leaf::Never } else { Leaf::Here } }
-        Outcome::More => Leaf::Edge,
+        Outcome::End { .. } => {
+            if wanted {
+                Verdict::Here
+            } else {
+                Verdict::Never
+            }
+        }
+        Outcome::No => {
+            if wanted {
+                Verdict::Never
+            } else {
+                Verdict::Here
+            }
+        }
+        Outcome::More => Verdict::Edge,
     }
 }
 
@@ -56,13 +68,13 @@ fn step<L: Ledger>(
     p: &Pattern,
     task: Task,
     input: Input<'_>,
-    frame: Frame,
-    stack: &mut Vec<Frame>,
+    branch: Branch,
+    stack: &mut Vec<Branch>,
     steps: &mut StepCount<L>,
 ) -> Result<bool, NoMemory>
     requires { task_number task < length p.now.rows }
-    ensures steps { IfOk result (λ is_edge. Steps p.now.rows (text_of input.entry) frame task stack.old.items stack.new.items is_edge) }
-    ensures fits { OnOk result ((top : ℕ) → Fits top task → AllFit top frame.todo.items → EachFits top stack.old.items → EachFits top stack.new.items) }
+    ensures steps { IfOk result (λ is_edge. Steps p.now.rows (text_of input.entry) branch task stack.old.items stack.new.items is_edge) }
+    ensures fits { OnOk result ((top : ℕ) → Fits top task → AllFit top branch.todo.items → EachFits top stack.old.items → EachFits top stack.new.items) }
     ensures later { steps.old ≤ steps.new }
 {
     match task {
@@ -72,32 +84,32 @@ fn step<L: Ledger>(
             further,
             lazy,
         } => {
-            let tried = turns_to_try(p, inside, least, further, input, frame.place, steps);
-            turns(alloc, inside, least, tried, lazy, frame, stack)?;
+            let tried = turns_to_try(p, inside, least, further, input, branch.place, steps);
+            turns(alloc, inside, least, tried, lazy, branch, stack)?;
             Ok(false)
         }
         Task::Close { number, from } => {
-            let next = closed(frame, number, from);
+            let next = closed(branch, number, from);
             stack.push(next)?;
             Ok(false)
         }
         Task::Piece(piece) => {
             if let Node::Ahead { inside, wanted } = p.node(piece) {
-                let groups = copy_of_groups(alloc, &frame.groups)?;
+                let groups = copy_of_groups(alloc, &branch.groups)?;
                 let outcome = head(
                     alloc,
                     p,
                     inside,
-                    in_sight(input, frame.place),
-                    frame.place,
+                    in_sight(input, branch.place),
+                    branch.place,
                     groups,
                     steps,
                 )?;
-                let seen = ahead_leaf(outcome, wanted);
-                let is_edge = piece_step(alloc, p, piece, input, seen, frame, stack, steps)?;
+                let seen = ahead_verdict(outcome, wanted);
+                let is_edge = piece_step(alloc, p, piece, input, seen, branch, stack, steps)?;
                 return Ok(is_edge);
             }
-            let is_edge = piece_step(alloc, p, piece, input, Leaf::Never, frame, stack, steps)?;
+            let is_edge = piece_step(alloc, p, piece, input, Verdict::Never, branch, stack, steps)?;
             Ok(is_edge)
         }
     }
@@ -116,25 +128,25 @@ pub fn head<L: Ledger>(
     steps: &mut StepCount<L>,
 ) -> Result<Outcome, NoMemory>
     requires { piece < length p.now.rows }
-    ensures head { IfOk result (λ o. slice_get (ways (piece_at p.now.rows piece) (text_of input.entry) (at place groups.items)) 0 ≡ head_of o) }
+    ensures head { IfOk result (λ o. slice_get (ways (piece_at p.now.rows piece) (text_of input.entry) (at place groups.items)) 0 ≡ outcome_head o) }
     ensures later { steps.old ≤ steps.new }
 {
     let mut todo: Vec<Task> = Vec::new(alloc);
     todo.push(Task::Piece(piece))?;
     let mut stack = Vec::new(alloc);
-    stack.push(Frame {
+    stack.push(Branch {
         place,
         groups,
         todo,
     })?;
-    while let Some(mut frame) = stack.pop() {
-        let Some(task) = frame.todo.pop() else {
+    while let Some(mut branch) = stack.pop() {
+        let Some(task) = branch.todo.pop() else {
             return Ok(Outcome::End {
-                place: frame.place,
-                groups: frame.groups,
+                place: branch.place,
+                groups: branch.groups,
             });
         };
-        let is_edge = step(alloc, p, task, input, frame, &mut stack, steps)?;
+        let is_edge = step(alloc, p, task, input, branch, &mut stack, steps)?;
         if is_edge {
             return Ok(Outcome::More);
         }

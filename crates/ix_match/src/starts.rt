@@ -56,7 +56,13 @@ fn begins<L: Ledger>(
     Ok(piece_begins(p, root, &below, byte, steps))
 }
 
-fn counted<L: Ledger>(alloc: Global, p: &Pattern, blank: Blank) -> Result<[bool; 256], NoMemory>
+/// For each byte, whether a match may begin with it. The tests are counted in the ledger that the blank one opens, which
+/// nobody reads.
+fn starts_uncounted<L: Ledger>(
+    alloc: Global,
+    p: &Pattern,
+    blank: Blank,
+) -> Result<[bool; 256], NoMemory>
     requires name { blank.name ≡ L.name }
     requires parts { blank.parts ≡ L.parts }
     requires some { 0 < blank.parts }
@@ -70,11 +76,11 @@ fn counted<L: Ledger>(alloc: Global, p: &Pattern, blank: Blank) -> Result<[bool;
     Ok(starts)
 }
 
-/// For each byte, whether a match may begin with it. Nobody counts the tests.
+/// For each byte, whether a match may begin with it. The tests are no steps of a search.
 pub fn starts_of(alloc: Global, p: &Pattern) -> Result<[bool; 256], NoMemory>
     ensures { IfOk result (λ starts. AreStarts p.now starts) }
 {
-    counted::<Brand>(alloc, p, Blank::new(1))
+    starts_uncounted::<Brand>(alloc, p, Blank::new(1))
 }
 
 /// A law about the definitions, and no code: an attempt before any other byte has neither an end nor an edge.

@@ -1,5 +1,5 @@
 use Rattle.ix_match.proofs.first.find.Given as goal
 
 -- the ledger of the blank one
-abbrev pub ghosts-counted : goal.ghosts-counted
-ghosts-counted a = record { name = a.blank.name; parts = a.blank.parts }
+abbrev pub ghosts-find_uncounted : goal.ghosts-find_uncounted
+ghosts-find_uncounted a = record { name = a.blank.name; parts = a.blank.parts }

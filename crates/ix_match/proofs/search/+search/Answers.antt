@@ -1,14 +1,14 @@
 use Rattle.std.proofs.Common.{◌≤◌, refl, sym, ◌∙◌, subst, arith}
 use Rattle.ix_pattern.specs.Rows.{piece_at}
-use Rattle.ix_match.specs.declared.frames.Frame.{Frame}
-use Rattle.ix_match.specs.Leaf.{text_of}
+use Rattle.ix_match.specs.declared.branches.Branch.{Branch}
+use Rattle.ix_match.specs.Verdict.{text_of}
 use Rattle.ix_match.specs.Steps.{Fits, task_number}
 use Rattle.ix_match.proofs.Rules.{fits-1}
 use Rattle.ix_match.proofs.SearchLemmas.{none-left, seen-by-head, left-init, number-below, Popped, popped-fits, popped-ways, popped-cost, found, at-edge, went-on, close-steps}
 use Rattle.ix_match.proofs.search.+search.Goals as goal
 
-pub head-loop-frame-init : goal.head-loop-frame-init
-head-loop-frame-init g t c =
+pub head-loop-branch-init : goal.head-loop-branch-init
+head-loop-branch-init g t c =
     record {
       later = omega arith;
       left = left-init c.args.p.now.rows (text_of c.args.input) c.args.piece
@@ -19,49 +19,49 @@ head-loop-frame-init g t c =
 
 pub head-returns-in_default-pop-clause-head : goal.head-returns-in_default-pop-clause-head
 head-returns-in_default-pop-clause-head g t c =
-    found c.args.p.now.rows (text_of c.args.input) _ c.loop-frame.stack.items c.pop.new.self.items c.in-Some.frame
-    c.loop-frame.invariant.left.whole c.in-Some.ensures.items (none-left c.in-Some.frame.todo.items c.pop-in-Some.new.self.items _ c.in_default-pop.ensures.items c.in_default-pop.ensures.rest c.in_default-pop.ensures.cases.0)
+    found c.args.p.now.rows (text_of c.args.input) _ c.loop-branch.stack.items c.pop.new.self.items c.in-Some.branch
+    c.loop-branch.invariant.left.whole c.in-Some.ensures.items (none-left c.in-Some.branch.todo.items c.pop-in-Some.new.self.items _ c.in_default-pop.ensures.items c.in_default-pop.ensures.rest c.in_default-pop.ensures.cases.0)
 
 pub head-step-requires : goal.head-step-requires
 head-step-requires g t c =
-    let left : Frame = record { place = c.in-Some.frame.place; groups = c.in-Some.frame.groups; todo = c.pop-in-Some.new.self } in
-    let p : Popped c.loop-frame.stack.items c.pop.new.self.items c.in-Some.frame left c.in-Some-pop.task =
+    let left : Branch = record { place = c.in-Some.branch.place; groups = c.in-Some.branch.groups; todo = c.pop-in-Some.new.self } in
+    let p : Popped c.loop-branch.stack.items c.pop.new.self.items c.in-Some.branch left c.in-Some-pop.task =
     record { is = c.in-Some.ensures.items; todo = c.in-Some-pop.ensures.items; place = refl; groups = refl } in
-    let f = popped-fits c.args.piece c.loop-frame.stack.items c.pop.new.self.items c.in-Some.frame left c.in-Some-pop.task p c.loop-frame.invariant.left.fits in
+    let f = popped-fits c.args.piece c.loop-branch.stack.items c.pop.new.self.items c.in-Some.branch left c.in-Some-pop.task p c.loop-branch.invariant.left.fits in
     let n : task_number c.in-Some-pop.task ≤ c.args.piece = number-below c.args.piece c.in-Some-pop.task f.2 in
     let d = c.decreases in
     λ κs below. (omega (arith, d, n), (below, omega arith))
 
 pub head-returns-then-is_edge-clause-head : goal.head-returns-then-is_edge-clause-head
 head-returns-then-is_edge-clause-head g t c =
-    let left : Frame = record { place = c.in-Some.frame.place; groups = c.in-Some.frame.groups; todo = c.pop-in-Some.new.self } in
-    let p : Popped c.loop-frame.stack.items c.pop.new.self.items c.in-Some.frame left c.in-Some-pop.task =
+    let left : Branch = record { place = c.in-Some.branch.place; groups = c.in-Some.branch.groups; todo = c.pop-in-Some.new.self } in
+    let p : Popped c.loop-branch.stack.items c.pop.new.self.items c.in-Some.branch left c.in-Some-pop.task =
     record { is = c.in-Some.ensures.items; todo = c.in-Some-pop.ensures.items; place = refl; groups = refl } in
-    at-edge c.args.p.now.rows (text_of c.args.input) _ c.loop-frame.stack.items c.pop.new.self.items c.step.new.stack.items left c.in-Some-pop.task c.in_ok-is_edge.is_edge
-    c.loop-frame.invariant.left.whole
-    (popped-ways c.args.p.now.rows (text_of c.args.input) c.loop-frame.stack.items c.pop.new.self.items c.in-Some.frame left c.in-Some-pop.task p)
+    at-edge c.args.p.now.rows (text_of c.args.input) _ c.loop-branch.stack.items c.pop.new.self.items c.step.new.stack.items left c.in-Some-pop.task c.in_ok-is_edge.is_edge
+    c.loop-branch.invariant.left.whole
+    (popped-ways c.args.p.now.rows (text_of c.args.input) c.loop-branch.stack.items c.pop.new.self.items c.in-Some.branch left c.in-Some-pop.task p)
     c.if-is_edge.true c.in_ok-is_edge.ensures.steps
 
-pub head-loop-frame-smaller : goal.head-loop-frame-smaller
-head-loop-frame-smaller g t c =
-    let left : Frame = record { place = c.in-Some.frame.place; groups = c.in-Some.frame.groups; todo = c.pop-in-Some.new.self } in
-    let p : Popped c.loop-frame.stack.items c.pop.new.self.items c.in-Some.frame left c.in-Some-pop.task =
+pub head-loop-branch-smaller : goal.head-loop-branch-smaller
+head-loop-branch-smaller g t c =
+    let left : Branch = record { place = c.in-Some.branch.place; groups = c.in-Some.branch.groups; todo = c.pop-in-Some.new.self } in
+    let p : Popped c.loop-branch.stack.items c.pop.new.self.items c.in-Some.branch left c.in-Some-pop.task =
     record { is = c.in-Some.ensures.items; todo = c.in-Some-pop.ensures.items; place = refl; groups = refl } in
     let s = went-on c.args.p.now.rows (text_of c.args.input) c.pop.new.self.items c.step.new.stack.items left c.in-Some-pop.task c.in_ok-is_edge.is_edge c.if-is_edge.false c.in_ok-is_edge.ensures.steps in
-    omega (arith, s.1, popped-cost c.args.p.now.rows (text_of c.args.input) c.loop-frame.stack.items c.pop.new.self.items c.in-Some.frame left c.in-Some-pop.task p)
+    omega (arith, s.1, popped-cost c.args.p.now.rows (text_of c.args.input) c.loop-branch.stack.items c.pop.new.self.items c.in-Some.branch left c.in-Some-pop.task p)
 
-pub head-loop-frame-preserved : goal.head-loop-frame-preserved
-head-loop-frame-preserved g t c =
-    let left : Frame = record { place = c.in-Some.frame.place; groups = c.in-Some.frame.groups; todo = c.pop-in-Some.new.self } in
-    let p : Popped c.loop-frame.stack.items c.pop.new.self.items c.in-Some.frame left c.in-Some-pop.task =
+pub head-loop-branch-preserved : goal.head-loop-branch-preserved
+head-loop-branch-preserved g t c =
+    let left : Branch = record { place = c.in-Some.branch.place; groups = c.in-Some.branch.groups; todo = c.pop-in-Some.new.self } in
+    let p : Popped c.loop-branch.stack.items c.pop.new.self.items c.in-Some.branch left c.in-Some-pop.task =
     record { is = c.in-Some.ensures.items; todo = c.in-Some-pop.ensures.items; place = refl; groups = refl } in
-    let f = popped-fits c.args.piece c.loop-frame.stack.items c.pop.new.self.items c.in-Some.frame left c.in-Some-pop.task p c.loop-frame.invariant.left.fits in
+    let f = popped-fits c.args.piece c.loop-branch.stack.items c.pop.new.self.items c.in-Some.branch left c.in-Some-pop.task p c.loop-branch.invariant.left.fits in
     let s = went-on c.args.p.now.rows (text_of c.args.input) c.pop.new.self.items c.step.new.stack.items left c.in-Some-pop.task c.in_ok-is_edge.is_edge c.if-is_edge.false c.in_ok-is_edge.ensures.steps in
     record {
       later = omega (arith, c.in_ok-is_edge.ensures.later);
       left = record {
-        whole = c.loop-frame.invariant.left.whole
-            ∙ popped-ways c.args.p.now.rows (text_of c.args.input) c.loop-frame.stack.items c.pop.new.self.items c.in-Some.frame left c.in-Some-pop.task p
+        whole = c.loop-branch.invariant.left.whole
+            ∙ popped-ways c.args.p.now.rows (text_of c.args.input) c.loop-branch.stack.items c.pop.new.self.items c.in-Some.branch left c.in-Some-pop.task p
             ∙ sym s.0;
         fits = c.in_ok-is_edge.ensures.fits c.args.piece f.2 f.1 f.0;
       };
@@ -71,10 +71,10 @@ pub step-piece_step-requires-clause-seen : goal.step-piece_step-requires-clause-
 step-piece_step-requires-clause-seen g t c =
     λ inside wanted is.
     seen-by-head c.args.p.now.rows (text_of c.args.input) (text_of c.in_sight.result)
-    c.in-Piece.piece (piece_at c.args.p.now.rows c.in-Ahead.inside) c.in-Ahead.wanted c.args.frame.place c.args.frame.groups.items c.in_ok-groups-in-Piece.groups.items
-    _ c.ahead_leaf-seen.result c.in-Ahead.ensures.is c.in_sight.ensures
+    c.in-Piece.piece (piece_at c.args.p.now.rows c.in-Ahead.inside) c.in-Ahead.wanted c.args.branch.place c.args.branch.groups.items c.in_ok-groups-in-Piece.groups.items
+    _ c.ahead_verdict-seen.result c.in-Ahead.ensures.is c.in_sight.ensures
     (c.in_ok-groups-in-Piece.ensures ∙ c.deref.ensures.value)
-    c.in_ok-outcome-in-Piece.ensures.head c.ahead_leaf-seen.ensures.ways
+    c.in_ok-outcome-in-Piece.ensures.head c.ahead_verdict-seen.ensures.ways
 
 pub step-returns-in-Ahead-clause-fits : goal.step-returns-in-Ahead-clause-fits
 step-returns-in-Ahead-clause-fits g t c =
@@ -86,7 +86,7 @@ step-returns-in_ok-turns-in-Turns-clause-fits g t c =
 
 pub step-returns-in_ok-push-in-Close-clause-steps : goal.step-returns-in_ok-push-in-Close-clause-steps
 step-returns-in_ok-push-in-Close-clause-steps g t c =
-    rw c.in-Close.is (close-steps c.args.p.now.rows (text_of c.args.input) c.args.frame c.closed-next.result c.in-Close.number c.in-Close.from c.args.stack.now.items c.push.new.self.items
+    rw c.in-Close.is (close-steps c.args.p.now.rows (text_of c.args.input) c.args.branch c.closed-next.result c.in-Close.number c.in-Close.from c.args.stack.now.items c.push.new.self.items
     c.closed-next.ensures.place c.closed-next.ensures.groups c.closed-next.ensures.todo c.in_ok-push-in-Close.ensures.items)
 
 pub step-returns-in_ok-push-in-Close-clause-fits : goal.step-returns-in_ok-push-in-Close-clause-fits

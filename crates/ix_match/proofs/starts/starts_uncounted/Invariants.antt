@@ -2,7 +2,7 @@ use Rattle.std.proofs.Common.{◌≡◌, ℕ, ◌<◌, length}
 use Rattle.ix_pattern.specs.Piece.{in_set}
 use Rattle.ix_pattern.specs.Rows.{tree}
 use Rattle.ix_match.specs.Starts.{may_begin}
-use Rattle.ix_match.proofs.starts.counted.Given as goal
+use Rattle.ix_match.proofs.starts.starts_uncounted.Given as goal
 
 -- what is known of the bytes so far
 abbrev pub invariant-loop-byte : goal.invariant-loop-byte

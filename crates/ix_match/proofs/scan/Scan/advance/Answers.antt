@@ -1,7 +1,7 @@
 use Rattle.std.proofs.Common.{rules}
 use Rattle.std.specs.Prelude.{not}
 use Rattle.ix_pattern.specs.Ways.{Text}
-use Rattle.ix_match.specs.Leaf.{text_of}
+use Rattle.ix_match.specs.Verdict.{text_of}
 use Rattle.ix_match.proofs.ScanLemmas.{head-here, look-lies}
 use Rattle.ix_match.proofs.scan.Scan.advance.Goals as goal
 
