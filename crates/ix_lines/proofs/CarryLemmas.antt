@@ -16,7 +16,7 @@ use Rattle.ix_lines.specs.Parts.{Parts, StandsFor}
 use Rattle.ix_lines.specs.Runs.{moments_of}
 use Rattle.ix_lines.specs.declared.carry.LineParts.{LineParts}
 use Rattle.ix_lines.specs.declared.kept.Kept.{Kept}
-use Rattle.ix_lines.specs.declared.kept.Line.{Line}
+use Rattle.ix_base.specs.declared.events.Line.{Line}
 use Rattle.ix_lines.specs.declared.runs.Run.{Run}
 use Rattle.ix_lines.proofs.ListLemmas.{drop-past, zip-append}
 use Rattle.ix_lines.proofs.RunLemmas.{no_run, waiting, run-next}

@@ -11,7 +11,7 @@ use Rattle.ix_lines.specs.Kept.{Keeps, IsPart, AddsSome, first_moment}
 use Rattle.ix_lines.specs.Settle.{Settles}
 use Rattle.ix_lines.specs.Parts.{Parts, StandsFor, Adds, AddsPart, Ends, EndsPart}
 use Rattle.ix_lines.specs.declared.kept.Kept.{Kept}
-use Rattle.ix_lines.specs.declared.kept.Line.{Line}
+use Rattle.ix_base.specs.declared.events.Line.{Line}
 use Rattle.ix_lines.proofs.ListLemmas.{drop-zip, zip-append}
 use Rattle.ix_lines.proofs.WalkLemmas.{walk_of-append}
 

@@ -13,7 +13,7 @@ use Rattle.ix_lines.specs.Kept.{Keeps, IsPart, first_moment}
 use Rattle.ix_lines.specs.Seek.{byte_before, seek}
 use Rattle.ix_lines.specs.Settle.{CameTo, Settles, part}
 use Rattle.ix_lines.specs.declared.kept.Kept.{Kept}
-use Rattle.ix_lines.specs.declared.kept.Line.{Line}
+use Rattle.ix_base.specs.declared.events.Line.{Line}
 use Rattle.ix_lines.specs.declared.breaks.Found.{Found}
 use Rattle.ix_lines.specs.declared.breaks.Found.TheVariants.{Break, Stop}
 use Rattle.ix_lines.proofs.ListLemmas.{take-add, drop-drop, part-on, part-behind, bytes_of-zip, bytes_of-take, bytes_of-drop, take-past}

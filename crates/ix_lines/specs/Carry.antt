@@ -4,7 +4,7 @@ use Rattle.std.specs.Ordering.{int_eq}
 use Rattle.std.specs.List.{flat_map}
 use Rattle.ix_base.specs.Stream.{Dated, bytes_of, dated}
 use Rattle.ix_lines.specs.Walk.{Looker, walk_of}
-use Rattle.ix_lines.specs.declared.kept.Line.{Line}
+use Rattle.ix_base.specs.declared.events.Line.{Line}
 use Rattle.ix_lines.specs.declared.carry.LineParts.{LineParts}
 
 -- a byte before runs of bytes, as a part of the first one where that has its moment

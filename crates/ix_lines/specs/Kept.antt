@@ -2,7 +2,7 @@
 use Rattle.std.specs.Prelude.{◌≡◌, ℕ, ◌+◌, ℤ, List, [], ◌∷◌, ◌++◌, Option, Some, None, take, IfSome}
 use Rattle.ix_base.specs.Stream.{Dated, bytes_of}
 use Rattle.ix_lines.specs.declared.kept.Kept.{Kept}
-use Rattle.ix_lines.specs.declared.kept.Line.{Line}
+use Rattle.ix_base.specs.declared.events.Line.{Line}
 
 abbrev pub first_moment : List Dated → Option ℤ
 first_moment [] = None

@@ -3,7 +3,7 @@ use Rattle.std.specs.Prelude.{◌≡◌, ℕ, ◌<◌, ◌≤◌, Bool, true, fa
 use Rattle.ix_base.specs.Stream.{Dated}
 use Rattle.ix_lines.specs.Walk.{match, no_match, more, Looker}
 use Rattle.ix_lines.specs.Lines.{settled, all_lines}
-use Rattle.ix_lines.specs.declared.kept.Line.{Line}
+use Rattle.ix_base.specs.declared.events.Line.{Line}
 
 -- an answer other than `more` stays as it is when more bytes come or the end does
 pub record IsStable (look : Looker) : Type 0 where

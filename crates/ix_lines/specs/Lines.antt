@@ -3,7 +3,7 @@ use Rattle.std.specs.Prelude.{ℕ, ◌-◌, ◌==◌, ◌||◌, ℤ, Bool, true,
 use Rattle.std.specs.List.{flat_map}
 use Rattle.ix_base.specs.Stream.{Dated, bytes_of}
 use Rattle.ix_lines.specs.Walk.{Looker, walk_of}
-use Rattle.ix_lines.specs.declared.kept.Line.{Line}
+use Rattle.ix_base.specs.declared.events.Line.{Line}
 
 -- the length at which a line is cut, by the setting: 0 and all above 2^20 count as 2^20
 abbrev pub effective : ℕ → ℕ

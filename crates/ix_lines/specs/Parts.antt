@@ -7,7 +7,7 @@ use Rattle.ix_lines.specs.Walk.{Looker, walk_of}
 use Rattle.ix_lines.specs.Breaks.{breaks_by}
 use Rattle.ix_lines.specs.Lines.{settled, all_lines}
 use Rattle.ix_lines.specs.Kept.{first_moment, AddsSome}
-use Rattle.ix_lines.specs.declared.kept.Line.{Line}
+use Rattle.ix_base.specs.declared.events.Line.{Line}
 
 pub record Parts : Type 0 where
   -- the length at which lines are cut

@@ -7,7 +7,7 @@ use Rattle.ix_lines.specs.Lines.{line_of}
 use Rattle.ix_lines.specs.Kept.{Keeps}
 use Rattle.ix_lines.specs.Seek.{byte_before}
 use Rattle.ix_lines.specs.declared.kept.Kept.{Kept}
-use Rattle.ix_lines.specs.declared.kept.Line.{Line}
+use Rattle.ix_base.specs.declared.events.Line.{Line}
 
 -- the members of a list from one place up to another
 abbrev pub part : {A : Type 0} → ℕ → ℕ → List A → List A

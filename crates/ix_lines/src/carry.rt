@@ -5,9 +5,8 @@ ghost use Rattle.std.specs.List.{zip};
 ghost use Rattle.ix_lines.specs.Carry.{runs_of, dated_of};
 ghost use Rattle.ix_lines.specs.Lines.{unless_empty};
 
-use crate::kept::{Line, LineList};
 use crate::runs::{Moments, Run};
-use ix_base::{Bytes, NoMemory};
+use ix_base::{Bytes, Line, LineList, NoMemory};
 use std::alloc::Global;
 
 /// What is to be carried of a stream, to go on with it later.

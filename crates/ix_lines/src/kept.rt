@@ -1,4 +1,4 @@
-//! Lines, and the line that is open.
+//! The line that is open.
 
 ghost use Rattle.std.specs.Prelude.{◌≡◌, ℕ, ◌+◌, ◌<◌, ◌≤◌, List, [], ◌∷◌, ◌++◌, ◌-◌, length, OnOk, OnErr, IfOk, None};
 ghost use Rattle.ix_base.specs.Stream.{Dated};
@@ -7,20 +7,8 @@ ghost use Rattle.ix_lines.specs.Kept.{Keeps, IsPart};
 ghost use Rattle.ix_lines.specs.Carry.{open_line};
 
 use crate::breaks::first;
-use ix_base::{Bytes, NoMemory, Sequence};
+use ix_base::{Bytes, Line, LineList, NoMemory};
 use std::alloc::Global;
-
-/// A line of a stream, without the break that ended it. It is not empty.
-#[derive(Drop)]
-pub struct Line {
-    /// Its bytes.
-    pub bytes: Bytes,
-    /// When its first byte came, in microseconds since 1970-01-01T00:00:00Z.
-    pub moment: i64,
-}
-
-/// Lines, the first one first.
-pub type LineList = Sequence<Line>;
 
 /// What is kept of the line that is open: as many of its first bytes as a cut needs.
 #[derive(Drop)]

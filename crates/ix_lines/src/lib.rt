@@ -19,7 +19,7 @@ ghost use Rattle.ix_lines.specs.Breaks.{breaks_by};
 ghost use Rattle.ix_lines.specs.Newlines.{newlines};
 
 pub use carry::LineParts;
-pub use kept::{Line, LineList};
+pub use ix_base::{Line, LineList};
 pub use newlines::default_breaker;
 pub use stream::Lines;
 

@@ -13,9 +13,9 @@ ghost use Rattle.ix_lines.specs.Seek.{byte_before};
 ghost use Rattle.ix_lines.specs.Settle.{Settles};
 
 use crate::breaks::{Breaker, Found, byte_before};
-use crate::kept::{Kept, LineList};
+use crate::kept::Kept;
 use crate::runs::Moments;
-use ix_base::{NoMemory, Steps};
+use ix_base::{LineList, NoMemory, Steps};
 use std::alloc::Global;
 use std::sync::ledger::Ledger;
 

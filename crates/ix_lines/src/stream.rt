@@ -10,10 +10,10 @@ ghost use Rattle.ix_lines.specs.Carry.{carry_of, dated_of};
 
 use crate::breaks::{Breaker, byte_before};
 use crate::carry::{LineParts, runs_of, wait};
-use crate::kept::{Kept, LineList};
+use crate::kept::Kept;
 use crate::runs::Moments;
 use crate::settle::settle;
-use ix_base::{Bytes, NoMemory, Steps};
+use ix_base::{Bytes, LineList, NoMemory, Steps};
 use ix_pattern::Pattern;
 use std::alloc::Global;
 use std::marker::Model;

@@ -3,11 +3,11 @@ use Rattle.std.specs.Prelude.{◌≡◌, ℕ, Bool, true, false, List, [], ◌++
 use Rattle.ix_base.specs.Stream.{Dated}
 use Rattle.ix_base.specs.declared.events.ChannelMeta.{ChannelMeta}
 use Rattle.ix_base.specs.declared.events.Event.{Event}
-use Rattle.ix_lines.specs.declared.kept.Line.{Line}
+use Rattle.ix_base.specs.declared.events.Line.{Line}
 use Rattle.ix_lines.specs.Walk.{Looker}
 use Rattle.ix_lines.specs.Lines as lines
-use Rattle.ix_parse.specs.declared.routed.Routed.{Routed}
-use Rattle.ix_parse.specs.declared.routed.Routed.TheVariants.{To}
+use Rattle.ix_base.specs.declared.events.Routed.{Routed}
+use Rattle.ix_base.specs.declared.events.Routed.TheVariants.{To}
 
 -- the source type that is stated, or `unknown`
 abbrev pub sourcetype_of : ChannelMeta → List ℕ

@@ -9,9 +9,8 @@ ghost use Rattle.ix_lines.specs.Parts.{IsBreaker};
 ghost use Rattle.ix_lines.specs.Walk.{Looker};
 ghost use Rattle.ix_parse.specs.Settled.{event_of, outcome_of, settled};
 
-use crate::routed::{Routed, RoutedList};
-use ix_base::{Bytes, ChannelMeta, Event, NoMemory, Steps};
-use ix_lines::{Line, LineList, Lines};
+use ix_base::{Bytes, ChannelMeta, Event, Line, LineList, NoMemory, Routed, RoutedList, Steps};
+use ix_lines::Lines;
 use ix_pattern::Pattern;
 use std::alloc::Global;
 use std::marker::Brand;

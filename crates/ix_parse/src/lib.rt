@@ -2,7 +2,6 @@
 #![tactic(auto)]
 
 mod channel;
-mod routed;
 
 ghost use Rattle.std.specs.Prelude.{◌<◌};
 ghost use Rattle.ix_pattern.specs.Piece.{IsSound, least_length};
@@ -12,7 +11,7 @@ ghost use Rattle.ix_lines.specs.Newlines.{newlines};
 ghost use Rattle.ix_parse.specs.Settled.{SettledStays};
 
 pub use channel::Channel;
-pub use routed::{Routed, RoutedList};
+pub use ix_base::{Routed, RoutedList};
 
 /// A law about the definitions, and no code: what is settled of an open stream stays settled, whatever comes; by a
 /// pattern whose matches take a byte, and by runs of newlines.
