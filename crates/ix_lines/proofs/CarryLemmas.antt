@@ -13,13 +13,13 @@ use Rattle.ix_lines.specs.Lines.{unless_empty}
 use Rattle.ix_lines.specs.Carry.{joined, runs_of, open_line, carry_of, dated_of}
 use Rattle.ix_lines.specs.Kept.{Keeps}
 use Rattle.ix_lines.specs.Parts.{Parts, StandsFor}
-use Rattle.ix_lines.specs.Runs.{moments_of}
+use Rattle.ix_lines.specs.Moments.{moments_of}
 use Rattle.ix_lines.specs.declared.carry.LineParts.{LineParts}
 use Rattle.ix_lines.specs.declared.kept.Kept.{Kept}
 use Rattle.ix_base.specs.declared.events.Line.{Line}
-use Rattle.ix_lines.specs.declared.runs.Run.{Run}
-use Rattle.ix_lines.proofs.ListLemmas.{drop-past, zip-append}
-use Rattle.ix_lines.proofs.RunLemmas.{no_run, waiting, run-next}
+use Rattle.ix_lines.specs.declared.moments.Run.{Run}
+use Rattle.ix_lines.proofs.ListLemmas.{drop-past}
+use Rattle.ix_lines.proofs.MomentLemmas.{no_run, waiting, run-next}
 use Rattle.ix_lines.proofs.WalkLemmas.{length-bytes_of}
 
 same-moment : (m n : ℤ) → m ≡ n → int_eq m n ≡ true
@@ -141,20 +141,10 @@ run-last lines out whole bytes runs i now h written same value =
     ∙ ap (λ l. run ++ l) (no-runs (drop now.count bytes)) ∙ append-nil run in
     written ∙ ap (λ l. lines ++ l) (sym last) ∙ value
 
-dated-next : (runs : List Line) (i : ℕ) (run : Line) → i < length runs → run ≡ get_or runs i run → dated_of (take (i + 1) runs) ≡ dated_of (take i runs) ++ dated run.bytes run.moment
+pub dated-next : (runs : List Line) (i : ℕ) (run : Line) → i < length runs → run ≡ get_or runs i run → dated_of (take (i + 1) runs) ≡ dated_of (take i runs) ++ dated run.bytes run.moment
 dated-next runs i run h is =
     ap dated_of (take_more runs i run h) ∙ flat_map-append (λ (r : Line). dated r.bytes r.moment) (take i runs) (get_or runs i run ∷ [])
     ∙ ap (λ r. dated_of (take i runs) ++ (dated r.bytes r.moment ++ [])) (sym is) ∙ ap (λ l. dated_of (take i runs) ++ l) (append-nil (dated run.bytes run.moment))
-
--- one more run waits
-pub run-waits : (runs : List Line) (i : ℕ) (run : Line) (bytes all : List ℕ) (moments all' : List ℤ) (first : List Dated) → i < length runs → run ≡ get_or runs i run →
-    all ≡ bytes ++ run.bytes → all' ≡ moments ++ replicate (length run.bytes) run.moment → length bytes ≡ length moments → zip bytes moments ≡ first ++ dated_of (take i runs) →
-    zip all all' ≡ first ++ dated_of (take (i + 1) runs)
-run-waits runs i run bytes all moments all' first h is p q same added =
-    ap (λ l. zip l all') p ∙ ap (zip (bytes ++ run.bytes)) q ∙ zip-append bytes run.bytes moments (replicate (length run.bytes) run.moment) same
-    ∙ ap (λ l. l ++ dated run.bytes run.moment) added
-    ∙ append_assoc first (dated_of (take i runs)) (dated run.bytes run.moment)
-    ∙ ap (λ l. first ++ l) (sym (dated-next runs i run h is))
 
 -- fewer bytes wait than an attempt can see
 pub few-wait : (look : Looker) (most : ℕ) → WaitsWithin look most → 0 < most →
@@ -179,14 +169,14 @@ few-carried look most waits some t stream old runs stands is =
     omega (arith, ap length e, few-wait look most waits some None [] 0 stream)
 
 -- what was carried stands for the stream again
-pub resumed : (look : Looker) (t : ℕ) (stream pending : List Dated) (parts : LineParts) (kept : Kept) → parts ≡ carry_of look t stream →
-    pending ≡ dated_of parts.pending → (parts.line ≡ open_line t (walk_of look true stream).rest → Keeps t (walk_of look true stream).rest kept) →
-    StandsFor look t stream (record { truncate = t; before = parts.before; pending = pending; kept = kept.bytes; moment = kept.moment; broken = false })
-resumed look t stream pending parts kept is waits keeps =
+pub resumed : (look : Looker) (t : ℕ) (stream pending : List Dated) (before : Option ℕ) (parts : LineParts) (kept : Kept) → parts ≡ carry_of look t stream →
+    before ≡ parts.before → pending ≡ dated_of parts.pending → (parts.line ≡ open_line t (walk_of look true stream).rest → Keeps t (walk_of look true stream).rest kept) →
+    StandsFor look t stream (record { truncate = t; before = before; pending = pending; kept = kept.bytes; moment = kept.moment; broken = false })
+resumed look t stream pending before parts kept is first waits keeps =
     let k = keeps (ap (λ p. p.line) is) in
     λ i. record {
       truncate = t;
-      before = ap (λ p. p.before) is i;
+      before = (first ∙ ap (λ p. p.before) is) i;
       pending = (waits ∙ ap (λ p. dated_of p.pending) is ∙ dated-runs (walk_of look true stream).pending) i;
       kept = k.bytes_are i;
       moment = k.moment_is i;

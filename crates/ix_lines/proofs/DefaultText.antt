@@ -7,7 +7,7 @@ use Rattle.std.proofs.lemmas.Option.{unwrap_or-slice_get, slice_get_past}
 use Rattle.std.proofs.lemmas.Bool.{ltb-true, ltb-false}
 use Rattle.std.proofs.lemmas.Bool.Decides.{nat_tests}
 use Rattle.ix_pattern.specs.Sets.{none, bytes_where, with_range, folded, other_case}
-use Rattle.ix_pattern.specs.Piece.{in_set, byte_in, count, group}
+use Rattle.ix_pattern.specs.Piece.{in_set}
 use Rattle.ix_pattern.specs.Rows.{Shape, tree}
 use Rattle.ix_pattern.specs.Syntax.{Syntax, done, leaf, paren, spelled, IsSpelledBy, tree_of, groups}
 use Rattle.ix_pattern.specs.Tokens.{tokens_of, tokens, modifiers, modifier, token_at, opening, class, class_set, members, turn, member, single, escape_at, range_end, behind_byte, member_from, count as count_token}
@@ -16,6 +16,7 @@ use Rattle.ix_pattern.specs.declared.tokens.Leaf.TheVariants.{Bytes}
 use Rattle.ix_pattern.specs.declared.tokens.Opening.TheVariants.{Capture}
 use Rattle.ix_pattern.specs.declared.tokens.Times.TheVariants.{Unlimited}
 use Rattle.ix_pattern.proofs.ReadsLemmas.{one-syntax}
+use Rattle.ix_lines.specs.ByteRuns.{run_tree}
 use Rattle.ix_lines.specs.Newlines.{is_newline}
 
 -- the class `[\r\n]`
@@ -38,7 +39,7 @@ default-spelled = record { tokens = default-tokens; allowed = refl }
 pub default-syntax : (s : Syntax) (p : Shape) → IsReadAs default_text s p → s ≡ default_syntax
 default-syntax s p r = one-syntax default_text s default_syntax r.within.spelled default-spelled
 
-pub default-tree : (s : Syntax) (p : Shape) → IsReadAs default_text s p → (tree p.rows ≡ group 1 (count (byte_in newline_set) 1 None false)) × (p.groups ≡ 1)
+pub default-tree : (s : Syntax) (p : Shape) → IsReadAs default_text s p → (tree p.rows ≡ run_tree newline_set) × (p.groups ≡ 1)
 default-tree s p r =
     let e = default-syntax s p r in
     (r.pattern.tree_is ∙ ap tree_of e, r.pattern.groups_are ∙ ap groups e)

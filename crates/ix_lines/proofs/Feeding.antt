@@ -21,11 +21,13 @@ pub kept-is : (look : Looker) (t : ℕ) (stream : List Dated) (old : Parts) (kep
 kept-is look t stream old kept stands b m = record { bytes_are = b ∙ ap (λ p. p.kept) stands; moment_is = m ∙ ap (λ p. p.moment) stands }
 
 -- the walk goes on from the parts of the stream
-pub goes-on : (look : Looker) (u : Bool) (t : ℕ) (stream later all : List Dated) (old : Parts) → StandsFor look t stream old → all ≡ old.pending ++ later →
-    walk look u old.before (walk_of look true stream).rest 0 all
+pub goes-on : (look : Looker) (u : Bool) (t : ℕ) (stream later all : List Dated) (first : Option ℕ) (old : Parts) → StandsFor look t stream old → first ≡ old.before →
+    all ≡ old.pending ++ later →
+    walk look u first (walk_of look true stream).rest 0 all
     ≡ walk look u (walk_of look true stream).before (walk_of look true stream).rest 0 ((walk_of look true stream).pending ++ later)
-goes-on look u t stream later all old stands e =
-    ap (λ l. walk look u old.before (walk_of look true stream).rest 0 l) e
+goes-on look u t stream later all first old stands f e =
+    ap (λ b. walk look u b (walk_of look true stream).rest 0 all) f
+    ∙ ap (λ l. walk look u old.before (walk_of look true stream).rest 0 l) e
     ∙ ap (λ p. walk look u p.before (walk_of look true stream).rest 0 (p.pending ++ later)) stands
 
 settles-more : (look : Looker) → IsStable look → (t : ℕ) (stream later : List Dated) (v : Walked) →
@@ -37,15 +39,15 @@ settles-more look stable t stream later v e =
     ap (λ y. flat_map (line_of t) y.done) (walk_of-append look stable true stream later) ∙ flat_map-append (line_of t) w.done x.done
     ∙ ap (λ y. settled look t stream ++ flat_map (line_of t) y.done) (sym e)
 
-pub fed-adds : (look : Looker) → IsStable look → (t : ℕ) (stream later all left : List Dated) (before : Option ℕ) (old : Parts) (kept kept' : Kept) (out out' : List Line) →
-    StandsFor look t stream old → kept.bytes ≡ old.kept → kept.moment ≡ old.moment → all ≡ old.pending ++ later →
-    ((stretch : List Dated) → Keeps t stretch kept → Settles t (walk look true old.before stretch 0 all) before kept' left out out') →
+pub fed-adds : (look : Looker) → IsStable look → (t : ℕ) (stream later all left : List Dated) (first before : Option ℕ) (old : Parts) (kept kept' : Kept) (out out' : List Line) →
+    StandsFor look t stream old → kept.bytes ≡ old.kept → kept.moment ≡ old.moment → first ≡ old.before → all ≡ old.pending ++ later →
+    ((stretch : List Dated) → Keeps t stretch kept → Settles t (walk look true first stretch 0 all) before kept' left out out') →
     Adds look t stream later out out'
-fed-adds look stable t stream later all left before old kept kept' out out' stands b m e settles =
+fed-adds look stable t stream later all left first before old kept kept' out out' stands b m f e settles =
     let w : Walked = walk_of look true stream in
     record {
-      added = flat_map (line_of t) (walk look true old.before w.rest 0 all).done;
-      settles = settles-more look stable t stream later (walk look true old.before w.rest 0 all) (goes-on look true t stream later all old stands e);
+      added = flat_map (line_of t) (walk look true first w.rest 0 all).done;
+      settles = settles-more look stable t stream later (walk look true first w.rest 0 all) (goes-on look true t stream later all first old stands f e);
       written = (settles w.rest (kept-is look t stream old kept stands b m)).written;
     }
 
@@ -58,15 +60,15 @@ no-some lines old = record { first = []; others = lines; lines_are = refl; writt
 pub adds-part : (look : Looker) (t : ℕ) (stream later : List Dated) (out out' : List Line) → Adds look t stream later out out' → AddsPart look t stream later out out'
 adds-part look t stream later out out' a = record { added = a.added; settles = a.settles; written = all-some a.added out out' a.written }
 
-pub fed-some : (look : Looker) → IsStable look → (t : ℕ) (stream later all : List Dated) (old : Parts) (kept : Kept) (out out' : List Line) →
-    StandsFor look t stream old → kept.bytes ≡ old.kept → kept.moment ≡ old.moment → all ≡ old.pending ++ later →
-    ((stretch : List Dated) → Keeps t stretch kept → AddsSome (flat_map (line_of t) (walk look true old.before stretch 0 all).done) out out') →
+pub fed-some : (look : Looker) → IsStable look → (t : ℕ) (stream later all : List Dated) (first : Option ℕ) (old : Parts) (kept : Kept) (out out' : List Line) →
+    StandsFor look t stream old → kept.bytes ≡ old.kept → kept.moment ≡ old.moment → first ≡ old.before → all ≡ old.pending ++ later →
+    ((stretch : List Dated) → Keeps t stretch kept → AddsSome (flat_map (line_of t) (walk look true first stretch 0 all).done) out out') →
     AddsPart look t stream later out out'
-fed-some look stable t stream later all old kept out out' stands b m e some =
+fed-some look stable t stream later all first old kept out out' stands b m f e some =
     let w : Walked = walk_of look true stream in
     record {
-      added = flat_map (line_of t) (walk look true old.before w.rest 0 all).done;
-      settles = settles-more look stable t stream later (walk look true old.before w.rest 0 all) (goes-on look true t stream later all old stands e);
+      added = flat_map (line_of t) (walk look true first w.rest 0 all).done;
+      settles = settles-more look stable t stream later (walk look true first w.rest 0 all) (goes-on look true t stream later all first old stands f e);
       written = some w.rest (kept-is look t stream old kept stands b m);
     }
 
@@ -76,15 +78,15 @@ fed-none look stable t stream later out =
     let v : Walked = walk look true w.before w.rest 0 (w.pending ++ later) in
     record { added = flat_map (line_of t) v.done; settles = settles-more look stable t stream later v refl; written = no-some (flat_map (line_of t) v.done) out }
 
-pub fed-stands : (look : Looker) → IsStable look → (t : ℕ) (stream later all : List Dated) (old new : Parts) (kept kept' : Kept) (out out' : List Line) →
-    StandsFor look t stream old → kept.bytes ≡ old.kept → kept.moment ≡ old.moment → all ≡ old.pending ++ later →
-    ((stretch : List Dated) → Keeps t stretch kept → Settles t (walk look true old.before stretch 0 all) new.before kept' new.pending out out') →
+pub fed-stands : (look : Looker) → IsStable look → (t : ℕ) (stream later all : List Dated) (first : Option ℕ) (old new : Parts) (kept kept' : Kept) (out out' : List Line) →
+    StandsFor look t stream old → kept.bytes ≡ old.kept → kept.moment ≡ old.moment → first ≡ old.before → all ≡ old.pending ++ later →
+    ((stretch : List Dated) → Keeps t stretch kept → Settles t (walk look true first stretch 0 all) new.before kept' new.pending out out') →
     new.kept ≡ kept'.bytes → new.moment ≡ kept'.moment → new.truncate ≡ t → new.broken ≡ false →
     StandsFor look t (stream ++ later) new
-fed-stands look stable t stream later all old new kept kept' out out' stands b m e settles kb km nt nb =
+fed-stands look stable t stream later all first old new kept kept' out out' stands b m f e settles kb km nt nb =
     let w : Walked = walk_of look true stream in
     let v : Walked = walk look true w.before w.rest 0 (w.pending ++ later) in
-    let s = subst (λ (x : Walked). Settles t x new.before kept' new.pending out out') (goes-on look true t stream later all old stands e)
+    let s = subst (λ (x : Walked). Settles t x new.before kept' new.pending out out') (goes-on look true t stream later all first old stands f e)
     (settles w.rest (kept-is look t stream old kept stands b m)) in
     by v (walk_of look true (stream ++ later)) (walk_of-append look stable true stream later) s
   where
@@ -117,7 +119,7 @@ settles-all look stable t stream old stands =
     let w : Walked = walk_of look true stream in
     let x : Walked = walk look false w.before w.rest 0 (w.pending ++ []) in
     let v : Walked = walk look false old.before w.rest 0 old.pending in
-    let e : v ≡ x = goes-on look false t stream [] old.pending old stands (sym (append-nil old.pending)) in
+    let e : v ≡ x = goes-on look false t stream [] old.pending old.before old stands refl (sym (append-nil old.pending)) in
     ap (all_lines look t) (sym (append-nil stream))
     ∙ ap (λ y. flat_map (line_of t) y.done ++ line_of t (y.rest ++ y.pending)) (walk_of-append look stable false stream [])
     ∙ ap (λ l. l ++ line_of t (x.rest ++ x.pending)) (flat_map-append (line_of t) w.done x.done)

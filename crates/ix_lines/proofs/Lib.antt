@@ -3,10 +3,10 @@ pub mod WalkLemmas
 pub mod SeekLemmas
 pub mod Attempts
 pub mod DefaultText
-pub mod DefaultBreaks
+pub mod RunBreaks
 pub mod NewlinesStable
 pub mod CarryLemmas
-pub mod RunLemmas
+pub mod MomentLemmas
 pub mod KeptLemmas
 pub mod Answering
 pub mod Settling

@@ -3,11 +3,11 @@ use Rattle.std.proofs.Common.{◌∷◌, [], None, false, refl, subst, arith}
 use Rattle.ix_pattern.specs.Piece.{least_length}
 use Rattle.ix_pattern.specs.Rows.{Shape}
 use Rattle.ix_pattern.specs.declared.pattern.Node.TheVariants.{Bytes, Count, Group}
-use Rattle.ix_lines.specs.Newlines.{newlines}
+use Rattle.ix_lines.specs.Newlines.{newlines, is_newline}
 use Rattle.ix_lines.specs.Laws.{IsStable}
 use Rattle.ix_lines.proofs.Attempts.{breaks-stable}
 use Rattle.ix_lines.proofs.DefaultText.{newline_set, newline_set-has}
-use Rattle.ix_lines.proofs.DefaultBreaks.{default-breaks}
+use Rattle.ix_lines.proofs.RunBreaks.{run-breaks}
 
 -- a group of one or more newlines
 abbrev default_shape : Shape
@@ -20,4 +20,4 @@ default_shape = record {
 pub newlines-stable : IsStable newlines
 unfolding least_length
 newlines-stable =
-    subst IsStable (default-breaks newline_set newline_set-has default_shape refl refl) (breaks-stable default_shape (tt, omega arith) (omega arith))
+    subst IsStable (run-breaks is_newline newline_set newline_set-has default_shape refl refl) (breaks-stable default_shape (tt, omega arith) (omega arith))

@@ -1,9 +1,11 @@
 pub mod Walk
 pub mod Lines
 pub mod Breaks
+pub mod ByteRuns
 pub mod Newlines
 pub mod Laws
-pub mod Runs
+pub mod Moments
+pub mod Pending
 pub mod Kept
 pub mod Seek
 pub mod Settle

@@ -7,9 +7,9 @@ use Rattle.ix_lines.specs.declared.breaks.Found.{Found}
 use Rattle.ix_lines.specs.declared.breaks.Found.TheVariants.{Break, Stop}
 
 -- the last of these bytes, or the one before them
-abbrev pub byte_before : Option ℕ → List ℕ → Option ℕ
-byte_before before [] = before
-byte_before before (b ∷ bytes) = byte_before (Some b) bytes
+abbrev pub last_byte : Option ℕ → List ℕ → Option ℕ
+last_byte before [] = before
+last_byte before (b ∷ bytes) = last_byte (Some b) bytes
 
 abbrev pub look_of : Looked → Look
 look_of (Match from to end) = match from to end

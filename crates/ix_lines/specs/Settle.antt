@@ -5,7 +5,7 @@ use Rattle.ix_base.specs.Stream.{Dated, bytes_of}
 use Rattle.ix_lines.specs.Walk.{Looker, Walked, preceded, walk}
 use Rattle.ix_lines.specs.Lines.{line_of}
 use Rattle.ix_lines.specs.Kept.{Keeps}
-use Rattle.ix_lines.specs.Seek.{byte_before}
+use Rattle.ix_lines.specs.Seek.{last_byte}
 use Rattle.ix_lines.specs.declared.kept.Kept.{Kept}
 use Rattle.ix_base.specs.declared.events.Line.{Line}
 
@@ -21,7 +21,7 @@ pub record CameTo (look : Looker) (u : Bool) (t : ℕ) (whole : Walked) (first :
   pub done : List (List Dated)
   pub keeps : Keeps t stretch kept
   pub written : new ≡ old ++ flat_map (line_of t) done
-  pub walk_on : whole ≡ preceded done (walk look u (byte_before first (bytes_of (take at all))) (stretch ++ part start at all) 0 (drop at all))
+  pub walk_on : whole ≡ preceded done (walk look u (last_byte first (bytes_of (take at all))) (stretch ++ part start at all) 0 (drop at all))
 
 -- the walk stopped here
 pub record Settles (t : ℕ) (w : Walked) (before : Option ℕ) (kept : Kept) (left : List Dated) (old new : List Line) : Type 0 where

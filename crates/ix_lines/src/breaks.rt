@@ -6,8 +6,9 @@ ghost use Rattle.ix_pattern.specs.Rows.{tree};
 ghost use Rattle.ix_match.specs.Attempt.{reach};
 ghost use Rattle.ix_lines.specs.Breaks.{break_of, breaks_by};
 ghost use Rattle.ix_lines.specs.Laws.{IsStable};
-ghost use Rattle.ix_lines.specs.Seek.{look_of, IsSized, seek, byte_before, IsWithin};
+ghost use Rattle.ix_lines.specs.Seek.{look_of, IsSized, seek, last_byte, IsWithin};
 
+use crate::byte_runs::{is_byte_run, run_at};
 use ix_base::{NoMemory, Steps};
 use ix_match::{Look, Scan};
 use ix_pattern::Pattern;
@@ -36,21 +37,19 @@ pub enum Found {
 }
 
 /// The first bytes, as many as this at the most.
-pub fn first(bytes: &[u8], n: usize) -> &[u8]
+pub fn first_bytes(bytes: &[u8], n: usize) -> &[u8]
     ensures { result.now ≡ take n bytes.now }
 {
     if bytes.len() < n { bytes } else { &bytes[..n] }
 }
 
-/// The byte before a place: one of these bytes, or the one before them.
-pub fn byte_before(before: Option<u8>, bytes: &[u8], place: usize) -> Option<u8>
-    requires { place ≤ length bytes.now }
-    ensures { result ≡ byte_before before (take place bytes.now) }
+/// The last of these bytes, or the one before them where there is none.
+pub fn last_byte(before: Option<u8>, bytes: &[u8]) -> Option<u8>
+    ensures { result ≡ last_byte before bytes.now }
 {
-    if place == 0 {
-        before
-    } else {
-        Some(bytes[place - 1])
+    match bytes.len() {
+        0 => before,
+        n => Some(bytes[n - 1]),
     }
 }
 
@@ -71,10 +70,13 @@ fn break_of(groups: &[Option<(usize, usize)>]) -> (usize, usize)
 pub struct Breaker {
     pattern: Pattern,
     scan: Scan,
+    /// The pattern is a group of one or more bytes of a set: a break is counted, and no attempt is made.
+    counts: bool,
 }
 
 impl Model for Breaker {
-    ghost use Rattle.std.specs.Prelude.{◌<◌};
+    ghost use Rattle.std.specs.Prelude.{◌≡◌, ◌<◌, true};
+    ghost use Rattle.ix_lines.specs.ByteRuns.{IsByteRun};
     ghost use Rattle.ix_pattern.specs.Piece.{IsSound, least_length};
     ghost use Rattle.ix_pattern.specs.Rows.{Shape, tree};
     ghost use Rattle.ix_match.specs.Starts.{AreStarts};
@@ -84,7 +86,7 @@ impl Model for Breaker {
     ghost view = { λ b. b.pattern };
 
     ghost invariant = { λ b. IsSound (tree b.pattern.rows) × (0 < least_length (tree b.pattern.rows))
-        × AreStarts b.pattern b.scan.starts };
+        × AreStarts b.pattern b.scan.starts × (b.scan.pattern ≡ b.pattern) × (b.counts ≡ true → IsByteRun b.pattern) };
 }
 
 impl Breaker {
@@ -96,7 +98,12 @@ impl Breaker {
     {
         let _ = pattern.root();
         let scan = Scan::new(alloc, &pattern)?;
-        Ok(Breaker { pattern, scan })
+        let counts = is_byte_run(&pattern);
+        Ok(Breaker {
+            pattern,
+            scan,
+            counts,
+        })
     }
 
     /// The attempt at the first of these bytes.
@@ -112,6 +119,9 @@ impl Breaker {
         ensures same { self.new ≡ self.old }
         ensures later { steps.old ≤ steps.new }
     {
+        if self.counts {
+            return Ok(run_at(&self.scan, bytes, unfinished));
+        }
         self.scan.reset();
         match self
             .scan
@@ -147,7 +157,7 @@ impl Breaker {
                 return Ok(Found::Stop(place));
             }
             match self.look(
-                byte_before(before, bytes, place),
+                last_byte(before, &bytes[..place]),
                 &bytes[place..],
                 unfinished,
                 steps,
@@ -172,7 +182,8 @@ impl Breaker {
     {
         Ok(Breaker {
             pattern: self.pattern.copy()?,
-            scan: self.scan.copy(),
+            scan: self.scan.copy()?,
+            counts: self.counts,
         })
     }
 }

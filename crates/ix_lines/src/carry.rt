@@ -2,10 +2,11 @@
 
 ghost use Rattle.std.specs.Prelude.{◌≡◌, ◌++◌, length, OnOk, IfOk};
 ghost use Rattle.std.specs.List.{zip};
-ghost use Rattle.ix_lines.specs.Carry.{runs_of, dated_of};
+ghost use Rattle.ix_lines.specs.Carry.{runs_of};
 ghost use Rattle.ix_lines.specs.Lines.{unless_empty};
+ghost use Rattle.ix_lines.specs.Moments.{moments_of};
 
-use crate::runs::{Moments, Run};
+use crate::moments::Run;
 use ix_base::{Bytes, Line, LineList, NoMemory};
 use std::alloc::Global;
 
@@ -21,19 +22,18 @@ pub struct LineParts {
     pub line: Option<Line>,
 }
 
-/// The bytes as the longest runs that have one moment.
-pub fn runs_of(alloc: Global, bytes: &[u8], moments: &Moments) -> Result<LineList, NoMemory>
-    requires { length bytes.now ≡ length moments.now }
-    ensures { IfOk result (λ runs. runs ≡ runs_of (zip bytes.now moments.now)) }
+/// The bytes as the longest runs that have one moment. The moments may have neighbouring runs of equal ones, and empty ones.
+pub fn runs_of(alloc: Global, bytes: &[u8], moments: &[Run]) -> Result<LineList, NoMemory>
+    requires { length bytes.now ≡ length (moments_of moments.now) }
+    ensures { IfOk result (λ runs. runs ≡ runs_of (zip bytes.now (moments_of moments.now))) }
 {
-    let parts = moments.all_runs()?;
     let mut runs = LineList::new(alloc);
     let mut rest = bytes;
     let mut open = Run {
         count: 0,
         moment: 0,
     };
-    for part in &parts {
+    for part in moments {
         if part.count > 0 && part.moment != open.moment {
             add_run(alloc, &rest[..open.count], open.moment, &mut runs)?;
             rest = &rest[open.count..];
@@ -55,17 +55,4 @@ fn add_run(alloc: Global, bytes: &[u8], moment: i64, runs: &mut LineList) -> Res
     }
     let bytes = Bytes::copy_of(alloc, bytes)?;
     runs.push(Line { bytes, moment })
-}
-
-/// Adds the bytes of runs, and their moments.
-pub fn wait(runs: &[Line], bytes: &mut Bytes, moments: &mut Moments) -> Result<(), NoMemory>
-    requires { length bytes.old ≡ length moments.old }
-    ensures same { OnOk result (length bytes.new ≡ length moments.new) }
-    ensures added { OnOk result (zip bytes.new moments.new ≡ zip bytes.old moments.old ++ dated_of runs.now) }
-{
-    for run in runs {
-        moments.push(run.bytes.len(), run.moment)?;
-        bytes.extend(run.bytes.as_slice())?;
-    }
-    Ok(())
 }

@@ -6,7 +6,7 @@ ghost use Rattle.ix_lines.specs.Lines.{line_of, goes_on, step_back, cut, unless_
 ghost use Rattle.ix_lines.specs.Kept.{Keeps, IsPart};
 ghost use Rattle.ix_lines.specs.Carry.{open_line};
 
-use crate::breaks::first;
+use crate::breaks::first_bytes;
 use ix_base::{Bytes, Line, LineList, NoMemory};
 use std::alloc::Global;
 
@@ -56,7 +56,7 @@ fn cut(bytes: &[u8], truncate: usize) -> &[u8]
 }
 
 /// Adds a line, unless nothing is left of it.
-fn write(
+fn add_line(
     alloc: Global,
     truncate: usize,
     bytes: &[u8],
@@ -97,11 +97,11 @@ impl Kept {
         }
         self.moment = Some(self.moment.unwrap_or(moment));
         let room = (truncate + 1).saturating_sub(self.bytes.len());
-        self.bytes.extend(first(bytes, room))
+        self.bytes.extend(first_bytes(bytes, room))
     }
 
-    /// Writes the line, which ends with these bytes, and begins the next one.
-    pub fn end(
+    /// Adds the line, which ends with these bytes, and begins the next one.
+    pub fn end_line(
         &mut self,
         alloc: Global,
         truncate: usize,
@@ -115,10 +115,10 @@ impl Kept {
         ensures err { OnErr result (out.new ≡ out.old) }
     {
         let Some(begun) = self.moment else {
-            return write(alloc, truncate, bytes, moment, out);
+            return add_line(alloc, truncate, bytes, moment, out);
         };
         self.add(truncate, bytes, moment)?;
-        write(alloc, truncate, self.bytes.as_slice(), begun, out)?;
+        add_line(alloc, truncate, self.bytes.as_slice(), begun, out)?;
         self.bytes.clear();
         self.moment = None;
         Ok(())

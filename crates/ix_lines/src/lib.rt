@@ -2,14 +2,14 @@
 #![tactic(auto)]
 
 mod breaks;
+mod byte_runs;
 mod carry;
+mod cutter;
 mod kept;
+mod moments;
 mod newlines;
-mod runs;
-mod settle;
+mod pending;
 mod stream;
-#[cfg(test)]
-mod tests;
 
 ghost use Rattle.std.specs.Prelude.{◌≡◌, ◌<◌};
 ghost use Rattle.ix_pattern.specs.Piece.{IsSound, least_length};

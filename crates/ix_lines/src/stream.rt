@@ -1,6 +1,7 @@
-//! A stream in blocks.
+//! A stream in blocks. Whoever reads a stream feeds its blocks to `Lines`.
 
 ghost use Rattle.std.specs.Prelude.{◌≡◌, ◌<◌, ◌≤◌, List, [], ◌++◌, length, IsTrue, IfOk, OnOk, OnErr, IsErr};
+ghost use Rattle.ix_base.specs.Clocks.{clamped};
 ghost use Rattle.ix_base.specs.Stream.{Dated, dated};
 ghost use Rattle.ix_lines.specs.Lines.{effective};
 ghost use Rattle.ix_match.specs.Attempt.{reach};
@@ -8,12 +9,13 @@ ghost use Rattle.ix_lines.specs.Breaks.{breaks_by};
 ghost use Rattle.ix_lines.specs.Parts.{Holds, IsBreaker, Adds, AddsPart, Ends, EndsPart};
 ghost use Rattle.ix_lines.specs.Carry.{carry_of, dated_of};
 
-use crate::breaks::{Breaker, byte_before};
-use crate::carry::{LineParts, runs_of, wait};
+use crate::breaks::Breaker;
+use crate::carry::LineParts;
+use crate::cutter::Cutter;
 use crate::kept::Kept;
-use crate::runs::Moments;
-use crate::settle::settle;
-use ix_base::{Bytes, LineList, NoMemory, Steps};
+use crate::moments::Cursor;
+use crate::pending::Pending;
+use ix_base::{LineList, NoMemory, Steps, clamped};
 use ix_pattern::Pattern;
 use std::alloc::Global;
 use std::marker::Model;
@@ -30,13 +32,8 @@ use std::sync::ledger::Ledger;
 /// are kept, one more than a line may have.
 #[derive(Drop)]
 pub struct Lines {
-    alloc: Global,
-    breaker: Breaker,
-    truncate: usize,
-    before: Option<u8>,
-    bytes: Bytes,
-    moments: Moments,
-    kept: Kept,
+    cutter: Cutter,
+    pending: Pending,
     broken: bool,
 }
 
@@ -44,25 +41,25 @@ impl Model for Lines {
     ghost use Rattle.ix_lines.specs.Parts.{Held};
     ghost use Rattle.ix_lines.specs.Breaks.{breaks_by};
     ghost use Rattle.ix_lines.specs.Laws.{IsStable};
-    ghost use Rattle.std.specs.Prelude.{◌≡◌, ◌≤◌, length};
+    ghost use Rattle.ix_lines.specs.Pending.{IsPaired, dated_in};
+    ghost use Rattle.std.specs.Prelude.{◌≤◌};
     ghost use Rattle.std.specs.Bool.{OnFalse};
-    ghost use Rattle.std.specs.List.{zip};
 
     ghost Value = { Held };
 
     ghost view = { λ l. record {
-      breaker = l.breaker;
+      breaker = l.cutter.breaker;
       parts = record {
-        truncate = l.truncate;
-        before = l.before;
-        pending = zip l.bytes l.moments;
-        kept = l.kept.bytes;
-        moment = l.kept.moment;
+        truncate = l.cutter.truncate;
+        before = l.pending.before;
+        pending = dated_in l.pending;
+        kept = l.cutter.kept.bytes;
+        moment = l.cutter.kept.moment;
         broken = l.broken;
       };
     } };
 
-    ghost invariant = { λ l. IsStable (breaks_by l.breaker) × (l.truncate ≤ 1048576) × OnFalse l.broken (length l.bytes ≡ length l.moments) };
+    ghost invariant = { λ l. IsStable (breaks_by l.cutter.breaker) × (l.cutter.truncate ≤ 1048576) × OnFalse l.broken (IsPaired l.pending) };
 }
 
 /// The length at which lines are cut, by the setting.
@@ -87,21 +84,23 @@ impl Lines {
         ensures truncate { IfOk result (λ lines. lines.parts.truncate ≡ effective truncate) }
         ensures stands { IfOk result (λ lines. Holds [] lines) }
     {
-        Ok(Lines {
+        let cutter = Cutter {
             alloc,
             breaker: Breaker::new(alloc, breaker)?,
             truncate: effective(truncate),
-            before: None,
-            bytes: Bytes::new(alloc),
-            moments: Moments::equal(alloc, 0, 0),
             kept: Kept::new(alloc),
+        };
+        Ok(Lines {
+            cutter,
+            pending: Pending::new(alloc, None),
             broken: false,
         })
     }
 
-    /// Takes in the next bytes, which came at this moment, in microseconds since 1970, and adds the lines that they
-    /// settle. Each test of a byte against the breaker counts as a step. Where there is no room in memory the first ones of
-    /// these lines may have been added, and the value is broken: it answers `NoMemory` from then on and adds nothing.
+    /// Takes in the next bytes, which came at this moment, in microseconds since 1970-01-01T00:00:00Z, and adds the lines
+    /// that they settle. A moment before 1970 counts as 0, and one after the beginning of 2100 as that. Each test of a
+    /// byte by an attempt at the breaker counts as a step. Where there is no room in memory the first ones of these lines
+    /// may have been added, and the value is broken: it answers `NoMemory` from then on and adds nothing.
     pub fn feed<L: Ledger>(
         &mut self,
         bytes: &[u8],
@@ -110,11 +109,11 @@ impl Lines {
         steps: &mut Steps<L>,
     ) -> Result<(), NoMemory>
         ensures ok { OnOk result ((stream : List Dated) → Holds stream self.old →
-            Holds (stream ++ dated bytes.now moment) self.new
-            × Adds (breaks_by self.old.breaker) self.old.parts.truncate stream (dated bytes.now moment) out.old out.new) }
+            Holds (stream ++ dated bytes.now (clamped moment)) self.new
+            × Adds (breaks_by self.old.breaker) self.old.parts.truncate stream (dated bytes.now (clamped moment)) out.old out.new) }
         ensures err { OnErr result (IsTrue self.new.parts.broken) }
         ensures added { OnErr result ((stream : List Dated) → Holds stream self.old →
-            AddsPart (breaks_by self.old.breaker) self.old.parts.truncate stream (dated bytes.now moment) out.old out.new) }
+            AddsPart (breaks_by self.old.breaker) self.old.parts.truncate stream (dated bytes.now (clamped moment)) out.old out.new) }
         ensures broken { IsTrue self.old.parts.broken → IsErr result × (out.new ≡ out.old) }
         ensures breaker { self.new.breaker ≡ self.old.breaker }
         ensures truncate { self.new.parts.truncate ≡ self.old.parts.truncate }
@@ -125,24 +124,9 @@ impl Lines {
             return Err(NoMemory);
         }
         self.broken = true;
-        self.moments.push(bytes.len(), moment)?;
-        self.bytes.extend(bytes)?;
-        let all = self.bytes.as_slice();
-        let stop = settle(
-            self.alloc,
-            &mut self.breaker,
-            self.truncate,
-            self.before,
-            all,
-            &self.moments,
-            true,
-            &mut self.kept,
-            out,
-            steps,
-        )?;
-        self.before = byte_before(self.before, all, stop);
-        self.bytes = Bytes::copy_of(self.alloc, &all[stop..])?;
-        self.moments.drop_first(stop);
+        self.pending.add(bytes, clamped(moment))?;
+        let stop = self.cutter.settle(&self.pending, true, out, steps)?;
+        self.pending.drop_first(stop)?;
         self.broken = false;
         Ok(())
     }
@@ -160,28 +144,16 @@ impl Lines {
         if self.broken {
             return Err(NoMemory);
         }
-        let mut breaker = self.breaker;
-        let mut kept = self.kept;
-        let all = self.bytes.as_slice();
-        let stop = settle(
-            self.alloc,
-            &mut breaker,
-            self.truncate,
-            self.before,
-            all,
-            &self.moments,
-            false,
-            &mut kept,
-            out,
-            steps,
-        )?;
-        kept.end(
-            self.alloc,
-            self.truncate,
-            &all[stop..],
-            self.moments.at(stop),
-            out,
-        )
+        let mut cutter = self.cutter;
+        let truncate = cutter.truncate;
+        let pending = self.pending;
+        let stop = cutter.settle(&pending, false, out, steps)?;
+        let bytes = pending.bytes.as_slice();
+        let runs = pending.runs.as_slice();
+        let moment = Cursor::new().moment_at(runs, stop);
+        cutter
+            .kept
+            .end_line(cutter.alloc, truncate, &bytes[stop..], moment, out)
     }
 
     /// What is to be carried over a stop: the byte before the scan place, the bytes that wait there, and the open line. A
@@ -195,9 +167,9 @@ impl Lines {
         if self.broken {
             return Err(NoMemory);
         }
-        let before = self.before;
-        let pending = runs_of(self.alloc, self.bytes.as_slice(), &self.moments)?;
-        let line = self.kept.line()?;
+        let before = self.pending.before;
+        let pending = self.pending.carried(self.cutter.alloc)?;
+        let line = self.cutter.kept.line()?;
         Ok(LineParts {
             before,
             pending,
@@ -218,17 +190,16 @@ impl Lines {
         ensures truncate { IfOk result (λ lines. lines.parts.truncate ≡ effective truncate) }
         ensures stands { IfOk result (λ lines. (stream : List Dated) → parts ≡ carry_of (breaks_by breaker) (effective truncate) stream → Holds stream lines) }
     {
-        let mut bytes = Bytes::new(alloc);
-        let mut moments = Moments::equal(alloc, 0, 0);
-        wait(parts.pending.as_slice(), &mut bytes, &mut moments)?;
-        Ok(Lines {
+        let cutter = Cutter {
             alloc,
             breaker: Breaker::new(alloc, breaker)?,
             truncate: effective(truncate),
-            before: parts.before,
-            bytes,
-            moments,
             kept: Kept::of_line(alloc, parts.line),
+        };
+        let pending = Pending::resumed(alloc, parts.before, parts.pending.as_slice())?;
+        Ok(Lines {
+            cutter,
+            pending,
             broken: false,
         })
     }
@@ -237,14 +208,15 @@ impl Lines {
     pub fn copy(&self) -> Result<Lines, NoMemory>
         ensures { IfOk result (λ copy. copy ≡ self.now) }
     {
+        let cutter = Cutter {
+            alloc: self.cutter.alloc,
+            breaker: self.cutter.breaker.copy()?,
+            truncate: self.cutter.truncate,
+            kept: self.cutter.kept.copy()?,
+        };
         Ok(Lines {
-            alloc: self.alloc,
-            breaker: self.breaker.copy()?,
-            truncate: self.truncate,
-            before: self.before,
-            bytes: self.bytes.copy()?,
-            moments: self.moments.copy()?,
-            kept: self.kept.copy()?,
+            cutter,
+            pending: self.pending.copy()?,
             broken: self.broken,
         })
     }

@@ -5,21 +5,21 @@ use Rattle.std.proofs.lemmas.List.{length-drop}
 use Rattle.std.proofs.Math.Facts.{to_z-of_z}
 use Rattle.ix_lines.specs.Carry.{runs_of}
 use Rattle.ix_lines.specs.Lines.{unless_empty}
-use Rattle.ix_lines.specs.declared.runs.Run.{Run}
+use Rattle.ix_lines.specs.declared.moments.Run.{Run}
 use Rattle.ix_lines.proofs.SeekLemmas.{rest-is}
 use Rattle.ix_lines.proofs.CarryLemmas.{run-over, length-over, run-fits, run-last}
-use Rattle.ix_lines.proofs.RunLemmas.{no_run, waiting, run-joins, none-equal, same-words}
+use Rattle.ix_lines.proofs.MomentLemmas.{no_run, waiting, run-joins, none-equal, same-words}
 use Rattle.ix_lines.proofs.carry.runs_of.Goals.{then-part-gt0+then-part-open+in_ok-add_run, else-part-gt0, else-part-gt0-via-then-part-gt0+else-part-open, else-part-gt0-via-else-part-gt0}
 use Rattle.ix_lines.proofs.carry.runs_of.Goals as goal
 
 pub overflow_add-open : goal.overflow_add-open
 overflow_add-open c =
-    let k = run-fits c.loop-part.rest.now c.deref-part-items.result.now c.loop-part.part-index c.loop-part.«open» c.loop-part-test.true c.loop-part.invariant.same in
+    let k = run-fits c.loop-part.rest.now c.args.moments.now c.loop-part.part-index c.loop-part.«open» c.loop-part-test.true c.loop-part.invariant.same in
     omega arith
 
 pub loop-part-preserved : goal.loop-part-preserved
 loop-part-preserved c =
-    let parts = c.deref-part-items.result.now in
+    let parts = c.args.moments.now in
     let i = c.loop-part.part-index in
     let now : Run = c.loop-part.«open» in
     let rest = c.loop-part.rest.now in
@@ -58,6 +58,6 @@ pub returns : goal.returns
 returns c =
     let now : Run = c.loop-part.«open» in
     let g : SFits w64 now.moment = search rules in
-    run-last c.loop-part.runs c.add_run-2.new.runs _ c.loop-part.rest.now c.deref-part-items.result.now c.loop-part.part-index now c.loop-part-test.false
+    run-last c.loop-part.runs c.add_run-2.new.runs _ c.loop-part.rest.now c.args.moments.now c.loop-part.part-index now c.loop-part-test.false
     (c.in_ok-add_run-2.ensures ∙ ap (λ m. c.loop-part.runs ++ unless_empty (take now.count c.loop-part.rest.now) m) (to_z-of_z g))
     c.loop-part.invariant.same c.loop-part.invariant.value

@@ -1,8 +1,8 @@
-use Rattle.std.proofs.Common.{◌++◌, ◌∙◌, ap, sym, true}
-use Rattle.std.specs.List.{zip}
+use Rattle.std.proofs.Common.{◌∙◌, ap, sym, true}
 use Rattle.ix_lines.specs.Breaks.{breaks_by}
 use Rattle.ix_lines.specs.Lines.{effective}
 use Rattle.ix_lines.specs.Carry.{carry_of, dated_of}
+use Rattle.ix_lines.specs.Pending.{dated_in}
 use Rattle.ix_lines.specs.Walk.{walk_of}
 use Rattle.ix_lines.proofs.CarryLemmas.{resumed}
 use Rattle.ix_lines.proofs.stream.Lines.resume.Goals as goal
@@ -11,9 +11,9 @@ pub returns-clause-stands : goal.returns-clause-stands
 returns-clause-stands c = λ stream is.
     let p = c.in_ok-new.field-0 in
     let t = c.effective.result in
+    let pending = c.in_ok-pending.pending in
     let carry = is ∙ ap (λ q. carry_of (breaks_by q) (effective c.args.truncate) stream) (sym c.in_ok-new.ensures.is)
     ∙ ap (λ n. carry_of (breaks_by p) n stream) (sym c.effective.ensures.is) in
-    let pending = c.in_ok-wait.ensures.added ∙ ap (λ l. zip l c.equal-moments.result ++ dated_of c.as_slice.result.now) c.new-bytes.ensures
-    ∙ ap dated_of c.as_slice.ensures in
-    resumed (breaks_by p) t stream (zip c.wait.new.bytes c.wait.new.moments) c.args.parts c.of_line.result carry pending
+    resumed (breaks_by p) t stream (dated_in pending) pending.before c.args.parts c.of_line.result carry c.in_ok-pending.ensures.before
+    (c.in_ok-pending.ensures.dated ∙ ap dated_of c.as_slice.ensures)
     (c.of_line.ensures t (walk_of (breaks_by p) true stream).rest)

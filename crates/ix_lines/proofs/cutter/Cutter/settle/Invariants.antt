@@ -1,0 +1,27 @@
+use Rattle.std.proofs.Common.{◌≡◌, ◌-◌, ◌≤◌, length, List}
+use Rattle.ix_base.specs.Stream.{Dated}
+use Rattle.ix_lines.specs.Walk.{walk}
+use Rattle.ix_lines.specs.Breaks.{breaks_by}
+use Rattle.ix_lines.specs.Kept.{Keeps}
+use Rattle.ix_lines.specs.Moments.{PointsInto}
+use Rattle.ix_lines.specs.Pending.{dated_in}
+use Rattle.ix_lines.specs.Settle.{CameTo}
+use Rattle.ix_lines.proofs.cutter.Cutter.settle.Given as goal
+
+abbrev pub invariant-loop-found : goal.invariant-loop-found
+invariant-loop-found g l = record {
+  order : l.start ≤ l.at;
+  within : l.at ≤ length l.bytes;
+  points : PointsInto l.runs l.cursor;
+  behind : l.cursor.passed ≤ l.start;
+  came : (stretch : List Dated) → Keeps l.initial.self.truncate stretch l.initial.self.kept →
+      CameTo (breaks_by l.initial.self.breaker) l.unfinished l.initial.self.truncate
+      (walk (breaks_by l.initial.self.breaker) l.unfinished l.pending.before stretch 0 (dated_in l.pending)) l.pending.before
+      (dated_in l.pending) l.start l.at l.self.kept l.initial.out l.out;
+  breaker : l.self.breaker ≡ l.initial.self.breaker;
+  truncate : l.self.truncate ≡ l.initial.self.truncate;
+  later : l.initial.steps ≤ l.steps;
+}
+
+abbrev pub decreases-loop-found : goal.decreases-loop-found
+decreases-loop-found g l = length l.bytes - l.at
