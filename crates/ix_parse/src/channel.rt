@@ -1,12 +1,15 @@
 //! A channel.
 
 ghost use Rattle.std.specs.Prelude.{◌≡◌, ◌<◌, ◌≤◌, ℕ, List, [], ◌++◌, map, IfOk, IsSome, false, true, unwrap_or, codes};
+ghost use Rattle.std.specs.List.{All};
+ghost use Rattle.ix_base.specs.Clocks.{clamped};
 ghost use Rattle.ix_base.specs.Stream.{Dated, dated};
 ghost use Rattle.ix_base.specs.declared.events.ChannelMeta.{ChannelMeta};
 ghost use Rattle.ix_lines.specs.Breaks.{breaks_by};
 ghost use Rattle.ix_lines.specs.Lines.{effective};
 ghost use Rattle.ix_lines.specs.Parts.{IsBreaker};
 ghost use Rattle.ix_lines.specs.Walk.{Looker};
+ghost use Rattle.ix_parse.specs.Limits.{KeepsLimits, IsSmall};
 ghost use Rattle.ix_parse.specs.Settled.{event_of, outcome_of, settled};
 
 use ix_base::{Bytes, ChannelMeta, Event, Line, LineList, NoMemory, Routed, RoutedList, Steps};
@@ -81,8 +84,9 @@ impl Channel {
         Ok(Channel { alloc, meta, lines })
     }
 
-    /// The channel once these bytes have come, all at one moment (microseconds since 1970-01-01T00:00:00Z), and what
-    /// they settle. This channel stays as it is. Each test of a byte against the breaker counts as a step.
+    /// The channel once these bytes have come, all at one moment (microseconds since 1970-01-01T00:00:00Z; one before
+    /// 1970 counts as 0, and one after the beginning of 2100 as that), and what they settle. This channel stays as it is.
+    /// Each test of a byte by an attempt at the breaker counts as a step.
     pub fn fed<L: Ledger>(
         &self,
         bytes: &[u8],
@@ -91,8 +95,10 @@ impl Channel {
     ) -> Result<(Channel, RoutedList), NoMemory>
         ensures settles { IfOk result (λ fed. (look : Looker) (t : ℕ) (meta : ChannelMeta) (stream : List Dated) →
             StandsFor look t meta stream self.now →
-            StandsFor look t meta (stream ++ dated bytes.now moment) fed.0
-            × (settled look t meta (stream ++ dated bytes.now moment) false ≡ settled look t meta stream false ++ fed.1)) }
+            StandsFor look t meta (stream ++ dated bytes.now (clamped moment)) fed.0
+            × (settled look t meta (stream ++ dated bytes.now (clamped moment)) false ≡ settled look t meta stream false ++ fed.1)) }
+        ensures small { IfOk result (λ fed. (look : Looker) (t : ℕ) (meta : ChannelMeta) (stream : List Dated) →
+            StandsFor look t meta stream self.now → t ≤ 1048576 → KeepsLimits meta → All IsSmall fed.1) }
         ensures later { steps.old ≤ steps.new }
     {
         let mut lines = self.lines.copy()?;
@@ -123,10 +129,13 @@ impl Channel {
 
     /// What closing the stream settles. This channel stays as it is.
     pub fn ended(&self) -> Result<RoutedList, NoMemory>
-        ensures { IfOk result (λ ended. (look : Looker) (t : ℕ) (meta : ChannelMeta) (stream : List Dated) →
+        ensures settles { IfOk result (λ ended. (look : Looker) (t : ℕ) (meta : ChannelMeta) (stream : List Dated) →
             StandsFor look t meta stream self.now →
             settled look t meta stream true ≡ settled look t meta stream false ++ ended) }
+        ensures small { IfOk result (λ ended. (look : Looker) (t : ℕ) (meta : ChannelMeta) (stream : List Dated) →
+            StandsFor look t meta stream self.now → t ≤ 1048576 → KeepsLimits meta → All IsSmall ended) }
     {
-        self.counted_end::<Brand>(Blank::new(1))
+        let ended = self.counted_end::<Brand>(Blank::new(1))?;
+        Ok(ended)
     }
 }
