@@ -8,7 +8,7 @@ use Rattle.std.proofs.lemmas.List.Folds.{length-prefix_len}
 use Rattle.std.proofs.lemmas.List.Sums.{prefix_len-le-length}
 use Rattle.std.proofs.lemmas.Bool.{leb-true, leb-false}
 use Rattle.std.proofs.lemmas.Bool.Decides.{nat_tests}
-use Rattle.ix_pattern.specs.Piece.{Piece, byte_in, count, group, in_set}
+use Rattle.ix_pattern.specs.Piece.{byte_in, in_set}
 use Rattle.ix_pattern.specs.Ways.{Text, Reached, Way, ends_at, edge, onward, optional, here, byte_ways, close_group, sight, ways}
 use Rattle.ix_pattern.specs.Rows.{Shape, tree}
 use Rattle.ix_match.specs.Attempt.{reach}

@@ -72,8 +72,7 @@ impl Cutter {
                 }
                 Found::Break { from, to, end } => {
                     let part = &bytes[start..at + from];
-                    self.kept
-                        .end_line(self.alloc, truncate, part, moment, out)?;
+                    self.kept.end_line(self.alloc, truncate, part, moment, out)?;
                     start = at + to;
                     at += end;
                 }

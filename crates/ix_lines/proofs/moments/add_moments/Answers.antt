@@ -1,4 +1,4 @@
-use Rattle.std.proofs.Common.{rules, w64, ◌≡◌, ◌∙◌, ◌-◌, ◌+◌, ◌<◌, sym, ap, length, arith}
+use Rattle.std.proofs.Common.{rules, w64, ◌∙◌, ◌-◌, ◌<◌, sym, ap, length, arith}
 use mir.Val.{SFits}
 use Rattle.ix_lines.proofs.MomentLemmas.{no_run, last-grows, get_or-any, same-words}
 use Rattle.ix_lines.proofs.moments.add_moments.Goals as goal

@@ -1,9 +1,9 @@
-use Rattle.std.proofs.Common.{rules, arith, ◌≡◌, ◌∙◌, refl, sym, ap, inl, IfOk}
+use Rattle.std.proofs.Common.{rules, arith, ◌≡◌, ◌∙◌, sym, ap, inl, IfOk}
 use Rattle.ix_match.specs.Scans.{Scanned}
 use Rattle.ix_lines.specs.Breaks.{breaks_by}
 use Rattle.ix_lines.specs.Seek.{look_of}
 use Rattle.ix_lines.proofs.Attempts.{breaks-stable}
-use Rattle.ix_lines.proofs.SeekLemmas.{answer-sized, looked-sized}
+use Rattle.ix_lines.proofs.SeekLemmas.{answer-sized}
 use Rattle.ix_lines.proofs.RunBreaks.{counted-look}
 use Rattle.ix_lines.proofs.breaks.Breaker.look.Goals as goal
 

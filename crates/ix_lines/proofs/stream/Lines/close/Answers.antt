@@ -1,4 +1,4 @@
-use Rattle.std.proofs.Common.{◌≡◌, ◌-◌, List, length, refl, subst, false, Bool, drop, take, rules, w64}
+use Rattle.std.proofs.Common.{◌-◌, length, refl, subst, false, Bool, drop, take, rules, w64}
 use mir.Val.{SFits}
 use Rattle.std.specs.Bool.{OnFalse}
 use Rattle.std.proofs.Math.Facts.{to_z-of_z}

@@ -1,6 +1,5 @@
-use Rattle.std.proofs.Common.{◌≡◌, ◌∙◌, ◌++◌, List, length, refl, sym, ap, subst, Bool, drop, take, Option, ℕ, true, rules, w64, to_z, of_z, arith}
+use Rattle.std.proofs.Common.{◌≡◌, ◌∙◌, ◌++◌, List, length, refl, sym, ap, subst, drop, take, Option, ℕ, true, rules, w64, to_z, of_z, arith}
 use mir.Val.{SFits}
-use Rattle.std.specs.Bool.{OnFalse}
 use Rattle.std.proofs.Math.Facts.{to_z-of_z}
 use Rattle.std.proofs.lemmas.List.{length-drop}
 use Rattle.std.proofs.lemmas.Slice.Zip.{length-zip}
@@ -71,5 +70,12 @@ returns-clause-ok g c =
 pub returns-clause-pending : goal.returns-clause-pending
 returns-clause-pending g c =
     let all = c.add.new.self in
-    omega (arith, ap length c.in_ok-drop_first.ensures.left, length-drop c.in_ok-stop.stop (dated_in all), length-zip all.bytes (moments_of all.runs.items),
-    c.in_ok-add.ensures.paired, c.in_ok-stop.ensures.short, c.in_ok-stop.ensures.within)
+    omega (
+      arith,
+      ap length c.in_ok-drop_first.ensures.left,
+      length-drop c.in_ok-stop.stop (dated_in all),
+      length-zip all.bytes (moments_of all.runs.items),
+      c.in_ok-add.ensures.paired,
+      c.in_ok-stop.ensures.short,
+      c.in_ok-stop.ensures.within,
+    )
