@@ -1,5 +1,5 @@
 -- What the worst crash leaves of a file, kept in two parts: what is in the file up to a place, and what is beside it.
-use Rattle.std.proofs.Common.{◌≡◌, ◌+◌, ◌-◌, ◌<◌, ◌≤◌, ℕ, min, suc, List, [], ◌∷◌, ◌++◌, length, take, drop, replicate, Option, None, Some, refl, sym, ◌∙◌, ap, arith, append_assoc, zero-add, length-append, length-take, length-drop}
+use Rattle.std.proofs.Common.{◌≡◌, ◌+◌, ◌-◌, ◌≤◌, ℕ, min, suc, List, [], ◌∷◌, ◌++◌, length, take, drop, replicate, Option, None, Some, refl, sym, ◌∙◌, ap, arith, append_assoc, zero-add, length-append, length-take}
 use Rattle.std.proofs.lemmas.List.{take-take, take-append-le, take-append-drop, drop-take, drop-drop, drop_at}
 use Rattle.ix_disk.specs.Image.{content, overwritten}
 use Rattle.ix_disk.specs.Contents.{with_rest, over, ones, ones_in}

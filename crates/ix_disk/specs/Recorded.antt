@@ -1,5 +1,5 @@
 -- What one call leaves in the record of a disk in memory.
-use Rattle.std.specs.Prelude.{◌≡◌, ◌⊎◌, ℕ, List, [], ◌∷◌, ◌++◌, true, false, Result, Ok, Err}
+use Rattle.std.specs.Prelude.{◌≡◌, ◌⊎◌, [], ◌∷◌, ◌++◌, true, false, Result, Ok, Err}
 use Rattle.ix_base.specs.Faults.{Rose}
 use Rattle.ix_base.specs.Plans.{is_due}
 use Rattle.ix_disk.specs.declared.past.Call.{Call}

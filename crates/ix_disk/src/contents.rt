@@ -1,6 +1,6 @@
 //! The files of a disk in memory, as a read gives them and as the worst crash leaves them.
 
-ghost use Rattle.std.specs.Prelude.{◌≡◌, ◌≤◌, ◌<◌, [], length, map, Some, None, OnOk, OnErr, IfOk, IfSome, IfNone, position};
+ghost use Rattle.std.specs.Prelude.{◌≡◌, ◌≤◌, ◌<◌, [], length, Some, None, OnOk, OnErr, IfOk, IfSome, IfNone, position};
 ghost use Rattle.ix_disk.specs.Files.{is_same};
 ghost use Rattle.ix_disk.specs.Contents.{seen_of, torn_of, left_of, find, present, torn_in, IsFirst, IsAbsent, changed, over, ones_in, become};
 ghost use Rattle.ix_disk.specs.Image.{content, bytes_in};

@@ -1,7 +1,7 @@
-use Rattle.std.proofs.Common.{ap, sym, refl, ◌∙◌, None}
-use Rattle.ix_disk.specs.Contents.{seen_of, torn_of, ones_in, become, present}
+use Rattle.std.proofs.Common.{ap, refl, ◌∙◌}
+use Rattle.ix_disk.specs.Contents.{seen_of, torn_of, ones_in}
 use Rattle.ix_disk.specs.declared.held.Held.{Held}
-use Rattle.ix_disk.proofs.Places.{set_first, set_same, absent_same, absent_none, first_get}
+use Rattle.ix_disk.proofs.Places.{set_first, set_same, absent_same}
 use Rattle.ix_base.proofs.ToldLemmas.{on_err_always}
 use Rattle.ix_disk.proofs.contents.Contents.mark.Goals as goal
 

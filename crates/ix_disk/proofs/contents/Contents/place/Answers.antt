@@ -1,4 +1,4 @@
-use Rattle.std.proofs.Common.{◌∙◌, ap, position, None}
+use Rattle.std.proofs.Common.{◌∙◌, ap, position}
 use Rattle.ix_disk.specs.Files.{is_same}
 use Rattle.ix_disk.specs.declared.held.Held.{Held}
 use Rattle.ix_disk.proofs.Places.{blank, place_within, place_found, place_missing}
