@@ -3,26 +3,21 @@ use Rattle.std.proofs.Common.{◌≡◌, ◌≢◌, ℕ, List, Option, None, Som
 use Rattle.ix_base.specs.declared.files.File.{File}
 use Rattle.ix_base.specs.Told.{Told}
 use Rattle.ix_disk.specs.Image.{Image, MayWrite, Writes, MayRemove, Removes, Apart}
-
-apart_by : (file : File) (step : Image → Image → Type 0) (old new : Option Image) → ((a b : Image) → step a b → Apart file a b) → Told step old new → Told (Apart file) old new
-apart_by file step None None others told = tt
-apart_by file step None (Some new) others told = absurd told
-apart_by file step (Some old) None others told = absurd told
-apart_by file step (Some old) (Some new) others told = others old new told
+use Rattle.ix_disk.proofs.Apart.{told_apart}
 
 -- a write that succeeded, and one that was begun
 pub apart_written : (file : File) (at : ℕ) (bytes : List ℕ) (old new : Option Image) → Told (Writes file at bytes) old new → Told (Apart file) old new
-apart_written file at bytes old new told = apart_by file (Writes file at bytes) old new (λ a b step. step.others) told
+apart_written file at bytes old new told = told_apart file (Writes file at bytes) old new (λ a b step. step.others) told
 
 pub apart_begun : (file : File) (at n : ℕ) (old new : Option Image) → Told (MayWrite file at n) old new → Told (Apart file) old new
-apart_begun file at n old new told = apart_by file (MayWrite file at n) old new (λ a b step. step.others) told
+apart_begun file at n old new told = told_apart file (MayWrite file at n) old new (λ a b step. step.others) told
 
 -- likewise a removal
 pub apart_removed : (file : File) (old new : Option Image) → Told (Removes file) old new → Told (Apart file) old new
-apart_removed file old new told = apart_by file (Removes file) old new (λ a b step. step.others) told
+apart_removed file old new told = told_apart file (Removes file) old new (λ a b step. step.others) told
 
 pub apart_removing : (file : File) (old new : Option Image) → Told (MayRemove file) old new → Told (Apart file) old new
-apart_removing file old new told = apart_by file (MayRemove file) old new (λ a b step. step.others) told
+apart_removing file old new told = told_apart file (MayRemove file) old new (λ a b step. step.others) told
 
 apart_alike : (file : File) (old : Option Image) → Told (Apart file) old old
 apart_alike file None = tt
