@@ -5,7 +5,7 @@ ghost use Rattle.ix_log.specs.Log.{IsUsable, put_so_far};
 
 use ix_base::{Area, Bytes, FailPlan, File};
 use ix_disk::{Disk, HostDisk, MemDisk, OneFail, StopDisk};
-use ix_log::{Log, LogFault, one_list};
+use ix_log::{BeginFault, Log, LogFault, one_list};
 use std::alloc::Global;
 use std::test::Fail;
 
@@ -223,5 +223,28 @@ fn a_call_that_fails_is_told_and_done_again(rt: HostRuntime) -> Result<(), Fail>
     }
     let mut disk = OneFail::new(disk_of(alloc, ONE)?, CALLS);
     add(alloc, &mut disk, b"c", b"d")?;
+    Ok(())
+}
+
+#[test]
+fn a_log_that_is_begun_anew_is_empty(rt: HostRuntime) -> Result<(), Fail> {
+    let alloc = rt.alloc();
+    // The removal, the gate and the sync.
+    for number in 0..3 {
+        let mut disk = OneFail::new(disk_of(alloc, THREE)?, number);
+        let begun = Log::begin(alloc, &mut disk, LOG);
+        assert!(rt; matches!(begun, Err(BeginFault::Disk)), "call {number}");
+    }
+    for torn in [false, true] {
+        let mut disk = disk_of(alloc, THREE)?;
+        let mut log = Log::begin(alloc, &mut disk, LOG)?;
+        log.put(&mut disk, b"x")?;
+        let mut left = disk.crash(torn)?;
+        assert_eq!(rt; said(alloc, &mut left)?, plain(alloc, b"\x00")?);
+        let mut log = Log::begin(alloc, &mut left, LOG)?;
+        log.put(&mut left, b"x")?;
+        log.finish(&mut left)?;
+        assert_eq!(rt; said(alloc, &mut left)?, plain(alloc, b"\x01\x00\x00\x00\x01x\x00")?);
+    }
     Ok(())
 }
