@@ -1,8 +1,9 @@
 //! The program `indexd`: the real input, output, clock and files, handed to the library that does all the work.
 #![tactic(auto)]
 
-use indexd_core::top;
+use indexd_core::{Status, say, top};
 use ix_base::{HostClock, HostTree, StdSink, StdSource, Text};
+use std::io::ErrorKind;
 use std::process::ExitCode;
 use std::rt::Env;
 use std::{env, io};
@@ -17,10 +18,17 @@ fn read_words<R: Env + AllocGlobal>(rt: &R) -> io::Result<Vec<Text>> {
 }
 
 fn main(rt: HostRuntime) -> ExitCode {
-    // Words that are no text are none, so they are refused as any other wrong ones.
-    let words = read_words(&rt).unwrap_or(Vec::new(rt.alloc()));
-    let mut input = StdSource::new(rt.reader());
     let mut output = StdSink::new(io::writer(&rt));
+    let words = match read_words(&rt) {
+        Ok(words) => words,
+        Err(fault) if fault.kind() == ErrorKind::OutOfMemory => {
+            say(Status::Memory, &mut output);
+            return ExitCode::from(Status::Memory.code());
+        }
+        // Words that are no text are none, so they are refused as any other wrong ones.
+        Err(_) => Vec::new(rt.alloc()),
+    };
+    let mut input = StdSource::new(rt.reader());
     let mut clock = HostClock::new(&rt);
     let mut tree = HostTree::new(&rt);
     let status = top(

@@ -6,5 +6,5 @@ use Rattle.indexd_core.specs.declared.words.Command.TheVariants.{Preview, Btool}
 
 -- the command is spelled so
 abbrev pub Asks : Command → List (List ℕ) → Type 0
-Asks (Preview host source) words = AsksPreview words host.now source.now
+Asks (Preview origin) words = AsksPreview words origin.host.now origin.source.now
 Asks (Btool file) words = AsksBtool words file

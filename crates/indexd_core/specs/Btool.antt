@@ -8,6 +8,7 @@ use Rattle.ix_conf.specs.Listing.{listing}
 use Rattle.ix_conf.specs.declared.layers.Layer.{Layer}
 use Rattle.ix_conf.specs.declared.layers.MergedEntry.{MergedEntry}
 use Rattle.indexd_core.specs.Settings.{settings, refusal_text, ReadAs}
+use Rattle.indexd_core.specs.Sides.{Side}
 use Rattle.indexd_core.specs.Texts.{status_text, Said}
 use Rattle.indexd_core.specs.declared.settings.SettingsFile.{SettingsFile}
 use Rattle.indexd_core.specs.declared.settings.Refusal.{Refusal}
@@ -27,25 +28,26 @@ pub record HasListing (file : SettingsFile) (files : Option (List TreeFile)) (te
   pub lists : Lists layers text
 
 -- The listing of the file was written; at `Configuration` the line of the first fault in its layers, and nothing else. A
--- tree that failed, want of memory and an output that failed are known by their status.
-abbrev pub Tells : Status → SettingsFile → Option (List TreeFile) → ℕ → ℕ → ℕ → ℕ → Option (List ℕ) → Option (List ℕ) → Type 0
-Tells Done file files tree tree' wrote wrote' given given' =
-    (text : List ℕ) × HasListing file files text × HasWritten text given given'
-Tells Memory file files tree tree' wrote wrote' given given' = Said (status_text Memory) wrote wrote' given given'
-Tells Usage file files tree tree' wrote wrote' given given' = ⊥
-Tells Configuration file files tree tree' wrote wrote' given given' =
-    (refusal : Refusal) × ReadAs files (λ all. settings all file) (Err refusal) × Said (refusal_text file refusal) wrote wrote' given given'
-Tells Input file files tree tree' wrote wrote' given given' = Rose tree tree' × Said (status_text Input) wrote wrote' given given'
-Tells Output file files tree tree' wrote wrote' given given' =
-    (text : List ℕ) × HasListing file files text × Rose wrote wrote' × HasBegun text given given'
-Tells Endless file files tree tree' wrote wrote' given given' = ⊥
+-- tree that failed, want of memory and an output that failed are known by their status. The two numbers are how often the
+-- tree had failed before and after.
+abbrev pub Tells : Status → SettingsFile → Option (List TreeFile) → ℕ → ℕ → Side → Side → Type 0
+Tells Done file files failed failed' output output' =
+    (text : List ℕ) × HasListing file files text × HasWritten text output.told output'.told
+Tells Memory file files failed failed' output output' = Said (status_text Memory) output output'
+Tells Usage file files failed failed' output output' = ⊥
+Tells Configuration file files failed failed' output output' =
+    (refusal : Refusal) × ReadAs files (λ all. settings all file) (Err refusal) × Said (refusal_text file refusal) output output'
+Tells Input file files failed failed' output output' = Rose failed failed' × Said (status_text Input) output output'
+Tells Output file files failed failed' output output' =
+    (text : List ℕ) × HasListing file files text × Rose output.faults output'.faults × HasBegun text output.told output'.told
+Tells Endless file files failed failed' output output' = ⊥
 
 -- the line of a fault was written, or there was no room for it
-abbrev pub RefusalSaid : Status → SettingsFile → Refusal → ℕ → ℕ → Option (List ℕ) → Option (List ℕ) → Type 0
-RefusalSaid Done file refusal wrote wrote' given given' = ⊥
-RefusalSaid Memory file refusal wrote wrote' given given' = Said (status_text Memory) wrote wrote' given given'
-RefusalSaid Usage file refusal wrote wrote' given given' = ⊥
-RefusalSaid Configuration file refusal wrote wrote' given given' = Said (refusal_text file refusal) wrote wrote' given given'
-RefusalSaid Input file refusal wrote wrote' given given' = ⊥
-RefusalSaid Output file refusal wrote wrote' given given' = ⊥
-RefusalSaid Endless file refusal wrote wrote' given given' = ⊥
+abbrev pub RefusalSaid : Status → SettingsFile → Refusal → Side → Side → Type 0
+RefusalSaid Done file refusal output output' = ⊥
+RefusalSaid Memory file refusal output output' = Said (status_text Memory) output output'
+RefusalSaid Usage file refusal output output' = ⊥
+RefusalSaid Configuration file refusal output output' = Said (refusal_text file refusal) output output'
+RefusalSaid Input file refusal output output' = ⊥
+RefusalSaid Output file refusal output output' = ⊥
+RefusalSaid Endless file refusal output output' = ⊥

@@ -1,9 +1,9 @@
 pub mod Words
 pub mod Asked
-pub mod Moments
+pub mod Sides
 pub mod Texts
 pub mod Stops
 pub mod Steps
-pub mod Preview
+pub mod Runs
 pub mod Settings
 pub mod Btool

@@ -121,9 +121,13 @@ Reads (Err stop) faults faults' files read = LayerStops stop faults faults' file
 abbrev pub IsBegun : Option (List TreeFile) → List ℕ → List ℕ → Type 0
 IsBegun files path text = IfSome files (λ all. text_at all path ≡ text ++ drop (length text) (text_at all path))
 
--- the text at a path, or that it has more than 1,048,576 bytes
+-- how many bytes a file of settings has at the most
+abbrev pub longest_file : ℕ
+longest_file = 1048576
+
+-- the text at a path, or that it has more bytes than such a file
 abbrev pub IsTextOr : Option (List ℕ) → List ℕ → Type 0
-IsTextOr None bytes = 1048576 < length bytes
+IsTextOr None bytes = longest_file < length bytes
 IsTextOr (Some text) bytes = text ≡ bytes
 
 -- why a failed tree stops the reading

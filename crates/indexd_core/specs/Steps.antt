@@ -1,105 +1,106 @@
--- What the steps of a preview keep.
-use Rattle.std.specs.Prelude.{◌≡◌, ◌<◌, ◌^◌, ℕ, ℤ, Bool, true, false, List, [], ◌++◌, length, Option, IfSome}
+-- What the steps of a preview keep. `input` and `output` are as a run found them, `input'` and `output'` as a step left them.
+use Rattle.std.specs.Prelude.{◌≡◌, ◌<◌, ℕ, ℤ, Bool, true, false, List, ◌++◌, length}
 use Rattle.ix_base.specs.Faults.{Rose}
 use Rattle.ix_base.specs.Stream.{dated}
+use Rattle.ix_base.specs.Clocks.{clamped}
 use Rattle.ix_base.specs.Told.{Told, Took, HasWritten, HasBegun}
 use Rattle.ix_base.specs.declared.events.ChannelMeta.{ChannelMeta}
-use Rattle.ix_lines.specs.Lines.{effective}
 use Rattle.ix_lines.specs.Newlines.{newlines}
 use Rattle.ix_parse.specs.Standing.{StandsFor}
-use Rattle.indexd_core.specs.Texts.{preview_text}
+use Rattle.ix_parse.specs.declared.channel.Channel.{Channel}
+use Rattle.indexd_core.specs.Sides.{Side, IsAtEnd}
+use Rattle.indexd_core.specs.Texts.{line_limit}
+use Rattle.indexd_core.specs.Runs.{Text, text_of, input_limit}
 use Rattle.indexd_core.specs.declared.preview.Preview.{Preview}
 use Rattle.indexd_core.specs.declared.preview.Stop.{Stop}
 use Rattle.indexd_core.specs.declared.preview.Stop.TheVariants.{Memory, Input, Output}
 
--- why writing stopped, and what was written of the text
-abbrev pub PutStops : Stop → List ℕ → ℕ → ℕ → Option (List ℕ) → Option (List ℕ) → Type 0
-PutStops Memory text faults faults' given given' = given' ≡ given
-PutStops Input text faults faults' given given' = ⊥
-PutStops Output text faults faults' given given' = Rose faults faults' × HasBegun text given given'
+-- the channel has taken in these bytes, all at this moment
+abbrev pub Holds : ChannelMeta → List ℕ → ℤ → Channel → Type 0
+Holds meta taken moment channel = StandsFor newlines line_limit meta (dated taken (clamped moment)) channel
 
--- since an input with `left` and an output with `given`, these bytes were taken in and the lines that they settle written
-pub record IsAt (meta : ChannelMeta) (left given : Option (List ℕ)) (taken : List ℕ) (preview : Preview) (left' given' : Option (List ℕ)) : Type 0 where
-  pub stands : StandsFor newlines (effective 10000) meta (dated taken preview.moment) preview.channel
-  pub took : Told (Took taken) left left'
-  pub written : HasWritten (preview_text meta preview.moment taken false) given given'
+-- these bytes were taken in and the lines that they settle written
+pub record IsAt (meta : ChannelMeta) (input output : Side) (taken : List ℕ) (preview : Preview) (input' output' : Side) : Type 0 where
+  pub holds : Holds meta taken preview.moment preview.channel
+  pub took : Told (Took taken) input.told input'.told
+  pub written : HasWritten (text_of meta preview.moment taken false) output.told output'.told
 
 -- More bytes were taken in: whatever the run has come from, it has come so far.
-pub record Advances (more : List ℕ) (old new : Preview) (left left' given given' : Option (List ℕ)) : Type 0 where
-  pub at : (meta : ChannelMeta) (left₀ given₀ : Option (List ℕ)) (taken : List ℕ) →
-      IsAt meta left₀ given₀ taken old left given → IsAt meta left₀ given₀ (taken ++ more) new left' given'
+pub record Advances (more : List ℕ) (old new : Preview) (input input' output output' : Side) : Type 0 where
+  pub at : (meta : ChannelMeta) (input₀ output₀ : Side) (taken : List ℕ) →
+      IsAt meta input₀ output₀ taken old input output → IsAt meta input₀ output₀ (taken ++ more) new input' output'
   pub moment : new.moment ≡ old.moment
 
 -- more bytes were read, and the run stopped before their lines were written
-pub record StopsUnwritten (left left' given given' : Option (List ℕ)) : Type 0 where
+pub record StopsUnwritten (input input' output output' : Side) : Type 0 where
   pub more : List ℕ
-  pub took : Told (Took more) left left'
-  pub same : given' ≡ given
+  pub took : Told (Took more) input.told input'.told
+  pub same : output'.told ≡ output.told
 
 -- more bytes were read, and the run stopped while their lines were written
-pub record StopsWriting (preview : Preview) (left left' given given' : Option (List ℕ)) : Type 0 where
+pub record StopsWriting (preview : Preview) (input input' output output' : Side) : Type 0 where
   pub more : List ℕ
-  pub took : Told (Took more) left left'
-  pub begun : (meta : ChannelMeta) (left₀ given₀ : Option (List ℕ)) (taken : List ℕ) →
-      IsAt meta left₀ given₀ taken preview left given → HasBegun (preview_text meta preview.moment (taken ++ more) false) given₀ given'
+  pub took : Told (Took more) input.told input'.told
+  pub begun : (meta : ChannelMeta) (input₀ output₀ : Side) (taken : List ℕ) →
+      IsAt meta input₀ output₀ taken preview input output → HasBegun (text_of meta preview.moment (taken ++ more) false) output₀.told output'.told
 
 -- why a step stopped, and what it left
-abbrev pub StepStops : Stop → Preview → ℕ → ℕ → ℕ → ℕ → Option (List ℕ) → Option (List ℕ) → Option (List ℕ) → Option (List ℕ) → Type 0
-StepStops Memory preview read read' wrote wrote' left left' given given' = StopsUnwritten left left' given given'
-StepStops Input preview read read' wrote wrote' left left' given given' =
-    Rose read read' × (left' ≡ left) × (given' ≡ given)
-StepStops Output preview read read' wrote wrote' left left' given given' =
-    Rose wrote wrote' × StopsWriting preview left left' given given'
+abbrev pub StepStops : Stop → Preview → Side → Side → Side → Side → Type 0
+StepStops Memory preview input input' output output' = StopsUnwritten input input' output output'
+StepStops Input preview input input' output output' =
+    Rose input.faults input'.faults × (input'.told ≡ input.told) × (output'.told ≡ output.told)
+StepStops Output preview input input' output output' =
+    Rose output.faults output'.faults × StopsWriting preview input input' output output'
 
 -- the input came to its end within the limit, or the limit was taken
-abbrev pub CameToEnd : Bool → List ℕ → Option (List ℕ) → Type 0
-CameToEnd true taken left = (length taken < 2 ^ 40) × IfSome left (λ bytes. bytes ≡ [])
-CameToEnd false taken left = length taken ≡ 2 ^ 40
+abbrev pub CameToEnd : Bool → List ℕ → Side → Type 0
+CameToEnd true taken input = (length taken < input_limit) × IsAtEnd input
+CameToEnd false taken input = length taken ≡ input_limit
 
 -- all that is to be read was taken in, and the lines that it settles were written
-pub record ReadsAll (ended : Bool) (meta : ChannelMeta) (new : Preview) (left left' given given' : Option (List ℕ)) : Type 0 where
+pub record ReadsAll (ended : Bool) (meta : ChannelMeta) (new : Preview) (input input' output output' : Side) : Type 0 where
   pub taken : List ℕ
-  pub at : IsAt meta left given taken new left' given'
-  pub end : CameToEnd ended taken left'
+  pub at : IsAt meta input output taken new input' output'
+  pub end : CameToEnd ended taken input'
 
 -- bytes were taken in and their lines written, and then more bytes read
-pub record StopsForMemory (meta : ChannelMeta) (moment : ℤ) (left left' given given' : Option (List ℕ)) : Type 0 where
+pub record StopsForMemory (text : Text) (input input' output output' : Side) : Type 0 where
   pub taken : List ℕ
   pub more : List ℕ
-  pub took : Told (Took (taken ++ more)) left left'
-  pub written : HasWritten (preview_text meta moment taken false) given given'
+  pub took : Told (Took (taken ++ more)) input.told input'.told
+  pub written : HasWritten (text taken false) output.told output'.told
 
 -- bytes were taken in and their lines written, and then reading failed
-pub record StopsReading (meta : ChannelMeta) (moment : ℤ) (left left' given given' : Option (List ℕ)) : Type 0 where
+pub record StopsReading (text : Text) (input input' output output' : Side) : Type 0 where
   pub taken : List ℕ
-  pub took : Told (Took taken) left left'
-  pub within : length taken < 2 ^ 40
-  pub written : HasWritten (preview_text meta moment taken false) given given'
+  pub took : Told (Took taken) input.told input'.told
+  pub within : length taken < input_limit
+  pub written : HasWritten (text taken false) output.told output'.told
 
 -- bytes were taken in, and writing their lines failed
-pub record StopsInLines (meta : ChannelMeta) (moment : ℤ) (left left' given given' : Option (List ℕ)) : Type 0 where
+pub record StopsInLines (text : Text) (input input' output output' : Side) : Type 0 where
   pub taken : List ℕ
-  pub took : Told (Took taken) left left'
-  pub begun : HasBegun (preview_text meta moment taken false) given given'
+  pub took : Told (Took taken) input.told input'.told
+  pub begun : HasBegun (text taken false) output.told output'.told
 
 -- why reading all stopped, and what it left
-abbrev pub RunStops : Stop → ChannelMeta → ℤ → ℕ → ℕ → ℕ → ℕ → Option (List ℕ) → Option (List ℕ) → Option (List ℕ) → Option (List ℕ) → Type 0
-RunStops Memory meta moment read read' wrote wrote' left left' given given' = StopsForMemory meta moment left left' given given'
-RunStops Input meta moment read read' wrote wrote' left left' given given' = Rose read read' × StopsReading meta moment left left' given given'
-RunStops Output meta moment read read' wrote wrote' left left' given given' = Rose wrote wrote' × StopsInLines meta moment left left' given given'
+abbrev pub RunStops : Stop → Text → Side → Side → Side → Side → Type 0
+RunStops Memory text input input' output output' = StopsForMemory text input input' output output'
+RunStops Input text input input' output output' = Rose input.faults input'.faults × StopsReading text input input' output output'
+RunStops Output text input input' output output' = Rose output.faults output'.faults × StopsInLines text input input' output output'
 
 -- what the end of the input settles was written behind what stood there
-abbrev pub EndsAll : Preview → Option (List ℕ) → Option (List ℕ) → Type 0
-EndsAll preview given given' = (meta : ChannelMeta) (left left' given₀ : Option (List ℕ)) (taken : List ℕ) →
-    IsAt meta left given₀ taken preview left' given → HasWritten (preview_text meta preview.moment taken true) given₀ given'
+abbrev pub EndsAll : Preview → Side → Side → Type 0
+EndsAll preview output output' = (meta : ChannelMeta) (input₀ output₀ input : Side) (taken : List ℕ) →
+    IsAt meta input₀ output₀ taken preview input output → HasWritten (text_of meta preview.moment taken true) output₀.told output'.told
 
 -- a front of it was
-abbrev pub EndsPart : Preview → Option (List ℕ) → Option (List ℕ) → Type 0
-EndsPart preview given given' = (meta : ChannelMeta) (left left' given₀ : Option (List ℕ)) (taken : List ℕ) →
-    IsAt meta left given₀ taken preview left' given → HasBegun (preview_text meta preview.moment taken true) given₀ given'
+abbrev pub EndsPart : Preview → Side → Side → Type 0
+EndsPart preview output output' = (meta : ChannelMeta) (input₀ output₀ input : Side) (taken : List ℕ) →
+    IsAt meta input₀ output₀ taken preview input output → HasBegun (text_of meta preview.moment taken true) output₀.told output'.told
 
 -- why writing that stopped
-abbrev pub EndStops : Stop → Preview → ℕ → ℕ → Option (List ℕ) → Option (List ℕ) → Type 0
-EndStops Memory preview wrote wrote' given given' = given' ≡ given
-EndStops Input preview wrote wrote' given given' = ⊥
-EndStops Output preview wrote wrote' given given' = Rose wrote wrote' × EndsPart preview given given'
+abbrev pub EndStops : Stop → Preview → Side → Side → Type 0
+EndStops Memory preview output output' = output'.told ≡ output.told
+EndStops Input preview output output' = ⊥
+EndStops Output preview output output' = Rose output.faults output'.faults × EndsPart preview output output'

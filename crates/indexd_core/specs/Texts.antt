@@ -1,34 +1,40 @@
 -- What a run writes.
-use Rattle.std.specs.Prelude.{◌⊎◌, ℕ, ℤ, Bool, List, [], map, codes, Option, Some, None}
+use Rattle.std.specs.Prelude.{◌⊎◌, ℕ, ℤ, Bool, List, [], codes, Some, None}
+use Rattle.std.specs.List.{flat_map}
 use Rattle.ix_base.specs.Faults.{Rose}
 use Rattle.ix_base.specs.Stream.{dated}
 use Rattle.ix_base.specs.Told.{HasWritten, HasBegun}
-use Rattle.ix_base.specs.EventLine as event
-use Rattle.ix_base.specs.declared.events.Event.{Event}
+use Rattle.ix_base.specs.EventLine.{line}
 use Rattle.ix_base.specs.declared.events.ChannelMeta.{ChannelMeta}
+use Rattle.ix_base.specs.declared.events.Routed.{Routed}
+use Rattle.ix_base.specs.declared.events.Routed.TheVariants.{To, Null}
 use Rattle.ix_lines.specs.Lines.{effective}
 use Rattle.ix_lines.specs.Newlines.{newlines}
-use Rattle.ix_parse.specs.declared.routed.Routed.{Routed}
-use Rattle.ix_parse.specs.declared.routed.Routed.TheVariants.{To}
 use Rattle.ix_parse.specs.Settled.{settled}
+use Rattle.indexd_core.specs.Sides.{Side}
 use Rattle.indexd_core.specs.declared.status.Status.{Status}
 use Rattle.indexd_core.specs.declared.status.Status.TheVariants.{Done, Memory, Usage, Configuration, Input, Output, Endless}
 
-abbrev pub event_in : Routed → Event
-event_in (To event) = event
+-- the line of an event that goes to an index; one that goes to the null queue has none
+abbrev pub routed_line : Routed → List ℕ
+routed_line (To event) = line event
+routed_line Null = []
 
--- the lines of events
 abbrev pub lines_of : List Routed → List ℕ
-lines_of routed = event.lines (map event_in routed)
+lines_of routed = flat_map routed_line routed
 
 -- what is known of previewed bytes: the index is `main`, and the source type is not stated
 abbrev pub preview_meta : List ℕ → List ℕ → ChannelMeta
 preview_meta host source = record { host = host; source = source; sourcetype = None; index = Some (codes "main") }
 
--- the lines of the events that are settled of bytes which all come at one moment; a line stands between runs of newlines,
--- and is cut at 10,000 bytes
+-- a line is cut at this many bytes
+abbrev pub line_limit : ℕ
+line_limit = effective 10000
+
+-- the lines of the events that are settled of bytes which all come at one moment, the stream being open or closed; a line
+-- of the stream stands between runs of newlines
 abbrev pub preview_text : ChannelMeta → ℤ → List ℕ → Bool → List ℕ
-preview_text meta moment bytes closed = lines_of (settled newlines (effective 10000) meta (dated bytes moment) closed)
+preview_text meta moment bytes closed = lines_of (settled newlines line_limit meta (dated bytes moment) closed)
 
 -- the exit status of the program
 abbrev pub status_code : Status → ℕ
@@ -51,5 +57,6 @@ status_text Output = []
 status_text Endless = codes "indexd: endless input\n"
 
 -- the text stands behind what stood there, or a front of it where the output failed
-abbrev pub Said : List ℕ → ℕ → ℕ → Option (List ℕ) → Option (List ℕ) → Type 0
-Said text faults faults' given given' = HasWritten text given given' ⊎ (Rose faults faults' × HasBegun text given given')
+abbrev pub Said : List ℕ → Side → Side → Type 0
+Said text output output' =
+    HasWritten text output.told output'.told ⊎ (Rose output.faults output'.faults × HasBegun text output.told output'.told)

@@ -3,9 +3,13 @@ use Rattle.std.specs.Prelude.{◌≡◌, ◌≤◌, ◌⊎◌, ℕ, List, [], �
 use Rattle.indexd_core.specs.Settings.{file_name}
 use Rattle.indexd_core.specs.declared.settings.SettingsFile.{SettingsFile}
 
--- a host, a source or a source type: 1 to 1,024 bytes
+-- how many bytes a host or a source has at the most
+abbrev pub longest_name : ℕ
+longest_name = 1024
+
+-- a host or a source: one byte at least
 abbrev pub IsName : List ℕ → Type 0
-IsName name = (1 ≤ length name) × (length name ≤ 1024)
+IsName name = (1 ≤ length name) × (length name ≤ longest_name)
 
 -- preview --host HOST --source SOURCE
 pub record AsksPreview (words : List (List ℕ)) (host source : List ℕ) : Type 0 where

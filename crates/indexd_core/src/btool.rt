@@ -5,6 +5,7 @@ ghost use Rattle.ix_base.specs.Faults.{HasCause, Rose};
 ghost use Rattle.ix_base.specs.Told.{HasWritten, HasBegun};
 ghost use Rattle.indexd_core.specs.Settings.{settings, refusal_text, LayerStops};
 ghost use Rattle.indexd_core.specs.Btool.{Lists, HasListing, RefusalSaid, Tells};
+ghost use Rattle.indexd_core.specs.Sides.{side};
 ghost use Rattle.indexd_core.specs.Texts.{Said, status_text};
 
 use crate::settings::{LayerStop, Refusal, SettingsFile};
@@ -27,6 +28,7 @@ fn list_file<T: Tree>(alloc: Global, file: SettingsFile, tree: &mut T) -> Result
     ensures stopped { IfErr result (λ stop. LayerStops stop (T.faults tree.old) (T.faults tree.new) (T.files tree.old) (λ all. settings all file)) }
     ensures same { T.files tree.new ≡ T.files tree.old }
     ensures later { T.faults tree.old ≤ T.faults tree.new }
+    ensures later_missing { T.missing tree.old ≤ T.missing tree.new }
 {
     let layers = file.read_all(alloc, tree)?;
     let text = list(alloc, &layers)?;
@@ -40,7 +42,8 @@ fn say_refusal<W: Sink>(
     refusal: &Refusal,
     output: &mut W,
 ) -> Status
-    ensures said { RefusalSaid result file refusal.now (W.faults output.old) (W.faults output.new) (W.given output.old) (W.given output.new) }
+    ensures said { RefusalSaid result file refusal.now
+        (side (W.faults output.old) (W.given output.old)) (side (W.faults output.new) (W.given output.new)) }
     ensures later { W.faults output.old ≤ W.faults output.new }
 {
     let Ok(text) = refusal.text(alloc, file) else {
@@ -59,9 +62,10 @@ pub fn btool<T: Tree, W: Sink>(
     output: &mut W,
 ) -> Status
     ensures tells { Tells result file (T.files tree.old) (T.faults tree.old) (T.faults tree.new)
-        (W.faults output.old) (W.faults output.new) (W.given output.old) (W.given output.new) }
+        (side (W.faults output.old) (W.given output.old)) (side (W.faults output.new) (W.given output.new)) }
     ensures same { T.files tree.new ≡ T.files tree.old }
     ensures read_later { T.faults tree.old ≤ T.faults tree.new }
+    ensures missing_later { T.missing tree.old ≤ T.missing tree.new }
     ensures written_later { W.faults output.old ≤ W.faults output.new }
 {
     match list_file(alloc, file, tree) {

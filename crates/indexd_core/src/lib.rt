@@ -2,15 +2,12 @@
 #![tactic(auto)]
 
 mod btool;
-#[cfg(test)]
-mod btool_tests;
+mod events;
 mod preview;
 mod program;
 mod settings;
 mod status;
-#[cfg(test)]
-mod tests;
 mod words;
 
 pub use program::top;
-pub use status::Status;
+pub use status::{Status, say};

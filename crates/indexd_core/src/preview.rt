@@ -1,32 +1,40 @@
 //! `preview`: the input as one closed stream, its events as lines.
 
-ghost use Rattle.std.specs.Prelude.{◌≡◌, ◌≤◌, ◌<◌, ◌^◌, ◌⊎◌, ℕ, ℤ, List, [], ◌++◌, length, take, true, false, IfOk, OnOk, IfErr, OnErr, Option, Some, IfSome, vec_len};
+ghost use Rattle.std.specs.Prelude.{◌≡◌, ◌≢◌, ◌≤◌, ◌<◌, ℕ, ℤ, List, [], ◌++◌, length, take, true, false, IfOk, OnOk, IfErr, OnErr, Option, Some, IfSome, vec_len};
 ghost use Rattle.indexd_core.specs.Stops.{stop_status};
-ghost use Rattle.ix_base.specs.Faults.{HasCause, Rose};
+ghost use Rattle.ix_base.specs.Faults.{Rose};
 ghost use Rattle.ix_base.specs.Told.{Told, Took, HasWritten, HasBegun};
 ghost use Rattle.ix_base.specs.declared.events.ChannelMeta.{ChannelMeta};
-ghost use Rattle.ix_lines.specs.Lines.{effective};
-ghost use Rattle.ix_lines.specs.Newlines.{newlines};
-ghost use Rattle.indexd_core.specs.Texts.{lines_of};
+ghost use Rattle.indexd_core.specs.Sides.{side, IsAtEnd};
+ghost use Rattle.indexd_core.specs.Texts.{lines_of, preview_meta};
+ghost use Rattle.indexd_core.specs.Runs.{Runs, Previews, text_of};
 
-use crate::status::Status;
-use ix_base::{FailPlan, MemSink, NoMemory, Sink, Source, Steps, write_line};
-use ix_parse::{Channel, Routed, RoutedList};
+use crate::events::EventWriter;
+use crate::status::{Status, say};
+use crate::words::Origin;
+use ix_base::{Bytes, ChannelMeta, Clock, NoMemory, Sink, Source, Steps};
+use ix_lines::default_breaker;
+use ix_parse::Channel;
 use std::alloc::Global;
-use std::sync::ledger::Ledger;
+use std::marker::Brand;
+use std::sync::ledger::{Blank, Ledger};
 
 /// How many bytes of input are taken at the most.
-const LIMIT: u64 = 1 << 40;
+const INPUT_LIMIT: u64 = 1 << 40;
 
 /// How many bytes are read at once.
 const BLOCK: usize = 1 << 20;
 
-/// A run of `preview`: its channel, and the moment that all of its bytes have.
+/// The number of bytes at which a line is cut.
+const TRUNCATE: u32 = 10_000;
+
+/// A run of `preview`.
 #[derive(Drop)]
 pub struct Preview {
-    pub alloc: Global,
     pub channel: Channel,
+    /// The moment of all its bytes.
     pub moment: i64,
+    events: EventWriter,
 }
 
 /// Why a run stops before its end.
@@ -60,46 +68,38 @@ fn make_block(alloc: Global) -> Result<Vec<u8>, NoMemory>
     Ok(block)
 }
 
-/// The lines of the events.
-fn text_of(alloc: Global, routed: &RoutedList) -> Result<MemSink, NoMemory>
-    ensures { IfOk result (λ sink. ⟦<MemSink as Sink>⟧.given sink ≡ Some (lines_of routed.now)) }
+/// What is known of previewed bytes.
+fn meta_of(alloc: Global, origin: Origin<'_>) -> Result<ChannelMeta, NoMemory>
+    ensures { IfOk result (λ meta. meta ≡ preview_meta origin.entry.host.now origin.entry.source.now) }
 {
-    let mut text = MemSink::new(alloc, FailPlan::none(alloc));
-    for to in routed.as_slice() {
-        let Routed::To(event) = to;
-        if write_line(&event.lend(), &mut text).is_err() {
-            return Err(NoMemory);
-        }
-    }
-    Ok(text)
+    Ok(ChannelMeta {
+        host: Bytes::copy_of(alloc, origin.host)?,
+        source: Bytes::copy_of(alloc, origin.source)?,
+        sourcetype: None,
+        index: Some(Bytes::copy_of(alloc, b"main")?),
+    })
 }
 
 impl Preview {
-    ghost use Rattle.ix_parse.specs.Standing.{StandsFor};
-    ghost use Rattle.indexd_core.specs.Steps.{PutStops, Advances, StepStops, ReadsAll, RunStops, EndsAll, EndStops};
-    ghost use Rattle.indexd_core.specs.Preview.{Runs};
+    ghost use Rattle.indexd_core.specs.Steps.{Holds, Advances, StepStops, ReadsAll, RunStops, EndsAll, EndStops};
 
-    /// Writes the lines of the events, in one piece.
-    pub fn put_events<W: Sink>(&self, routed: &RoutedList, output: &mut W) -> Result<(), Stop>
-        ensures written { OnOk result (HasWritten (lines_of routed.now) (W.given output.old) (W.given output.new)) }
-        ensures stopped { IfErr result (λ stop. PutStops stop (lines_of routed.now) (W.faults output.old) (W.faults output.new)
-            (W.given output.old) (W.given output.new)) }
-        ensures later { W.faults output.old ≤ W.faults output.new }
+    /// A run that has read nothing yet.
+    fn start(alloc: Global, origin: Origin<'_>, moment: i64) -> Result<Preview, NoMemory>
+        ensures holds { IfOk result (λ preview. Holds (preview_meta origin.entry.host.now origin.entry.source.now) [] moment preview.channel) }
+        ensures moment { IfOk result (λ preview. preview.moment ≡ moment) }
     {
-        if routed.is_empty() {
-            return Ok(());
-        }
-        let Ok(text) = text_of(self.alloc, routed) else {
-            return Err(Stop::Memory);
-        };
-        match output.put(text.bytes()) {
-            Ok(()) => Ok(()),
-            Err(_) => Err(Stop::Output),
-        }
+        let meta = meta_of(alloc, origin)?;
+        let breaker = default_breaker(alloc)?;
+        let channel = Channel::start(alloc, breaker, TRUNCATE, meta)?;
+        Ok(Preview {
+            channel,
+            moment,
+            events: EventWriter::new(alloc),
+        })
     }
 
     /// Reads a block, takes it in and writes the lines that it settles; 0 bytes at the end of the input.
-    pub fn take_block<S: Source, W: Sink, L: Ledger>(
+    fn take_block<S: Source, W: Sink, L: Ledger>(
         &mut self,
         block: &mut [u8],
         input: &mut S,
@@ -107,10 +107,12 @@ impl Preview {
         steps: &mut Steps<L>,
     ) -> Result<usize, Stop>
         ensures taken { IfOk result (λ n. (n ≤ length block.old) × Advances (take n block.new) self.old self.new
-            (S.left input.old) (S.left input.new) (W.given output.old) (W.given output.new)) }
+            (side (S.faults input.old) (S.left input.old)) (side (S.faults input.new) (S.left input.new))
+            (side (W.faults output.old) (W.given output.old)) (side (W.faults output.new) (W.given output.new))) }
         ensures end { IfOk result (λ n. n ≡ 0 → 0 < length block.old → IfSome (S.left input.new) (λ bytes. bytes ≡ [])) }
-        ensures stopped { IfErr result (λ stop. StepStops stop self.old (S.faults input.old) (S.faults input.new)
-            (W.faults output.old) (W.faults output.new) (S.left input.old) (S.left input.new) (W.given output.old) (W.given output.new)) }
+        ensures stopped { IfErr result (λ stop. StepStops stop self.old
+            (side (S.faults input.old) (S.left input.old)) (side (S.faults input.new) (S.left input.new))
+            (side (W.faults output.old) (W.given output.old)) (side (W.faults output.new) (W.given output.new))) }
         ensures read_later { S.faults input.old ≤ S.faults input.new }
         ensures written_later { W.faults output.old ≤ W.faults output.new }
     {
@@ -123,13 +125,13 @@ impl Preview {
         let Ok(fed) = self.channel.fed(&block[..n], self.moment, steps) else {
             return Err(Stop::Memory);
         };
-        self.put_events(&fed.1, output)?;
+        self.events.put(&fed.1, output)?;
         self.channel = fed.0;
         Ok(n)
     }
 
     /// Reads the input to its end, or up to the limit, and writes the lines that it settles; whether it came to the end.
-    pub fn read_all<S: Source, W: Sink, L: Ledger>(
+    fn read_all<S: Source, W: Sink, L: Ledger>(
         &mut self,
         block: &mut [u8],
         input: &mut S,
@@ -137,18 +139,21 @@ impl Preview {
         steps: &mut Steps<L>,
     ) -> Result<bool, Stop>
         requires { 0 < length block.old }
-        ensures all { IfOk result (λ ended. (meta : ChannelMeta) → StandsFor newlines (effective 10000) meta [] self.old.channel →
-            ReadsAll ended meta self.new (S.left input.old) (S.left input.new) (W.given output.old) (W.given output.new)) }
-        ensures stopped { IfErr result (λ stop. (meta : ChannelMeta) → StandsFor newlines (effective 10000) meta [] self.old.channel →
-            RunStops stop meta self.old.moment (S.faults input.old) (S.faults input.new) (W.faults output.old) (W.faults output.new)
-            (S.left input.old) (S.left input.new) (W.given output.old) (W.given output.new)) }
+        ensures all { IfOk result (λ ended. (meta : ChannelMeta) → Holds meta [] self.old.moment self.old.channel →
+            ReadsAll ended meta self.new
+            (side (S.faults input.old) (S.left input.old)) (side (S.faults input.new) (S.left input.new))
+            (side (W.faults output.old) (W.given output.old)) (side (W.faults output.new) (W.given output.new))) }
+        ensures stopped { IfErr result (λ stop. (meta : ChannelMeta) → Holds meta [] self.old.moment self.old.channel →
+            RunStops stop (text_of meta self.old.moment)
+            (side (S.faults input.old) (S.left input.old)) (side (S.faults input.new) (S.left input.new))
+            (side (W.faults output.old) (W.given output.old)) (side (W.faults output.new) (W.given output.new))) }
         ensures moment { OnOk result (self.new.moment ≡ self.old.moment) }
         ensures read_later { S.faults input.old ≤ S.faults input.new }
         ensures written_later { W.faults output.old ≤ W.faults output.new }
     {
         let mut taken: u64 = 0;
-        while taken < LIMIT {
-            let room = (LIMIT - taken).min(block.len() as u64) as usize;
+        while taken < INPUT_LIMIT {
+            let room = (INPUT_LIMIT - taken).min(block.len() as u64) as usize;
             let n = self.take_block(&mut block[..room], input, output, steps)?;
             if n == 0 {
                 return Ok(true);
@@ -159,36 +164,42 @@ impl Preview {
     }
 
     /// Writes the lines that the end of the input settles.
-    pub fn finish<W: Sink>(&self, output: &mut W) -> Result<(), Stop>
-        ensures all { OnOk result (EndsAll self.now (W.given output.old) (W.given output.new)) }
-        ensures stopped { IfErr result (λ stop. EndStops stop self.now (W.faults output.old) (W.faults output.new) (W.given output.old) (W.given output.new)) }
+    fn finish<W: Sink>(&mut self, output: &mut W) -> Result<(), Stop>
+        ensures all { OnOk result (EndsAll self.old
+            (side (W.faults output.old) (W.given output.old)) (side (W.faults output.new) (W.given output.new))) }
+        ensures stopped { IfErr result (λ stop. EndStops stop self.old
+            (side (W.faults output.old) (W.given output.old)) (side (W.faults output.new) (W.given output.new))) }
         ensures later { W.faults output.old ≤ W.faults output.new }
     {
         let Ok(routed) = self.channel.ended() else {
             return Err(Stop::Memory);
         };
-        self.put_events(&routed, output)?;
+        self.events.put(&routed, output)?;
         Ok(())
     }
 
-    /// Reads the input to its end and writes the lines of its events.
-    pub fn run<S: Source, W: Sink, L: Ledger>(
+    /// Reads the input to its end and writes the lines of its events. Steps are counted in a ledger that the blank one
+    /// opens.
+    fn run<S: Source, W: Sink, L: Ledger>(
         &mut self,
+        block: &mut [u8],
         input: &mut S,
         output: &mut W,
-        steps: &mut Steps<L>,
+        blank: Blank,
     ) -> Status
-        ensures run { (meta : ChannelMeta) → StandsFor newlines (effective 10000) meta [] self.old.channel →
-            Runs result meta self.old.moment (S.faults input.old) (S.faults input.new) (W.faults output.old) (W.faults output.new)
-            (S.left input.old) (S.left input.new) (W.given output.old) (W.given output.new) }
+        requires block { 0 < length block.old }
+        requires name { blank.name ≡ L.name }
+        requires parts { blank.parts ≡ L.parts }
+        requires some { 0 < blank.parts }
+        ensures run { (meta : ChannelMeta) → Holds meta [] self.old.moment self.old.channel →
+            Runs result (text_of meta self.old.moment)
+            (side (S.faults input.old) (S.left input.old)) (side (S.faults input.new) (S.left input.new))
+            (side (W.faults output.old) (W.given output.old)) (side (W.faults output.new) (W.given output.new)) }
         ensures read_later { S.faults input.old ≤ S.faults input.new }
         ensures written_later { W.faults output.old ≤ W.faults output.new }
     {
-        ix_parse::settled_stays();
-        let Ok(mut block) = make_block(self.alloc) else {
-            return Status::Memory;
-        };
-        match self.read_all(&mut block, input, output, steps) {
+        let mut steps = Steps::<L>::new(blank);
+        match self.read_all(block, input, output, &mut steps) {
             Ok(true) => {}
             Ok(false) => return Status::Endless,
             Err(stop) => return stop.status(),
@@ -198,4 +209,51 @@ impl Preview {
             Err(stop) => stop.status(),
         }
     }
+}
+
+/// The lines of the input's events, all before the line of the status.
+fn preview_lines<S: Source, W: Sink>(
+    alloc: Global,
+    origin: Origin<'_>,
+    moment: i64,
+    input: &mut S,
+    output: &mut W,
+) -> Status
+    ensures runs { Runs result (text_of (preview_meta origin.entry.host.now origin.entry.source.now) moment)
+        (side (S.faults input.old) (S.left input.old)) (side (S.faults input.new) (S.left input.new))
+        (side (W.faults output.old) (W.given output.old)) (side (W.faults output.new) (W.given output.new)) }
+    ensures read_later { S.faults input.old ≤ S.faults input.new }
+    ensures written_later { W.faults output.old ≤ W.faults output.new }
+{
+    let Ok(mut block) = make_block(alloc) else {
+        return Status::Memory;
+    };
+    let Ok(mut preview) = Preview::start(alloc, origin, moment) else {
+        return Status::Memory;
+    };
+    preview.run::<S, W, Brand>(&mut block, input, output, Blank::new(1))
+}
+
+/// Reads the input as one closed stream, all of whose bytes have the moment that the clock shows first, and writes the
+/// lines of its events and the line of the status.
+pub fn preview_input<S: Source, W: Sink, C: Clock>(
+    alloc: Global,
+    origin: Origin<'_>,
+    input: &mut S,
+    output: &mut W,
+    clock: &mut C,
+) -> Status
+    ensures previews { Previews result (preview_meta origin.entry.host.now origin.entry.source.now) (C.ahead clock.old) (C.ahead clock.new)
+        (side (S.faults input.old) (S.left input.old)) (side (S.faults input.new) (S.left input.new))
+        (side (W.faults output.old) (W.given output.old)) (side (W.faults output.new) (W.given output.new)) }
+    ensures not_usage { result ≢ Status.Usage }
+    ensures input { result ≡ Status.Input → Rose (S.faults input.old) (S.faults input.new) }
+    ensures output { result ≡ Status.Output → Rose (W.faults output.old) (W.faults output.new) }
+    ensures read_later { S.faults input.old ≤ S.faults input.new }
+    ensures written_later { W.faults output.old ≤ W.faults output.new }
+{
+    let moment = clock.now();
+    let status = preview_lines(alloc, origin, moment, input, output);
+    say(status, output);
+    status
 }

@@ -158,6 +158,7 @@ fn read_apps<T: Tree>(alloc: Global, tree: &mut T) -> Result<Names, TreeFault>
     ensures present { IsErrOf result TreeFault.Missing → ⊥ }
     ensures same { T.files tree.new ≡ T.files tree.old }
     ensures later { T.faults tree.old ≤ T.faults tree.new }
+    ensures later_missing { T.missing tree.old ≤ T.missing tree.new }
 {
     match tree.list(alloc, b"etc/apps") {
         Err(TreeFault::Missing) => Ok(Names::new(alloc)),
@@ -181,6 +182,7 @@ fn read_piece<T: Tree>(
     ensures kept { IsErrOf result TreeFault.Missing → text.new ≡ text.old }
     ensures same { T.files tree.new ≡ T.files tree.old }
     ensures later { T.faults tree.old ≤ T.faults tree.new }
+    ensures later_missing { T.missing tree.old ≤ T.missing tree.new }
     ensures room { length block.new ≡ length block.old }
 {
     let n = tree.read(path, text.len() as u64, block)?;
@@ -208,6 +210,7 @@ fn read_bytes<T: Tree>(
     ensures present { IsErrOf result TreeFault.Missing → ⊥ }
     ensures same { T.files tree.new ≡ T.files tree.old }
     ensures later { T.faults tree.old ≤ T.faults tree.new }
+    ensures later_missing { T.missing tree.old ≤ T.missing tree.new }
 {
     let mut text = Bytes::new(alloc);
     let mut block = make_block(alloc)?;
@@ -229,6 +232,7 @@ fn size_of<T: Tree>(tree: &mut T, path: &[u8]) -> Result<u64, TreeFault>
     ensures present { IsErrOf result TreeFault.Missing → ⊥ }
     ensures same { T.files tree.new ≡ T.files tree.old }
     ensures later { T.faults tree.old ≤ T.faults tree.new }
+    ensures later_missing { T.missing tree.old ≤ T.missing tree.new }
 {
     match tree.size(path) {
         Err(TreeFault::Missing) => Ok(0),
@@ -243,6 +247,7 @@ fn read_text<T: Tree>(alloc: Global, tree: &mut T, path: &[u8]) -> Result<Option
     ensures present { IsErrOf result TreeFault.Missing → ⊥ }
     ensures same { T.files tree.new ≡ T.files tree.old }
     ensures later { T.faults tree.old ≤ T.faults tree.new }
+    ensures later_missing { T.missing tree.old ≤ T.missing tree.new }
 {
     let size = size_of(tree, path)?;
     if size > MAX_TEXT {
@@ -291,6 +296,7 @@ impl SettingsFile {
         ensures reads { Reads result (T.faults tree.old) (T.faults tree.new) (T.files tree.old) (λ all. layer_read all self name.now) }
         ensures same { T.files tree.new ≡ T.files tree.old }
         ensures later { T.faults tree.old ≤ T.faults tree.new }
+        ensures later_missing { T.missing tree.old ≤ T.missing tree.new }
     {
         let path = self.path_in(alloc, name)?;
         let text = read_text(alloc, tree, path.as_slice())?;
@@ -307,6 +313,7 @@ impl SettingsFile {
         ensures reads { Reads result (T.faults tree.old) (T.faults tree.new) (T.files tree.old) (λ all. layers_read all self names.now) }
         ensures same { T.files tree.new ≡ T.files tree.old }
         ensures later { T.faults tree.old ≤ T.faults tree.new }
+        ensures later_missing { T.missing tree.old ≤ T.missing tree.new }
     {
         let mut layers = Layers::new(alloc);
         for name in names {
@@ -335,6 +342,7 @@ impl SettingsFile {
         ensures reads { Reads result (T.faults tree.old) (T.faults tree.new) (T.files tree.old) (λ all. settings all self) }
         ensures same { T.files tree.new ≡ T.files tree.old }
         ensures later { T.faults tree.old ≤ T.faults tree.new }
+        ensures later_missing { T.missing tree.old ≤ T.missing tree.new }
     {
         let apps = read_apps(alloc, tree)?;
         let names = layer_names(alloc, &apps)?;

@@ -1,6 +1,7 @@
 //! How a run ends.
 
 ghost use Rattle.std.specs.Prelude.{◌≡◌, ◌≤◌};
+ghost use Rattle.indexd_core.specs.Sides.{side};
 ghost use Rattle.indexd_core.specs.Texts.{status_code, status_text, Said};
 
 use ix_base::Sink;
@@ -54,9 +55,10 @@ impl Status {
     }
 }
 
-/// Writes the line of a status, if it has one. Where that fails the status stays.
+/// Writes the line of a status, where it is always the same one. Where writing fails the status stays, and a front of the
+/// line may stand there.
 pub fn say<W: Sink>(status: Status, output: &mut W)
-    ensures said { Said (status_text status) (W.faults output.old) (W.faults output.new) (W.given output.old) (W.given output.new) }
+    ensures said { Said (status_text status) (side (W.faults output.old) (W.given output.old)) (side (W.faults output.new) (W.given output.new)) }
     ensures later { W.faults output.old ≤ W.faults output.new }
 {
     let text = status.text();

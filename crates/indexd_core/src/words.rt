@@ -8,19 +8,29 @@ ghost use Rattle.indexd_core.specs.declared.settings.SettingsFile.{SettingsFile}
 use crate::settings::SettingsFile;
 use ix_base::Text;
 
+/// Where bytes come from, by the words of the command line.
+#[derive(Clone, Copy)]
+pub struct Origin<'a> {
+    pub host: &'a [u8],
+    pub source: &'a [u8],
+}
+
 /// A command with its words.
 #[derive(Clone, Copy)]
 pub enum Command<'a> {
     /// Lines of the input as events.
-    Preview { host: &'a [u8], source: &'a [u8] },
+    Preview(Origin<'a>),
     /// The settings of all layers of a file.
-    Btool { file: SettingsFile },
+    Btool(SettingsFile),
 }
+
+/// How many bytes a host or a source has at the most.
+const LONGEST_NAME: usize = 1024;
 
 fn is_name(name: &[u8]) -> bool
     ensures { IsTrue result ↔ IsName name.now }
 {
-    1 <= name.len() && name.len() <= 1024
+    1 <= name.len() && name.len() <= LONGEST_NAME
 }
 
 fn is_word(text: &Text, word: &str) -> bool
@@ -66,7 +76,7 @@ impl<'a> Command<'a> {
         if !is_name(host) || !is_name(source) {
             return None;
         }
-        Some(Command::Preview { host, source })
+        Some(Command::Preview(Origin { host, source }))
     }
 
     /// `btool FILE`.
@@ -81,7 +91,7 @@ impl<'a> Command<'a> {
             return None;
         }
         let file = file_named(file)?;
-        Some(Command::Btool { file })
+        Some(Command::Btool(file))
     }
 
     /// The command that the words are: `preview --host HOST --source SOURCE`, in this order, each name having 1 to

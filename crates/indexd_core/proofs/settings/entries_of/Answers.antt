@@ -2,14 +2,14 @@ use Rattle.std.proofs.Common.{◌≡◌, ◌<◌, ℕ, List, true, ltb, length, 
 use Rattle.std.proofs.lemmas.Bool.Decides.{nat_tests}
 use Rattle.ix_conf.specs.Grammar.{pairs}
 use Rattle.ix_conf.specs.declared.entries.ConfFault.TheVariants.{TooLong}
-use Rattle.indexd_core.specs.Settings.{IsTextOr}
+use Rattle.indexd_core.specs.Settings.{IsTextOr, longest_file}
 use Rattle.indexd_core.proofs.settings.entries_of.Goals as goal
 
-too_long : (bytes : List ℕ) → 1048576 < length bytes → pairs bytes ≡ Err TooLong
+too_long : (bytes : List ℕ) → longest_file < length bytes → pairs bytes ≡ Err TooLong
 unfolding pairs
-too_long bytes long = let e : ltb 1048576 (length bytes) ≡ true = grind (arith, nat_tests) in rw e refl
+too_long bytes long = let e : ltb longest_file (length bytes) ≡ true = grind (arith, nat_tests) in rw e refl
 
-longer : (bytes : List ℕ) (text : Option (List ℕ)) → text ≡ None → IsTextOr text bytes → 1048576 < length bytes
+longer : (bytes : List ℕ) (text : Option (List ℕ)) → text ≡ None → IsTextOr text bytes → longest_file < length bytes
 longer bytes None is long = long
 longer bytes (Some text) is same = search rules
 

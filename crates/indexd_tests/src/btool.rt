@@ -1,6 +1,6 @@
-//! Runs of the program over files in memory.
+//! Tests of `btool`, over files in memory.
 
-use crate::{Status, top};
+use indexd_core::{Status, top};
 use ix_base::{
     Bytes, FailPlan, MemClock, MemSink, MemSource, MemTree, NoMemory, Text, TreeFile, TreeFileList,
 };
@@ -137,19 +137,6 @@ fn a_failed_call_is_an_input_fault(rt: HostRuntime) -> Result<(), Fail> {
         assert!(rt;
             answers(alloc, "props", &[TEN], vec![in alloc; call]?, want)?,
             "the call {call}"
-        );
-    }
-    Ok(())
-}
-
-#[test]
-fn other_files_are_refused(rt: HostRuntime) -> Result<(), Fail> {
-    let alloc = rt.alloc();
-    let want: (Status, &[u8]) = (Status::Usage, b"indexd: usage\n");
-    for file in ["", "prop", "props.conf", "Props", "--help"] {
-        assert!(rt;
-            answers(alloc, file, &[TEN], Vec::new(alloc), want)?,
-            "the file {file}"
         );
     }
     Ok(())

@@ -1,0 +1,7 @@
+//! Tests of the whole program over the forms in memory, by `top` alone.
+#![tactic(auto)]
+
+#[cfg(test)]
+mod btool;
+#[cfg(test)]
+mod program;
