@@ -1,3 +1,5 @@
 mod LeastLemmas
 mod OrderLemmas
 mod PrefixLemmas
+pub mod ItemLemmas
+mod LimitsLemmas

@@ -3,3 +3,7 @@ pub mod Placing
 pub mod Order
 pub mod Prefix
 pub mod Housekeeping
+pub mod Kinds
+pub mod Stanzas
+pub mod Limits
+pub mod Listed

@@ -3,18 +3,25 @@
 #![tactic(auto)]
 
 mod caps;
+mod faults;
 mod housekeeping;
+mod kinds;
 mod limits;
 mod moves;
 mod order;
 mod picks;
 mod placing;
+mod sets;
+mod stanzas;
 mod times;
 mod views;
 
 pub use caps::one_shortest;
+pub use faults::LimitFault;
 pub use housekeeping::housekeep;
 pub use limits::Limits;
 pub use moves::{FreezeList, IdList, Moves};
 pub use placing::{Places, Target, place, place_at};
+pub use sets::{LimitSet, Route};
+pub use stanzas::contains;
 pub use views::{BucketList, EntryList, IndexView, IndexViewList, View};
