@@ -1,1 +1,389 @@
-//! Tests of `ix_props`.
+//! Tests of `ix_values`: values of each kind, by examples worked by hand.
+
+use ix_base::{Bytes, NoMemory, Sequence};
+use ix_conf::{ConfFault, Layer, Merged, merge, parse};
+use ix_pattern::PatternFault;
+use ix_values::{
+    Directive, FormatFault, Key, Part, Sed, SedFault, TimeFormat, Transform, TransformFault, Which,
+    read_boolean, read_number,
+};
+use std::alloc::Global;
+use std::test::Fail;
+
+#[test]
+fn booleans_are_ten_words(rt: HostRuntime) {
+    let cases: [(&[u8], Option<bool>); 14] = [
+        (b"true", Some(true)),
+        (b"T", Some(true)),
+        (b"yEs", Some(true)),
+        (b"y", Some(true)),
+        (b"1", Some(true)),
+        (b"FALSE", Some(false)),
+        (b"f", Some(false)),
+        (b"No", Some(false)),
+        (b"N", Some(false)),
+        (b"0", Some(false)),
+        (b"", None),
+        (b"on", None),
+        (b"truer", None),
+        (b"01", None),
+    ];
+    for (text, want) in cases {
+        assert!(rt; read_boolean(text) == want, "the boolean {text:?}");
+    }
+}
+
+#[test]
+fn numbers_have_a_sign_or_none_and_ten_digits(rt: HostRuntime) {
+    let cases: [(&[u8], Option<i64>); 16] = [
+        (b"0", Some(0)),
+        (b"-0", Some(0)),
+        (b"-1", Some(-1)),
+        (b"-2", None),
+        (b"007", Some(7)),
+        (b"1048576", Some(1_048_576)),
+        (b"1048577", None),
+        (b"0001048576", Some(1_048_576)),
+        (b"00001048576", None),
+        (b"9999999999", None),
+        (b"", None),
+        (b"-", None),
+        (b"--1", None),
+        (b"+1", None),
+        (b"1 ", None),
+        (b"0x1", None),
+    ];
+    for (text, want) in cases {
+        assert!(rt;
+            read_number(text, -1, 1_048_576) == want,
+            "the number {text:?}"
+        );
+    }
+}
+
+fn add_digit(text: &mut Bytes, digit: u32) -> Result<(), NoMemory> {
+    text.push(b'0' + (digit % 10) as u8)
+}
+
+/// The bytes of parts, and `<12>` for group 12.
+fn add_parts(text: &mut Bytes, parts: &[Part]) -> Result<(), NoMemory> {
+    for part in parts {
+        match part {
+            Part::Byte(byte) => text.push(*byte)?,
+            Part::Group(group) => {
+                let group = (*group % 100) as u32;
+                text.push(b'<')?;
+                add_digit(text, group / 10)?;
+                add_digit(text, group)?;
+                text.push(b'>')?;
+            }
+        }
+    }
+    Ok(())
+}
+
+fn add_which(text: &mut Bytes, which: Which) -> Result<(), NoMemory> {
+    match which {
+        Which::First => text.extend(b"first"),
+        Which::All => text.extend(b"all"),
+        Which::Nth(number) => {
+            add_digit(text, number / 1000)?;
+            add_digit(text, number / 100)?;
+            add_digit(text, number / 10)?;
+            add_digit(text, number)
+        }
+    }
+}
+
+fn pattern_fault(fault: PatternFault) -> &'static [u8] {
+    match fault {
+        PatternFault::Syntax => b"syntax",
+        PatternFault::TooLarge => b"too large",
+        PatternFault::EmptyRepeat => b"empty repeat",
+        PatternFault::NoMemory => b"memory",
+    }
+}
+
+/// Which matches and what they become, or which bytes become which.
+fn add_change(found: &mut Bytes, change: &Sed) -> Result<(), NoMemory> {
+    match change {
+        Sed::Replace { parts, which, .. } => {
+            add_which(found, *which)?;
+            found.extend(b"|")?;
+            add_parts(found, parts.as_slice())
+        }
+        Sed::Swap { from, to } => {
+            found.extend(from.as_slice())?;
+            found.extend(b"|")?;
+            found.extend(to.as_slice())
+        }
+    }
+}
+
+/// What a text changes, or its fault.
+fn describe_change(alloc: Global, text: &[u8]) -> Result<Bytes, NoMemory> {
+    let mut found = Bytes::new(alloc);
+    match Sed::read(alloc, text) {
+        Ok(change) => add_change(&mut found, &change)?,
+        Err(SedFault::BadValue) => found.extend(b"bad value")?,
+        Err(SedFault::BadPattern { fault }) => found.extend(pattern_fault(fault))?,
+        Err(SedFault::NoMemory) => return Err(NoMemory),
+    }
+    Ok(found)
+}
+
+#[test]
+fn changes_have_two_forms(rt: HostRuntime) -> Result<(), Fail> {
+    let cases: [(&[u8], &[u8]); 27] = [
+        (b"s/a/b/", b"first|b"),
+        (b"s/a/b/g", b"all|b"),
+        (b"s/a/b/7", b"0007|b"),
+        (b"s/a/b/0010", b"0010|b"),
+        (b"s/a/b/1000", b"1000|b"),
+        (b"s/a//", b"first|"),
+        (b"s/\\//&/", b"first|&"),
+        (b"s/(a)/<\\1\\9>/", b"first|<<01><09>>"),
+        (b"s/a/\\n\\t\\/\\\\/", b"first|\n\t/\\"),
+        (b"s/a/$1/", b"first|$1"),
+        (b"s/a/b/0", b"bad value"),
+        (b"s/a/b/1001", b"bad value"),
+        (b"s/a/b/00001", b"bad value"),
+        (b"s/a/b/G", b"bad value"),
+        (b"s/a/b", b"bad value"),
+        (b"s/a\\/b/", b"bad value"),
+        (b"s/a/\\0/", b"bad value"),
+        (b"s/a/\\x/", b"bad value"),
+        (b"s|a|b|", b"bad value"),
+        (b"", b"bad value"),
+        (b"s/(/b/", b"syntax"),
+        (b"s/(/\\x/", b"bad value"),
+        (b"s/(a*)*/b/", b"empty repeat"),
+        (b"y/ab/cd/", b"ab|cd"),
+        (b"y/\\/\\n/\\t\\\\/", b"/\n|\t\\"),
+        (b"y/ab/c/", b"bad value"),
+        (b"y/a/\\1/", b"bad value"),
+    ];
+    for (text, want) in cases {
+        let found = describe_change(rt.alloc(), text)?;
+        assert!(rt; found.as_slice() == want, "the change {text:?}");
+    }
+    Ok(())
+}
+
+/// A directive as a format spells it; `_` for white space.
+fn spelling(directive: Directive) -> [u8; 2] {
+    match directive {
+        Directive::Year => *b"%Y",
+        Directive::YearOfCentury => *b"%y",
+        Directive::Month => *b"%m",
+        Directive::Day => *b"%d",
+        Directive::PaddedDay => *b"%e",
+        Directive::Hour => *b"%H",
+        Directive::HalfDayHour => *b"%I",
+        Directive::Minute => *b"%M",
+        Directive::Second => *b"%S",
+        Directive::DayOfYear => *b"%j",
+        Directive::ShortMonthName => *b"%b",
+        Directive::MonthName => *b"%B",
+        Directive::ShortWeekdayName => *b"%a",
+        Directive::WeekdayName => *b"%A",
+        Directive::HalfDay => *b"%p",
+        Directive::Epoch => *b"%s",
+        Directive::Fraction => *b"%N",
+        Directive::Millis => *b"%3",
+        Directive::Micros => *b"%6",
+        Directive::Nanos => *b"%9",
+        Directive::Offset => *b"%z",
+        Directive::ZoneName => *b"%Z",
+        Directive::Space => *b"__",
+        Directive::Byte(byte) => [b'=', byte],
+    }
+}
+
+/// The directives of a format, or its fault.
+fn describe_format(alloc: Global, text: &[u8]) -> Result<Bytes, NoMemory> {
+    let mut found = Bytes::new(alloc);
+    match TimeFormat::read(alloc, text) {
+        Ok(format) => {
+            for directive in format.as_slice() {
+                found.extend(&spelling(*directive))?;
+            }
+        }
+        Err(FormatFault::BadValue) => found.extend(b"bad value")?,
+        Err(FormatFault::NoMemory) => return Err(NoMemory),
+    }
+    Ok(found)
+}
+
+#[test]
+fn formats_are_lists_of_directives(rt: HostRuntime) -> Result<(), Fail> {
+    let cases: [(&[u8], &[u8]); 20] = [
+        (b"%s", b"%s"),
+        (b"%j", b"%j"),
+        (b"%m%d", b"%m%d"),
+        (b"%e %b", b"%e__%b"),
+        (b"%B%d", b"%B%d"),
+        (b"%F", b"%Y=-%m=-%d"),
+        (b"%sT%T", b"%s=T%H=:%M=:%S"),
+        (b"%%%s", b"=%%s"),
+        (b"%s.%3N%6N%9N%N", b"%s=.%3%6%9%N"),
+        (b"%s \t\x0B\r\n%p", b"%s__%p"),
+        (b"%a%A%I%y%z%Z%j", b"%a%A%I%y%z%Z%j"),
+        (b"", b"bad value"),
+        (b"%Y-%m", b"bad value"),
+        (b"%Y-%d", b"bad value"),
+        (b"%T", b"bad value"),
+        (b"%s%", b"bad value"),
+        (b"%s%Q", b"bad value"),
+        (b"%s%3", b"bad value"),
+        (b"%s%3S", b"bad value"),
+        (b"%s%1N", b"bad value"),
+    ];
+    for (text, want) in cases {
+        let found = describe_format(rt.alloc(), text)?;
+        assert!(rt; found.as_slice() == want, "the format {text:?}");
+    }
+    Ok(())
+}
+
+/// The settings of one file.
+fn settings_of(alloc: Global, text: &[u8]) -> Result<Merged, ConfFault> {
+    let mut layers = Sequence::new(alloc);
+    let layer = Layer {
+        name: Bytes::copy_of(alloc, b"etc/system/local")?,
+        file: parse(alloc, text)?,
+    };
+    layers.push(layer)?;
+    Ok(merge(alloc, &layers)?)
+}
+
+fn key_letter(key: Key) -> u8 {
+    match key {
+        Key::Raw => b'r',
+        Key::Meta => b'm',
+        Key::Queue => b'q',
+        Key::Index => b'i',
+        Key::Host => b'h',
+        Key::Source => b's',
+        Key::Sourcetype => b't',
+    }
+}
+
+/// Source, destination, whether the indexed fields are written, format and default value; or the fault.
+fn describe_transform(alloc: Global, transforms: &Merged) -> Result<Bytes, NoMemory> {
+    let mut found = Bytes::new(alloc);
+    if !transforms.has(b"t") {
+        return Ok(found);
+    }
+    match Transform::read(alloc, b"t", transforms) {
+        Ok(transform) => {
+            found.push(key_letter(transform.source))?;
+            found.push(transform.dest.map_or(b'-', |key| key_letter(key)))?;
+            found.push(if transform.write_meta { b'+' } else { b'-' })?;
+            add_parts(&mut found, transform.format.as_slice())?;
+            if let Some(value) = &transform.default_value {
+                found.push(b'|')?;
+                found.extend(value.as_slice())?;
+            }
+        }
+        Err(TransformFault::BadValue { key }) => {
+            found.extend(b"bad ")?;
+            found.extend(key.as_slice())?;
+        }
+        Err(TransformFault::BadPattern { key, fault }) => {
+            found.extend(key.as_slice())?;
+            found.push(b' ')?;
+            found.extend(pattern_fault(fault))?;
+        }
+        Err(TransformFault::NoMemory) => return Err(NoMemory),
+    }
+    Ok(found)
+}
+
+#[test]
+fn transforms_are_stanzas(rt: HostRuntime) -> Result<(), Fail> {
+    let cases: [(&[u8], &[u8]); 18] = [
+        (b"[t]\nREGEX=(a)\nWRITE_META=1", b"r-+t::<01>"),
+        (
+            b"[t]\nREGEX=a\nDEST_KEY=queue\nFORMAT=nullQueue",
+            b"rq-nullQueue",
+        ),
+        (
+            b"[t]\nREGEX=a\nDEST_KEY=_meta\nFORMAT=$0 $12$3x$ $$1",
+            b"rm-<00> <12><03>x$ $<01>",
+        ),
+        (
+            b"[t]\nREGEX=a\nSOURCE_KEY=MetaData:Host\nDEST_KEY=_MetaData:Index\nFORMAT=$123\nDEFAULT_VALUE=x y",
+            b"hi-<12>3|x y",
+        ),
+        (
+            b"DEST_KEY=_raw\nREGEX=a\nWRITE_META=y\n[t]\nFORMAT=",
+            b"rr+t::<01>",
+        ),
+        (b"DEST_KEY=_raw\nREGEX=a\n[t]\nDEST_KEY=", b"bad DEST_KEY"),
+        (
+            b"[t]\nREGEX=a\nSOURCE_KEY=MetaData:Sourcetype\nDEST_KEY=MetaData:Source\nFORMAT=$a",
+            b"ts-$a",
+        ),
+        (b"[t]\nREGEX=a", b"bad DEST_KEY"),
+        (b"[t]\nREGEX=a\nWRITE_META=0", b"bad DEST_KEY"),
+        (b"[t]\nREGEX=a\nWRITE_META=2", b"bad DEST_KEY"),
+        (
+            b"[t]\nREGEX=a\nWRITE_META=2\nDEST_KEY=_raw",
+            b"bad WRITE_META",
+        ),
+        (b"[t]\nREGEX=a\nDEST_KEY=raw\nLOOKAHEAD=0", b"bad DEST_KEY"),
+        (
+            b"[t]\nREGEX=(\nDEST_KEY=_raw\nLOOKAHEAD=0",
+            b"bad LOOKAHEAD",
+        ),
+        (
+            b"[t]\nREGEX=a\nDEST_KEY=_raw\nLOOKAHEAD=8388609",
+            b"bad LOOKAHEAD",
+        ),
+        (
+            b"[t]\nREGEX=(\nDEST_KEY=_raw\nSOURCE_KEY=x",
+            b"REGEX syntax",
+        ),
+        (b"[t]\nREGEX=\nDEST_KEY=_raw\nSOURCE_KEY=x", b"bad REGEX"),
+        (b"[t]\nDEST_KEY=_raw", b"bad REGEX"),
+        (
+            b"[t]\nREGEX=a\nDEST_KEY=_raw\nSOURCE_KEY=MetaData:Index\nWRITE_META=2",
+            b"bad SOURCE_KEY",
+        ),
+    ];
+    for (text, want) in cases {
+        let transforms = settings_of(rt.alloc(), text)?;
+        let found = describe_transform(rt.alloc(), &transforms)?;
+        assert!(rt; found.as_slice() == want, "the transform of {text:?}");
+    }
+    Ok(())
+}
+
+/// How many bytes of the source a transform looks at.
+fn lookahead_of(alloc: Global, text: &[u8]) -> Result<Option<u32>, ConfFault> {
+    let transforms = settings_of(alloc, text)?;
+    if !transforms.has(b"t") {
+        return Ok(None);
+    }
+    match Transform::read(alloc, b"t", &transforms) {
+        Ok(transform) => Ok(Some(transform.lookahead)),
+        Err(_) => Ok(None),
+    }
+}
+
+#[test]
+fn transforms_look_ahead(rt: HostRuntime) -> Result<(), Fail> {
+    let cases: [(&[u8], u32); 3] = [
+        (b"[t]\nREGEX=a\nDEST_KEY=_raw", 4096),
+        (b"[t]\nREGEX=a\nDEST_KEY=_raw\nLOOKAHEAD=8388608", 8_388_608),
+        (b"LOOKAHEAD=0\n[t]\nREGEX=a\nDEST_KEY=_raw\nLOOKAHEAD=1", 1),
+    ];
+    for (text, want) in cases {
+        assert!(rt;
+            lookahead_of(rt.alloc(), text)? == Some(want),
+            "the lookahead of {text:?}"
+        );
+    }
+    Ok(())
+}
