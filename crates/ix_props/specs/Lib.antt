@@ -1,0 +1,6 @@
+pub mod Kinds
+pub mod Lists
+pub mod Names
+pub mod Props
+pub mod Values
+pub mod Zones

@@ -1,0 +1,22 @@
+//! The settings of channels: props.conf, transforms.conf and zones.conf are judged as a whole, and for a channel the values that
+//! hold for it are chosen.
+#![tactic(auto)]
+
+mod faults;
+mod kinds;
+mod lists;
+mod names;
+mod props;
+mod settings;
+mod values;
+mod zones;
+
+pub use faults::SettingFault;
+pub use ix_values::{
+    Directive, FormatFault, Key, Part, PartList, Sed, SedFault, SedList, TimeFormat, Transform,
+    TransformFault, TransformList, Which,
+};
+pub use props::{Props, PropsEntry};
+pub use settings::{MergeSettings, Settings, TimeSettings};
+pub use values::Value;
+pub use zones::{RuleFault, Zone, ZoneFault, find_zone};

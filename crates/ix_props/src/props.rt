@@ -1,0 +1,108 @@
+//! props.conf as a whole, with the transforms and zones that it names.
+
+ghost use Rattle.std.specs.Prelude.{IfOk, IfErr};
+ghost use Rattle.ix_conf.specs.Lent.{item_entry};
+ghost use Rattle.ix_props.specs.Kinds.{entry_kind};
+ghost use Rattle.ix_props.specs.Props.{IsOfKind, RefusesKind, AreRead, RefusesProps};
+
+use crate::faults::SettingFault;
+use crate::kinds::{Kind, entry_kind};
+use crate::lists::read_transforms;
+use crate::values::{
+    Value, read_breaker, read_change, read_format, read_name, read_plain, read_small, read_stanza,
+    read_zone,
+};
+use ix_base::{Bytes, Sequence};
+use ix_conf::{Item, Merged};
+use std::alloc::Global;
+use std::marker::Model;
+
+/// An entry of props.conf with its value. A stanza's own entry has an empty key.
+#[derive(Drop)]
+pub struct PropsEntry {
+    pub stanza: Bytes,
+    pub key: Bytes,
+    pub value: Value,
+}
+
+/// The settings of all channels. Contracts see them as the list of the entries of props.conf, each with the value that was read of
+/// its text.
+#[derive(Drop)]
+pub struct Props {
+    entries: Sequence<PropsEntry>,
+}
+
+impl Model for Props {
+    ghost use Rattle.std.specs.Prelude.{List};
+    ghost use Rattle.ix_props.specs.declared.props.PropsEntry.{PropsEntry as Entry};
+
+    ghost Value = { List Entry };
+
+    ghost view = { λ p. p.entries };
+}
+
+/// Reads the value of an entry, by its kind.
+fn read_kind(
+    alloc: Global,
+    kind: Kind,
+    item: Item<'_>,
+    transforms: &Merged,
+    zones: &Merged,
+) -> Result<Value, SettingFault>
+    ensures ok { IfOk result (λ v. IsOfKind transforms.now zones.now kind (item_entry item.entry) v) }
+    ensures err { IfErr result (λ fault. RefusesKind transforms.now zones.now kind (item_entry item.entry) fault) }
+{
+    match kind {
+        Kind::Unread => Ok(Value::Nothing),
+        Kind::Stanza => read_stanza(alloc, item),
+        Kind::Breaker => read_breaker(alloc, item),
+        Kind::Pattern => read_plain(alloc, item),
+        Kind::Boolean | Kind::Count { .. } | Kind::Lookahead | Kind::Priority => {
+            read_small(alloc, item, kind)
+        }
+        Kind::Format => read_format(alloc, item),
+        Kind::Zone => read_zone(alloc, item, zones),
+        Kind::Change => read_change(alloc, item),
+        Kind::Transforms => read_transforms(alloc, item, transforms),
+        Kind::Name => read_name(alloc, item),
+    }
+}
+
+fn read_entries(
+    alloc: Global,
+    props: &Merged,
+    transforms: &Merged,
+    zones: &Merged,
+) -> Result<Sequence<PropsEntry>, SettingFault>
+    ensures ok { IfOk result (λ entries. AreRead transforms.now zones.now props.now entries) }
+    ensures err { IfErr result (λ fault. RefusesProps transforms.now zones.now props.now fault) }
+{
+    let mut found = Sequence::new(alloc);
+    while let Some(item) = props.item(found.len()) {
+        let value = read_kind(alloc, entry_kind(item), item, transforms, zones)?;
+        found.push(PropsEntry {
+            stanza: Bytes::copy_of(alloc, item.stanza)?,
+            key: Bytes::copy_of(alloc, item.key)?,
+            value,
+        })?;
+    }
+    Ok(found)
+}
+
+impl Props {
+    /// Judges the values of all keys of props.conf, in the order of the bytes of stanzas and keys, and at the place of a value also the
+    /// transforms and the zone that it names. The first fault is answered. Transforms and zones that no value names are not judged, nor
+    /// are stanzas whose names begin with `rule::` or `delayedrule::`.
+    pub fn load(
+        alloc: Global,
+        props: &Merged,
+        transforms: &Merged,
+        zones: &Merged,
+    ) -> Result<Props, SettingFault>
+        ensures ok { IfOk result (λ loaded. AreRead transforms.now zones.now props.now loaded) }
+        ensures err { IfErr result (λ fault. RefusesProps transforms.now zones.now props.now fault) }
+    {
+        let entries = read_entries(alloc, props, transforms, zones)?;
+        Ok(Props { entries })
+    }
+}
