@@ -16,8 +16,6 @@ mod reader;
 mod reading;
 mod sets;
 mod steps;
-#[cfg(test)]
-mod tests;
 mod tokens;
 mod work;
 

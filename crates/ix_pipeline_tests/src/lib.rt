@@ -2,9 +2,9 @@
 #![tactic(auto)]
 
 #[cfg(test)]
-mod matching;
-#[cfg(test)]
 mod lines;
+#[cfg(test)]
+mod matching;
 #[cfg(test)]
 mod merge;
 #[cfg(test)]

@@ -205,10 +205,7 @@ fn the_disk_of_the_machine_keeps_files(rt: HostRuntime) -> Result<(), Fail> {
     run(&mut disk)?;
     all_hold(&rt, &mut disk, &READ)?;
     all_hold(&rt, &mut HostDisk::new(&rt), &READ)?;
-    assert_eq!(rt;
-        fs::read_to_string(&rt, "var/meta/1")?.as_str(),
-        "abXYefZ"
-    );
+    assert_eq!(rt; fs::read_to_string(&rt, "var/meta/1")?.as_str(), "abXYefZ");
     assert_eq!(rt; disk.faults(), 0);
     assert_eq!(rt; disk.write_at(LOG, u64::MAX, b"x"), Err(Failed));
     // A folder in place of a file, and a file in place of a folder.

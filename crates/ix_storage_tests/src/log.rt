@@ -244,7 +244,10 @@ fn a_log_that_is_begun_anew_is_empty(rt: HostRuntime) -> Result<(), Fail> {
         let mut log = Log::begin(alloc, &mut left, LOG)?;
         log.put(&mut left, b"x")?;
         log.finish(&mut left)?;
-        assert_eq!(rt; said(alloc, &mut left)?, plain(alloc, b"\x01\x00\x00\x00\x01x\x00")?);
+        assert_eq!(rt;
+            said(alloc, &mut left)?,
+            plain(alloc, b"\x01\x00\x00\x00\x01x\x00")?
+        );
     }
     Ok(())
 }
