@@ -1,13 +1,14 @@
-//! Tests of `ix_life` and `ix_report`, with outcomes worked by hand. Settings are texts of indexes.conf, and buckets are written as
+//! Tests of `ix_life`, `ix_report` and `ix_monitor`, with outcomes worked by hand. Settings are texts of indexes.conf, and buckets are written as
 //! `ID STATE BYTES OLDEST NEWEST USED`, with `;` between.
 
-use ix_base::{Area, Bytes, File, NoMemory};
-use ix_conf::{Layer, Layers, merge, parse};
+use ix_base::{Area, Bytes, File, NoMemory, Spot};
+use ix_conf::{Layer, Layers, Merged, merge, parse};
 use ix_items::{Bucket, Entry, Rule, State};
 use ix_life::{
     BucketList, EntryList, IndexView, IndexViewList, LimitFault, LimitSet, Limits, Target, View,
     housekeep, place,
 };
+use ix_monitor::{Input, InputFault, Inputs, Seen, Step, plan};
 use ix_report::listing;
 use std::alloc::Global;
 use std::test::Fail;
@@ -60,15 +61,20 @@ fn buckets(alloc: Global, text: &str) -> Result<BucketList, NoMemory> {
     Ok(list)
 }
 
-/// The limits of a text of indexes.conf. No text here has a fault of grammar.
-fn load(alloc: Global, text: &str) -> Result<LimitSet, LimitFault> {
+/// The settings of a text. No text here has a fault of grammar.
+fn merged(alloc: Global, text: &str) -> Result<Merged, NoMemory> {
     let Ok(file) = parse(alloc, text.as_bytes()) else {
-        return Err(LimitFault::NoMemory);
+        return Err(NoMemory);
     };
     let name = Bytes::copy_of(alloc, b"local")?;
     let mut layers = Layers::new(alloc);
     layers.push(Layer { name, file })?;
-    let merged = merge(alloc, &layers)?;
+    merge(alloc, &layers)
+}
+
+/// The limits of a text of indexes.conf.
+fn load(alloc: Global, text: &str) -> Result<LimitSet, LimitFault> {
+    let merged = merged(alloc, text)?;
     LimitSet::load(alloc, &merged)
 }
 
@@ -510,5 +516,134 @@ fn a_view_is_listed(rt: HostRuntime) -> Result<(), Fail> {
     let view = view(rt.alloc())?;
     let found = listing(rt.alloc(), &view)?;
     assert!(rt; found.as_slice() == wanted.as_bytes());
+    Ok(())
+}
+
+fn add_field(out: &mut Bytes, value: Option<&[u8]>) -> Result<(), NoMemory> {
+    out.extend(b" ")?;
+    match value {
+        Some(text) => out.extend(text),
+        None => out.extend(b"-"),
+    }
+}
+
+fn add_input(out: &mut Bytes, input: &Input) -> Result<(), NoMemory> {
+    out.extend(input.path.as_slice())?;
+    add_field(out, Some(input.host.as_slice()))?;
+    add_field(out, input.source.as_ref().map(|text| text.as_slice()))?;
+    add_field(out, input.sourcetype.as_ref().map(|text| text.as_slice()))?;
+    add_field(out, input.index.as_ref().map(|text| text.as_slice()))?;
+    out.extend(b";")
+}
+
+/// What inputs.conf comes to, where the indexes are `main` and `web`: path, host, source, source type and index of each input.
+fn watched(alloc: Global, text: &str) -> Result<Bytes, NoMemory> {
+    let mut out = Bytes::new(alloc);
+    let Ok(limits) = load(alloc, "[web]\n") else {
+        return Err(NoMemory);
+    };
+    match Inputs::load(alloc, &merged(alloc, text)?, &limits) {
+        Ok(inputs) => {
+            for input in inputs.as_slice() {
+                add_input(&mut out, input)?;
+            }
+        }
+        Err(InputFault::BadValue { stanza, key }) => {
+            out.extend(b"BadValue ")?;
+            out.extend(stanza.as_slice())?;
+            out.extend(b" ")?;
+            out.extend(key.as_slice())?;
+        }
+        Err(InputFault::BadStanza { stanza }) => {
+            out.extend(b"BadStanza ")?;
+            out.extend(stanza.as_slice())?;
+        }
+        Err(InputFault::NoMemory) => out.extend(b"NoMemory")?,
+    }
+    Ok(out)
+}
+
+#[test]
+fn inputs_are_watched(rt: HostRuntime) -> Result<(), Fail> {
+    let cases: [(&str, &str); 13] = [
+        ("", ""),
+        (
+            "[monitor:///b]\n[monitor://a/*.log]\n[tcp://1]\nindex = no\n",
+            "/b localhost - - -;a/*.log localhost - - -;",
+        ),
+        (
+            "host = h\nindex = web\n[monitor://a]\nhost =\nsource = s\nsourcetype = t\n",
+            "a localhost s t web;",
+        ),
+        (
+            "disabled = 1\n[monitor://a]\n[monitor://b]\ndisabled = No\n",
+            "b localhost - - -;",
+        ),
+        ("[monitor://a]\ndisabled =\n", "a localhost - - -;"),
+        ("[monitor://]\nindex = no\n", "BadStanza monitor://"),
+        ("[monitor:///a/.../b]\n", "BadStanza monitor:///a/.../b"),
+        (
+            "[monitor://a*/b]\n[monitor://..]\n",
+            "BadStanza monitor://a*/b",
+        ),
+        (
+            "[monitor://b]\nsource = x\nindex = no\n[monitor://a]\ndisabled = 2\n",
+            "BadValue monitor://a disabled",
+        ),
+        (
+            "[monitor://a]\ndisabled = true\nindex = no\n",
+            "BadValue monitor://a index",
+        ),
+        ("index = default\n", "BadValue default index"),
+        (
+            "index = main\ndisabled = maybe\n",
+            "BadValue default disabled",
+        ),
+        ("[monitor://a**]\nindex = main\n", "a** localhost - - main;"),
+    ];
+    for (text, wanted) in cases {
+        let found = watched(rt.alloc(), text)?;
+        assert!(rt; found.as_slice() == wanted.as_bytes(), "{text}");
+    }
+    Ok(())
+}
+
+/// What a pass does with a file, of which `None`, or a head and a place, was kept.
+fn step(alloc: Global, size: u64, head: &str, kept: Option<(&str, u64)>) -> Result<Step, NoMemory> {
+    let file = Seen {
+        size,
+        head: Bytes::copy_of(alloc, head.as_bytes())?,
+    };
+    match kept {
+        None => Ok(plan(&file, None)),
+        Some((head, offset)) => {
+            let spot = Spot {
+                path: Bytes::copy_of(alloc, b"a")?,
+                head: Bytes::copy_of(alloc, head.as_bytes())?,
+                offset,
+            };
+            Ok(plan(&file, Some(&spot)))
+        }
+    }
+}
+
+#[test]
+fn a_pass_has_its_steps(rt: HostRuntime) -> Result<(), Fail> {
+    let cases: [(u64, &str, Option<(&str, u64)>, Step); 9] = [
+        (0, "", None, Step::Skip),
+        (3, "abc", None, Step::From(0)),
+        (3, "abc", Some(("abc", 3)), Step::Skip),
+        (5, "abcde", Some(("abc", 3)), Step::From(3)),
+        (5, "abcde", Some(("abc", 5)), Step::Skip),
+        // another file, a shorter one, and an empty one
+        (5, "abxde", Some(("abc", 3)), Step::Again),
+        (2, "ab", Some(("abc", 3)), Step::Again),
+        (300, "abc", Some(("abc", 301)), Step::Again),
+        (0, "", Some(("abc", 3)), Step::Again),
+    ];
+    for (size, head, kept, wanted) in cases {
+        let found = step(rt.alloc(), size, head, kept)?;
+        assert_eq!(rt; found, wanted, "{head} of {size}");
+    }
     Ok(())
 }
