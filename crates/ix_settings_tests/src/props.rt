@@ -1,8 +1,9 @@
-//! Tests of `ix_values`: values of each kind, by examples worked by hand.
+//! Tests of `ix_values` and `ix_props`: values of each kind, and whole files, by examples worked by hand.
 
 use ix_base::{Bytes, NoMemory, Sequence};
 use ix_conf::{ConfFault, Layer, Merged, merge, parse};
-use ix_pattern::PatternFault;
+use ix_pattern::{BreakFault, PatternFault};
+use ix_props::{Props, RuleFault, SettingFault, Zone};
 use ix_values::{
     Directive, FormatFault, Key, Part, Sed, SedFault, TimeFormat, Transform, TransformFault, Which,
     read_boolean, read_number,
@@ -384,6 +385,224 @@ fn transforms_look_ahead(rt: HostRuntime) -> Result<(), Fail> {
             lookahead_of(rt.alloc(), text)? == Some(want),
             "the lookahead of {text:?}"
         );
+    }
+    Ok(())
+}
+
+fn add_word(text: &mut Bytes, word: &[u8]) -> Result<(), NoMemory> {
+    text.push(b'|')?;
+    text.extend(word)
+}
+
+fn break_fault(fault: BreakFault) -> &'static [u8] {
+    match fault {
+        BreakFault::Pattern(fault) => pattern_fault(fault),
+        BreakFault::NoGroup => b"no group",
+        BreakFault::MatchesEmpty => b"matches empty",
+    }
+}
+
+/// What a fault is, and what it names.
+fn add_fault(text: &mut Bytes, fault: &SettingFault) -> Result<(), NoMemory> {
+    match fault {
+        SettingFault::BadValue { stanza, key } => {
+            text.extend(b"value")?;
+            add_word(text, stanza.as_slice())?;
+            add_word(text, key.as_slice())
+        }
+        SettingFault::BadPattern { stanza, key, fault } => {
+            text.extend(b"pattern")?;
+            add_word(text, stanza.as_slice())?;
+            add_word(text, key.as_slice())?;
+            add_word(text, break_fault(*fault))
+        }
+        SettingFault::UnknownTransform { stanza, key, name } => {
+            text.extend(b"transform")?;
+            add_word(text, stanza.as_slice())?;
+            add_word(text, key.as_slice())?;
+            add_word(text, name.as_slice())
+        }
+        SettingFault::UnknownZone { stanza, name } => {
+            text.extend(b"zone")?;
+            add_word(text, stanza.as_slice())?;
+            add_word(text, name.as_slice())
+        }
+        SettingFault::BadStanzaPattern { stanza } => {
+            text.extend(b"stanza")?;
+            add_word(text, stanza.as_slice())
+        }
+        SettingFault::NoMemory => Err(NoMemory),
+    }
+}
+
+const TRANSFORMS: &[u8] = b"[good]
+REGEX=a
+DEST_KEY=queue
+[nowhere]
+REGEX=a
+[open]
+REGEX=(
+WRITE_META=1
+[far]
+REGEX=a
+WRITE_META=1
+LOOKAHEAD=0
+";
+
+const ZONES: &[u8] = b"RULE=UTC0
+[here]
+RULE=EST5EDT,M3.2.0,M11.1.0
+[empty]
+RULE=
+[none]
+[bad]
+RULE=EST5EDT
+";
+
+/// The fault of a props.conf beside these transforms and zones, or `good`.
+fn describe_props(alloc: Global, text: &[u8]) -> Result<Bytes, Fail> {
+    let props = settings_of(alloc, text)?;
+    let transforms = settings_of(alloc, TRANSFORMS)?;
+    let zones = settings_of(alloc, ZONES)?;
+    let mut found = Bytes::new(alloc);
+    match Props::load(alloc, &props, &transforms, &zones) {
+        Ok(_props) => found.extend(b"good")?,
+        Err(fault) => add_fault(&mut found, &fault)?,
+    }
+    Ok(found)
+}
+
+#[test]
+fn values_of_props_are_judged(rt: HostRuntime) -> Result<(), Fail> {
+    let cases: [(&[u8], &[u8]); 40] = [
+        (b"", b"good"),
+        (b"LINE_BREAKER=", b"good"),
+        (
+            b"Other=(\n[rule::(]\nTRUNCATE=x\n[delayedrule::a]\nTZ=x",
+            b"good",
+        ),
+        (b"LINE_BREAKER=a", b"pattern|default|LINE_BREAKER|no group"),
+        (
+            b"LINE_BREAKER=(a*)",
+            b"pattern|default|LINE_BREAKER|matches empty",
+        ),
+        (b"LINE_BREAKER=(", b"pattern|default|LINE_BREAKER|syntax"),
+        (b"[w]\nTRUNCATE=4294967295", b"good"),
+        (b"[w]\nTRUNCATE=4294967296", b"value|w|TRUNCATE"),
+        (b"[w]\nTRUNCATE=-1", b"value|w|TRUNCATE"),
+        (b"[w]\nSHOULD_LINEMERGE=on", b"value|w|SHOULD_LINEMERGE"),
+        (
+            b"[w]\nBREAK_ONLY_BEFORE_DATE=2",
+            b"value|w|BREAK_ONLY_BEFORE_DATE",
+        ),
+        (
+            b"[w]\nBREAK_ONLY_BEFORE=(a*)*",
+            b"pattern|w|BREAK_ONLY_BEFORE|empty repeat",
+        ),
+        (
+            b"[w]\nMUST_BREAK_AFTER=)",
+            b"pattern|w|MUST_BREAK_AFTER|syntax",
+        ),
+        (
+            b"[w]\nMUST_NOT_BREAK_AFTER=[",
+            b"pattern|w|MUST_NOT_BREAK_AFTER|syntax",
+        ),
+        (
+            b"[w]\nMUST_NOT_BREAK_BEFORE=a{1001}",
+            b"pattern|w|MUST_NOT_BREAK_BEFORE|too large",
+        ),
+        (b"[w]\nTIME_PREFIX=*", b"pattern|w|TIME_PREFIX|syntax"),
+        (b"[w]\nMAX_EVENTS=0", b"value|w|MAX_EVENTS"),
+        (b"[w]\nMAX_EVENTS=1000001", b"value|w|MAX_EVENTS"),
+        (b"[w]\nTIME_FORMAT=%Y-%m", b"value|w|TIME_FORMAT"),
+        (b"[w]\nMAX_TIMESTAMP_LOOKAHEAD=-1", b"good"),
+        (
+            b"[w]\nMAX_TIMESTAMP_LOOKAHEAD=-2",
+            b"value|w|MAX_TIMESTAMP_LOOKAHEAD",
+        ),
+        (b"[w]\nMAX_DAYS_AGO=10952", b"value|w|MAX_DAYS_AGO"),
+        (b"[w]\nMAX_DAYS_HENCE=10951", b"value|w|MAX_DAYS_HENCE"),
+        (b"[w]\npriority=-1000001", b"value|w|priority"),
+        (b"[w]\nTZ=here", b"good"),
+        (b"[w]\nTZ=gone", b"zone|w|gone"),
+        (b"[w]\nTZ=none", b"zone|w|none"),
+        (b"[w]\nTZ=empty", b"zone|w|empty"),
+        (b"[w]\nTZ=bad", b"value|bad|RULE"),
+        (b"[w]\nSEDCMD-=s/a/b/\nSEDCMD-x=s/a/b", b"value|w|SEDCMD-x"),
+        (b"[w]\nSEDCMD-x=s/(/b/", b"pattern|w|SEDCMD-x|syntax"),
+        (b"[w]\nTRANSFORMS-x= good , ,good,", b"good"),
+        (
+            b"[w]\nTRANSFORMS-x=good,gone",
+            b"transform|w|TRANSFORMS-x|gone",
+        ),
+        (
+            b"[w]\nTRANSFORMS-x=good\t,gone",
+            b"transform|w|TRANSFORMS-x|good\t",
+        ),
+        (b"[w]\nTRANSFORMS-x=nowhere,gone", b"value|nowhere|DEST_KEY"),
+        (b"[w]\nTRANSFORMS-x=open", b"pattern|open|REGEX|syntax"),
+        (b"[w]\nTRANSFORMS-x=far", b"value|far|LOOKAHEAD"),
+        (b"[source::a(]\nTRUNCATE=x", b"stanza|source::a("),
+        (
+            b"[host::(?b)]\n[a]\nTRUNCATE=x\nTZ=gone",
+            b"value|a|TRUNCATE",
+        ),
+        (
+            b"[host::a|b*]\n[source::...(/x|y)]\n[host::)]",
+            b"stanza|host::)",
+        ),
+    ];
+    for (text, want) in cases {
+        let found = describe_props(rt.alloc(), text)?;
+        assert!(rt; found.as_slice() == want, "the fault of {text:?}");
+    }
+    Ok(())
+}
+
+/// A stanza with a source type of so many bytes.
+fn names_sourcetype(alloc: Global, len: usize) -> Result<Bytes, Fail> {
+    let mut text = Bytes::copy_of(alloc, b"[w]\nsourcetype=")?;
+    for _ in 0..len {
+        text.extend(b"n")?;
+    }
+    describe_props(alloc, text.as_slice())
+}
+
+#[test]
+fn a_source_type_has_a_bounded_name(rt: HostRuntime) -> Result<(), Fail> {
+    let cases: [(usize, &[u8]); 2] = [(1024, b"good"), (1025, b"value|w|sourcetype")];
+    for (len, want) in cases {
+        let found = names_sourcetype(rt.alloc(), len)?;
+        assert!(rt; found.as_slice() == want, "a name of {len} bytes");
+    }
+    Ok(())
+}
+
+/// Whether a rule is one, and a copy of its zone too.
+fn is_rule(alloc: Global, text: &[u8]) -> Result<bool, NoMemory> {
+    match Zone::read(alloc, text) {
+        Ok(zone) => {
+            let _copy = zone.copy()?;
+            Ok(true)
+        }
+        Err(RuleFault::BadRule) => Ok(false),
+        Err(RuleFault::NoMemory) => Err(NoMemory),
+    }
+}
+
+#[test]
+fn zones_have_rules(rt: HostRuntime) -> Result<(), Fail> {
+    let cases: [(&[u8], bool); 7] = [
+        (b"UTC0", true),
+        (b"CET-1CEST,M3.5.0,M10.5.0/3", true),
+        (b"<+03>-3", true),
+        (b"", false),
+        (b"UTC", false),
+        (b"EST5EDT", false),
+        (b"UTC0 ", false),
+    ];
+    for (text, want) in cases {
+        assert!(rt; is_rule(rt.alloc(), text)? == want, "the rule {text:?}");
     }
     Ok(())
 }
