@@ -1,0 +1,5 @@
+use Rattle.ix_pipeline_tests.proofs.lines.run.Given as goal
+
+-- the ledger of the blank one
+abbrev pub ghosts-run_in : goal.ghosts-run_in
+ghosts-run_in a = record { name = a.blank.name; parts = a.blank.parts }
