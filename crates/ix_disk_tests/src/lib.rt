@@ -1,0 +1,5 @@
+//! Tests of disks, by public calls.
+#![tactic(auto)]
+
+#[cfg(test)]
+mod disk;
