@@ -1,0 +1,107 @@
+//! A listener in memory.
+
+ghost use Rattle.std.specs.Prelude.{◌≡◌, ◌≤◌, ◌<◌, ◌+◌, ◌-◌, ℕ, List, [], ◌∷◌, ◌++◌, Option, Some, None, map, IfOk, IfErr, OnOk, OnErr, is_ok, if◌then◌else◌, vec_len, vec_capacity};
+ghost use Rattle.ix_base.specs.Faults.{HasCause, Rose};
+ghost use Rattle.ix_base.specs.Told.{Told};
+ghost use Rattle.ix_link.specs.Listeners.{Handed, handed_back, Begins, TakesFirst, Adds};
+
+use crate::link::Link;
+use crate::listener::Listener;
+use crate::mem_link::MemLink;
+use ix_base::{FailPlan, Failed, Sequence};
+use std::alloc::Global;
+
+/// Links in memory, the first one first.
+pub type MemLinkList = Sequence<MemLink>;
+
+/// A listener whose connections wait in memory.
+#[derive(Drop)]
+pub struct MemListener {
+    waiting: Vec<MemLink>,
+    handed: Vec<MemLink>,
+    out: usize,
+    /// The port that was bound last.
+    pub port: Option<u16>,
+    /// Which calls of `bind` and `accept` are to fail.
+    pub plan: FailPlan,
+    ghost room: { vec_len handed + out ≤ vec_capacity handed },
+}
+
+impl MemListener {
+    /// A listener with these connections waiting, whose calls fail by the plan.
+    pub fn new(alloc: Global, waiting: MemLinkList, plan: FailPlan) -> Self
+        ensures waiting { ⟦<MemListener as Listener>⟧.waiting result ≡ Some (map (⟦<MemLink as Link>⟧.left) waiting) }
+        ensures handed { ⟦<MemListener as Listener>⟧.handed result ≡ Some [] }
+        ensures out { ⟦<MemListener as Listener>⟧.out result ≡ 0 }
+        ensures faults { ⟦<MemListener as Listener>⟧.faults result ≡ plan.faults }
+        ensures plan { result.plan ≡ plan }
+    {
+        MemListener {
+            waiting: waiting.into_vec(),
+            handed: Vec::new(alloc),
+            out: 0,
+            port: None,
+            plan,
+        }
+    }
+
+    /// The connections that were handed back, the first one first.
+    pub fn handed(&self) -> &[MemLink]
+        ensures { ⟦<MemListener as Listener>⟧.handed self.now ≡ Some (map (λ c. handed_back (⟦<MemLink as Link>⟧.standing c) (⟦<MemLink as Link>⟧.given c) (⟦<MemLink as Link>⟧.faults c)) result.now) }
+    {
+        self.handed.as_slice()
+    }
+
+    /// Counts a fault.
+    fn fail(&mut self) -> Failed
+        ensures rose { Rose self.old.plan.faults self.new.plan.faults }
+        ensures later { self.old.plan.faults ≤ self.new.plan.faults }
+        ensures waiting { self.new.waiting ≡ self.old.waiting }
+        ensures handed { self.new.handed ≡ self.old.handed }
+        ensures out { self.new.out ≡ self.old.out }
+    {
+        self.plan.fail()
+    }
+}
+
+impl Listener for MemListener {
+    type Conn = MemLink;
+
+    ghost waiting = { λ l. Some (map (⟦<MemLink as Link>⟧.left) l.waiting.items) };
+
+    ghost handed = { λ l. Some (map (λ c. handed_back (⟦<MemLink as Link>⟧.standing c) (⟦<MemLink as Link>⟧.given c) (⟦<MemLink as Link>⟧.faults c)) l.handed.items) };
+
+    ghost out = { λ l. l.out };
+
+    ghost faults = { λ l. l.plan.faults };
+
+    /// It fails exactly where the plan has this call due.
+    fn bind(&mut self, port: u16) -> Result<(), Failed> {
+        if self.plan.is_due() {
+            return Err(self.fail());
+        }
+        self.port = Some(port);
+        Ok(())
+    }
+
+    /// It fails where the plan has this call due, where no connection waits, and where there is no room to take it back.
+    fn accept(&mut self) -> Result<MemLink, Failed> {
+        if self.plan.is_due() || self.waiting.is_empty() || self.out == usize::MAX {
+            return Err(self.fail());
+        }
+        if self.handed.reserve(self.out + 1).is_err() {
+            return Err(self.fail());
+        }
+        let mut conn = self.waiting.remove(0);
+        conn.begin();
+        self.out += 1;
+        Ok(conn)
+    }
+
+    fn done(&mut self, conn: MemLink) {
+        if self.out > 0 {
+            self.out -= 1;
+            let _ = self.handed.push(conn);
+        }
+    }
+}
