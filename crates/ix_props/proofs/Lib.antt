@@ -1,3 +1,11 @@
+pub mod ClassLemmas
+pub mod FindLemmas
 pub mod KindLemmas
 pub mod NameLemmas
+pub mod NearestLemmas
+pub mod OrderLemmas
 pub mod PropLemmas
+pub mod RankLemmas
+pub mod SettledLemmas
+pub mod UsableLemmas
+pub mod ZoneLemmas

@@ -1,11 +1,10 @@
 -- Which stanza's value holds for a channel. From Splunk's Admin Manual, props.conf, and "Configuration file precedence".
-use Rattle.std.specs.Prelude.{◌≡◌, ◌≢◌, ◌&&◌, not, if◌then◌else◌, ℕ, ℤ, pos, Bool, true, false, List, [], ◌∷◌, Option, Some, None, IsSome, bytes_eq, codes}
+use Rattle.std.specs.Prelude.{◌≡◌, ◌≢◌, ◌==◌, ◌&&◌, ◌||◌, not, if◌then◌else◌, ℕ, ℤ, pos, Bool, true, false, List, [], ◌∷◌, Option, Some, None, IsSome, bytes_eq, codes}
+use Rattle.std.specs.Option.{option_and_then}
 use Rattle.std.specs.declared.cmp.Ordering.{Ordering}
 use Rattle.std.specs.declared.cmp.Ordering.TheVariants.{Greater}
 use Rattle.std.specs.Ordering.{ordering_then, nat_cmp, int_cmp}
 use Rattle.std.specs.Cmp.Lexicographic.{slice_cmp}
-use Rattle.ix_conf.specs.declared.tokens.Token.{Token}
-use Rattle.ix_conf.specs.declared.tokens.Token.TheVariants as token
 use Rattle.ix_conf.specs.Names.{tokens, FitsRule}
 use Rattle.ix_props.specs.Kinds.{behind, begins_with, is_ignored}
 use Rattle.ix_props.specs.declared.props.PropsEntry.{PropsEntry}
@@ -26,36 +25,49 @@ abbrev pub value_in : List ℕ → List ℕ → List PropsEntry → Option Value
 value_in stanza key [] = None
 value_in stanza key (e ∷ es) = if bytes_eq stanza e.stanza && bytes_eq key e.key then Some e.value else value_in stanza key es
 
--- a name without `...`, `*`, `|` and parentheses
-abbrev pub is_literal : List Token → Bool
-is_literal [] = true
-is_literal (token.Byte b ∷ ts) = is_literal ts
-is_literal (t ∷ ts) = false
+-- one of `*`, `|`, `(` and `)`
+abbrev pub is_wild : ℕ → Bool
+is_wild b = (b == 42) || ((b == 124) || ((b == 40) || (b == 41)))
+
+-- some such byte stands in a pattern, or `...` does
+abbrev pub has_wildcard : List ℕ → Bool
+has_wildcard [] = false
+has_wildcard (b ∷ bs) = (is_wild b || begins_with (codes "...") (b ∷ bs)) || has_wildcard bs
 
 abbrev pub default_priority : List ℕ → ℤ
-default_priority text = if is_literal (tokens text) then pos 100 else pos 0
+default_priority text = if has_wildcard text then pos 0 else pos 100
 
-abbrev pub priority_or : ℤ → Option Value → ℤ
-priority_or default (Some (value.Number n)) = n
-priority_or default other = default
+abbrev pub number_of : Value → Option ℤ
+number_of (value.Number n) = Some n
+number_of other = None
 
--- a stanza's own priority, or else that of its pattern
-abbrev pub priority_of : List PropsEntry → List ℕ → List ℕ → ℤ
-priority_of entries stanza text = priority_or (default_priority text) (value_in stanza (codes "priority") entries)
+-- a stanza's own priority
+abbrev pub stated_priority : List PropsEntry → List ℕ → Option ℤ
+stated_priority entries stanza = option_and_then number_of (value_in stanza (codes "priority") entries)
 
--- a stanza is there, and a name fits the pattern that stands behind the prefix of the stanza's
-pub record HoldsByPattern (entries : List PropsEntry) (nearness : Nearness) (prefix : List ℕ) (fold : Bool) (name stanza : List ℕ) (rank : Rank) : Type 0 where
-  pub is_there : IsSome (value_in stanza [] entries)
+-- or else that of its pattern
+abbrev pub priority_or : Option ℤ → List ℕ → ℤ
+priority_or None text = default_priority text
+priority_or (Some n) text = n
+
+-- a name fits the pattern that stands behind the prefix of a stanza's
+pub record FitsStanza (stated : Option ℤ) (nearness : Nearness) (prefix : List ℕ) (fold : Bool) (name stanza : List ℕ) (rank : Rank) : Type 0 where
   pub text : List ℕ
   pub is_behind : behind prefix stanza ≡ Some text
   pub fits : FitsRule (record { tokens = tokens text; fold = fold }) name
-  pub rank_is : rank ≡ record { nearness = nearness; priority = priority_of entries stanza text }
+  pub rank_is : rank ≡ record { nearness = nearness; priority = priority_or stated text }
+
+abbrev pub FitsSource : List PropsEntry → List ℕ → List ℕ → Rank → Type 0
+FitsSource entries source stanza rank = FitsStanza (stated_priority entries stanza) Source (codes "source::") false source stanza rank
+
+abbrev pub FitsHost : List PropsEntry → List ℕ → List ℕ → Rank → Type 0
+FitsHost entries host stanza rank = FitsStanza (stated_priority entries stanza) Host (codes "host::") true host stanza rank
+
+abbrev pub IsThere : List PropsEntry → List ℕ → Type 0
+IsThere entries stanza = IsSome (value_in stanza [] entries)
 
 abbrev pub HoldsForSource : List PropsEntry → List ℕ → List ℕ → Rank → Type 0
-HoldsForSource entries source stanza rank = HoldsByPattern entries Source (codes "source::") false source stanza rank
-
-abbrev pub HoldsForHost : List PropsEntry → List ℕ → List ℕ → Rank → Type 0
-HoldsForHost entries host stanza rank = HoldsByPattern entries Host (codes "host::") true host stanza rank
+HoldsForSource entries source stanza rank = IsThere entries stanza × FitsSource entries source stanza rank
 
 -- such a stanza is that of the source type of its name
 abbrev pub names_source_type : List ℕ → Bool
@@ -65,7 +77,7 @@ names_source_type stanza =
 -- a stanza holds for a channel, at this rank
 pub data Holds (entries : List PropsEntry) (o : Origin) (stanza : List ℕ) (rank : Rank) : Type 0 where
   for_source : HoldsForSource entries o.source stanza rank → Holds entries o stanza rank
-  for_host : HoldsForHost entries o.host stanza rank → Holds entries o stanza rank
+  for_host : IsThere entries stanza → FitsHost entries o.host stanza rank → Holds entries o stanza rank
   for_source_type : stanza ≡ o.sourcetype → names_source_type stanza ≡ true → rank ≡ record { nearness = SourceType; priority = pos 0 } →
       Holds entries o stanza rank
   for_everything : stanza ≡ codes "default" → rank ≡ record { nearness = Everything; priority = pos 0 } → Holds entries o stanza rank
@@ -78,10 +90,10 @@ step_of SourceType = 2
 step_of Everything = 3
 
 -- and among these the greater priority first, and then the lesser name
-abbrev pub order : List ℕ → Rank → List ℕ → Rank → Ordering
-order stanza rank other r =
-    ordering_then (nat_cmp (step_of rank.nearness) (step_of r.nearness))
-    (ordering_then (int_cmp r.priority rank.priority) (slice_cmp nat_cmp stanza other))
+abbrev pub order : List ℕ × Rank → List ℕ × Rank → Ordering
+order a b =
+    ordering_then (nat_cmp (step_of a.1.nearness) (step_of b.1.nearness))
+    (ordering_then (int_cmp b.1.priority a.1.priority) (slice_cmp nat_cmp a.0 b.0))
 
 -- a stanza that holds has this value, and it is the first of those that hold and have one
 pub record IsFirst (entries : List PropsEntry) (H : List ℕ → Rank → Type 0) (key : List ℕ) (v : Value) : Type 0 where
@@ -89,7 +101,7 @@ pub record IsFirst (entries : List PropsEntry) (H : List ℕ → Rank → Type 0
   pub rank : Rank
   pub holds : H stanza rank
   pub has : value_in stanza key entries ≡ Some v
-  pub first : (other : List ℕ) (r : Rank) → H other r → IsSome (value_in other key entries) → order stanza rank other r ≢ Greater
+  pub first : (other : List ℕ) (r : Rank) → H other r → IsSome (value_in other key entries) → order (stanza, rank) (other, r) ≢ Greater
 
 -- the value of a key in the first stanza that holds and has one; none where no stanza that holds has one
 abbrev pub IsChosen : List PropsEntry → (List ℕ → Rank → Type 0) → List ℕ → Option Value → Type 0

@@ -3,6 +3,8 @@ pub mod Kinds
 pub mod Lists
 pub mod Names
 pub mod Props
+pub mod Ranking
 pub mod Settings
+pub mod Sound
 pub mod Values
 pub mod Zones

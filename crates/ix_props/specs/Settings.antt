@@ -60,58 +60,63 @@ abbrev pub IsBreakerOf : Option Value → Shape → Type 0
 IsBreakerOf (Some (value.Pattern shape)) breaker = breaker ≡ shape
 IsBreakerOf other breaker = IsBreakerShape (codes "([\\r\\n]+)") breaker
 
+-- what the keys of a channel are set to
+abbrev pub Chosen : Type 0
+Chosen = List ℕ → Option Value
+
+pub record AreMergeSettings (set : Chosen) (m : MergeSettings) : Type 0 where
+  pub on : m.on ≡ boolean_or true (set (codes "SHOULD_LINEMERGE"))
+  pub before_date : m.before_date ≡ boolean_or true (set (codes "BREAK_ONLY_BEFORE_DATE"))
+  pub before : m.before ≡ pattern_of (set (codes "BREAK_ONLY_BEFORE"))
+  pub break_after : m.break_after ≡ pattern_of (set (codes "MUST_BREAK_AFTER"))
+  pub hold_after : m.hold_after ≡ pattern_of (set (codes "MUST_NOT_BREAK_AFTER"))
+  pub veto : m.veto ≡ pattern_of (set (codes "MUST_NOT_BREAK_BEFORE"))
+  pub max_lines : m.max_lines ≡ count_or 256 (set (codes "MAX_EVENTS"))
+
+pub record AreTimeSettings (set : Chosen) (t : TimeSettings) : Type 0 where
+  pub prefix : t.prefix ≡ pattern_of (set (codes "TIME_PREFIX"))
+  pub format : t.format ≡ format_of (set (codes "TIME_FORMAT"))
+  pub lookahead : t.lookahead ≡ lookahead_of (set (codes "MAX_TIMESTAMP_LOOKAHEAD"))
+  pub zone : t.zone ≡ zone_or (codes "UTC0") (set (codes "TZ"))
+  pub days_ago : t.days_ago ≡ count_or 2000 (set (codes "MAX_DAYS_AGO"))
+  pub days_hence : t.days_hence ≡ count_or 2 (set (codes "MAX_DAYS_HENCE"))
+
+-- a class has the key that it is set by, and the value of that
+abbrev pub Class : Type 0
+Class = List ℕ × Value
+
+abbrev pub AreRising : List Class → Type 0
+AreRising [] = Unit {0}
+AreRising (c ∷ cs) = AllByRecursion (λ d. slice_cmp nat_cmp c.0 d.0 ≡ Less) cs × AreRising cs
+
+-- the classes whose keys begin so are those that are set, each once, in the order of the bytes of their keys
+pub record AreClasses (set : Chosen) (prefix : List ℕ) (classes : List Class) : Type 0 where
+  pub rising : AreRising classes
+  pub each : AllByRecursion (λ c. (begins_with prefix c.0 ≡ true) × (set c.0 ≡ Some c.1)) classes
+  pub all : (key : List ℕ) (v : Value) → begins_with prefix key ≡ true → set key ≡ Some v → Contains classes (key, v)
+
+-- what a class does; an empty value does nothing
+abbrev pub change_of : Value → List Sed
+change_of (value.Change sed) = sed ∷ []
+change_of other = []
+
+abbrev pub changes : List Class → List Sed
+changes [] = []
+changes (c ∷ cs) = change_of c.1 ++ changes cs
+
+abbrev pub transforms_of : Value → List Transform
+transforms_of (value.Transforms ts) = ts
+transforms_of other = []
+
+abbrev pub chain : List Class → List Transform
+chain [] = []
+chain (c ∷ cs) = transforms_of c.1 ++ chain cs
+
 -- the source type that is stated, or else that of the stanzas for the source, or else `unknown`
 abbrev pub IsSourceType : List PropsEntry → Option (List ℕ) → List ℕ → List ℕ → Type 0
 IsSourceType entries (Some stated) source sourcetype = sourcetype ≡ stated
 IsSourceType entries None source sourcetype =
     (found : Option Value) × IsChosen entries (HoldsForSource entries source) (codes "sourcetype") found × (sourcetype ≡ name_or (codes "unknown") found)
-
--- the value of a key that is chosen for a channel is as the predicate says
-abbrev pub Gives : List PropsEntry → Origin → List ℕ → (Option Value → Type 0) → Type 0
-Gives entries o key P = (found : Option Value) × IsChosen entries (Holds entries o) key found × P found
-
-pub record AreMergeSettings (entries : List PropsEntry) (o : Origin) (m : MergeSettings) : Type 0 where
-  pub on : Gives entries o (codes "SHOULD_LINEMERGE") (λ v. m.on ≡ boolean_or true v)
-  pub before_date : Gives entries o (codes "BREAK_ONLY_BEFORE_DATE") (λ v. m.before_date ≡ boolean_or true v)
-  pub before : Gives entries o (codes "BREAK_ONLY_BEFORE") (λ v. m.before ≡ pattern_of v)
-  pub break_after : Gives entries o (codes "MUST_BREAK_AFTER") (λ v. m.break_after ≡ pattern_of v)
-  pub hold_after : Gives entries o (codes "MUST_NOT_BREAK_AFTER") (λ v. m.hold_after ≡ pattern_of v)
-  pub veto : Gives entries o (codes "MUST_NOT_BREAK_BEFORE") (λ v. m.veto ≡ pattern_of v)
-  pub max_lines : Gives entries o (codes "MAX_EVENTS") (λ v. m.max_lines ≡ count_or 256 v)
-
-pub record AreTimeSettings (entries : List PropsEntry) (o : Origin) (t : TimeSettings) : Type 0 where
-  pub prefix : Gives entries o (codes "TIME_PREFIX") (λ v. t.prefix ≡ pattern_of v)
-  pub format : Gives entries o (codes "TIME_FORMAT") (λ v. t.format ≡ format_of v)
-  pub lookahead : Gives entries o (codes "MAX_TIMESTAMP_LOOKAHEAD") (λ v. t.lookahead ≡ lookahead_of v)
-  pub zone : Gives entries o (codes "TZ") (λ v. t.zone ≡ zone_or (codes "UTC0") v)
-  pub days_ago : Gives entries o (codes "MAX_DAYS_AGO") (λ v. t.days_ago ≡ count_or 2000 v)
-  pub days_hence : Gives entries o (codes "MAX_DAYS_HENCE") (λ v. t.days_hence ≡ count_or 2 v)
-
--- classes, each by the key that it is set by
-abbrev pub AreRising : List (List ℕ × Value) → Type 0
-AreRising [] = Unit {0}
-AreRising (c ∷ cs) = AllByRecursion (λ d. slice_cmp nat_cmp c.0 d.0 ≡ Less) cs × AreRising cs
-
--- all classes whose keys begin so, in the order of the bytes of their keys, each with the value that is chosen for it
-pub record AreClasses (entries : List PropsEntry) (o : Origin) (prefix : List ℕ) (classes : List (List ℕ × Value)) : Type 0 where
-  pub rising : AreRising classes
-  pub each : (key : List ℕ) (v : Value) → Contains classes (key, v) → (begins_with prefix key ≡ true) × IsChosen entries (Holds entries o) key (Some v)
-  pub all : (key : List ℕ) (v : Value) → begins_with prefix key ≡ true → IsChosen entries (Holds entries o) key (Some v) → Contains classes (key, v)
-
--- an empty value changes nothing
-abbrev pub changes : List (List ℕ × Value) → List Sed
-changes [] = []
-changes ((key, value.Change sed) ∷ cs) = sed ∷ changes cs
-changes (c ∷ cs) = changes cs
-
-abbrev pub chain : List (List ℕ × Value) → List Transform
-chain [] = []
-chain ((key, value.Transforms ts) ∷ cs) = ts ++ chain cs
-chain (c ∷ cs) = chain cs
-
--- what the classes come to
-abbrev pub GiveClasses : {A : Type 0} → List PropsEntry → Origin → List ℕ → (List (List ℕ × Value) → List A) → List A → Type 0
-GiveClasses entries o prefix f xs = (classes : List (List ℕ × Value)) × AreClasses entries o prefix classes × (xs ≡ f classes)
 
 -- where the bytes of a channel of this source type come from
 abbrev pub origin_of : ChannelMeta → List ℕ → Origin
@@ -120,12 +125,14 @@ origin_of meta sourcetype = record { source = meta.source; host = meta.host; sou
 -- the settings of a channel: each is the value that is chosen for it, or else its default
 pub record AreSettings (entries : List PropsEntry) (meta : ChannelMeta) (s : Settings) : Type 0 where
   pub sourcetype : IsSourceType entries meta.sourcetype meta.source s.sourcetype
-  pub breaker : Gives entries (origin_of meta s.sourcetype) (codes "LINE_BREAKER") (λ v. IsBreakerOf v s.breaker)
-  pub truncate : Gives entries (origin_of meta s.sourcetype) (codes "TRUNCATE") (λ v. s.truncate ≡ count_or 10_000 v)
-  pub merge : AreMergeSettings entries (origin_of meta s.sourcetype) s.merge
-  pub time : AreTimeSettings entries (origin_of meta s.sourcetype) s.time
-  pub seds : GiveClasses entries (origin_of meta s.sourcetype) (codes "SEDCMD-") changes s.seds
-  pub transforms : GiveClasses entries (origin_of meta s.sourcetype) (codes "TRANSFORMS-") chain s.transforms
+  pub set : Chosen
+  pub chosen : (key : List ℕ) → IsChosen entries (Holds entries (origin_of meta s.sourcetype)) key (set key)
+  pub breaker : IsBreakerOf (set (codes "LINE_BREAKER")) s.breaker
+  pub truncate : s.truncate ≡ count_or 10_000 (set (codes "TRUNCATE"))
+  pub merge : AreMergeSettings set s.merge
+  pub time : AreTimeSettings set s.time
+  pub seds : (classes : List Class) × AreClasses set (codes "SEDCMD-") classes × (s.seds ≡ changes classes)
+  pub transforms : (classes : List Class) × AreClasses set (codes "TRANSFORMS-") classes × (s.transforms ≡ chain classes)
 
 -- what cutting, merging, dating and changing ask of settings
 pub record AreUsable (s : Settings) : Type 0 where

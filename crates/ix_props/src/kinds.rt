@@ -58,19 +58,19 @@ pub(crate) fn behind<'a>(prefix: &[u8], text: &'a [u8]) -> Option<&'a [u8]>
     Some(rest)
 }
 
-fn begins_with(text: &[u8], prefix: &[u8]) -> bool
+pub(crate) fn begins_with(text: &[u8], prefix: &[u8]) -> bool
     ensures { result ≡ begins_with prefix.now text.now }
 {
     behind(prefix, text).is_some()
 }
 
-fn is_key(key: &[u8], name: &[u8]) -> bool
+pub(crate) fn is_key(key: &[u8], name: &[u8]) -> bool
     ensures { result ≡ bytes_eq key.now name.now }
 {
     key == name
 }
 
-fn is_ignored(stanza: &[u8]) -> bool
+pub(crate) fn is_ignored(stanza: &[u8]) -> bool
     ensures { result ≡ is_ignored stanza.now }
 {
     begins_with(stanza, b"rule::") | begins_with(stanza, b"delayedrule::")

@@ -2,13 +2,18 @@
 //! hold for it are chosen.
 #![tactic(auto)]
 
+mod choosing;
+mod classes;
 mod faults;
+mod fields;
+mod holding;
 mod kinds;
 mod lists;
 mod names;
 mod props;
 mod ranks;
 mod settings;
+mod settling;
 mod values;
 mod zones;
 

@@ -14,6 +14,7 @@ use crate::values::{
     read_zone,
 };
 use crate::settings::Settings;
+use crate::settling::settings_of;
 use ix_base::{Bytes, ChannelMeta, NoMemory, Sequence};
 use ix_conf::{Item, Merged};
 use std::alloc::Global;
@@ -40,7 +41,11 @@ impl Model for Props {
 
     ghost Value = { List Entry };
 
+    ghost use Rattle.ix_props.specs.Sound.{AreSound};
+
     ghost view = { λ p. p.entries };
+
+    ghost invariant = { λ p. AreSound p.entries };
 }
 
 /// Reads the value of an entry, by its kind.
@@ -114,7 +119,6 @@ impl Props {
         ensures chosen { IfOk result (λ settings. AreSettings self.now meta.now settings) }
         ensures usable { IfOk result (λ settings. AreUsable settings) }
     {
-        let _ = (alloc, meta);
-        Err(NoMemory)
+        settings_of(alloc, self.entries.as_slice(), meta)
     }
 }

@@ -90,7 +90,7 @@ pub(crate) fn read_plain(alloc: Global, item: Item<'_>) -> Result<Value, Setting
 }
 
 /// Reads the text of a pattern for breaks.
-fn read_breaks(alloc: Global, text: &[u8]) -> Result<Pattern, BreakFault>
+pub(crate) fn read_breaks(alloc: Global, text: &[u8]) -> Result<Pattern, BreakFault>
     ensures ok { IfOk result (λ pattern. IsBreakerShape text.now pattern) }
     ensures err { IfErr result (λ fault. RefusesBreaks text.now fault) }
 {

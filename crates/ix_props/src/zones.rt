@@ -67,9 +67,10 @@ impl Zone {
         Ok(Zone { rule, zone })
     }
 
-    /// The zone of universal time, of the rule `UTC0`.
+    /// The zone of universal time, of the rule `UTC0`, which is a rule: so there is no other fault than want of memory.
     pub fn utc(alloc: Global) -> Result<Zone, NoMemory>
-        ensures { IfOk result (λ zone. zone ≡ codes "UTC0") }
+        ensures zone { IfOk result (λ zone. zone ≡ codes "UTC0") }
+        ensures is_rule { IsSome (read_whole (codes "UTC0")) }
     {
         match Zone::read(alloc, b"UTC0") {
             Ok(zone) => Ok(zone),

@@ -1,0 +1,8 @@
+use Rattle.ix_props.proofs.ZoneLemmas.{utc_reads}
+use Rattle.ix_props.proofs.zones.Zone.utc.Goals as goal
+
+pub returns-in-Ok-clause-is_rule : goal.returns-in-Ok-clause-is_rule
+returns-in-Ok-clause-is_rule c = utc_reads
+
+pub returns-in_default-clause-is_rule : goal.returns-in_default-clause-is_rule
+returns-in_default-clause-is_rule c = utc_reads

@@ -1,0 +1,73 @@
+//! The classes of changes and of transforms that are set for a channel, in the order of their keys.
+
+ghost use Rattle.std.specs.Prelude.{◌≡◌, ◌++◌, ◌∷◌, [], IfOk, OnOk, codes};
+ghost use Rattle.ix_props.specs.Ranking.{lent, classes_in};
+ghost use Rattle.ix_props.specs.Settings.{changes, chain};
+
+use crate::kinds::begins_with;
+use crate::props::PropsEntry;
+use crate::values::Value;
+use ix_base::{NoMemory, Sequence};
+use ix_values::{SedList, Transform, TransformList};
+use std::alloc::Global;
+
+fn add_change(alloc: Global, seds: &mut SedList, entry: &PropsEntry) -> Result<(), NoMemory>
+    ensures { OnOk result (seds.new ≡ seds.old ++ changes (classes_in (codes "SEDCMD-") (entry.now ∷ []))) }
+{
+    if begins_with(entry.key.as_slice(), b"SEDCMD-") {
+        if let Value::Change(sed) = &entry.value {
+            return seds.push(sed.copy(alloc)?);
+        }
+    }
+    Ok(())
+}
+
+/// What the `SEDCMD-` classes change.
+pub(crate) fn read_changes(alloc: Global, chosen: &[&PropsEntry]) -> Result<SedList, NoMemory>
+    ensures { IfOk result (λ seds. seds ≡ changes (classes_in (codes "SEDCMD-") (lent chosen.now))) }
+{
+    let mut seds = Sequence::new(alloc);
+    for entry in chosen {
+        add_change(alloc, &mut seds, entry)?;
+    }
+    Ok(seds)
+}
+
+fn add_all(
+    alloc: Global,
+    list: &mut TransformList,
+    transforms: &[Transform],
+) -> Result<(), NoMemory>
+    ensures { OnOk result (list.new ≡ list.old ++ transforms.now) }
+{
+    for transform in transforms {
+        list.push(transform.copy(alloc)?)?;
+    }
+    Ok(())
+}
+
+fn add_transforms(
+    alloc: Global,
+    list: &mut TransformList,
+    entry: &PropsEntry,
+) -> Result<(), NoMemory>
+    ensures { OnOk result (list.new ≡ list.old ++ chain (classes_in (codes "TRANSFORMS-") (entry.now ∷ []))) }
+{
+    if begins_with(entry.key.as_slice(), b"TRANSFORMS-") {
+        if let Value::Transforms(transforms) = &entry.value {
+            return add_all(alloc, list, transforms.as_slice());
+        }
+    }
+    Ok(())
+}
+
+/// The transforms of the `TRANSFORMS-` classes.
+pub(crate) fn read_chain(alloc: Global, chosen: &[&PropsEntry]) -> Result<TransformList, NoMemory>
+    ensures { IfOk result (λ list. list ≡ chain (classes_in (codes "TRANSFORMS-") (lent chosen.now))) }
+{
+    let mut list = Sequence::new(alloc);
+    for entry in chosen {
+        add_transforms(alloc, &mut list, entry)?;
+    }
+    Ok(list)
+}
