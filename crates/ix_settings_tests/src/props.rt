@@ -1,9 +1,9 @@
 //! Tests of `ix_values` and `ix_props`: values of each kind, and whole files, by examples worked by hand.
 
-use ix_base::{Bytes, NoMemory, Sequence};
+use ix_base::{Bytes, ChannelMeta, NoMemory, Sequence};
 use ix_conf::{ConfFault, Layer, Merged, merge, parse};
-use ix_pattern::{BreakFault, PatternFault};
-use ix_props::{Props, RuleFault, SettingFault, Zone};
+use ix_pattern::{BreakFault, Pattern, PatternFault};
+use ix_props::{MergeSettings, Props, RuleFault, SettingFault, Settings, TimeSettings, Zone};
 use ix_values::{
     Directive, FormatFault, Key, Part, Sed, SedFault, TimeFormat, Transform, TransformFault, Which,
     read_boolean, read_number,
@@ -604,5 +604,209 @@ fn zones_have_rules(rt: HostRuntime) -> Result<(), Fail> {
     for (text, want) in cases {
         assert!(rt; is_rule(rt.alloc(), text)? == want, "the rule {text:?}");
     }
+    Ok(())
+}
+
+/// What a channel is, and the text of props.conf that its settings come from.
+struct Row {
+    props: &'static str,
+    host: &'static str,
+    source: &'static str,
+    /// Empty where the channel states none.
+    sourcetype: &'static str,
+}
+
+/// The props.conf of a text, beside the transforms and zones above. No text here has a fault.
+fn load_props(alloc: Global, text: &str) -> Result<Props, NoMemory> {
+    let Ok(props) = settings_of(alloc, text.as_bytes()) else {
+        return Err(NoMemory);
+    };
+    let Ok(transforms) = settings_of(alloc, TRANSFORMS) else {
+        return Err(NoMemory);
+    };
+    let Ok(zones) = settings_of(alloc, ZONES) else {
+        return Err(NoMemory);
+    };
+    match Props::load(alloc, &props, &transforms, &zones) {
+        Ok(props) => Ok(props),
+        Err(_) => Err(NoMemory),
+    }
+}
+
+fn channel(alloc: Global, row: &Row) -> Result<ChannelMeta, NoMemory> {
+    let sourcetype = if row.sourcetype.is_empty() {
+        None
+    } else {
+        Some(Bytes::copy_of(alloc, row.sourcetype.as_bytes())?)
+    };
+    Ok(ChannelMeta {
+        host: Bytes::copy_of(alloc, row.host.as_bytes())?,
+        source: Bytes::copy_of(alloc, row.source.as_bytes())?,
+        sourcetype,
+        index: None,
+    })
+}
+
+/// The weight of a pattern; 0 for none.
+fn weight(pattern: &Option<Pattern>) -> u64 {
+    match pattern {
+        Some(pattern) => pattern.weight(),
+        None => 0,
+    }
+}
+
+fn write_merge(alloc: Global, merge: &MergeSettings, out: &mut Bytes) -> Result<(), NoMemory> {
+    let before = weight(&merge.before);
+    let break_after = weight(&merge.break_after);
+    let hold_after = weight(&merge.hold_after);
+    let veto = weight(&merge.veto);
+    let text = format!(in alloc; " {} {} {}", merge.on, merge.before_date, merge.max_lines)?;
+    out.extend(text.as_bytes())?;
+    let text = format!(in alloc; " {before}{break_after}{hold_after}{veto}")?;
+    out.extend(text.as_bytes())
+}
+
+fn write_time(alloc: Global, time: &TimeSettings, out: &mut Bytes) -> Result<(), NoMemory> {
+    let prefix = weight(&time.prefix);
+    let format = match &time.format {
+        Some(format) => format.as_slice().len(),
+        None => 0,
+    };
+    let lookahead = time.lookahead.unwrap_or(0);
+    let text = format!(in alloc;
+        " {prefix} {format} {lookahead} {} {}", time.days_ago, time.days_hence
+    )?;
+    out.extend(text.as_bytes())
+}
+
+fn write_changes(changes: &[Sed], out: &mut Bytes) -> Result<(), NoMemory> {
+    for change in changes {
+        out.push(b' ')?;
+        add_change(out, change)?;
+    }
+    Ok(())
+}
+
+/// Source type, size of a line, weight of the breaker, merging, time, how many transforms, and changes.
+fn write_settings(alloc: Global, settings: &Settings, out: &mut Bytes) -> Result<(), NoMemory> {
+    out.extend(settings.sourcetype.as_slice())?;
+    let breaker = settings.breaker.weight();
+    let text = format!(in alloc; " {} {breaker}", settings.truncate)?;
+    out.extend(text.as_bytes())?;
+    write_merge(alloc, &settings.merge, out)?;
+    write_time(alloc, &settings.time, out)?;
+    let text = format!(in alloc; " {}", settings.transforms.len())?;
+    out.extend(text.as_bytes())?;
+    write_changes(settings.seds.as_slice(), out)?;
+    out.push(b'\n')
+}
+
+fn write_row(alloc: Global, row: &Row, out: &mut Bytes) -> Result<(), NoMemory> {
+    let props = load_props(alloc, row.props)?;
+    let meta = channel(alloc, row)?;
+    let settings = props.settings(alloc, &meta)?;
+    let copy = settings.copy(alloc)?;
+    write_settings(alloc, &copy, out)
+}
+
+/// A row for the host `web1` and the source `/a/x`, with no source type stated.
+fn at_web(props: &'static str) -> Row {
+    typed("", props)
+}
+
+/// The same with this source type.
+fn typed(sourcetype: &'static str, props: &'static str) -> Row {
+    Row {
+        props,
+        host: "web1",
+        source: "/a/x",
+        sourcetype,
+    }
+}
+
+/// Which stanza's value holds: by what it stands for, then by its priority, then by its name.
+fn rows_of_stanzas() -> [Row; 11] {
+    [
+        at_web(""),
+        at_web(
+            "[host::WEB*]\nTRUNCATE=3\n[source::/a/...]\nTRUNCATE=4\n[source::/a/*]\nTRUNCATE=5",
+        ),
+        Row {
+            props: "[host::WEB*]\nTRUNCATE=3\n[source::/a/...]\nTRUNCATE=4",
+            host: "web1",
+            source: "/b",
+            sourcetype: "",
+        },
+        at_web("[source::/a/...]\nTRUNCATE=4\npriority=1\n[source::/a/*]\nTRUNCATE=5"),
+        at_web("[source::/a/x]\nTRUNCATE=6\n[source::/a/*]\nTRUNCATE=5\npriority=99"),
+        at_web("[source::/a/x]\nTRUNCATE=6\n[source::/a/*]\nTRUNCATE=5\npriority=101"),
+        at_web("[host::web1]\npriority=1000\nTRUNCATE=3\n[source::...]\nTRUNCATE=4"),
+        at_web("[source::/A/*]\nTRUNCATE=4\n[host::WEB1]\nTRUNCATE=3"),
+        typed("st", "TRUNCATE=8\n[st]\nTRUNCATE=7\n[host::x]\nTRUNCATE=3"),
+        typed("st", "[st]\nTRUNCATE=7\n[host::web1]\nTRUNCATE=3"),
+        at_web("TRUNCATE=8\n[host::web1]\nTRUNCATE="),
+    ]
+}
+
+const STANZAS: &str = "unknown 10000 6 true true 256 0000 0 0 128 2000 2 0
+unknown 5 6 true true 256 0000 0 0 128 2000 2 0
+unknown 3 6 true true 256 0000 0 0 128 2000 2 0
+unknown 4 6 true true 256 0000 0 0 128 2000 2 0
+unknown 6 6 true true 256 0000 0 0 128 2000 2 0
+unknown 5 6 true true 256 0000 0 0 128 2000 2 0
+unknown 4 6 true true 256 0000 0 0 128 2000 2 0
+unknown 3 6 true true 256 0000 0 0 128 2000 2 0
+st 7 6 true true 256 0000 0 0 128 2000 2 0
+st 3 6 true true 256 0000 0 0 128 2000 2 0
+unknown 10000 6 true true 256 0000 0 0 128 2000 2 0
+";
+
+#[test]
+fn the_nearest_stanza_holds(rt: HostRuntime) -> Result<(), Fail> {
+    let mut found = Bytes::new(rt.alloc());
+    for row in &rows_of_stanzas() {
+        write_row(rt.alloc(), row, &mut found)?;
+    }
+    assert!(rt; found.as_slice() == STANZAS.as_bytes());
+    Ok(())
+}
+
+/// Source types, classes, and a value of each key.
+fn rows_of_values() -> [Row; 9] {
+    [
+        at_web("[source::/a/*]\nsourcetype=app\n[app]\nTRUNCATE=9"),
+        typed("st", "[source::/a/*]\nsourcetype=app\n[app]\nTRUNCATE=9"),
+        at_web("sourcetype=all\n[host::web1]\nsourcetype=hosts\n[unknown]\nTRUNCATE=9"),
+        at_web("[source::/a/*]\nsourcetype=\n[source::/a/...]\nsourcetype=b"),
+        typed("source::/b", "TRUNCATE=8\n[source::/b]\nTRUNCATE=9"),
+        typed("rule::x", "TRUNCATE=8\n[rule::x]\nTRUNCATE=9"),
+        at_web(
+            "SEDCMD-c=\nTRANSFORMS-b=good\nTRANSFORMS-a=good,good\n[source::/a/*]\nSEDCMD-b=s/a/1/\n[host::web1]\nSEDCMD-a=y/a/b/\nSEDCMD-b=s/a/2/",
+        ),
+        at_web(
+            "LINE_BREAKER=(a)\nSHOULD_LINEMERGE=no\nBREAK_ONLY_BEFORE_DATE=0\nBREAK_ONLY_BEFORE=a\nMUST_BREAK_AFTER=ab\nMUST_NOT_BREAK_AFTER=abc\nMUST_NOT_BREAK_BEFORE=abcd\nMAX_EVENTS=9\nTIME_PREFIX=ab\nTIME_FORMAT=%s.\nMAX_TIMESTAMP_LOOKAHEAD=-1\nTZ=here\nMAX_DAYS_AGO=10951\nMAX_DAYS_HENCE=0\nTRUNCATE=0",
+        ),
+        at_web("MAX_TIMESTAMP_LOOKAHEAD=1048576"),
+    ]
+}
+
+const VALUES: &str = "app 9 6 true true 256 0000 0 0 128 2000 2 0
+st 10000 6 true true 256 0000 0 0 128 2000 2 0
+unknown 9 6 true true 256 0000 0 0 128 2000 2 0
+unknown 10000 6 true true 256 0000 0 0 128 2000 2 0
+source::/b 8 6 true true 256 0000 0 0 128 2000 2 0
+rule::x 8 6 true true 256 0000 0 0 128 2000 2 0
+unknown 10000 6 true true 256 0000 0 0 128 2000 2 3 a|b first|1
+unknown 0 3 false false 9 1234 2 2 0 10951 0 0
+unknown 10000 6 true true 256 0000 0 0 1048576 2000 2 0
+";
+
+#[test]
+fn each_key_has_its_value(rt: HostRuntime) -> Result<(), Fail> {
+    let mut found = Bytes::new(rt.alloc());
+    for row in &rows_of_values() {
+        write_row(rt.alloc(), row, &mut found)?;
+    }
+    assert!(rt; found.as_slice() == VALUES.as_bytes());
     Ok(())
 }

@@ -4,5 +4,5 @@ use Rattle.ix_props.proofs.zones.Zone.utc.Goals as goal
 pub returns-in-Ok-clause-is_rule : goal.returns-in-Ok-clause-is_rule
 returns-in-Ok-clause-is_rule c = utc_reads
 
-pub returns-in_default-clause-is_rule : goal.returns-in_default-clause-is_rule
-returns-in_default-clause-is_rule c = utc_reads
+pub returns-in-Err-clause-is_rule : goal.returns-in-Err-clause-is_rule
+returns-in-Err-clause-is_rule c = utc_reads
