@@ -608,6 +608,7 @@ fn zones_have_rules(rt: HostRuntime) -> Result<(), Fail> {
 }
 
 /// What a channel is, and the text of props.conf that its settings come from.
+#[derive(Clone, Copy)]
 struct Row {
     props: &'static str,
     host: &'static str,
