@@ -1,0 +1,4 @@
+pub mod TableLemmas
+pub mod ParseLemmas
+pub mod ValueLemmas
+pub mod PlainLemmas

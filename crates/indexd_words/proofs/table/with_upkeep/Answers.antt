@@ -1,0 +1,12 @@
+use Rattle.std.proofs.Common.{◌∙◌}
+use Rattle.std.proofs.lemmas.Result.{IfOk-weaker}
+use Rattle.clap.specs.Words.{app_of}
+use Rattle.indexd_words.specs.Table.{with_both, thaw, tick}
+use Rattle.indexd_words.proofs.table.with_upkeep.Goals as goal
+
+pub returns-clause-app : goal.returns-clause-app
+unfolding thaw tick
+returns-clause-app c =
+    IfOk-weaker c.with_both.result _ _
+    (λ m e. e ∙ (λ i. with_both (app_of c.args.above) (c.in_ok-thaw.ensures.app i) (c.new_command.ensures.app i)))
+    c.with_both.ensures.app
