@@ -1,5 +1,5 @@
 -- From the kinds of an error to whether the words are refused.
-use Rattle.std.proofs.Common.{◌≡◌, ◌≢◌, ◌⊎◌, inl, inr, subst, refl, ap, ◌∙◌, List, [], ◌∷◌, Option, None, Result, Ok, Err}
+use Rattle.std.proofs.Common.{◌≡◌, ◌≢◌, inl, inr, subst, refl, ap, List, [], ◌∷◌, Option, None, Result, Ok, Err}
 use Rattle.clap.specs.Kinds.{HasKind, IsAmong, Kinds}
 use Rattle.clap.specs.Words.{Text, fault_of, kind_of, subcommand_of}
 use Rattle.clap.specs.declared.error.Error.{Error}

@@ -1,7 +1,7 @@
 -- What `parse` makes of numbers and times.
-use Rattle.std.proofs.Common.{◌≡◌, ◌≢◌, Result, Ok, Err, Option, None, ℕ, ◌+◌, ◌^◌, ◌<◌, ◌≤◌, List, [], ◌∷◌, Bool, true, false, length, drop, cond, zero, suc, refl, ap, sym, arith, rules, ℤ}
+use Rattle.std.proofs.Common.{◌≡◌, Result, Ok, Err, None, ℕ, ◌^◌, ◌<◌, ◌≤◌, List, [], ◌∷◌, Bool, true, false, length, cond, zero, suc, refl, ap, arith}
 use Rattle.std.specs.Result.{result_ok}
-use Rattle.std.specs.Prelude.{◌&&◌, ◌==◌, nat_le, pos, negsuc, neg_ℤ, FitsSigned, slice_index}
+use Rattle.std.specs.Prelude.{◌&&◌, ◌==◌, nat_le, pos, neg_ℤ, FitsSigned}
 use Rattle.std.specs.List.{list_all}
 use Rattle.std.specs.Int.{w64}
 use Rattle.std.specs.Int.RustNames.{unsigned_abs}

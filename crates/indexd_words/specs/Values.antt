@@ -1,5 +1,5 @@
 -- The values that the words have: names, files, numbers and times.
-use Rattle.std.specs.Prelude.{◌==◌, ◌&&◌, ◌||◌, ℕ, ℤ, Bool, true, false, not, List, [], ◌∷◌, length, drop, Option, Some, None, codes, if◌then◌else◌, nat_le, slice_index}
+use Rattle.std.specs.Prelude.{◌==◌, ◌&&◌, ◌||◌, ℕ, ℤ, Bool, not, List, [], ◌∷◌, length, drop, Option, Some, None, codes, if◌then◌else◌, nat_le, slice_index}
 use Rattle.std.specs.List.{list_all, list_any}
 use Rattle.std.specs.Char.{is_ascii_digit}
 use Rattle.std.specs.Str.{bytes_eq}

@@ -1,16 +1,20 @@
-//! What some words ask for, in plain terms: the theorems that users of `read_words` cite.
+//! What words of the usual forms ask for, in plain terms. Whoever calls `read_words` may cite this in place of `clap`'s definition.
 
-ghost use Rattle.std.specs.Prelude.{codes};
-ghost use Rattle.indexd_words.specs.Plain.{PreviewIsAsked, BtoolIsAsked};
+ghost use Rattle.indexd_words.specs.Plain.{PreviewIsAsked, WholePreviewIsAsked, BtoolIsAsked, ServeIsAsked, MonitorIsAsked, ExportIsAsked, RangeIsAsked, RollIsAsked, ThawIsAsked, SelftestIsAsked, SingleWordsAreAsked, OthersAreUsage};
 
-/// `preview --host HOST --source SOURCE`, both plain names, asks for just that, with no other option; and `btool FILE` for the
-/// settings of each of the five files.
+/// What is asked for by the words of each command, where no word in the place of a value begins with `-`; values behind `=` may be
+/// any. Where a value is outside its range, and where the first word is no command, nothing is asked for.
 pub fn plain_words()
     ensures preview { PreviewIsAsked }
-    ensures btool_props { BtoolIsAsked (codes "props") }
-    ensures btool_transforms { BtoolIsAsked (codes "transforms") }
-    ensures btool_indexes { BtoolIsAsked (codes "indexes") }
-    ensures btool_inputs { BtoolIsAsked (codes "inputs") }
-    ensures btool_zones { BtoolIsAsked (codes "zones") }
-{
-}
+    ensures whole_preview { WholePreviewIsAsked }
+    ensures btool { BtoolIsAsked }
+    ensures serve { ServeIsAsked }
+    ensures monitor { MonitorIsAsked }
+    ensures export { ExportIsAsked }
+    ensures range { RangeIsAsked }
+    ensures roll { RollIsAsked }
+    ensures thaw { ThawIsAsked }
+    ensures selftest { SelftestIsAsked }
+    ensures single_words { SingleWordsAreAsked }
+    ensures others { OthersAreUsage }
+{}

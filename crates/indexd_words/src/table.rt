@@ -101,11 +101,7 @@ fn preview<'a>(alloc: Global) -> Result<Command<'a>, AllocError>
 }
 
 /// A command that takes one word.
-fn one_word<'a>(
-    alloc: Global,
-    name: &'a str,
-    first: &'a str,
-) -> Result<Command<'a>, AllocError>
+fn one_word<'a>(alloc: Global, name: &'a str, first: &'a str) -> Result<Command<'a>, AllocError>
     ensures app { IfOk result (λ c. app_of c ≡ with_rule (new_app name.entry.now) (word_rule first.entry.now)) }
     ensures none_global { IfOk result (λ c. (fields_of c).has_globals ≡ false) }
 {

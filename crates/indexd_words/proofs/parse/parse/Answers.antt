@@ -1,7 +1,6 @@
-use Rattle.std.proofs.Common.{ap, sym, ◌∙◌, ◌≡◌}
+use Rattle.std.proofs.Common.{ap, sym, ◌∙◌}
 use Rattle.clap.specs.Words.{App, fault_of, is_simple, is_simple_and_free, subcommand_of}
 use Rattle.clap.specs.Walk.{texts}
-use Rattle.indexd_words.specs.Table.{table}
 use Rattle.indexd_words.proofs.TableLemmas.{simple, simple_and_free}
 use Rattle.indexd_words.proofs.ParseLemmas.{err_or, not_memory}
 use Rattle.indexd_words.proofs.parse.parse.Goals as goal

@@ -1,4 +1,4 @@
-use Rattle.std.proofs.Common.{rules, ap, sym, ◌∙◌, ◌≡◌}
+use Rattle.std.proofs.Common.{rules, ap, sym, ◌∙◌}
 use Rattle.clap.specs.Walk.{texts}
 use Rattle.std.specs.Prelude.{option_map}
 use Rattle.indexd_words.specs.Orders.{order_in}

@@ -1,12 +1,18 @@
-use Rattle.indexd_words.proofs.PlainLemmas.{preview_is_asked, props_is_asked, transforms_is_asked, indexes_is_asked, inputs_is_asked, zones_is_asked}
+use Rattle.indexd_words.proofs.PlainLemmas.{preview_is_asked, whole_preview_is_asked, btool_is_asked, serve_is_asked, monitor_is_asked, export_is_asked, range_is_asked, roll_is_asked, thaw_is_asked, selftest_is_asked, single_words_are_asked, others_are_usage}
 use Rattle.indexd_words.proofs.plain.plain_words.Goals as goal
 
 pub returns : goal.returns
 returns c = record {
   preview = preview_is_asked;
-  btool_props = props_is_asked;
-  btool_transforms = transforms_is_asked;
-  btool_indexes = indexes_is_asked;
-  btool_inputs = inputs_is_asked;
-  btool_zones = zones_is_asked;
+  whole_preview = whole_preview_is_asked;
+  btool = btool_is_asked;
+  serve = serve_is_asked;
+  monitor = monitor_is_asked;
+  export = export_is_asked;
+  range = range_is_asked;
+  roll = roll_is_asked;
+  thaw = thaw_is_asked;
+  selftest = selftest_is_asked;
+  single_words = single_words_are_asked;
+  others = others_are_usage;
 }

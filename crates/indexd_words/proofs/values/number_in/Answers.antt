@@ -1,5 +1,5 @@
-use Rattle.std.proofs.Common.{rules, ◌∙◌, sym, ◌≡◌, ◌≤◌, ◌<◌, ◌^◌, true, arith}
-use Rattle.indexd_words.specs.Values.{is_number, number_in}
+use Rattle.std.proofs.Common.{rules, ◌∙◌, sym, ◌≡◌, ◌<◌, ◌^◌, true}
+use Rattle.indexd_words.specs.Values.{is_number}
 use Rattle.indexd_words.proofs.ValueLemmas.{too_large}
 use Rattle.indexd_words.proofs.values.number_in.Goals as goal
 
