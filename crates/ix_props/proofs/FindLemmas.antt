@@ -45,6 +45,7 @@ priority_put e part f g is put so_far s = by (bytes_eq e.stanza s) refl
   where
     key : bytes_eq (codes "priority") e.key ≡ true
     key = turned (codes "priority") e.key ∙ is
+
     by : (x : Bool) → bytes_eq e.stanza s ≡ x → g s ≡ option_map number_of (value_in s (codes "priority") (e ∷ part))
     by true p = rw (turned s e.stanza, p, key) (rw p at (put s))
     by false p = rw (turned s e.stanza, p) (rw p at (put s) ∙ so_far s)
@@ -65,6 +66,7 @@ priority_skip e part f is so_far s = by (bytes_eq s e.stanza) refl
   where
     key : bytes_eq (codes "priority") e.key ≡ false
     key = turned (codes "priority") e.key ∙ is
+
     by : (x : Bool) → bytes_eq s e.stanza ≡ x → f s ≡ option_map number_of (value_in s (codes "priority") (e ∷ part))
     by true p = rw (p, key) (so_far s)
     by false p = rw p (so_far s)
@@ -148,9 +150,9 @@ pub listed : (f : Ranks) (entries : List PropsEntry) (m : BTreeMap (Bor (List �
     ((key : List ℕ) → option_map lent_candidate (found m key) ≡ nearest f key entries) → AreNearest f entries (entries_of m.entries)
 listed f entries m sorted is =
     let keyed : AreKeyed m.entries = recursion_from_All (λ (p : Bor (List ℕ) × Candidate). p.0.now ≡ p.1.entry.now.key) m.entries (λ k d within.
-        let at = All-found (on_total (λ (b : Bor (List ℕ)). b.now) nat_list_cmp_total) m sorted k d within in
-        let p = get_or m.entries k d in
-        (nearest_is_in f p.0.now entries (lent_candidate p.1) (sym (is p.0.now) ∙ ap (λ c. option_map lent_candidate c) at)).key_is) in
+    let at = All-found (on_total (λ (b : Bor (List ℕ)). b.now) nat_list_cmp_total) m sorted k d within in
+    let p = get_or m.entries k d in
+    (nearest_is_in f p.0.now entries (lent_candidate p.1) (sym (is p.0.now) ∙ ap (λ c. option_map lent_candidate c) at)).key_is) in
     record {
       in_order = order_of m.entries keyed sorted;
       set = λ key. set_of key m.entries keyed ∙ ap (λ c. option_map value_of c) (is key);

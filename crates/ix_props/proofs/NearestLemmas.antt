@@ -89,6 +89,7 @@ apart f key e es x d is in_es gives = by (bytes_eq d.0.stanza e.stanza) refl
         let rank : Some x.1 ≡ Some d.1 = sym is.rank_is ∙ ap f (sym (same_bytes d.0.stanza e.stanza p)) ∙ in_es.rank_is in
         let one : place x ≡ place d = cc in
         absurd (tied (order (place x) (place d)) gives (subst (λ p. order (place x) p ≢ Greater) one (itself (place x))))
+
 is_in_step : (f : Ranks) (key : List ℕ) (e : PropsEntry) (es : List PropsEntry) (c : Ranked) (x n : Option Ranked) →
     ((d : Ranked) → nearest f key es ≡ Some d → IsIn f key es d) → ranked f key e ≡ x → nearest f key es ≡ n → nearest f key (e ∷ es) ≡ Some c → IsIn f key (e ∷ es) c
 is_in_step f key e es c None n ih p q is =
@@ -142,6 +143,7 @@ with_entry f key e es s r x p before = by (nearest f key es) refl
           before = not_greater_trans (place d) (place x) (s, r) (back (place x) (place d) (greater (order (place x) (place d)) g)) before;
         }
         choice false g = record { c = x; is = rw (p, q, g) refl; before = before }
+
 behind_entry : (f : Ranks) (key : List ℕ) (e : PropsEntry) (es : List PropsEntry) (s : List ℕ) (r : Rank) →
     IsLeast f key es s r → IsLeast f key (e ∷ es) s r
 behind_entry f key e es s r least = by (ranked f key e) refl

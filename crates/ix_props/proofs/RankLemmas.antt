@@ -104,19 +104,22 @@ ranks-some e part entries source host f g rank is fits_here put ranks = record {
     sound s r known true p =
         let same : e.stanza ≡ s = same_bytes e.stanza s p in
         let at : Some rank ≡ Some r = sym (rw p at (put s)) ∙ known in
-        let one : rank ≡ r = cc in
-        (own_there s e part is (sym same),
-        subst (λ q. FitsEither (stated_priority entries s) source host s q) one
-        (subst (λ n. FitsEither (stated_priority entries n) source host n rank) same fits_here))
+        let one : rank ≡ r = cc in (
+          own_there s e part is (sym same),
+          subst (λ q. FitsEither (stated_priority entries s) source host s q) one
+              (subst (λ n. FitsEither (stated_priority entries n) source host n rank) same fits_here),
+        )
     sound s r known false p =
         let old = ranks.sound s r (sym (rw p at (put s)) ∙ known) in
         (still_there s e part old.0, old.1)
+
     apart_back : (s : List ℕ) → bytes_eq e.stanza s ≡ false → bytes_eq s e.stanza ≡ false
     apart_back s p = by (bytes_eq s e.stanza) refl
       where
         by : (x : Bool) → bytes_eq s e.stanza ≡ x → x ≡ false
         by false q = refl
         by true q = absurd (true≢false (sym (bytes_same e.stanza s (sym (same_bytes s e.stanza q))) ∙ p))
+
     whole : (s : List ℕ) (r : Rank) → IsThere (e ∷ part) s → FitsEither (stated_priority entries s) source host s r → (x : Bool) → bytes_eq e.stanza s ≡ x → g s ≡ Some r
     whole s r there fits true p =
         let same : e.stanza ≡ s = same_bytes e.stanza s p in
@@ -152,6 +155,7 @@ source_ranks entries source host f ranks = record {
         by Host e = let never = rw e at is in absurd (cc)
         by SourceType e = let never = rw e at is in absurd (cc)
         by Everything e = let never = rw e at is in absurd (cc)
+
     the_same : (q r : Rank) → if_source q.nearness q ≡ Some r → q ≡ r
     the_same q r is = by q.nearness refl
       where
@@ -160,17 +164,20 @@ source_ranks entries source host f ranks = record {
         by Host e = let never = rw e at is in absurd (cc)
         by SourceType e = let never = rw e at is in absurd (cc)
         by Everything e = let never = rw e at is in absurd (cc)
+
     sound : (s : List ℕ) (r : Rank) (o : Option Rank) → f s ≡ o → rank_for f None s ≡ Some r → HoldsForSource entries source s r
     sound s r None e known = let never = rw e at known in absurd (cc)
     sound s r (Some q) e known =
         let is = rw e at known in
         let one : q ≡ r = the_same q r is in
         let near : r.nearness ≡ Source = from_source s r (subst (λ x. if_source x.nearness x ≡ Some r) one is) in
-        let old = ranks.sound s r (e ∙ ap (λ x. Some x) one) in
-        (old.0, elim old.1 [
-          | inl a ↦ a
-          | inr b ↦ let never : Host ≡ Source = sym (ap (λ (x : Rank). x.nearness) b.rank_is) ∙ near in absurd (cc)
-        ])
+        let old = ranks.sound s r (e ∙ ap (λ x. Some x) one) in (
+          old.0,
+          elim old.1 [
+            | inl a ↦ a
+            | inr b ↦ let never : Host ≡ Source = sym (ap (λ (x : Rank). x.nearness) b.rank_is) ∙ near in absurd (cc)
+          ],
+        )
 
 nearer_kind : (s : List ℕ) (q r : Rank) → nat_cmp (step_of q.nearness) (step_of r.nearness) ≡ Less → order (s, q) (s, r) ≢ Greater
 nearer_kind s q r less = λ e. let never : Less ≡ Greater = rw less at e in absurd (cc)
@@ -192,6 +199,7 @@ plain_holds entries o s r known = by (bytes_eq s o.sourcetype) (names_source_typ
         (if x then Some (record { nearness = Everything; priority = pos 0 }) else None) ≡ Some r → Holds entries o s r
     everything true p is = for_everything (same_bytes s (codes "default") p) (cc)
     everything false p is = absurd (cc)
+
     by : (x y z : Bool) → bytes_eq s o.sourcetype ≡ x → names_source_type s ≡ y → bytes_eq s (codes "default") ≡ z → Holds entries o s r
     by true true z p q w = let is = rw (p, q) at known in for_source_type (same_bytes s o.sourcetype p) q (cc)
     by true false z p q w = everything z w (rw (p, q, w) at known)
@@ -214,14 +222,17 @@ all_ranks entries o f ranks = record {
           | inl a ↦ for_source (old.0, a)
           | inr b ↦ for_host old.0 b
         ]
+
     by_pattern : (s : List ℕ) (r : Rank) → f s ≡ Some r → (q : Rank) × (rank_for f (Some o.sourcetype) s ≡ Some q) × (order (s, q) (s, r) ≢ Greater)
     by_pattern s r at = (r, rw at refl, itself (s, r))
+
     for_type : (s : List ℕ) (r : Rank) (x : Option Rank) → f s ≡ x → s ≡ o.sourcetype → names_source_type s ≡ true →
         r ≡ record { nearness = SourceType; priority = pos 0 } → (q : Rank) × (rank_for f (Some o.sourcetype) s ≡ Some q) × (order (s, q) (s, r) ≢ Greater)
     for_type s r None e same names is = (r, rw (e, bytes_same s o.sourcetype same, names, is) refl, itself (s, r))
     for_type s r (Some q) e same names is =
         let old = ranks.sound s q e in
         (q, rw e refl, patterns_first (stated_priority entries s) o.source o.host s q r SourceType old.1 (ap (λ (x : Rank). x.nearness) is) refl refl)
+
     plain_last : (s : List ℕ) (r : Rank) (x y : Bool) → bytes_eq s o.sourcetype ≡ x → names_source_type s ≡ y → f s ≡ None → s ≡ codes "default" →
         r ≡ record { nearness = Everything; priority = pos 0 } → (q : Rank) × (rank_for f (Some o.sourcetype) s ≡ Some q) × (order (s, q) (s, r) ≢ Greater)
     plain_last s r true true p n e same is =
@@ -229,12 +240,14 @@ all_ranks entries o f ranks = record {
         (q, rw (e, p, n) refl, nearer_kind s q r (rw is refl))
     plain_last s r true false p n e same is = (r, rw (e, p, n, bytes_same s (codes "default") same, is) refl, itself (s, r))
     plain_last s r false y p n e same is = (r, rw (e, p, bytes_same s (codes "default") same, is) refl, itself (s, r))
+
     for_all : (s : List ℕ) (r : Rank) (x : Option Rank) → f s ≡ x → s ≡ codes "default" →
         r ≡ record { nearness = Everything; priority = pos 0 } → (q : Rank) × (rank_for f (Some o.sourcetype) s ≡ Some q) × (order (s, q) (s, r) ≢ Greater)
     for_all s r None e same is = plain_last s r (bytes_eq s o.sourcetype) (names_source_type s) refl refl e same is
     for_all s r (Some q) e same is =
         let old = ranks.sound s q e in
         (q, rw e refl, patterns_first (stated_priority entries s) o.source o.host s q r Everything old.1 (ap (λ (x : Rank). x.nearness) is) refl refl)
+
     least : (s : List ℕ) (r : Rank) → Holds entries o s r → (q : Rank) × (rank_for f (Some o.sourcetype) s ≡ Some q) × (order (s, q) (s, r) ≢ Greater)
     least s r (for_source h) = by_pattern s r (ranks.whole s r h.0 (inl h.1))
     least s r (for_host there h) = by_pattern s r (ranks.whole s r there (inr h))

@@ -16,10 +16,11 @@ use Rattle.ix_props.proofs.RankLemmas.{source_ranks, all_ranks}
 pub type_of_source : (entries : List PropsEntry) (source host : List ℕ) (f : Ranks) (list : List PropsEntry) (name : List ℕ) → AreRanks entries entries source host f →
     AreNearest (rank_for f None) entries list → name ≡ name_or (codes "unknown") (set_in list (codes "sourcetype")) → IsSourceType entries None source name
 type_of_source entries source host f list name ranks near is =
-    let key : List ℕ = codes "sourcetype" in
-    (option_map value_of (nearest (rank_for f None) key entries),
-    chosen_by entries (HoldsForSource entries source) (rank_for f None) key (source_ranks entries source host f ranks),
-    is ∙ ap (λ v. name_or (codes "unknown") v) (near.set key))
+    let key : List ℕ = codes "sourcetype" in (
+      option_map value_of (nearest (rank_for f None) key entries),
+      chosen_by entries (HoldsForSource entries source) (rank_for f None) key (source_ranks entries source host f ranks),
+      is ∙ ap (λ v. name_or (codes "unknown") v) (near.set key),
+    )
 
 pub settled : (entries : List PropsEntry) (meta : ChannelMeta) (sourcetype : List ℕ) (f : Ranks) (list : List PropsEntry) (s : Settings) →
     AreRanks entries entries meta.source meta.host f → IsSourceType entries meta.sourcetype meta.source sourcetype →

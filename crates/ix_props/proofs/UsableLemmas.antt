@@ -89,6 +89,7 @@ kind_of b key e is = by (is_ignored e.stanza) (length e.value == 0) refl refl
   where
     named : (length e.key == 0) ≡ false
     named = ap (λ (k : List ℕ). length k == 0) (sym is) ∙ ne_eqb (length (b ∷ key)) 0 (λ e. omega arith)
+
     by : (x y : Bool) → is_ignored e.stanza ≡ x → (length e.value == 0) ≡ y → (entry_kind e ≡ kind.Unread) ⊎ (entry_kind e ≡ key_kind (b ∷ key))
     by true y p q = inl (passed (is_ignored e.stanza) (length e.key == 0) (length e.value == 0) (key_kind e.key) named (inl p))
     by false true p q = inl (passed (is_ignored e.stanza) (length e.key == 0) (length e.value == 0) (key_kind e.key) named (inr q))
@@ -100,7 +101,7 @@ read_as b key v from =
     let read = from.sound.is_read in
     let of_kind : (k : Kind) → entry_kind from.sound.said ≡ k → IsOfKind from.sound.transforms from.sound.zones k from.sound.said v =
     λ k same. subst (λ x. IsOfKind from.sound.transforms from.sound.zones x from.sound.said v) same
-        (subst (λ w. IsOfKind from.sound.transforms from.sound.zones (entry_kind from.sound.said) from.sound.said w) from.value_is read.value) in
+    (subst (λ w. IsOfKind from.sound.transforms from.sound.zones (entry_kind from.sound.said) from.sound.said w) from.value_is read.value) in
     elim (kind_of b key from.sound.said (from.key_is ∙ read.key)) [
       | inl none ↦ inl (of_kind kind.Unread none)
       | inr same ↦ inr (record { transforms = from.sound.transforms; zones = from.sound.zones; said = from.sound.said; is = of_kind (key_kind (b ∷ key)) same })
@@ -165,6 +166,7 @@ in_range least most text n is = by (number text) refl
     test z true true p q is = let one : z ≡ n = cc in (subst (λ m. int_le least m ≡ true) one p, subst (λ m. int_le m most ≡ true) one q)
     test z true false p q is = absurd (cc)
     test z false b p q is = absurd (cc)
+
     by : (o : Option ℤ) → number text ≡ o → (int_le least n ≡ true) × (int_le n most ≡ true)
     by None p = let never = rw p at is in absurd (cc)
     by (Some z) p = test z (int_le least z) (int_le z most) refl refl (rw p at is)
@@ -174,6 +176,7 @@ count_within lo hi text n is = by (number_in (pos lo) (pos hi) text) refl
   where
     bounds : (z : ℤ) → int_le (pos lo) z ≡ true → int_le z (pos hi) ≡ true → (lo ≤ unsigned_abs z) × (unsigned_abs z ≤ hi)
     bounds z p q = (grind (arith, ints), grind (arith, ints))
+
     by : (o : Option ℤ) → number_in (pos lo) (pos hi) text ≡ o → (lo ≤ n) × (n ≤ hi)
     by None p = let never = rw p at is in absurd (cc)
     by (Some z) p =
@@ -334,37 +337,37 @@ chain_writes set prefix (c ∷ cs) sourced each =
 
 breaker_read : (p : Shape) → Sourced (codes "LINE_BREAKER") (value.Pattern p) → (0 < p.groups) × (0 < least_length (tree p.rows))
 breaker_read p from = elim (read_as 76 (codes "INE_BREAKER") (value.Pattern p) from) [
-    | inl none ↦ absurd (cc)
-    | inr r ↦ (r.is.groups, r.is.takes)
-  ]
+  | inl none ↦ absurd (cc)
+  | inr r ↦ (r.is.groups, r.is.takes)
+]
 
 events_read : (n : ℕ) → Sourced (codes "MAX_EVENTS") (value.Count n) → (1 ≤ n) × (n ≤ 1_000_000)
 unfolding event_kind
 events_read n from = elim (read_as 77 (codes "AX_EVENTS") (value.Count n) from) [
-    | inl none ↦ absurd (cc)
-    | inr r ↦ counts 1 1_000_000 r.said.value n r.is
-  ]
+  | inl none ↦ absurd (cc)
+  | inr r ↦ counts 1 1_000_000 r.said.value n r.is
+]
 
 ago_read : (n : ℕ) → Sourced (codes "MAX_DAYS_AGO") (value.Count n) → (0 ≤ n) × (n ≤ 10_951)
 unfolding event_kind time_kind
 ago_read n from = elim (read_as 77 (codes "AX_DAYS_AGO") (value.Count n) from) [
-    | inl none ↦ absurd (cc)
-    | inr r ↦ counts 0 10_951 r.said.value n r.is
-  ]
+  | inl none ↦ absurd (cc)
+  | inr r ↦ counts 0 10_951 r.said.value n r.is
+]
 
 hence_read : (n : ℕ) → Sourced (codes "MAX_DAYS_HENCE") (value.Count n) → (0 ≤ n) × (n ≤ 10_950)
 unfolding event_kind time_kind
 hence_read n from = elim (read_as 77 (codes "AX_DAYS_HENCE") (value.Count n) from) [
-    | inl none ↦ absurd (cc)
-    | inr r ↦ counts 0 10_950 r.said.value n r.is
-  ]
+  | inl none ↦ absurd (cc)
+  | inr r ↦ counts 0 10_950 r.said.value n r.is
+]
 
 lookahead_read : (n : ℤ) → Sourced (codes "MAX_TIMESTAMP_LOOKAHEAD") (value.Number n) → int_le n (pos 1_048_576) ≡ true
 unfolding event_kind time_kind
 lookahead_read n from = elim (read_as 77 (codes "AX_TIMESTAMP_LOOKAHEAD") (value.Number n) from) [
-    | inl none ↦ absurd (cc)
-    | inr r ↦ numbers (neg_ℤ (pos 1)) (pos 1_048_576) r.said.value n r.is
-  ]
+  | inl none ↦ absurd (cc)
+  | inr r ↦ numbers (neg_ℤ (pos 1)) (pos 1_048_576) r.said.value n r.is
+]
 
 -- the nearest value of a key comes of an entry
 near_sourced : (f : Ranks) (entries list : List PropsEntry) → AreSound entries → AreNearest f entries list → AreSourced (set_in list)
@@ -438,6 +441,7 @@ own_sound e sound empty = by (is_ignored sound.said.stanza) refl
   where
     named : (length sound.said.key == 0) ≡ true
     named = ap (λ (k : List ℕ). length k == 0) (sym sound.is_read.key) ∙ empty
+
     by : (x : Bool) → is_ignored sound.said.stanza ≡ x → IsOwnSound e
     by true p =
         let none = ignored sound.said.stanza p in

@@ -1,4 +1,4 @@
-//! The value of each key that is the nearest to a channel.
+//! The value of each key that is the nearest to a channel, for `settling` and for the settings that are read of it.
 
 ghost use Rattle.std.specs.Prelude.{◌≡◌, List, ℕ, Some, IfOk, OnOk, bytes_eq};
 ghost use Rattle.std.specs.Option.{option_map, option_copied};
@@ -80,10 +80,7 @@ fn put_candidate<'a>(
 }
 
 /// Puts an entry in place of the one that is there for its key, unless it gives way to it.
-fn add_candidate<'a>(
-    nearest: &mut Nearest<'a>,
-    candidate: Candidate<'a>,
-) -> Result<(), NoMemory>
+fn add_candidate<'a>(nearest: &mut Nearest<'a>, candidate: Candidate<'a>) -> Result<(), NoMemory>
     ensures { OnOk result ((key : List ℕ) → option_map lent_candidate (found nearest.new key)
         ≡ nearer (at_key key (lent_candidate candidate.entry)) (option_map lent_candidate (found nearest.old key))) }
 {

@@ -1,4 +1,4 @@
-//! The classes of changes and of transforms that are set for a channel, in the order of their keys.
+//! The classes of changes and of transforms that are set for a channel, in the order of their keys, for `settling`.
 
 ghost use Rattle.std.specs.Prelude.{◌≡◌, ◌++◌, ◌∷◌, [], IfOk, OnOk, codes};
 ghost use Rattle.ix_props.specs.Ranking.{lent, classes_in};

@@ -1,4 +1,4 @@
-//! Single settings of a channel, each read of the value that is chosen for it, or else its default.
+//! Single settings of a channel, each read of the value that is chosen for it, or else its default. `settling` calls them.
 
 ghost use Rattle.std.specs.Prelude.{◌≡◌, IfOk, codes};
 ghost use Rattle.std.specs.Option.{option_copied};
@@ -120,10 +120,7 @@ pub(crate) fn merge_settings(chosen: &[&PropsEntry]) -> Result<MergeSettings, No
 }
 
 /// How the time of an event is read.
-pub(crate) fn time_settings(
-    alloc: Global,
-    chosen: &[&PropsEntry],
-) -> Result<TimeSettings, NoMemory>
+pub(crate) fn time_settings(alloc: Global, chosen: &[&PropsEntry]) -> Result<TimeSettings, NoMemory>
     requires { IsSmall (set_in (lent chosen.now) (codes "MAX_TIMESTAMP_LOOKAHEAD")) }
     ensures { IfOk result (λ time. AreTimeSettings (set_in (lent chosen.now)) time) }
 {

@@ -1,4 +1,4 @@
-//! The stanzas of props.conf whose patterns a channel's source or host fits.
+//! The stanzas of props.conf whose patterns the source or the host of a channel fits, for `settling`.
 
 ghost use Rattle.std.specs.Prelude.{◌≡◌, List, ℕ, Some, [], IfOk, OnOk, codes, bytes_eq};
 ghost use Rattle.std.specs.Option.{option_map, option_and_then};
@@ -43,10 +43,7 @@ fn put_priority<'a>(
 }
 
 /// The priority that each stanza states.
-fn read_priorities<'a>(
-    alloc: Global,
-    entries: &'a [PropsEntry],
-) -> Result<Priorities<'a>, NoMemory>
+fn read_priorities<'a>(alloc: Global, entries: &'a [PropsEntry]) -> Result<Priorities<'a>, NoMemory>
     ensures { IfOk result (λ priorities. (stanza : List ℕ) →
         found priorities stanza ≡ option_map number_of (value_in stanza (codes "priority") entries.now)) }
 {

@@ -9,12 +9,12 @@ ghost use Rattle.ix_props.specs.Props.{IsOfKind, RefusesKind, AreRead, RefusesPr
 use crate::faults::SettingFault;
 use crate::kinds::{Kind, entry_kind};
 use crate::lists::read_transforms;
+use crate::settings::Settings;
+use crate::settling::settings_of;
 use crate::values::{
     Value, read_breaker, read_change, read_format, read_name, read_plain, read_small, read_stanza,
     read_zone,
 };
-use crate::settings::Settings;
-use crate::settling::settings_of;
 use ix_base::{Bytes, ChannelMeta, NoMemory, Sequence};
 use ix_conf::{Item, Merged};
 use std::alloc::Global;

@@ -1,4 +1,4 @@
-//! How near a stanza of props.conf is to a channel for which it holds.
+//! How near a stanza of props.conf is to a channel for which it holds. `holding` and `choosing` stand on it.
 
 ghost use Rattle.std.specs.Prelude.{◌≡◌, codes};
 ghost use Rattle.ix_props.specs.Choice.{is_wild, has_wildcard, default_priority, names_source_type, step_of, order};

@@ -1,4 +1,4 @@
-//! The settings of a channel, of the entries that are chosen for it.
+//! The settings of a channel, of the entries that are chosen for it. `Props::settings` calls it.
 
 ghost use Rattle.std.specs.Prelude.{◌≡◌, IfOk, codes};
 ghost use Rattle.ix_props.specs.Ranking.{found, lent, set_in, AreRanks, AreSet, IsSmall};

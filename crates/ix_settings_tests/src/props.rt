@@ -675,7 +675,8 @@ fn write_time(alloc: Global, time: &TimeSettings, out: &mut Bytes) -> Result<(),
     };
     let lookahead = time.lookahead.unwrap_or(0);
     let text = format!(in alloc;
-        " {prefix} {format} {lookahead} {} {}", time.days_ago, time.days_hence
+        " {prefix} {format} {lookahead} {} {}",
+        time.days_ago, time.days_hence
     )?;
     out.extend(text.as_bytes())
 }

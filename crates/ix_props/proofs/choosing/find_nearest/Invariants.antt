@@ -7,7 +7,7 @@ abbrev pub invariant-loop-at : goal.invariant-loop-at
 invariant-loop-at l = record {
   within : l.at ≤ length l.entries;
   so_far : (key : List ℕ) → option_map lent_candidate (found l.nearest key)
-    ≡ nearest (rank_for (found l.ranks) (option_copied l.sourcetype)) key (drop l.at l.entries);
+      ≡ nearest (rank_for (found l.ranks) (option_copied l.sourcetype)) key (drop l.at l.entries);
 }
 
 abbrev pub decreases-loop-at : goal.decreases-loop-at
