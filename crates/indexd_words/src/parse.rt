@@ -1,6 +1,6 @@
 //! The words, read by the table of commands.
 
-ghost use Rattle.std.specs.Prelude.{◌≡◌, ◌≢◌, ◌↔◌, ◌≤◌, IfOk, OnOk, Err, [], map, take, length};
+ghost use Rattle.std.specs.Prelude.{◌≡◌, ◌≢◌, ◌↔◌, IfOk, OnOk, Err, []};
 ghost use Rattle.clap.specs.Words.{fault_of, subcommand_of, subcommand_rows_of, kind_of};
 ghost use Rattle.clap.specs.Walk.{texts};
 ghost use Rattle.indexd_words.specs.Table.{table};

@@ -1,6 +1,6 @@
 //! The values that words have: names, files, numbers and times. `orders.rt` reads the values of each command by these.
 
-ghost use Rattle.std.specs.Prelude.{◌≡◌, ◌≤◌, IfSome, option_map, Some, None};
+ghost use Rattle.std.specs.Prelude.{◌≡◌, ◌≤◌, IfSome, option_map};
 ghost use Rattle.std.specs.List.{list_all};
 ghost use Rattle.std.specs.Char.{is_ascii_digit};
 ghost use Rattle.indexd_words.specs.Values.{is_name, name_of, is_file, file_of, is_number, number_in, behind_minus, is_time, seconds_of};
