@@ -1,0 +1,13 @@
+//! Changes of events at index time: what SEDCMD does to the raw text, and what transforms do to the fields and to the queue.
+#![tactic(auto)]
+
+mod changes;
+mod matches;
+mod queues;
+mod seds;
+mod substitution;
+mod swapping;
+mod transforms;
+mod writing;
+
+pub use changes::apply;

@@ -1,0 +1,125 @@
+//! What transforms do to an event and to its queue.
+
+ghost use Rattle.std.specs.Prelude.{◌≡◌, ◌++◌, take, IfOk};
+ghost use Rattle.std.specs.Option.{option_map};
+ghost use Rattle.ix_match.specs.Matches.{LiesIn};
+ghost use Rattle.ix_transforms.specs.Writing.{written};
+ghost use Rattle.ix_transforms.specs.Queues.{limit_of, value_of};
+ghost use Rattle.ix_transforms.specs.Transforms.{destination, front, value_after, transformed, transformed_by};
+
+use crate::matches::next_match;
+use crate::queues::{Queued, limit_of};
+use crate::writing::{Groups, add_parts, add_within, first_bytes};
+use ix_base::{Bytes, NoMemory};
+use ix_match::Found;
+use ix_values::{Key, Transform, TransformList};
+use std::alloc::Global;
+
+/// The key that is written: `_meta` where the value is added to the indexed fields, else that of `DEST_KEY`.
+fn destination(transform: &Transform) -> Key
+    ensures { result ≡ destination transform.now }
+{
+    match transform.dest {
+        Some(key) if !transform.write_meta => key,
+        _ => Key::Meta,
+    }
+}
+
+/// What stays in front of the value, cut to what the key takes: the indexed fields so far, with a space behind them, where the
+/// value is added to them.
+fn front(alloc: Global, transform: &Transform, queued: &Queued) -> Result<Bytes, NoMemory>
+    ensures { IfOk result (λ kept. kept ≡ take (limit_of (destination transform.now)) (front transform.now.write_meta queued.now.event.meta)) }
+{
+    let fields = queued.event.meta.as_slice();
+    if !transform.write_meta || fields.is_empty() {
+        return Ok(Bytes::new(alloc));
+    }
+    let mut kept = Bytes::copy_of(alloc, fields)?;
+    kept.push(b' ')?;
+    kept.truncate(limit_of(destination(transform)));
+    Ok(kept)
+}
+
+/// The value that the destination has behind a match.
+fn value_at_match(
+    alloc: Global,
+    transform: &Transform,
+    queued: &Queued,
+    text: &[u8],
+    found: &Found,
+) -> Result<Bytes, NoMemory>
+    requires { LiesIn text.now 0 transform.now.regex.groups found.now }
+    ensures { IfOk result (λ value. value ≡ take (limit_of (destination transform.now)) (front transform.now.write_meta queued.now.event.meta
+        ++ written transform.now.format (value_of (destination transform.now) queued.now) text.now found.now.groups)) }
+{
+    let key = destination(transform);
+    let so_far = queued.value(alloc, key)?;
+    let mut value = front(alloc, transform, queued)?;
+    let groups = Groups {
+        zeroth: so_far.as_slice(),
+        text,
+        spans: found.groups.as_slice(),
+    };
+    add_parts(&mut value, transform.format.as_slice(), &groups, limit_of(key))?;
+    Ok(value)
+}
+
+/// The value that the destination has where there is no match.
+fn value_without(
+    alloc: Global,
+    transform: &Transform,
+    queued: &Queued,
+) -> Result<Option<Bytes>, NoMemory>
+    ensures { IfOk result (λ value. value ≡ option_map (λ text. take (limit_of (destination transform.now)) (front transform.now.write_meta queued.now.event.meta ++ text))
+        transform.now.default_value) }
+{
+    let Some(text) = &transform.default_value else {
+        return Ok(None);
+    };
+    let mut value = front(alloc, transform, queued)?;
+    add_within(&mut value, text.as_slice(), limit_of(destination(transform)))?;
+    Ok(Some(value))
+}
+
+/// The value that the destination then has; `None` where nothing is written.
+fn value_after(
+    alloc: Global,
+    transform: &Transform,
+    queued: &Queued,
+) -> Result<Option<Bytes>, NoMemory>
+    ensures { IfOk result (λ value. value ≡ value_after transform.now queued.now) }
+{
+    let source = queued.value(alloc, transform.source)?;
+    let text = first_bytes(source.as_slice(), transform.lookahead as usize);
+    match next_match(alloc, &transform.regex, text, 0)? {
+        Some(found) => Ok(Some(value_at_match(
+            alloc, transform, queued, text, &found,
+        )?)),
+        None => Ok(value_without(alloc, transform, queued)?),
+    }
+}
+
+/// What one transform leaves.
+fn transform(alloc: Global, queued: Queued, by: &Transform) -> Result<Queued, NoMemory>
+    ensures { IfOk result (λ next. next ≡ transformed queued by.now) }
+{
+    match value_after(alloc, by, &queued)? {
+        Some(value) => Ok(queued.with_value(destination(by), value)?),
+        None => Ok(queued),
+    }
+}
+
+/// What all transforms leave, the first one first.
+pub fn transform_all(
+    alloc: Global,
+    transforms: &TransformList,
+    queued: Queued,
+) -> Result<Queued, NoMemory>
+    ensures { IfOk result (λ next. next ≡ transformed_by transforms.now queued) }
+{
+    let mut now = queued;
+    for by in transforms.as_slice() {
+        now = transform(alloc, now, by)?;
+    }
+    Ok(now)
+}
