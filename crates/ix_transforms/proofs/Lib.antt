@@ -1,3 +1,4 @@
 pub mod MatchLemmas
 pub mod TextLemmas
 pub mod ReplaceLemmas
+pub mod SizeLemmas

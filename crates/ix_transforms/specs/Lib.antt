@@ -5,3 +5,4 @@ pub mod Queues
 pub mod Values
 pub mod Transforms
 pub mod Changes
+pub mod Sizes

@@ -4,6 +4,7 @@ ghost use Rattle.std.specs.Prelude.{◌≡◌, All, IfOk};
 ghost use Rattle.ix_values.specs.Seds.{IsApplicable};
 ghost use Rattle.ix_values.specs.Transforms.{HasDestination};
 ghost use Rattle.ix_transforms.specs.Changes.{changed, start, outcome};
+ghost use Rattle.ix_transforms.specs.Sizes.{HasSizes, HasMoments};
 
 use crate::queues::{Queue, Queued};
 use crate::seds::change_all;
@@ -48,7 +49,9 @@ pub fn apply(
 ) -> Result<Routed, NoMemory>
     requires seds { All (λ sed. IsApplicable sed) seds.now }
     requires transforms { All (λ transform. HasDestination transform) transforms.now }
-    ensures { IfOk result (λ routed. routed ≡ changed seds.now transforms.now event) }
+    ensures changed { IfOk result (λ routed. routed ≡ changed seds.now transforms.now event) }
+    ensures sizes { IfOk result (λ routed. HasSizes event routed) }
+    ensures moments { IfOk result (λ routed. HasMoments event routed) }
 {
     let queued = start(alloc, seds, event)?;
     let queued = transform_all(alloc, transforms, queued)?;
