@@ -2,3 +2,4 @@ pub mod MatchLemmas
 pub mod TextLemmas
 pub mod ReplaceLemmas
 pub mod SizeLemmas
+pub mod TurnLemmas

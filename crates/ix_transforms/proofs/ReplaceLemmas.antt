@@ -1,8 +1,8 @@
 -- Matches replaced, one after the other.
-use Rattle.std.proofs.Common.{◌≡◌, ℕ, zero, suc, ◌+◌, ◌-◌, ◌<◌, ◌≤◌, List, [], ◌∷◌, ◌++◌, length, take, drop, Option, Some, None, refl, sym, ◌∙◌, ap, subst, arith, append_assoc}
+use Rattle.std.proofs.Common.{◌≡◌, ℕ, zero, suc, ◌+◌, ◌-◌, ◌<◌, ◌≤◌, List, [], ◌∷◌, ◌++◌, length, take, drop, Option, Some, None, refl, sym, ◌∙◌, ap, arith}
 use Rattle.std.specs.Prelude.{slice_get, slice_range, IfSome}
 use Rattle.ix_match.specs.declared.first.Found.{Found}
-use Rattle.ix_match.specs.Matches.{LiesWithin, AllWithin, LiesIn}
+use Rattle.ix_match.specs.Matches.{AllWithin, LiesIn}
 use Rattle.ix_pattern.specs.Rows.{Shape}
 use Rattle.ix_values.specs.declared.escapes.Part.{Part}
 use Rattle.ix_values.specs.declared.seds.Which.{Which}
@@ -10,7 +10,7 @@ use Rattle.ix_values.specs.declared.seds.Which.TheVariants.{First, All, Nth}
 use Rattle.ix_transforms.specs.Matches.{matches, behind, and_on, first}
 use Rattle.ix_transforms.specs.Writing.{written}
 use Rattle.ix_transforms.specs.Seds.{number_of, chosen, replaced, raw_limit, cut}
-use Rattle.ix_transforms.proofs.TextLemmas.{cut-more, cut-on}
+use Rattle.ix_transforms.proofs.TextLemmas.{cut-on}
 use Rattle.ix_transforms.proofs.MatchLemmas.{matches-step, matches-some, nth-first}
 
 -- how many places stand from a match on
@@ -67,7 +67,7 @@ pub turn-done : (p : Shape) (parts : List Part) (text : List ℕ) (copied at : �
     cut (out' ++ replaced parts text f.end (and_on (λ q. matches p text q) next)) ≡ all
 turn-done p parts text copied at f now next out out' all is goes found added so_far =
     let later : and_on (λ q. matches p text q) next ≡ matches p text (behind f) =
-        ap (and_on (λ q. matches p text q)) (found ∙ ap (first p text) goes) ∙ sym (matches-step p text (behind f)) in
+    ap (and_on (λ q. matches p text q)) (found ∙ ap (first p text) goes) ∙ sym (matches-step p text (behind f)) in
     ap (λ fs. cut (out' ++ replaced parts text f.end fs)) later
     ∙ sym (one-more parts text copied f (matches p text (behind f)) out out' added)
     ∙ ap (λ (x : Option Found). cut (out ++ replaced parts text copied (and_on (λ q. matches p text q) x))) (sym is) ∙ so_far

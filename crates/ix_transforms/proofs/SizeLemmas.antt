@@ -1,5 +1,5 @@
 -- What no change and no transform alters: sizes and moments.
-use Rattle.std.proofs.Common.{◌≡◌, ℕ, ◌≤◌, Bool, true, false, if◌then◌else◌, List, [], ◌∷◌, ◌++◌, length, take, drop, fold, codes, nat_eq, Option, Some, None, refl, arith}
+use Rattle.std.proofs.Common.{◌≡◌, ℕ, ◌≤◌, true, false, if◌then◌else◌, List, [], ◌∷◌, ◌++◌, length, take, drop, fold, codes, nat_eq, Some, None, refl, arith}
 use Rattle.std.specs.Option.{option_map}
 use Rattle.std.specs.List.{starts_with}
 use Rattle.std.proofs.lemmas.List.{length-take, length-drop}
@@ -8,9 +8,9 @@ use Rattle.ix_values.specs.declared.seds.Sed.{Sed}
 use Rattle.ix_values.specs.declared.transforms.Key.{Key}
 use Rattle.ix_values.specs.declared.transforms.Key.TheVariants.{Raw, Meta, Queue as QueueKey, Index, Host, Source, Sourcetype}
 use Rattle.ix_values.specs.declared.transforms.Transform.{Transform}
-use Rattle.ix_transforms.specs.Seds.{raw_limit, cut, sed_text, changed_text}
+use Rattle.ix_transforms.specs.Seds.{raw_limit, cut, sed_text}
 use Rattle.ix_transforms.specs.Queues.{limit_of, behind_or, with_value}
-use Rattle.ix_transforms.specs.Transforms.{destination, front, given, value_after, with_after, transformed, transformed_by}
+use Rattle.ix_transforms.specs.Transforms.{destination, front, given, with_after, transformed, transformed_by}
 use Rattle.ix_transforms.specs.Changes.{start, outcome_in, changed}
 use Rattle.ix_transforms.specs.Sizes.{KeepsSizes, HasSizes, HasMoments}
 use Rattle.ix_transforms.specs.declared.queues.Queue.{Queue}

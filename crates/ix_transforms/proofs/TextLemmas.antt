@@ -1,8 +1,7 @@
 -- Texts that are cut at a number of bytes, and the spans of groups.
-use Rattle.std.proofs.Common.{◌≡◌, ℕ, zero, suc, ◌+◌, ◌-◌, ◌<◌, ◌≤◌, List, [], ◌∷◌, ◌++◌, length, take, drop, Option, Some, None, refl, sym, ◌∙◌, ap, subst, arith, append_assoc}
-use Rattle.std.specs.Prelude.{slice_get}
+use Rattle.std.proofs.Common.{◌≡◌, ℕ, zero, suc, ◌≤◌, List, [], ◌∷◌, ◌++◌, take, Option, Some, None, refl, ◌∙◌, ap, subst, arith, append_assoc}
 use Rattle.std.proofs.lemmas.List.{take-take}
-use Rattle.ix_match.specs.Matches.{LiesWithin, AllWithin}
+use Rattle.ix_match.specs.Matches.{AllWithin}
 use Rattle.ix_transforms.specs.Writing.{span_at}
 
 -- what is cut may be cut before more comes behind it

@@ -6,3 +6,4 @@ pub mod Values
 pub mod Transforms
 pub mod Changes
 pub mod Sizes
+pub mod Laws

@@ -1,5 +1,5 @@
 -- An event on its way through the transforms: the values of its keys, with the queue that it goes to.
-use Rattle.std.specs.Prelude.{ℕ, if◌then◌else◌, List, [], ◌++◌, length, drop, Option, Some, None, codes, bytes_eq, nat_eq}
+use Rattle.std.specs.Prelude.{ℕ, if◌then◌else◌, List, ◌++◌, length, drop, codes, bytes_eq, nat_eq}
 use Rattle.std.specs.List.{starts_with}
 use Rattle.ix_base.specs.declared.events.Event.{Event}
 use Rattle.ix_values.specs.declared.transforms.Key.{Key}

@@ -2,6 +2,7 @@
 #![tactic(auto)]
 
 mod changes;
+mod laws;
 mod matches;
 mod queues;
 mod seds;
@@ -11,3 +12,4 @@ mod transforms;
 mod writing;
 
 pub use changes::apply;
+pub use laws::matches_are_in_turn;

@@ -9,7 +9,7 @@ use ix_values::Key;
 use std::alloc::Global;
 
 /// Where an event goes.
-#[derive(Clone, Copy, Debug, PartialEq, Eq)]
+#[derive(Clone, Copy)]
 pub enum Queue {
     /// `indexQueue`: it is indexed.
     IndexQueue,
@@ -36,6 +36,7 @@ pub enum Value<'a> {
 impl Value<'_> {
     ghost use Rattle.ix_transforms.specs.Values.{bytes_in};
 
+    /// Its bytes, lent.
     pub fn as_slice(&self) -> &[u8]
         ensures { result.now ≡ bytes_in self.now }
     {
@@ -120,7 +121,11 @@ impl Queued {
             Key::Index => Ok(Value::Lent(event.index.as_slice())),
             Key::Host => Ok(Value::Made(prefixed(alloc, b"host::", event.host.as_slice())?)),
             Key::Source => Ok(Value::Made(prefixed(alloc, b"source::", event.source.as_slice())?)),
-            Key::Sourcetype => Ok(Value::Made(prefixed(alloc, b"sourcetype::", event.sourcetype.as_slice())?)),
+            Key::Sourcetype => Ok(Value::Made(prefixed(
+                alloc,
+                b"sourcetype::",
+                event.sourcetype.as_slice(),
+            )?)),
         }
     }
 

@@ -60,7 +60,12 @@ fn value_at_match(
         text,
         spans: found.groups.as_slice(),
     };
-    add_parts(&mut value, transform.format.as_slice(), &groups, limit_of(key))?;
+    add_parts(
+        &mut value,
+        transform.format.as_slice(),
+        &groups,
+        limit_of(key),
+    )?;
     Ok(value)
 }
 
@@ -77,7 +82,11 @@ fn value_without(
         return Ok(None);
     };
     let mut value = front(alloc, transform, queued)?;
-    add_within(&mut value, text.as_slice(), limit_of(destination(transform)))?;
+    add_within(
+        &mut value,
+        text.as_slice(),
+        limit_of(destination(transform)),
+    )?;
     Ok(Some(value))
 }
 
@@ -92,9 +101,7 @@ fn value_after(
     let source = queued.value(alloc, transform.source)?;
     let text = first_bytes(source.as_slice(), transform.lookahead as usize);
     match next_match(alloc, &transform.regex, text, 0)? {
-        Some(found) => Ok(Some(value_at_match(
-            alloc, transform, queued, text, &found,
-        )?)),
+        Some(found) => Ok(Some(value_at_match(alloc, transform, queued, text, &found)?)),
         None => Ok(value_without(alloc, transform, queued)?),
     }
 }

@@ -20,11 +20,11 @@ returns-clause-sizes c =
     let seds = c.args.seds.now in
     let transforms = c.args.transforms.now in
     subst (HasSizes c.args.event) (whole seds transforms c.args.event _ _ _ c.in_ok-queued.ensures c.in_ok-queued-2.ensures c.outcome.ensures)
-        (changed-sizes seds transforms c.args.event)
+    (changed-sizes seds transforms c.args.event)
 
 pub returns-clause-moments : goal.returns-clause-moments
 returns-clause-moments c =
     let seds = c.args.seds.now in
     let transforms = c.args.transforms.now in
     subst (HasMoments c.args.event) (whole seds transforms c.args.event _ _ _ c.in_ok-queued.ensures c.in_ok-queued-2.ensures c.outcome.ensures)
-        (changed-moments seds transforms c.args.event)
+    (changed-moments seds transforms c.args.event)

@@ -1,4 +1,4 @@
-use Rattle.std.proofs.Common.{ℕ, length, arith}
+use Rattle.std.proofs.Common.{arith}
 use Rattle.ix_transforms.proofs.MatchLemmas.{first-is, first-past}
 use Rattle.ix_transforms.proofs.matches.next_match.Goals as goal
 

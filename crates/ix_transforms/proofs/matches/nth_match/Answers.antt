@@ -1,6 +1,5 @@
-use Rattle.std.proofs.Common.{◌≡◌, ℕ, suc, ◌+◌, ◌-◌, length, Option, sym, ◌∙◌, ap, arith}
+use Rattle.std.proofs.Common.{◌≡◌, ℕ, suc, ◌+◌, ◌-◌, sym, ◌∙◌, ap, arith}
 use Rattle.std.specs.Prelude.{slice_get}
-use Rattle.ix_match.specs.declared.first.Found.{Found}
 use Rattle.ix_transforms.specs.Matches.{matches}
 use Rattle.ix_transforms.proofs.MatchLemmas.{nth-first, nth-none, nth-more}
 use Rattle.ix_transforms.proofs.matches.nth_match.Goals as goal

@@ -23,7 +23,7 @@ loop-at-preserved c =
     let f = swapped c.args.from.now c.args.to.now in
     let here : c.loop-at.at < length start = omega arith in
     let long : length now ≡ length start =
-        ap length c.loop-at.invariant ∙ length-append (map f (take c.loop-at.at start)) (drop c.loop-at.at start)
-        ∙ omega (arith, length-map (take c.loop-at.at start) f, length-take-le c.loop-at.at start (omega arith), length-drop c.loop-at.at start) in
+    ap length c.loop-at.invariant ∙ length-append (map f (take c.loop-at.at start)) (drop c.loop-at.at start)
+    ∙ omega (arith, length-map (take c.loop-at.at start) f, length-take-le c.loop-at.at start (omega arith), length-drop c.loop-at.at start) in
     let read : c.index.result.now ≡ get_or now c.loop-at.at 0 = get_or_read now c.loop-at.at c.index.result.now (omega arith) c.index.ensures 0 in
     turn f start now c.loop-at.at _ c.loop-at.invariant here (c.table-becomes.ensures c.index.result.now (omega arith) ∙ ap f read)

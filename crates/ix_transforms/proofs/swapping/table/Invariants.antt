@@ -9,7 +9,7 @@ abbrev pub invariant-loop-at : goal.invariant-loop-at
 invariant-loop-at l = record {
   whole : length l.becomes ≡ 256;
   within : l.at ≤ length l.from;
-  so_far : (b : ℕ) → b < 256 → get_or l.becomes b 0 ≡ swapped (drop l.at l.from) (drop l.at l.to) b
+  so_far : (b : ℕ) → b < 256 → get_or l.becomes b 0 ≡ swapped (drop l.at l.from) (drop l.at l.to) b;
 }
 
 abbrev pub decreases-loop-at : goal.decreases-loop-at

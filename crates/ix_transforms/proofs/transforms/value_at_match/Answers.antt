@@ -1,4 +1,4 @@
-use Rattle.std.proofs.Common.{◌≡◌, ℕ, List, Option, ◌++◌, length, take, sym, ◌∙◌, ap, arith}
+use Rattle.std.proofs.Common.{◌≡◌, ℕ, List, Option, ◌++◌, length, take, ◌∙◌, ap, arith}
 use Rattle.ix_values.specs.declared.escapes.Part.{Part}
 use Rattle.ix_values.specs.declared.transforms.Key.{Key}
 use Rattle.ix_transforms.specs.Writing.{written}
@@ -31,5 +31,5 @@ returns c =
     let key = c.destination-key.ensures in
     c.in_ok-add_parts.ensures.added
     ∙ same _ (limit_of (destination t)) _ (take (limit_of (destination t)) (front t.write_meta q.event.meta)) _ (value_of (destination t) q) c.args.text.now _ t.format _ c.args.found.now.groups
-        (c.limit_of.ensures ∙ ap limit_of key) c.in_ok-value.ensures (c.as_slice.ensures ∙ c.in_ok-so_far.ensures ∙ ap (λ (k : Key). value_of k q) key) c.as_slice-3.ensures c.as_slice-2.ensures
+    (c.limit_of.ensures ∙ ap limit_of key) c.in_ok-value.ensures (c.as_slice.ensures ∙ c.in_ok-so_far.ensures ∙ ap (λ (k : Key). value_of k q) key) c.as_slice-3.ensures c.as_slice-2.ensures
     ∙ cut-more (limit_of (destination t)) (front t.write_meta q.event.meta) (written t.format (value_of (destination t) q) c.args.text.now c.args.found.now.groups)

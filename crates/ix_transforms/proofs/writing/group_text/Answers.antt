@@ -1,4 +1,4 @@
-use Rattle.std.proofs.Common.{ℕ, ◌-◌, length, arith, ◌∙◌, sym}
+use Rattle.std.proofs.Common.{◌-◌, length, arith, ◌∙◌, sym}
 use Rattle.ix_transforms.proofs.TextLemmas.{span-within}
 use Rattle.ix_transforms.proofs.writing.group_text.Goals as goal
 

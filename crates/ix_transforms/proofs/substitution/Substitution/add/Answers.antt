@@ -1,6 +1,5 @@
-use Rattle.std.proofs.Common.{◌≡◌, ℕ, [], ◌++◌, length, take, sym, ◌∙◌, ap, arith}
+use Rattle.std.proofs.Common.{[], ◌++◌, length, take, ◌∙◌, ap, arith}
 use Rattle.std.specs.Prelude.{slice_range}
-use Rattle.ix_match.specs.Matches.{AllWithin}
 use Rattle.ix_transforms.specs.Writing.{written}
 use Rattle.ix_transforms.specs.Seds.{raw_limit}
 use Rattle.ix_transforms.proofs.TextLemmas.{cut-on}

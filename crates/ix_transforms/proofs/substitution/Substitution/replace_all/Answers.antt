@@ -1,10 +1,10 @@
-use Rattle.std.proofs.Common.{◌≡◌, ℕ, ◌<◌, ◌≤◌, ◌++◌, length, drop, Some, refl, sym, ◌∙◌, ap, subst, arith}
+use Rattle.std.proofs.Common.{◌<◌, ◌++◌, length, Some, sym, ◌∙◌, ap, subst, arith}
 use Rattle.std.specs.Prelude.{IfSome}
 use Rattle.std.specs.declared.option.Option.{Option}
 use Rattle.std.proofs.lemmas.List.{take_rest}
 use Rattle.ix_match.specs.declared.first.Found.{Found}
 use Rattle.ix_match.specs.Matches.{LiesIn}
-use Rattle.ix_transforms.specs.Matches.{matches, behind, and_on}
+use Rattle.ix_transforms.specs.Matches.{matches, and_on}
 use Rattle.ix_transforms.specs.Seds.{cut, replaced}
 use Rattle.ix_transforms.proofs.ReplaceLemmas.{places_left, turn-done, all-done, lies-further, fewer-left}
 use Rattle.ix_transforms.proofs.substitution.Substitution.replace_all.Goals as goal
@@ -24,7 +24,7 @@ loop-next-preserved c =
     let self = c.args.self.now in
     let f = c.in-Some.found in
     let lies : LiesIn self.text.now c.loop-next.copied self.pattern.now.groups f =
-        subst (λ (x : Option Found). IfSome x (λ f. LiesIn self.text.now c.loop-next.copied self.pattern.now.groups f)) c.in-Some.is c.loop-next.invariant.lies in
+    subst (λ (x : Option Found). IfSome x (λ f. LiesIn self.text.now c.loop-next.copied self.pattern.now.groups f)) c.in-Some.is c.loop-next.invariant.lies in
     let further = c.behind.ensures in
     record {
       so_far = turn-done self.pattern.now self.parts.now self.text.now c.loop-next.copied c.behind.result f c.loop-next.next c.in_ok-next.next c.loop-next.out c.add.new.out _
@@ -39,12 +39,12 @@ loop-next-smaller c =
     let self = c.args.self.now in
     let f = c.in-Some.found in
     let lies : LiesIn self.text.now c.loop-next.copied self.pattern.now.groups f =
-        subst (λ (x : Option Found). IfSome x (λ f. LiesIn self.text.now c.loop-next.copied self.pattern.now.groups f)) c.in-Some.is c.loop-next.invariant.lies in
+    subst (λ (x : Option Found). IfSome x (λ f. LiesIn self.text.now c.loop-next.copied self.pattern.now.groups f)) c.in-Some.is c.loop-next.invariant.lies in
     let further = c.behind.ensures in
     let order = lies.order in
     let within = lies.within in
     subst (λ (x : Option Found). places_left (length self.text.now) c.in_ok-next.next < places_left (length self.text.now) x) (sym c.in-Some.is)
-        (fewer-left self.text.now c.behind.result self.pattern.now.groups f c.in_ok-next.next (omega arith) (omega arith) c.in_ok-next.ensures.lies)
+    (fewer-left self.text.now c.behind.result self.pattern.now.groups f c.in_ok-next.next (omega arith) (omega arith) c.in_ok-next.ensures.lies)
 
 pub returns : goal.returns
 returns c =

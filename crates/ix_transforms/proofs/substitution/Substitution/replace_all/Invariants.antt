@@ -1,4 +1,4 @@
-use Rattle.std.proofs.Common.{◌≡◌, ◌≤◌, ◌++◌, length, Some}
+use Rattle.std.proofs.Common.{◌≡◌, ◌≤◌, ◌++◌, length}
 use Rattle.std.specs.Prelude.{IfSome}
 use Rattle.ix_match.specs.Matches.{LiesIn}
 use Rattle.ix_transforms.specs.Matches.{and_on, matches}
@@ -12,7 +12,7 @@ invariant-loop-next l = record {
       ≡ cut (replaced l.self.parts.now l.self.text.now 0 (and_on (λ q. matches l.self.pattern.now l.self.text.now q) l.initial.next));
   lies : IfSome l.next (λ f. LiesIn l.self.text.now l.copied l.self.pattern.now.groups f);
   room : length l.out ≤ raw_limit;
-  within : l.copied ≤ length l.self.text.now
+  within : l.copied ≤ length l.self.text.now;
 }
 
 abbrev pub decreases-loop-next : goal.decreases-loop-next
