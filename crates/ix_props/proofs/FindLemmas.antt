@@ -1,11 +1,11 @@
 -- Values are looked for from the last entry to the first, and listed in the order of their keys.
-use Rattle.std.proofs.Common.{◌≡◌, ◌≢◌, ℕ, ℤ, suc, ◌-◌, ◌≤◌, ◌<◌, arith, drop, ◌&&◌, Bool, true, false, List, [], ◌∷◌, ◌++◌, Some, None, refl, sym, ap, ◌∙◌, subst, IsSome, bytes_eq, codes, length, map, Bor, get_or, Ordering}
+use Rattle.std.proofs.Common.{◌≡◌, ℕ, ℤ, suc, ◌-◌, ◌≤◌, ◌<◌, arith, drop, Bool, true, false, List, [], ◌∷◌, Some, None, refl, sym, ap, ◌∙◌, subst, bytes_eq, codes, length, map, Bor, get_or, Ordering}
 use Rattle.std.specs.Prelude.{Option}
-use Rattle.std.specs.Option.{option_map, option_and_then}
-use Rattle.std.specs.List.{AllByRecursion, All}
+use Rattle.std.specs.Option.{option_map}
+use Rattle.std.specs.List.{AllByRecursion}
 use Rattle.std.specs.List.Sorted.{IsStrictlySortedBy}
 use Rattle.std.specs.Map.{update, lookup, keys_of}
-use Rattle.std.specs.BTreeMap.{BTreeMap, IsOrdered, get}
+use Rattle.std.specs.BTreeMap.{BTreeMap, IsOrdered}
 use Rattle.std.specs.declared.cmp.Ordering.TheVariants.{Less}
 use Rattle.std.specs.Ordering.{is_eq, nat_cmp}
 use Rattle.std.specs.Cmp.Lexicographic.{slice_cmp, nat_list_eq_equiv}
@@ -19,8 +19,7 @@ use Rattle.ix_props.specs.Ranking.{found, Ranks, Ranked, lent_candidate, at_key,
 use Rattle.ix_props.specs.declared.choosing.Candidate.{Candidate}
 use Rattle.ix_props.specs.declared.props.PropsEntry.{PropsEntry}
 use Rattle.ix_props.specs.declared.ranks.Rank.{Rank}
-use Rattle.ix_props.specs.declared.values.Value.{Value}
-use Rattle.ix_props.proofs.NearestLemmas.{same_bytes, bytes_same, nearest_is_in}
+use Rattle.ix_props.proofs.NearestLemmas.{same_bytes, nearest_is_in}
 
 turned : (a b : List ℕ) → bytes_eq a b ≡ bytes_eq b a
 turned a b = nat_list_eq_equiv.symm a b

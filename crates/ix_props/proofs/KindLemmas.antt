@@ -1,5 +1,5 @@
 -- A prefix is taken off one byte after the other.
-use Rattle.std.proofs.Common.{◌≡◌, ℕ, suc, ◌+◌, ◌<◌, List, ◌∷◌, get_or, length, drop, refl, add-one, Option, Some, None}
+use Rattle.std.proofs.Common.{◌≡◌, ℕ, ◌+◌, ◌<◌, List, get_or, length, drop, refl, add-one, Some, None}
 use Rattle.std.proofs.Math.Seq.{drop-cons}
 use Rattle.ix_props.specs.Kinds.{after, behind}
 

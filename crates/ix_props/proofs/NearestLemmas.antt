@@ -6,8 +6,8 @@ use Rattle.std.specs.declared.cmp.Ordering.TheVariants.{Less, Equal, Greater}
 use Rattle.std.specs.Ordering.{is_gt}
 use Rattle.std.proofs.lemmas.Bool.{true≢false}
 use Rattle.std.proofs.lemmas.Slice.Eq.{bytes_eq-Decides}
-use Rattle.ix_props.specs.Choice.{value_in, order, IsFirst, IsChosen}
-use Rattle.ix_props.specs.Ranking.{Ranks, Ranked, ranked, place, gives_way, nearer, nearest, value_of}
+use Rattle.ix_props.specs.Choice.{value_in, order, IsChosen}
+use Rattle.ix_props.specs.Ranking.{Ranks, Ranked, ranked, place, nearest, value_of}
 use Rattle.ix_props.specs.declared.props.PropsEntry.{PropsEntry}
 use Rattle.ix_props.specs.declared.ranks.Rank.{Rank}
 use Rattle.ix_props.specs.declared.values.Value.{Value}

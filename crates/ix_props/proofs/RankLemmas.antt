@@ -1,18 +1,16 @@
 -- Stanzas are ranked one after the other, from the last entry to the first.
-use Rattle.std.proofs.Common.{◌≡◌, ◌≢◌, ℕ, ℤ, pos, ◌<◌, ◌==◌, ◌&&◌, ◌⊎◌, inl, inr, Bool, true, false, List, [], ◌∷◌, Some, None, refl, sym, ap, ◌∙◌, subst, IsSome, Ordering, bytes_eq, codes, length}
-use Rattle.std.specs.Prelude.{Option, not, if◌then◌else◌}
+use Rattle.std.proofs.Common.{◌≡◌, ◌≢◌, ℕ, ℤ, pos, ◌==◌, ◌&&◌, inl, inr, Bool, true, false, List, [], ◌∷◌, Some, None, refl, sym, ap, ◌∙◌, subst, IsSome, bytes_eq, codes, length}
+use Rattle.std.specs.Prelude.{Option, if◌then◌else◌}
 use Rattle.std.proofs.Common.{arith}
 use Rattle.std.proofs.lemmas.Bool.Decides.{nat_tests}
-use Rattle.std.specs.Option.{option_map, option_and_then, option_or}
+use Rattle.std.specs.Option.{option_map, option_and_then}
 use Rattle.std.specs.Map.{update}
-use Rattle.std.specs.declared.cmp.Ordering.TheVariants.{Less, Equal, Greater}
-use Rattle.std.specs.Ordering.{nat_cmp, int_cmp, ordering_then}
-use Rattle.std.specs.Cmp.Lexicographic.{slice_cmp}
+use Rattle.std.specs.declared.cmp.Ordering.TheVariants.{Less, Greater}
+use Rattle.std.specs.Ordering.{nat_cmp}
 use Rattle.std.proofs.lemmas.Bool.{true≢false, ne_eqb}
-use Rattle.ix_props.specs.Kinds.{after, behind, is_ignored, begins_with, entry_kind, key_kind}
-use Rattle.ix_props.specs.Choice.{Origin, value_in, number_of, stated_priority, FitsStanza, HoldsForSource, IsThere, names_source_type, Holds, step_of, order}
+use Rattle.ix_props.specs.Kinds.{behind}
+use Rattle.ix_props.specs.Choice.{Origin, value_in, number_of, stated_priority, HoldsForSource, IsThere, names_source_type, Holds, step_of, order}
 use Rattle.ix_props.specs.Choice.Holds.{for_source, for_host, for_source_type, for_everything}
-use Rattle.ix_props.specs.Ranking as defs
 use Rattle.ix_props.specs.Ranking.{Ranks, FitsEither, IsRankBy, AreRanks, if_source, plain_rank, rank_for}
 use Rattle.ix_props.specs.declared.props.PropsEntry.{PropsEntry}
 use Rattle.ix_props.specs.declared.ranks.Nearness.{Nearness}

@@ -1,6 +1,5 @@
 -- The settings that the nearest entries give are those of the channel.
-use Rattle.std.proofs.Common.{◌≡◌, ℕ, List, Some, None, refl, sym, ap, ◌∙◌, subst, codes}
-use Rattle.std.specs.Prelude.{Option}
+use Rattle.std.proofs.Common.{◌≡◌, ℕ, List, Some, None, sym, ap, ◌∙◌, subst, codes}
 use Rattle.std.specs.Option.{option_map}
 use Rattle.ix_base.specs.declared.events.ChannelMeta.{ChannelMeta}
 use Rattle.ix_props.specs.Choice.{HoldsForSource, Holds, IsChosen}

@@ -1,7 +1,7 @@
 -- What was read of props.conf is usable: breakers take something, counts are in their ranges, changes apply and transforms write.
 use Rattle.std.proofs.Common.{◌≡◌, ◌≢◌, ℕ, ℤ, pos, ◌≤◌, ◌<◌, ◌&&◌, ◌⊎◌, inl, inr, Bool, true, false, List, [], ◌∷◌, ◌++◌, Some, None, refl, sym, ap, ◌∙◌, subst, bytes_eq, codes, length, arith}
 use Rattle.std.specs.Prelude.{Option, if◌then◌else◌, IfSome, int_le, unsigned_abs, neg_ℤ, ◌==◌}
-use Rattle.std.specs.Option.{option_map, option_and_then}
+use Rattle.std.specs.Option.{option_map}
 use Rattle.std.specs.List.{AllByRecursion}
 use Rattle.std.proofs.lemmas.Bool.{true≢false, ne_eqb}
 use Rattle.std.proofs.lemmas.Bool.Decides.{nat_tests}
@@ -17,14 +17,14 @@ use Rattle.ix_values.specs.declared.seds.Sed.{Sed}
 use Rattle.ix_values.specs.declared.transforms.Transform.{Transform}
 use Rattle.ix_base.specs.declared.events.ChannelMeta.{ChannelMeta}
 use Rattle.ix_props.specs.Choice.{value_in, Holds, IsChosen}
-use Rattle.ix_props.specs.Kinds.{behind, begins_with, is_ignored, class_kind, time_kind, event_kind, key_kind, entry_kind}
+use Rattle.ix_props.specs.Kinds.{behind, begins_with, is_ignored, time_kind, event_kind, key_kind, entry_kind}
 use Rattle.ix_props.specs.Lists.{AreTransforms}
 use Rattle.ix_props.specs.Names.{names}
-use Rattle.ix_props.specs.Props.{IsOfKind, IsRead, AreRead}
+use Rattle.ix_props.specs.Props.{IsOfKind, AreRead}
 use Rattle.ix_props.specs.Ranking.{Ranks, Ranked, nearest, value_of, set_in, AreNearest, IsSmall}
-use Rattle.ix_props.specs.Settings.{Class, Chosen, boolean_or, count_or, lookahead_of, IsBreakerOf, change_of, changes, transforms_of, chain, origin_of, AreSettings, AreUsable}
+use Rattle.ix_props.specs.Settings.{Class, Chosen, count_or, lookahead_of, IsBreakerOf, change_of, changes, transforms_of, chain, origin_of, AreSettings, AreUsable}
 use Rattle.ix_props.specs.Sound.{IsSound, AreSound, IsOwnSound}
-use Rattle.ix_props.specs.Values.{IsStanza, IsBreakerShape, source_pattern, host_pattern, name}
+use Rattle.ix_props.specs.Values.{IsStanza, source_pattern, host_pattern, name}
 use Rattle.ix_props.specs.declared.kinds.Kind.{Kind}
 use Rattle.ix_props.specs.declared.kinds.Kind.TheVariants as kind
 use Rattle.ix_props.specs.declared.props.PropsEntry.{PropsEntry}

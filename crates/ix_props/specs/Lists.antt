@@ -1,5 +1,5 @@
 -- The transforms that a value names.
-use Rattle.std.specs.Prelude.{◌≡◌, ℕ, List, [], ◌∷◌, Option, Some, None, IsSome, slice_get, take}
+use Rattle.std.specs.Prelude.{◌≡◌, ℕ, List, [], ◌∷◌, Some, None, IsSome, slice_get, take}
 use Rattle.ix_pattern.specs.declared.faults.BreakFault.TheVariants as breaks
 use Rattle.ix_conf.specs.Value.{entry_at}
 use Rattle.ix_conf.specs.declared.layers.MergedEntry.{MergedEntry}

@@ -1,5 +1,5 @@
 -- How the entries of props.conf are read, and which fault is the first.
-use Rattle.std.specs.Prelude.{◌≡◌, ℕ, List, [], ◌∷◌, Some, None, slice_get, take, length}
+use Rattle.std.specs.Prelude.{◌≡◌, List, [], ◌∷◌, Some, None, slice_get, take, length}
 use Rattle.std.specs.Option.{option_map}
 use Rattle.ix_conf.specs.declared.layers.MergedEntry.{MergedEntry}
 use Rattle.ix_values.specs.Formats.{format}

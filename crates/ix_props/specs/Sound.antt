@@ -1,5 +1,5 @@
 -- Entries of props.conf as they come of reading it.
-use Rattle.std.specs.Prelude.{ℕ, List, codes}
+use Rattle.std.specs.Prelude.{List, codes}
 use Rattle.std.specs.List.{AllByRecursion}
 use Rattle.ix_conf.specs.declared.layers.MergedEntry.{MergedEntry}
 use Rattle.ix_props.specs.Kinds.{behind}

@@ -1,20 +1,19 @@
 -- What the entries of props.conf are read as, and why one is refused.
-use Rattle.std.specs.Prelude.{◌≡◌, ◌&&◌, ◌<◌, if◌then◌else◌, nat_le, false, true, neg_ℤ, pos, Bool, ℕ, List, [], ◌∷◌, ◌++◌, Option, Some, None, IsSome, codes, length, slice_get, take, is_some}
+use Rattle.std.specs.Prelude.{◌≡◌, ◌&&◌, ◌<◌, if◌then◌else◌, nat_le, false, true, neg_ℤ, pos, Bool, ℕ, List, Option, Some, None, codes, length}
 use Rattle.std.specs.Option.{option_map}
 use Rattle.ix_pattern.specs.Rows.{Shape, tree}
 use Rattle.ix_pattern.specs.Piece.{least_length}
 use Rattle.ix_pattern.specs.Syntax.{Syntax}
-use Rattle.ix_pattern.specs.Reads.{IsReadAs, HasNoGroup, MayMatchEmpty}
+use Rattle.ix_pattern.specs.Reads.{HasNoGroup, MayMatchEmpty}
 use Rattle.ix_pattern.specs.declared.faults.BreakFault.{BreakFault}
 use Rattle.ix_pattern.specs.declared.faults.BreakFault.TheVariants as breaks
 use Rattle.ix_conf.specs.Names.{NameRule, tokens, are_pattern}
 use Rattle.ix_conf.specs.declared.layers.MergedEntry.{MergedEntry}
 use Rattle.ix_values.specs.Patterns.{ReadsAs, HasFault, Refuses}
 use Rattle.ix_values.specs.Plain.{boolean, count_in, number_in}
-use Rattle.ix_values.specs.Formats.{format}
 use Rattle.ix_values.specs.Seds.{form, IsSedOf, PatternHasFault, IsApplicable}
 use Rattle.ix_props.specs.Zones.{rule_of, IsZone, IsBadRule}
-use Rattle.ix_props.specs.Kinds.{behind, entry_kind}
+use Rattle.ix_props.specs.Kinds.{behind}
 use Rattle.ix_props.specs.declared.kinds.Kind.{Kind}
 use Rattle.ix_props.specs.declared.kinds.Kind.TheVariants as kind
 use Rattle.ix_props.specs.declared.values.Value.{Value}

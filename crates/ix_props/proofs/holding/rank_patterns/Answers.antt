@@ -1,10 +1,7 @@
-use Rattle.std.proofs.Common.{sym, ◌∙◌, arith, drop, subst, rules}
-use Rattle.std.proofs.lemmas.List.Elements.{All-from_recursion}
+use Rattle.std.proofs.Common.{sym, ◌∙◌, arith, drop, subst}
 use Rattle.ix_props.specs.Ranking.{found, IsRankBy, AreRanks}
-use Rattle.ix_props.specs.Sound.{IsSound}
 use Rattle.ix_props.proofs.FindLemmas.{dropped, none_dropped}
 use Rattle.ix_props.proofs.RankLemmas.{ranks-other, ranks-put, ranks-left, stated_here}
-use Rattle.ix_props.proofs.UsableLemmas.{own_sound}
 use Rattle.ix_props.proofs.holding.rank_patterns.Goals as goal
 
 pub loop-at-preserved-in-Continue-branch-4 : goal.loop-at-preserved-in-Continue-branch-4

@@ -1,6 +1,6 @@
 use Rattle.std.proofs.Common.{sym, ◌∙◌, arith, drop}
 use Rattle.ix_props.specs.Ranking.{found}
-use Rattle.ix_props.proofs.FindLemmas.{dropped, none_dropped, priority_there, priority_skip}
+use Rattle.ix_props.proofs.FindLemmas.{dropped, priority_there, priority_skip}
 use Rattle.ix_props.proofs.holding.read_priorities.Goals as goal
 
 pub loop-at-preserved-in-Continue-1 : goal.loop-at-preserved-in-Continue-1

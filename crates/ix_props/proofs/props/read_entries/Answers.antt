@@ -1,9 +1,9 @@
-use Rattle.std.proofs.Common.{◌≡◌, ◌∙◌, sym, ap, subst, arith, length, Some, None}
+use Rattle.std.proofs.Common.{◌≡◌, ◌∙◌, sym, ap, subst, arith, length, Some}
 use Rattle.std.specs.Prelude.{slice_get}
 use Rattle.std.proofs.lemmas.Option.{slice_get_within}
 use Rattle.std.proofs.lemmas.Result.{err_from_is_err_and}
 use Rattle.ix_conf.specs.Lent.{item_entry}
-use Rattle.ix_props.specs.Props.{IsOfKind, RefusesKind, IsRead, first}
+use Rattle.ix_props.specs.Props.{IsOfKind, RefusesKind, first}
 use Rattle.ix_props.proofs.PropLemmas.{AreRead-more, AreRead-whole, longer}
 use Rattle.ix_props.proofs.props.read_entries.Goals as goal
 

@@ -1,6 +1,5 @@
-use Rattle.std.proofs.Common.{Some, sym, subst}
 use Rattle.std.proofs.lemmas.Result.{IfOk-weaker}
-use Rattle.ix_props.specs.Ranking.{found, rank_for, lent, AreNearest, AreRanks, AreSet}
+use Rattle.ix_props.specs.Ranking.{found, lent}
 use Rattle.ix_props.proofs.SettledLemmas.{settled}
 use Rattle.ix_props.proofs.UsableLemmas.{small_lookahead}
 use Rattle.ix_props.proofs.settling.settings_of.Goals as goal

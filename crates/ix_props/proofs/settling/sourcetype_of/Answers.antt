@@ -1,4 +1,4 @@
-use Rattle.std.proofs.Common.{codes, sym, ap, ◌∙◌, subst, None}
+use Rattle.std.proofs.Common.{codes, sym, ap, ◌∙◌, subst}
 use Rattle.std.proofs.lemmas.Result.{IfOk-weaker}
 use Rattle.ix_props.specs.Ranking.{found, lent}
 use Rattle.ix_props.specs.Settings.{name_or, IsSourceType}
