@@ -1,0 +1,4 @@
+pub mod ToldLemmas
+pub mod FrontLemmas
+pub mod ReadLemmas
+pub mod HeadLemmas

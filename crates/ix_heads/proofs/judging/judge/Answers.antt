@@ -1,0 +1,15 @@
+use Rattle.std.proofs.Common.{arith, sym, subst}
+use Rattle.httparse.specs.declared.spans.RequestSpans.{RequestSpans}
+use Rattle.ix_heads.specs.Judging.{IsHeadAt}
+use Rattle.ix_heads.proofs.FrontLemmas.{open_without_lf, len_is_all}
+use Rattle.ix_heads.proofs.judging.judge.Goals as goal
+
+pub returns-then-bytes-ne10-clause-judged : goal.returns-then-bytes-ne10-clause-judged
+returns-then-bytes-ne10-clause-judged c =
+    open_without_lf c.args.bytes.now c.requires.some c.requires.before c.if-bytes-ne10.true
+
+pub returns-in-Ok-Complete-clause-judged : goal.returns-in-Ok-Complete-clause-judged
+returns-in-Ok-Complete-clause-judged c =
+    let found = rw c.in-Ok-Complete.field-0-is at c.in-Ok-Complete.ensures.complete in
+    let P : RequestSpans → Type 0 = λ s. IsHeadAt c.args.bytes.now c.parse_request.new.headers s in
+    subst P (sym c.in-Ok-Complete.spans-is) (record { len = len_is_all c.args.bytes.now _ _ c.requires.some c.requires.before found; head = found.0; at = found.1 })

@@ -1,0 +1,122 @@
+//! Whether bytes that come one by one are a head. `read_head` asks it of each byte.
+
+ghost use Rattle.std.specs.Prelude.{◌≡◌, ◌≤◌, ◌<◌, ◌-◌, length, take, IfOk, true, []};
+ghost use Rattle.httparse.specs.Grammar.{HasNoRequest};
+ghost use Rattle.httparse.specs.Spans.{RequestOverflows};
+ghost use Rattle.ix_heads.specs.Judging.{EndsInEmptyLine, IsJudged, KeepsJudged, IsRefused, IsLook, MayGoOn};
+
+use httparse::spans::{EMPTY_HEADER_SPAN, HeaderSpan, RequestSpans, parse_request};
+use httparse::{Error, Status};
+use ix_base::NoMemory;
+use std::alloc::Global;
+
+/// What bytes are of which all but the last one are no head.
+#[derive(Clone, Copy, Debug)]
+pub(crate) enum Judged {
+    /// No head.
+    Open,
+    /// A head with too many header lines, or bytes that never become a head.
+    Bad,
+    /// A head.
+    Whole(RequestSpans),
+}
+
+/// What a parse with room for all header lines finds.
+#[derive(Clone, Copy, Debug)]
+pub(crate) enum Look {
+    /// A head.
+    Head,
+    /// No head, which may become one.
+    Partly,
+    /// No head, and none to come.
+    Never,
+}
+
+/// As many header lines as a head of 16,384 bytes can have.
+const LINE_ROOM: usize = 5461;
+
+/// Whether an empty line stands at the end, behind another line.
+fn ends_in_empty_line(bytes: &[u8]) -> bool
+    ensures { EndsInEmptyLine bytes.now → result ≡ true }
+{
+    bytes.ends_with(b"\n\n") || bytes.ends_with(b"\n\r\n")
+}
+
+/// Parses the bytes with room for all header lines.
+fn look_at(alloc: Global, bytes: &[u8]) -> Result<Look, NoMemory>
+    requires { length bytes.now ≤ 16384 }
+    ensures { IfOk result (λ look. IsLook bytes.now look) }
+{
+    let mut headers = vec![in alloc; EMPTY_HEADER_SPAN; LINE_ROOM]?;
+    Ok(look_with(bytes, &mut headers))
+}
+
+fn look_with(bytes: &[u8], headers: &mut [HeaderSpan]) -> Look
+    requires size { length bytes.now ≤ 16384 }
+    requires room { length headers.old ≡ 5461 }
+    ensures { IsLook bytes.now result }
+{
+    match parse_request(bytes, headers) {
+        Ok(Status::Complete(_)) => Look::Head,
+        Ok(Status::Partial) => Look::Partly,
+        Err(_) => Look::Never,
+    }
+}
+
+/// Whether bytes with more header lines than a good head has are to be refused.
+fn is_bad(alloc: Global, bytes: &[u8]) -> Result<bool, NoMemory>
+    requires some { 0 < length bytes.now }
+    requires size { length bytes.now ≤ 16384 }
+    requires before { HasNoRequest (take (length bytes.now - 1) bytes.now) }
+    requires many { RequestOverflows 64 bytes.now }
+    ensures { IsRefused bytes.now result }
+{
+    if !ends_in_empty_line(bytes) {
+        return Ok(false);
+    }
+    match look_at(alloc, bytes)? {
+        Look::Head => Ok(true),
+        Look::Partly => Ok(false),
+        Look::Never => Ok(true),
+    }
+}
+
+/// What bytes are of which all but the last one are no head.
+pub(crate) fn judge(alloc: Global, bytes: &[u8], headers: &mut [HeaderSpan]) -> Result<Judged, NoMemory>
+    requires some { 0 < length bytes.now }
+    requires size { length bytes.now ≤ 16384 }
+    requires before { HasNoRequest (take (length bytes.now - 1) bytes.now) }
+    requires room { length headers.old ≡ 64 }
+    ensures judged { IsJudged bytes.now headers.new result }
+    ensures within { KeepsJudged bytes.now headers.new result }
+{
+    if bytes[bytes.len() - 1] != b'\n' {
+        return Ok(Judged::Open);
+    }
+    match parse_request(bytes, headers) {
+        Ok(Status::Complete(spans)) => Ok(Judged::Whole(spans)),
+        Ok(Status::Partial) => Ok(Judged::Open),
+        Err(Error::TooManyHeaders) => {
+            if is_bad(alloc, bytes)? {
+                return Ok(Judged::Bad);
+            }
+            Ok(Judged::Open)
+        }
+        Err(_) => Ok(Judged::Bad),
+    }
+}
+
+/// Whether bytes that are no head may become one, where a link has ended behind them.
+pub(crate) fn may_go_on(alloc: Global, bytes: &[u8], headers: &mut [HeaderSpan]) -> Result<Look, NoMemory>
+    requires size { length bytes.now ≤ 16384 }
+    requires none { HasNoRequest bytes.now }
+    requires room { length headers.old ≡ 64 }
+    ensures { IfOk result (λ look. MayGoOn bytes.now look) }
+{
+    match parse_request(bytes, headers) {
+        Ok(Status::Complete(_)) => Ok(Look::Never),
+        Ok(Status::Partial) => Ok(Look::Partly),
+        Err(Error::TooManyHeaders) => look_at(alloc, bytes),
+        Err(_) => Ok(Look::Never),
+    }
+}
