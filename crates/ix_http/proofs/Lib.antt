@@ -1,0 +1,5 @@
+pub mod TimeLemmas
+pub mod NameLemmas
+pub mod JsonLemmas
+pub mod VerdictLemmas
+pub mod TakingLemmas

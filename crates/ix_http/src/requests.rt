@@ -1,0 +1,106 @@
+//! One request is read from a link: its head, and where it is known where it ends, its body.
+
+ghost use Rattle.std.specs.Prelude.{◌≡◌, ◌≤◌, length, Result, Err, Some, None};
+ghost use Rattle.ix_base.specs.Faults.{Rose};
+ghost use Rattle.ix_base.specs.Told.{Told};
+ghost use Rattle.ix_heads.specs.Reads.{OnlyReads};
+ghost use Rattle.ix_http.specs.Asked.{Fits};
+ghost use Rattle.ix_http.specs.Behind.{FitsAsked, FitsBehind};
+ghost use Rattle.ix_http.specs.Verdicts.{delimited_length, head_fault};
+
+use crate::asks::asked_of;
+use crate::kinds::{HttpFault, Incoming};
+use crate::places::{path_of, place_of, query_of};
+use crate::taking::{read_body, skip};
+use crate::verdicts::{delimited_length, head_fault, unread_fault};
+use ix_base::NoMemory;
+use ix_heads::{EMPTY_HEADER_SPAN, Head, HeadRead, LinkFault, MAX_HEAD, MAX_LINES, read_head};
+use ix_link::Link;
+use std::alloc::Global;
+
+/// Reads the body of a request whose head has no fault, and what it asks.
+fn read_asked<K: Link>(
+    alloc: Global,
+    link: &mut K,
+    head: &Head<'_>,
+    count: usize,
+) -> Result<Incoming, LinkFault>
+    requires { head_fault head.now ≡ None }
+    ensures read { Told (FitsAsked count head.now result) (K.left link.old) (K.left link.new) }
+    ensures reads { OnlyReads (K.given link.old) (K.given link.new) (K.standing link.old) (K.standing link.new) (K.faults link.old) (K.faults link.new) }
+    ensures failed { result ≡ Err LinkFault.Failed → Rose (K.faults link.old) (K.faults link.new) }
+{
+    let body = read_body(alloc, link, count)?;
+    let target = head.target();
+    let Some(place) = place_of(path_of(target)) else {
+        return Ok(Incoming::Refused {
+            fault: HttpFault::NoRoute,
+            delimited: true,
+        });
+    };
+    match asked_of(alloc, place, query_of(target), body) {
+        Ok(incoming) => Ok(incoming),
+        Err(NoMemory) => Err(LinkFault::NoMemory { whole: true }),
+    }
+}
+
+/// Reads over the body of a request that is refused.
+fn read_refused<K: Link>(
+    link: &mut K,
+    head: &Head<'_>,
+    count: usize,
+    fault: HttpFault,
+) -> Result<Incoming, LinkFault>
+    requires { head_fault head.now ≡ Some fault }
+    ensures read { Told (FitsAsked count head.now result) (K.left link.old) (K.left link.new) }
+    ensures reads { OnlyReads (K.given link.old) (K.given link.new) (K.standing link.old) (K.standing link.new) (K.faults link.old) (K.faults link.new) }
+    ensures failed { result ≡ Err LinkFault.Failed → Rose (K.faults link.old) (K.faults link.new) }
+{
+    skip(link, count)?;
+    Ok(Incoming::Refused {
+        fault,
+        delimited: true,
+    })
+}
+
+/// Reads what stands behind a head, and judges the request.
+fn read_behind<K: Link>(alloc: Global, link: &mut K, head: &Head<'_>) -> Result<Incoming, LinkFault>
+    requires { length head.now.lines ≤ 64 }
+    ensures read { Told (FitsBehind head.now result) (K.left link.old) (K.left link.new) }
+    ensures reads { OnlyReads (K.given link.old) (K.given link.new) (K.standing link.old) (K.standing link.new) (K.faults link.old) (K.faults link.new) }
+    ensures failed { result ≡ Err LinkFault.Failed → Rose (K.faults link.old) (K.faults link.new) }
+{
+    let Some(count) = delimited_length(head) else {
+        return Ok(Incoming::Refused {
+            fault: unread_fault(head),
+            delimited: false,
+        });
+    };
+    match head_fault(head) {
+        Some(fault) => read_refused(link, head, count as usize, fault),
+        None => read_asked(alloc, link, head, count as usize),
+    }
+}
+
+/// Reads one request from a link, and takes just its bytes: the rest is left unread. Where it is known where a request
+/// ends, its body is read before it is judged. The faults are judged in the order of `HttpFault`. `Failed` comes only where
+/// the link failed, `Cut` exactly where it ended inside a request.
+pub fn read_request<K: Link>(alloc: Global, link: &mut K) -> Result<Incoming, LinkFault>
+    ensures read { Told (Fits result) (K.left link.old) (K.left link.new) }
+    ensures reads { OnlyReads (K.given link.old) (K.given link.new) (K.standing link.old) (K.standing link.new) (K.faults link.old) (K.faults link.new) }
+    ensures failed { result ≡ Err LinkFault.Failed → Rose (K.faults link.old) (K.faults link.new) }
+{
+    let mut bytes = [0u8; MAX_HEAD];
+    let mut headers = [EMPTY_HEADER_SPAN; MAX_LINES];
+    match read_head(alloc, link, &mut bytes, &mut headers)? {
+        HeadRead::Ended => Ok(Incoming::Ended),
+        HeadRead::Bad => Ok(Incoming::Refused {
+            fault: HttpFault::BadHead,
+            delimited: false,
+        }),
+        HeadRead::Whole(spans) => {
+            let head = Head::new(&bytes[..spans.len], &headers, spans);
+            read_behind(alloc, link, &head)
+        }
+    }
+}
