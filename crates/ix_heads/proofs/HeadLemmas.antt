@@ -1,5 +1,5 @@
 -- What was taken of a link, and what it is.
-use Rattle.std.proofs.Common.{◌≡◌, ℕ, ◌+◌, ◌<◌, ◌≤◌, ◌⊎◌, List, [], ◌∷◌, ◌++◌, length, take, drop, refl, sym, ap, ◌∙◌, subst, inl, inr, arith, append_assoc, length-append}
+use Rattle.std.proofs.Common.{◌≡◌, ℕ, ◌+◌, ◌<◌, ◌≤◌, ◌⊎◌, List, [], ◌∷◌, ◌++◌, length, take, drop, false, refl, sym, ap, ◌∙◌, subst, inl, inr, arith, append_assoc, length-append}
 use Rattle.std.proofs.lemmas.List.{append-nil, drop_all}
 use Rattle.std.proofs.Math.Seq.{take-append_seam}
 use Rattle.std.specs.Prelude.{Option, Some, None, Result, Ok, Err}
@@ -70,7 +70,7 @@ end_fits bytes headers (Err Cut) part old mid new size none fits took end =
     (subst P whole fits, end.1)
 end_fits bytes headers (Err Failed) part old mid new size none fits took end = absurd fits
 end_fits bytes headers (Err (NoMemory whole)) part old mid new size none fits took end =
-    (part, took ∙ ap (λ t. part ++ t) (end.0 ∙ sym end.1), λ h rest reads. absurd (none h rest reads))
+    (fits, (part, took ∙ ap (λ t. part ++ t) (end.0 ∙ sym end.1), λ h rest reads. absurd (none h rest reads)))
 
 pub bad_fits : (part old new : List ℕ) → length part ≤ max_head
     → NeverHasRequest part ⊎ ((h : RequestHead) × ReadsRequest part h [] × (max_lines < length h.fields))
@@ -94,5 +94,5 @@ whole_fits part bytes headers spans old new size is head took =
       at = subst P (sym is) head.at;
     }
 
-pub memory_fits : (part old new : List ℕ) → OnlyCrowded part → Took part old new → TakesNoGood old new
-memory_fits part old new only took = (part, took, only)
+pub memory_fits : (bytes : List ℕ) (headers : List HeaderSpan) (part old new : List ℕ) → OnlyCrowded part → Took part old new → FitsHead bytes headers (Err (NoMemory false)) old new
+memory_fits bytes headers part old new only took = (refl, (part, took, only))

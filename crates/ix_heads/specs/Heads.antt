@@ -1,5 +1,5 @@
 -- What stands at the front of a link's bytes, by the grammar of `httparse`: a head, or none.
-use Rattle.std.specs.Prelude.{◌≡◌, ℕ, ◌<◌, ◌≤◌, ◌⊎◌, List, [], ◌++◌, length, take, map, Result, Ok, Err}
+use Rattle.std.specs.Prelude.{◌≡◌, ℕ, ◌<◌, ◌≤◌, ◌⊎◌, List, [], ◌++◌, length, take, map, false, Result, Ok, Err}
 use Rattle.httparse.specs.Grammar.{RequestHead, ReadsRequest, print_request, HasNoRequest, NeverHasRequest, MayBecomeRequest}
 use Rattle.httparse.specs.Spans.{IsRequestAt, IsRequestWithin, name_and_value}
 use Rattle.httparse.specs.declared.spans.HeaderSpan.{HeaderSpan}
@@ -71,7 +71,7 @@ FitsEnd bytes (Ok Bad) = (length bytes ≡ max_head) ⊎ NeverHasRequest bytes
 FitsEnd bytes (Ok (Whole spans)) = ⊥
 FitsEnd bytes (Err Cut) = IsCut bytes
 FitsEnd bytes (Err Failed) = ⊥
-FitsEnd bytes (Err (NoMemory whole)) = Unit {0}
+FitsEnd bytes (Err (NoMemory whole)) = whole ≡ false
 
 -- what was read from the front of a link's bytes, and what is left of them
 abbrev pub FitsHead : List ℕ → List HeaderSpan → Result HeadRead LinkFault → List ℕ → List ℕ → Type 0
@@ -80,7 +80,7 @@ FitsHead bytes headers (Ok Bad) old new = IsHeadless old new ⊎ IsCrowded old n
 FitsHead bytes headers (Ok (Whole spans)) old new = IsWhole (take spans.len bytes) headers spans old new
 FitsHead bytes headers (Err Cut) old new = IsCut old × (new ≡ [])
 FitsHead bytes headers (Err Failed) old new = TakesSome old new
-FitsHead bytes headers (Err (NoMemory whole)) old new = TakesNoGood old new
+FitsHead bytes headers (Err (NoMemory whole)) old new = (whole ≡ false) × TakesNoGood old new
 
 -- the spans lie in the bytes, and not too many are those of header lines
 abbrev pub KeepsWithin : List ℕ → List HeaderSpan → Result HeadRead LinkFault → Type 0

@@ -3,3 +3,5 @@ pub mod NameLemmas
 pub mod JsonLemmas
 pub mod VerdictLemmas
 pub mod TakingLemmas
+pub mod AskLemmas
+pub mod RouteLemmas

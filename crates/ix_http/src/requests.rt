@@ -92,13 +92,14 @@ pub fn read_request<K: Link>(alloc: Global, link: &mut K) -> Result<Incoming, Li
 {
     let mut bytes = [0u8; MAX_HEAD];
     let mut headers = [EMPTY_HEADER_SPAN; MAX_LINES];
-    match read_head(alloc, link, &mut bytes, &mut headers)? {
-        HeadRead::Ended => Ok(Incoming::Ended),
-        HeadRead::Bad => Ok(Incoming::Refused {
+    match read_head(alloc, link, &mut bytes, &mut headers) {
+        Ok(HeadRead::Ended) => Ok(Incoming::Ended),
+        Ok(HeadRead::Bad) => Ok(Incoming::Refused {
             fault: HttpFault::BadHead,
             delimited: false,
         }),
-        HeadRead::Whole(spans) => {
+        Err(fault) => Err(fault),
+        Ok(HeadRead::Whole(spans)) => {
             let head = Head::new(&bytes[..spans.len], &headers, spans);
             read_behind(alloc, link, &head)
         }

@@ -45,7 +45,7 @@ returns-in-Err-judge-clause-read g c =
     let inside : c.loop-i.i < length c.loop-i.bytes = omega (arith, c.loop-i.auto.bytes, c.requires.bytes, c.loop-i-test.true) in
     let byte = rw c.in-Ok-Some.field-0-is at c.in-Ok-Some.ensures.taken in
     let took = told_join (λ old mid new p q. took_byte _ _ c.in-Ok-Some.byte old mid new (more_taken c.loop-i.bytes c.loop-i.i c.in-Ok-Some.byte inside) p q) _ _ _ c.loop-i.invariant.taken byte in
-    told_map (λ old new t. memory_fits _ old new c.in-Err-judge.ensures.judged t) _ _ took
+    told_map (λ old new t. memory_fits [] [] _ old new c.in-Err-judge.ensures.judged t) _ _ took
 
 pub returns-clause-read : goal.returns-clause-read
 returns-clause-read g c =
