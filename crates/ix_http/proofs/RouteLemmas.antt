@@ -1,6 +1,7 @@
 -- A path has a route exactly where it is the path of that route.
-use Rattle.std.proofs.Common.{◌≡◌, ℕ, ◌+◌, ◌-◌, ◌≤◌, List, [], ◌∷◌, ◌++◌, length, take, drop, Bool, true, false, cond, ◌&&◌, refl, sym, ap, ◌∙◌, subst, arith, append_assoc, length-append, codes}
-use Rattle.std.specs.Prelude.{Option, Some, None}
+use Rattle.std.proofs.Common.{◌≡◌, ℕ, ◌+◌, ◌-◌, ◌≤◌, List, [], ◌∷◌, ◌++◌, length, take, drop, get_or, Bool, true, false, cond, ◌&&◌, refl, sym, ap, ◌∙◌, subst, arith, append_assoc, length-append, codes}
+use Rattle.std.specs.Prelude.{Option, Some, None, ◌==◌}
+use Rattle.std.specs.Cmp.{unsigned_Decides}
 use Rattle.std.specs.List.{list_all}
 use Rattle.std.specs.Str.{bytes_eq}
 use Rattle.std.proofs.lemmas.Slice.Eq.{bytes_eq-Decides}
@@ -69,6 +70,9 @@ none-where (Some x) f = absurd (f x refl)
 
 -- ---- names
 
+true_false : {b : Bool} → b ≡ true → b ≡ false → ⊥
+true_false p q = cc
+
 both : (a b : Bool) → (a && b) ≡ true → (a ≡ true) × (b ≡ true)
 both true b e = (refl, e)
 both false b e = cc
@@ -78,21 +82,19 @@ name_bytes name e = (both _ (list_all is_name_byte name) (both _ _ e).1).1
 
 -- no name ends in a text with a slash
 no_slash_end : (name x tail : List ℕ) → is_channel_name name ≡ true → list_all is_name_byte tail ≡ false → name ≡ x ++ tail → ⊥
-no_slash_end name x tail is no e =
+no_slash_end name x tail is slash e =
     let all = sym (ap (list_all is_name_byte) e ∙ list_all-append is_name_byte x tail) ∙ name_bytes name is in
-    true_false ((both (list_all is_name_byte x) (list_all is_name_byte tail) all).1) no
-  where
-    true_false : {b : Bool} → b ≡ true → b ≡ false → ⊥
-    true_false p q = cc
+    true_false ((both (list_all is_name_byte x) (list_all is_name_byte tail) all).1) slash
+
+-- two numbers that are not one
+differ : (a b : ℕ) → (a == b) ≡ false → a ≡ b → ⊥
+differ a b other e = true_false ((unsigned_Decides a b).1 e) other
 
 other_end : (x y : List ℕ) → y ++ codes "/end" ≡ x ++ codes "/blocks" → ⊥
 other_end x y e =
     let whole : (y ++ codes "/en") ++ 100 ∷ [] ≡ (x ++ codes "/block") ++ 115 ∷ [] =
     append_assoc y (codes "/en") (100 ∷ []) ∙ e ∙ sym (append_assoc x (codes "/block") (115 ∷ [])) in
-    d_s (same_from_push _ _ _ _ whole).1
-  where
-    d_s : 100 ≡ 115 → ⊥
-    d_s e = cc
+    differ 100 115 refl (same_from_push _ _ _ _ whole).1
 
 -- ---- channels
 
@@ -182,7 +184,7 @@ indexes rest =
     ∙ ap (λ c. by_front None c) (behind-from (codes "/indexes/") (codes "/indexes/" ++ rest) rest refl)
   where
     other : (rest x : List ℕ) → codes "/indexes/" ++ rest ≡ codes "/channels/" ++ x → ⊥
-    other rest x e = cc
+    other rest x e = differ 105 99 refl (ap (λ l. get_or l 1 0) e)
 
 route-from : (r : Route) → IsNamed r → route_of (path_text r) ≡ Some r
 unfolding route_of
