@@ -36,6 +36,21 @@ fn outcome(queued: Queued) -> Routed
     }
 }
 
+/// What an event comes to: first the changes of its raw text, then the transforms.
+fn change(
+    alloc: Global,
+    seds: &SedList,
+    transforms: &TransformList,
+    event: Event,
+) -> Result<Routed, NoMemory>
+    requires { All (λ sed. IsApplicable sed) seds.now }
+    ensures { IfOk result (λ routed. routed ≡ changed seds.now transforms.now event) }
+{
+    let queued = start(alloc, seds, event)?;
+    let queued = transform_all(alloc, transforms, queued)?;
+    Ok(outcome(queued))
+}
+
 /// What an event comes to at index time. First each change by SEDCMD is made to its raw text, then each transform, the first
 /// one first, to what the ones before it left. An event that then goes to the null queue is not kept.
 ///
@@ -53,7 +68,6 @@ pub fn apply(
     ensures sizes { IfOk result (λ routed. HasSizes event routed) }
     ensures moments { IfOk result (λ routed. HasMoments event routed) }
 {
-    let queued = start(alloc, seds, event)?;
-    let queued = transform_all(alloc, transforms, queued)?;
-    Ok(outcome(queued))
+    let routed = change(alloc, seds, transforms, event)?;
+    Ok(routed)
 }
