@@ -1,0 +1,5 @@
+pub mod Civil
+pub mod Instant
+pub mod Laws
+pub mod Year
+pub mod Zone

@@ -1,0 +1,7 @@
+pub mod Directives
+pub mod Fields
+pub mod Front
+pub mod Iso
+pub mod Known
+pub mod Names
+pub mod Text

@@ -1,0 +1,16 @@
+//! Dates as text: what each piece of a time format reads, and the formats that are tried where none is set. What a text says is kept as
+//! fields; which instant they come to is for the crate above.
+#![tactic(auto)]
+
+mod digits;
+mod directives;
+mod fields;
+mod front;
+mod iso;
+mod known;
+mod names;
+
+pub use directives::{read_all, read_one};
+pub use fields::{Field, Fields, Hour};
+pub use front::may_begin;
+pub use known::KnownFormat;
