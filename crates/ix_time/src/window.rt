@@ -1,0 +1,47 @@
+//! In which part of a text its time is read: behind the prefix, and as far as the lookahead goes.
+
+ghost use Rattle.std.specs.Prelude.{◌≡◌, ◌≤◌, IfOk, IfSome, IsOk, None, length, take};
+ghost use Rattle.ix_time.specs.Window as Window;
+
+use ix_base::NoMemory;
+use ix_match::find;
+use ix_pattern::Pattern;
+use std::alloc::Global;
+
+/// The place of the time, if the prefix has a match. Without a prefix nothing is allocated.
+pub(crate) fn place_of(
+    alloc: Global,
+    prefix: &Option<Pattern>,
+    text: &[u8],
+) -> Result<Option<usize>, NoMemory>
+    ensures value { IfOk result (λ place. place ≡ Window.place_of prefix.now text.now) }
+    ensures within { IfOk result (λ place. IfSome place (λ p. p ≤ length text.now)) }
+    ensures plain { prefix.now ≡ None → IsOk result }
+{
+    let Some(pattern) = prefix else {
+        return Ok(Some(0));
+    };
+    match find(alloc, pattern, text, 0)? {
+        Some(found) => Ok(Some(found.end)),
+        None => Ok(None),
+    }
+}
+
+/// The bytes from a place on, as far as the lookahead goes.
+pub(crate) fn window(lookahead: Option<u32>, text: &[u8], place: usize) -> &[u8]
+    requires { place ≤ length text.now }
+    ensures { result.now ≡ Window.window lookahead text.now place }
+{
+    let rest = &text[place..];
+    match lookahead {
+        None | Some(0) => rest,
+        Some(most) => first_bytes(most as usize, rest),
+    }
+}
+
+/// The first so many bytes, or all where there are fewer.
+fn first_bytes(most: usize, text: &[u8]) -> &[u8]
+    ensures { result.now ≡ take most text.now }
+{
+    if most < text.len() { &text[..most] } else { text }
+}
