@@ -1,5 +1,5 @@
 -- Where the short test is false, no format reads.
-use Rattle.std.proofs.Common.{◌≡◌, inl, inr, ℕ, suc, ◌+◌, ◌-◌, ◌*◌, ◌≤◌, Bool, true, false, cond, List, [], ◌∷◌, get_or, drop, take, Option, Some, None, refl, subst, sym, add-zero, arith}
+use Rattle.std.proofs.Common.{◌≡◌, inl, inr, ℕ, zero, suc, ◌+◌, ◌-◌, ◌*◌, ◌≤◌, ◌<◌, Bool, true, false, cond, List, [], ◌∷◌, get_or, drop, take, Option, Some, None, refl, subst, sym, add-zero, arith}
 use Rattle.std.proofs.lemmas.Bool.{or_parts}
 use Rattle.std.proofs.lemmas.Bool.Decides.{nat_tests, leb_tells}
 use Rattle.std.proofs.lemmas.List.{get_or-drop}
@@ -17,8 +17,8 @@ use Rattle.ix_dates.specs.Names.{behind_name, behind_either, first_name, month, 
 use Rattle.ix_dates.specs.Directives.{read_one, read_all}
 use Rattle.ix_dates.specs.Fields.{no_fields}
 use Rattle.ix_dates.specs.Iso.{iso, date, two_behind}
-use Rattle.ix_dates.specs.Known.{read_known, ReadsNothing}
-use Rattle.ix_dates.specs.Front.{may_begin, month_may_begin, number_may_begin, stands}
+use Rattle.ix_dates.specs.Known.{read_known, PassesOver, ReadsNothing}
+use Rattle.ix_dates.specs.Front.{begins_with, has_hyphen, has_month, has_slash, is_month, may_begin, may_read, skip_quiet, stands}
 
 -- another byte stands there
 not_behind : (byte : ℕ) (text : List ℕ) → stands byte 0 text ≡ false → behind byte text ≡ None
@@ -130,95 +130,132 @@ no_month : (ds : List Directive) (f : Fields) (text : List ℕ) → month text �
 unfolding read_all read_one
 no_month ds f text none = rw none refl
 
--- a name of at least two letters
+-- a name of at least three letters
 Long : List ℕ → Type 0
 Long [] = ⊥
 Long (x ∷ []) = ⊥
-Long (x ∷ y ∷ more) = Unit {0}
+Long (x ∷ y ∷ []) = ⊥
+Long (x ∷ y ∷ z ∷ more) = Unit {0}
 
 AllLong : List (List ℕ) → Type 0
 AllLong [] = Unit {0}
 AllLong (name ∷ names) = Long name × AllLong names
 
--- other letters than its first two
-other_letters : (x y : ℕ) (more : List ℕ) (a b : ℕ) (rest : List ℕ) → ((to_ascii_lowercase a == x) && (to_ascii_lowercase b == y)) ≡ false → behind_either (x ∷ y ∷ more) (a ∷ b ∷ rest) ≡ None
+-- other letters than its first three
+other_letters : (x y z : ℕ) (more : List ℕ) (a b c : ℕ) (rest : List ℕ) → begins_with (to_ascii_lowercase a) (to_ascii_lowercase b) (to_ascii_lowercase c) (x ∷ y ∷ z ∷ more) ≡ false → behind_either (x ∷ y ∷ z ∷ more) (a ∷ b ∷ c ∷ rest) ≡ None
 unfolding behind_either behind_name
-other_letters x y more a b rest =
-    elim (to_ascii_lowercase a == x) as (λ t. (t && (to_ascii_lowercase b == y)) ≡ false → or_else (cond t (cond (to_ascii_lowercase b == y) (behind_name more rest) None) None) (cond t (cond (to_ascii_lowercase b == y) (behind_name (take 1 more) rest) None) None) ≡ None) [
-      | true ↦ λ e. rw e refl
+other_letters x y z more a b c rest =
+    let third : (n : List ℕ) → Option (List ℕ) = λ n. cond (to_ascii_lowercase c == z) (behind_name n rest) None in
+    elim (to_ascii_lowercase a == x) as (λ t. (t && ((to_ascii_lowercase b == y) && (to_ascii_lowercase c == z))) ≡ false → or_else (cond t (cond (to_ascii_lowercase b == y) (third more) None) None) (cond t (cond (to_ascii_lowercase b == y) (third []) None) None) ≡ None) [
+      | true ↦ elim (to_ascii_lowercase b == y) as (λ t. (t && (to_ascii_lowercase c == z)) ≡ false → or_else (cond t (third more) None) (cond t (third []) None) ≡ None) [
+        | true ↦ λ e. rw e refl
+        | false ↦ λ e. refl
+      ]
       | false ↦ λ e. refl
     ]
 
-no_name : (names : List (List ℕ)) (place a b : ℕ) (rest : List ℕ) → AllLong names → list_any (λ name. (to_ascii_lowercase a == get_or name 0 0) && (to_ascii_lowercase b == get_or name 1 0)) names ≡ false → first_name names place (a ∷ b ∷ rest) ≡ None
+no_name : (names : List (List ℕ)) (place a b c : ℕ) (rest : List ℕ) → AllLong names → list_any (λ name. begins_with (to_ascii_lowercase a) (to_ascii_lowercase b) (to_ascii_lowercase c) name) names ≡ false → first_name names place (a ∷ b ∷ c ∷ rest) ≡ None
 unfolding first_name Long AllLong
-no_name [] place a b rest long none = refl
-no_name ([] ∷ names) place a b rest long none = absurd (long.0)
-no_name ((x ∷ []) ∷ names) place a b rest long none = absurd (long.0)
-no_name ((x ∷ y ∷ more) ∷ names) place a b rest long none =
+no_name [] place a b c rest long none = refl
+no_name ([] ∷ names) place a b c rest long none = absurd (long.0)
+no_name ((x ∷ []) ∷ names) place a b c rest long none = absurd (long.0)
+no_name ((x ∷ y ∷ []) ∷ names) place a b c rest long none = absurd (long.0)
+no_name ((x ∷ y ∷ z ∷ more) ∷ names) place a b c rest long none =
     let parts = or_parts _ _ none in
-    rw (other_letters x y more a b rest parts.0) (no_name names (place + 1) a b rest long.1 parts.1)
+    rw (other_letters x y z more a b c rest parts.0) (no_name names (place + 1) a b c rest long.1 parts.1)
 
-other_month : (a b : ℕ) (rest : List ℕ) → month_may_begin (to_ascii_lowercase a) (to_ascii_lowercase b) ≡ false → month (a ∷ b ∷ rest) ≡ None
-unfolding month Long AllLong
-other_month a b rest none = no_name month_names 1 a b rest (search (tt)) none
+-- one or two bytes alone
+one_byte : (names : List (List ℕ)) (place a : ℕ) → AllLong names → first_name names place (a ∷ []) ≡ None
+unfolding first_name behind_either behind_name Long AllLong
+one_byte [] place a long = refl
+one_byte ([] ∷ names) place a long = absurd (long.0)
+one_byte ((x ∷ []) ∷ names) place a long = absurd (long.0)
+one_byte ((x ∷ y ∷ []) ∷ names) place a long = absurd (long.0)
+one_byte ((x ∷ y ∷ z ∷ more) ∷ names) place a long =
+    elim (to_ascii_lowercase a == x) as (λ t. match_some (or_else (cond t None None) (cond t None None)) (first_name names (place + 1) (a ∷ [])) (λ rest. Some (place, rest)) ≡ None) [
+      | true ↦ one_byte names (place + 1) a long.1
+      | false ↦ one_byte names (place + 1) a long.1
+    ]
+
+two_bytes : (names : List (List ℕ)) (place a b : ℕ) → AllLong names → first_name names place (a ∷ b ∷ []) ≡ None
+unfolding first_name behind_either behind_name Long AllLong
+two_bytes [] place a b long = refl
+two_bytes ([] ∷ names) place a b long = absurd (long.0)
+two_bytes ((x ∷ []) ∷ names) place a b long = absurd (long.0)
+two_bytes ((x ∷ y ∷ []) ∷ names) place a b long = absurd (long.0)
+two_bytes ((x ∷ y ∷ z ∷ more) ∷ names) place a b long =
+    elim (to_ascii_lowercase a == x) as (λ t. match_some (or_else (cond t (cond (to_ascii_lowercase b == y) None None) None) (cond t (cond (to_ascii_lowercase b == y) None None) None)) (first_name names (place + 1) (a ∷ b ∷ [])) (λ rest. Some (place, rest)) ≡ None) [
+      | true ↦ elim (to_ascii_lowercase b == y) as (λ t. match_some (or_else (cond t None None) (cond t None None)) (first_name names (place + 1) (a ∷ b ∷ [])) (λ rest. Some (place, rest)) ≡ None) [
+        | true ↦ two_bytes names (place + 1) a b long.1
+        | false ↦ two_bytes names (place + 1) a b long.1
+      ]
+      | false ↦ two_bytes names (place + 1) a b long.1
+    ]
+
+-- no month stands there
+other_month : (text : List ℕ) → has_month text ≡ false → month text ≡ None
+unfolding month has_month first_name behind_either behind_name Long AllLong
+other_month [] none = refl
+other_month (a ∷ []) none = one_byte month_names 1 a (search (tt))
+other_month (a ∷ b ∷ []) none = two_bytes month_names 1 a b (search (tt))
+other_month (a ∷ b ∷ c ∷ rest) none = no_name month_names 1 a b c rest (search (tt)) none
+
+-- a format that may not read there does not
+pub other_front : (format : KnownFormat) (text : List ℕ) → may_read format text ≡ false → read_known format text ≡ None
+unfolding read_known
+other_front Iso text none = no_hyphen text none
+other_front Syslog text none = no_month _ _ text (other_month text none)
+other_front Access text none = let parts = or_parts _ _ none in no_slash-day _ _ text parts.0 parts.1
+other_front American text none = let parts = or_parts _ _ none in no_slash-month _ _ text parts.0 parts.1
 
 -- a digit is no letter
 no_letter : (a x : ℕ) → is_ascii_digit a ≡ true → 97 ≤ x → (to_ascii_lowercase a == x) ≡ false
 no_letter a x digit letter = grind (arith, nat_tests)
 
-digit_no_month : (a b : ℕ) → is_ascii_digit a ≡ true → month_may_begin (to_ascii_lowercase a) b ≡ false
-digit_no_month a b digit =
+digit_no_month : (a b c : ℕ) → is_ascii_digit a ≡ true → is_month (to_ascii_lowercase a) b c ≡ false
+digit_no_month a b c digit =
     rw (no_letter a 106 digit (omega arith), no_letter a 102 digit (omega arith), no_letter a 109 digit (omega arith), no_letter a 97 digit (omega arith), no_letter a 115 digit (omega arith), no_letter a 111 digit (omega arith), no_letter a 110 digit (omega arith), no_letter a 100 digit (omega arith)) refl
 
--- one byte alone
-short_name : (names : List (List ℕ)) (place a : ℕ) → AllLong names → first_name names place (a ∷ []) ≡ None
-unfolding first_name behind_either behind_name Long AllLong
-short_name [] place a long = refl
-short_name ([] ∷ names) place a long = absurd (long.0)
-short_name ((x ∷ []) ∷ names) place a long = absurd (long.0)
-short_name ((x ∷ y ∷ more) ∷ names) place a long =
-    elim (to_ascii_lowercase a == x) as (λ t. match_some (or_else (cond t None None) (cond t None None)) (first_name names (place + 1) (a ∷ [])) (λ rest. Some (place, rest)) ≡ None) [
-      | true ↦ short_name names (place + 1) a long.1
-      | false ↦ short_name names (place + 1) a long.1
-    ]
+digit_has_no_month : (a : ℕ) (rest : List ℕ) → is_ascii_digit a ≡ true → has_month (a ∷ rest) ≡ false
+unfolding has_month
+digit_has_no_month a [] digit = refl
+digit_has_no_month a (b ∷ []) digit = refl
+digit_has_no_month a (b ∷ c ∷ rest) digit = digit_no_month a (to_ascii_lowercase b) (to_ascii_lowercase c) digit
 
 -- where no number and no month may begin, no format reads
-by_digit : (a b : ℕ) (rest : List ℕ) → is_ascii_digit a ≡ true → number_may_begin (a ∷ b ∷ rest) ≡ false → ReadsNothing (a ∷ b ∷ rest)
+by_digit : (a : ℕ) (rest : List ℕ) → is_ascii_digit a ≡ true → (has_slash (a ∷ rest) || has_hyphen (a ∷ rest)) ≡ false → ReadsNothing (a ∷ rest)
+by_digit a rest digit none Iso = let parts = or_parts _ _ none in other_front Iso (a ∷ rest) parts.1
+by_digit a rest digit none Syslog = other_front Syslog (a ∷ rest) (digit_has_no_month a rest digit)
+by_digit a rest digit none Access = let parts = or_parts _ _ none in other_front Access (a ∷ rest) parts.0
+by_digit a rest digit none American = let parts = or_parts _ _ none in other_front American (a ∷ rest) parts.0
+
+by_letter : (a : ℕ) (rest : List ℕ) → is_ascii_digit a ≡ false → has_month (a ∷ rest) ≡ false → ReadsNothing (a ∷ rest)
 unfolding read_known
-by_digit a b rest digit none Iso = let parts = or_parts _ _ none in let more = or_parts _ _ parts.1 in no_hyphen (a ∷ b ∷ rest) more.1
-by_digit a b rest digit none Syslog = no_month _ _ (a ∷ b ∷ rest) (other_month a b rest (digit_no_month a (to_ascii_lowercase b) digit))
-by_digit a b rest digit none Access = let parts = or_parts _ _ none in let more = or_parts _ _ parts.1 in no_slash-day _ _ (a ∷ b ∷ rest) parts.0 more.0
-by_digit a b rest digit none American = let parts = or_parts _ _ none in let more = or_parts _ _ parts.1 in no_slash-month _ _ (a ∷ b ∷ rest) parts.0 more.0
+by_letter a rest other none Iso = no_digit-iso a rest other
+by_letter a rest other none Syslog = no_month _ _ (a ∷ rest) (other_month (a ∷ rest) none)
+by_letter a rest other none Access = no_digit-day _ _ a rest other
+by_letter a rest other none American = no_digit-month _ _ a rest other
 
-by_letter : (a b : ℕ) (rest : List ℕ) → is_ascii_digit a ≡ false → month_may_begin (to_ascii_lowercase a) (to_ascii_lowercase b) ≡ false → ReadsNothing (a ∷ b ∷ rest)
-unfolding read_known
-by_letter a b rest other none Iso = no_digit-iso a (b ∷ rest) other
-by_letter a b rest other none Syslog = no_month _ _ (a ∷ b ∷ rest) (other_month a b rest none)
-by_letter a b rest other none Access = no_digit-day _ _ a (b ∷ rest) other
-by_letter a b rest other none American = no_digit-month _ _ a (b ∷ rest) other
-
--- a text of less than two bytes
-by_end : (text : List ℕ) → stands 47 1 text ≡ false → stands 47 2 text ≡ false → stands 45 4 text ≡ false → month text ≡ None → ReadsNothing text
-unfolding read_known
-by_end text one two four none Iso = no_hyphen text four
-by_end text one two four none Syslog = no_month _ _ text none
-by_end text one two four none Access = no_slash-day _ _ text one two
-by_end text one two four none American = no_slash-month _ _ text one two
-
-short_month : (a : ℕ) → month (a ∷ []) ≡ None
-unfolding month Long AllLong
-short_month a = short_name month_names 1 a (search (tt))
-
-empty_month : month [] ≡ None
-unfolding month first_name behind_either behind_name
-empty_month = refl
-
-pub reads_nothing : (text : List ℕ) → may_begin text ≡ false → ReadsNothing text
+reads_nothing : (a : ℕ) (rest : List ℕ) → may_begin (a ∷ rest) ≡ false → ReadsNothing (a ∷ rest)
 unfolding may_begin
-reads_nothing [] none = by_end [] refl refl refl empty_month
-reads_nothing (a ∷ []) none = by_end (a ∷ []) refl refl refl (short_month a)
-reads_nothing (a ∷ b ∷ rest) none =
-    elim (is_ascii_digit a) as (λ t. is_ascii_digit a ≡ t → cond t (number_may_begin (a ∷ b ∷ rest)) (month_may_begin (to_ascii_lowercase a) (to_ascii_lowercase b)) ≡ false → ReadsNothing (a ∷ b ∷ rest)) [
-      | true ↦ λ digit quiet. by_digit a b rest digit quiet
-      | false ↦ λ other quiet. by_letter a b rest other quiet
+reads_nothing a rest none =
+    elim (is_ascii_digit a) as (λ t. is_ascii_digit a ≡ t → cond t (has_slash (a ∷ rest) || has_hyphen (a ∷ rest)) (has_month (a ∷ rest)) ≡ false → ReadsNothing (a ∷ rest)) [
+      | true ↦ λ digit quiet. by_digit a rest digit quiet
+      | false ↦ λ other quiet. by_letter a rest other quiet
     ] refl none
+
+-- one place more that is passed over
+quiet_later : (b : ℕ) (rest : List ℕ) (n : ℕ) → ReadsNothing (b ∷ rest) → ((i : ℕ) → i < n → ReadsNothing (drop i rest)) → (i : ℕ) → i < suc n → ReadsNothing (drop i (b ∷ rest))
+quiet_later b rest n nothing quiet zero low = nothing
+quiet_later b rest n nothing quiet (suc i) low = quiet i (omega arith)
+
+-- what is passed over is quiet
+pub passes_over : (text : List ℕ) → PassesOver text (skip_quiet text)
+unfolding skip_quiet
+passes_over [] = record { count = 0; left = refl; quiet = λ i low. absurd (omega arith) }
+passes_over (b ∷ rest) =
+    let more = passes_over rest in
+    elim (may_begin (b ∷ rest)) as (λ t. may_begin (b ∷ rest) ≡ t → PassesOver (b ∷ rest) (cond t (b ∷ rest) (skip_quiet rest))) [
+      | true ↦ λ e. record { count = 0; left = refl; quiet = λ i low. absurd (omega arith) }
+      | false ↦ λ e. record { count = suc (more.count); left = more.left; quiet = quiet_later b rest more.count (reads_nothing b rest e) more.quiet }
+    ] refl

@@ -1,5 +1,5 @@
 -- The formats that are tried where none is set.
-use Rattle.std.specs.Prelude.{◌≡◌, ℕ, List, [], ◌∷◌, None}
+use Rattle.std.specs.Prelude.{◌≡◌, ◌<◌, ℕ, List, [], ◌∷◌, None, drop}
 use Rattle.ix_values.specs.declared.formats.Directive.{Directive}
 use Rattle.ix_values.specs.declared.formats.Directive.TheVariants.{Year, Month, Day, PaddedDay, Hour, Minute, Second, ShortMonthName, Offset, Space, Byte}
 use Rattle.ix_dates.specs.declared.fields.Fields.{Fields}
@@ -32,3 +32,9 @@ read_known American text = read_all american no_fields text
 -- none of the formats reads there
 abbrev pub ReadsNothing : List ℕ → Type 0
 ReadsNothing text = (format : KnownFormat) → read_known format text ≡ None
+
+-- Of a text the rest is left, and none of the formats reads at a place before it.
+pub record PassesOver (text rest : List ℕ) : Type 0 where
+  pub count : ℕ
+  pub left : rest ≡ drop count text
+  pub quiet : (i : ℕ) → i < count → ReadsNothing (drop i text)

@@ -1,11 +1,13 @@
 //! The formats that are tried where none is set.
 
 ghost use Rattle.std.specs.Prelude.{◌≡◌};
+ghost use Rattle.ix_dates.specs.Front.{may_read};
 ghost use Rattle.ix_dates.specs.Known.{read_known};
 ghost use Rattle.ix_dates.specs.Text.{read_view};
 
 use crate::directives::read_all;
 use crate::fields::Fields;
+use crate::front::{has_hyphen, has_month, has_slash};
 use crate::iso::iso;
 use ix_values::Directive;
 
@@ -68,9 +70,20 @@ const AMERICAN: [Directive; 11] = [
 ];
 
 impl KnownFormat {
-    /// The fields that it reads at the front of a text, and the text behind them.
+    /// Whether it may read at the front of a text, by a short test.
+    #[inline(always)]
+    fn may_read(self, s: &[u8]) -> bool
+        ensures { result ≡ may_read self s.now }
+    {
+        match self {
+            KnownFormat::Iso => has_hyphen(s),
+            KnownFormat::Syslog => has_month(s),
+            KnownFormat::Access | KnownFormat::American => has_slash(s),
+        }
+    }
+
     #[tactic(auto, unfolding(crate::specs::Known::read_known))]
-    pub fn read(self, s: &[u8]) -> Option<(Fields, &[u8])>
+    fn read_slowly(self, s: &[u8]) -> Option<(Fields, &[u8])>
         ensures { read_view result ≡ read_known self s.now }
     {
         match self {
@@ -79,5 +92,16 @@ impl KnownFormat {
             KnownFormat::Access => read_all(&ACCESS, Fields::NONE, s),
             KnownFormat::American => read_all(&AMERICAN, Fields::NONE, s),
         }
+    }
+
+    /// The fields that it reads at the front of a text, and the text behind them.
+    #[tactic(auto, using(crate::proofs::FrontLemmas::other_front))]
+    pub fn read(self, s: &[u8]) -> Option<(Fields, &[u8])>
+        ensures { read_view result ≡ read_known self s.now }
+    {
+        if !self.may_read(s) {
+            return None;
+        }
+        self.read_slowly(s)
     }
 }

@@ -12,5 +12,5 @@ mod names;
 
 pub use directives::{read_all, read_one};
 pub use fields::{Field, Fields, Hour};
-pub use front::may_begin;
+pub use front::skip_quiet;
 pub use known::KnownFormat;
