@@ -13,10 +13,9 @@ use Rattle.jiff_tz.specs.PosixText.{tz_view, dst_view}
 use Rattle.jiff_tz.specs.declared.ambiguous.AmbiguousOffset.{AmbiguousOffset}
 use Rattle.jiff_tz.specs.declared.posix.Dst.{Dst}
 use Rattle.jiff_tz.specs.declared.posix.TimeZone.{TimeZone}
-use Rattle.std.specs.Prelude.{int_div, List, ◌+◌, ◌*◌, ◌+ℤ◌}
+use Rattle.std.specs.Prelude.{int_div, ◌+◌, ◌*◌, ◌+ℤ◌}
 use Rattle.jiff_core.proofs.SignedLemmas.{signed_arith}
 use Rattle.jiff_core.specs.Timestamp.{nanos_of_seconds}
-use Rattle.jiff_tz.specs.PosixReader.{read_whole}
 use Rattle.ix_clock.specs.declared.wall.CivilTime.{CivilTime}
 use Rattle.ix_clock.specs.Civil.{day_number, exists, ordinal_number, wall_micros}
 use Rattle.ix_clock.specs.Instant.{instant_in, instant_at_offset, at_seconds, held, truncated}

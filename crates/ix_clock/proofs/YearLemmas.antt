@@ -1,15 +1,14 @@
 -- No instant of a late year is near an early arrival.
-use Rattle.std.proofs.Common.{inl, inr, ◌≡◌, ℕ, zero, suc, ◌+◌, ◌-◌, ◌*◌, ◌≤◌, ◌<◌, ℤ, pos, ◌+ℤ◌, ◌-ℤ◌, ◌*ℤ◌, ◌≤ℤ◌, ◌<ℤ◌, Bool, true, false, cond, List, Option, Some, None, unsigned_abs, ◌/◌, refl, arith}
+use Rattle.std.proofs.Common.{inl, inr, ◌≡◌, ℕ, zero, suc, ◌+◌, ◌-◌, ◌*◌, ◌≤◌, ◌<◌, ℤ, pos, ◌+ℤ◌, ◌-ℤ◌, ◌*ℤ◌, ◌≤ℤ◌, ◌<ℤ◌, Bool, true, false, cond, Option, Some, None, unsigned_abs, ◌/◌, refl, arith}
 use Rattle.std.proofs.lemmas.Int.{ints}
 use Rattle.std.proofs.lemmas.Bool.Decides.{nat_tests, leb_tells}
-use Rattle.std.specs.Prelude.{IfSome, option_map, option_and_then, int_le, int_lt, not}
+use Rattle.std.specs.Prelude.{option_map, int_le, int_lt, not}
 use Rattle.std.proofs.lemmas.Bool.{and_parts}
 use Rattle.std.proofs.Common.{add-zero, add-suc, subst, sym, ◌∙◌}
 use Rattle.jiff_core.specs.Calendar.{day_count}
 use Rattle.jiff_core.specs.declared.Offset.{Offset}
 use Rattle.jiff_core.proofs.CalendarLemmas.{day_count-epoch, day_count-next_year, day_count-day_of_year, days_in_year_bounds, days_from_civil-day_count}
 use Rattle.jiff_core.proofs.SignedLemmas.{signed_arith}
-use Rattle.jiff_tz.specs.PosixReader.{read_whole}
 use Rattle.jiff_tz.specs.PosixRule.{match_some, in_span, in_window, saturating_add, saturating_sub}
 use Rattle.jiff_tz.specs.PosixText.{tz_view, dst_view}
 use Rattle.jiff_tz.specs.declared.posix.Dst.{Dst}

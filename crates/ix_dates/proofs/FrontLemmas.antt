@@ -1,5 +1,5 @@
 -- Where the short test is false, no format reads.
-use Rattle.std.proofs.Common.{◌≡◌, inl, inr, ℕ, zero, suc, ◌+◌, ◌-◌, ◌*◌, ◌≤◌, ◌<◌, Bool, true, false, cond, List, [], ◌∷◌, get_or, drop, take, Option, Some, None, refl, subst, sym, add-zero, arith}
+use Rattle.std.proofs.Common.{◌≡◌, inl, inr, ℕ, zero, suc, ◌+◌, ◌-◌, ◌*◌, ◌≤◌, ◌<◌, Bool, true, false, cond, List, [], ◌∷◌, drop, Option, Some, None, refl, subst, sym, add-zero, arith}
 use Rattle.std.proofs.lemmas.Bool.{or_parts}
 use Rattle.std.proofs.lemmas.Bool.Decides.{nat_tests, leb_tells}
 use Rattle.std.proofs.lemmas.List.{get_or-drop}
@@ -15,7 +15,6 @@ use Rattle.ix_dates.specs.declared.known.KnownFormat.TheVariants.{Iso, Syslog, A
 use Rattle.ix_dates.specs.Text.{behind, digits, number, within, or_else, match_some}
 use Rattle.ix_dates.specs.Names.{behind_name, behind_either, first_name, month, month_names}
 use Rattle.ix_dates.specs.Directives.{read_one, read_all}
-use Rattle.ix_dates.specs.Fields.{no_fields}
 use Rattle.ix_dates.specs.Iso.{iso, date, two_behind}
 use Rattle.ix_dates.specs.Known.{read_known, PassesOver, ReadsNothing}
 use Rattle.ix_dates.specs.Front.{begins_with, has_hyphen, has_month, has_slash, is_month, may_begin, may_read, skip_quiet, stands}

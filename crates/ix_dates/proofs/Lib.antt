@@ -1,3 +1,4 @@
+pub mod DecimalLemmas
 pub mod NumberLemmas
 pub mod NameLemmas
 pub mod FormatLemmas

@@ -1,5 +1,5 @@
 -- The format of dates with hyphens and times with colons.
-use Rattle.std.specs.Prelude.{ℕ, min, List, Option, Some}
+use Rattle.std.specs.Prelude.{ℕ, min, List, Some}
 use Rattle.ix_dates.specs.declared.fields.Field.{Field}
 use Rattle.ix_dates.specs.declared.fields.Fields.{Fields}
 use Rattle.ix_dates.specs.declared.fields.Hour.TheVariants.{OfDay}

@@ -1,13 +1,11 @@
 -- The end of the first match.
-use Rattle.std.proofs.Common.{◌≡◌, inl, inr, ℕ, zero, suc, ◌+◌, ◌≤◌, ◌<◌, List, [], length, Option, Some, None, refl, subst, arith}
+use Rattle.std.proofs.Common.{◌≡◌, inl, inr, ℕ, zero, suc, ◌+◌, ◌≤◌, ◌<◌, List, [], length, Some, None, refl, subst, arith}
 use Rattle.std.proofs.lemmas.Bool.Decides.{leb_tells}
-use Rattle.std.specs.Prelude.{slice_get, option_map}
+use Rattle.std.specs.Prelude.{slice_get}
 use Rattle.ix_pattern.specs.Rows.{Shape}
 use Rattle.ix_pattern.specs.Ways.{Reached, ends_at}
-use Rattle.ix_match.specs.declared.first.Found.{Found}
-use Rattle.ix_match.specs.Matches.{IsFirst, ways_from}
-use Rattle.ix_dates.specs.Text.{or_else}
-use Rattle.ix_time.specs.Window.{FirstMatchEnds, InText, end_at, first_end, place_of}
+use Rattle.ix_match.specs.Matches.{ways_from}
+use Rattle.ix_time.specs.Window.{FirstMatchEnds, end_at, first_end}
 
 -- where no way begins
 no_end : (p : Shape) (text : List ℕ) (place : ℕ) → ways_from p text place ≡ [] → end_at p text place ≡ None

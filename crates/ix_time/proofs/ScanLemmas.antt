@@ -1,5 +1,5 @@
 -- The first offset of a window.
-use Rattle.std.proofs.Common.{◌≡◌, inl, inr, ℕ, zero, suc, ◌≤◌, ◌<◌, ℤ, List, [], ◌∷◌, drop, length, Option, Some, None, refl, sym, ◌∙◌, length-drop, subst, take, ◌-◌, arith}
+use Rattle.std.proofs.Common.{◌≡◌, ℕ, zero, suc, ◌≤◌, ◌<◌, ℤ, List, [], ◌∷◌, drop, length, Option, Some, None, refl, sym, length-drop, subst, take, ◌-◌, arith}
 use Rattle.std.proofs.lemmas.List.{take_all}
 use Rattle.jiff_tz.specs.PosixText.{TzText}
 use Rattle.ix_dates.specs.Known.{PassesOver, ReadsNothing}

@@ -89,11 +89,5 @@ pub fn time_of(
 {
     let read = read(alloc, settings, raw, arrival)?;
     let arrival = arrival_of(arrival);
-    Ok(settle(
-        read,
-        arrival,
-        settings.days_ago,
-        settings.days_hence,
-        last,
-    ))
+    Ok(settle(read, arrival, settings.days_ago, settings.days_hence, last))
 }

@@ -43,5 +43,9 @@ pub(crate) fn window(lookahead: Option<u32>, text: &[u8], place: usize) -> &[u8]
 fn first_bytes(most: usize, text: &[u8]) -> &[u8]
     ensures { result.now ≡ take most text.now }
 {
-    if most < text.len() { &text[..most] } else { text }
+    if most < text.len() {
+        &text[..most]
+    } else {
+        text
+    }
 }
