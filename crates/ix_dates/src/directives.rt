@@ -15,7 +15,7 @@ use ix_values::Directive;
 
 /// What one directive reads at the front of a text, and the text behind it. `None` where it reads nothing there.
 #[tactic(auto, unfolding(crate::specs::Directives::read_one))]
-pub fn read_one(directive: Directive, s: &[u8]) -> Option<(Field, &[u8])>
+fn read_one(directive: Directive, s: &[u8]) -> Option<(Field, &[u8])>
     ensures { read_view result ≡ Directives.read_one directive s.now }
 {
     match directive {

@@ -14,7 +14,7 @@ pub enum Hour {
 
 /// What one piece of a format reads.
 #[derive(Clone, Copy, Debug, PartialEq, Eq)]
-pub enum Field {
+pub(crate) enum Field {
     /// Nothing that counts: white space, a weekday, a byte of the format.
     Nothing,
     /// From 0 to 9999.

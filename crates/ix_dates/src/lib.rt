@@ -11,8 +11,8 @@ mod known;
 mod laws;
 mod names;
 
-pub use directives::{read_all, read_one};
-pub use fields::{Field, Fields, Hour};
+pub use directives::read_all;
+pub use fields::{Fields, Hour};
 pub use front::skip_quiet;
 pub use known::KnownFormat;
 pub use laws::numbers_are_decimal;
