@@ -80,6 +80,7 @@ field_len f is = end_len f.name f.raw (print_end f.end) is.name.0 (some_end f.en
     some_end : (e : LineEnd) → 1 ≤ length (print_end e)
     some_end crlf = omega arith
     some_end lf = omega arith
+
     end_len : (a b c : List ℕ) → 0 < length a → 1 ≤ length c → 3 ≤ length (a ++ 58 ∷ b ++ c)
     end_len a b c x y = grind (arith, common_steps)
 
@@ -179,8 +180,7 @@ len_is_all bytes headers spans some none found =
 pub crowded_all : (bytes : List ℕ) → 0 < length bytes → HasNoRequest (take (length bytes - 1) bytes) → RequestOverflows max_lines bytes
     → (h : RequestHead) (rest : List ℕ) → ReadsRequest bytes h rest → ReadsRequest bytes h [] × (max_lines < length h.fields)
 crowded_all bytes some none over h rest reads =
-    let empty = all_taken bytes some none h rest reads in
-    (
+    let empty = all_taken bytes some none h rest reads in (
       (reads.0, reads.1 ∙ ap (λ t. print_request h ++ t) empty),
       over [] h rest (reads.0, append-nil bytes ∙ reads.1),
     )

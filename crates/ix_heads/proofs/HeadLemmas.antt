@@ -60,6 +60,7 @@ end_fits bytes headers (Ok Bad) part old mid new size none fits took end = inl (
   where
     all : Took part old new
     all = took ∙ ap (λ t. part ++ t) (end.0 ∙ sym end.1)
+
     by : (length part ≡ max_head) ⊎ NeverHasRequest part → IsHeadless old new
     by (inl full) = full_headless part old new full none all
     by (inr never) = never_headless part old new size never all

@@ -18,4 +18,3 @@ told_join f None (Some b) z t u = absurd t
 told_join f (Some a) None z t u = absurd t
 told_join f (Some a) (Some b) None t u = absurd u
 told_join f (Some a) (Some b) (Some c) t u = f a b c t u
-

@@ -82,7 +82,11 @@ fn is_bad(alloc: Global, bytes: &[u8]) -> Result<bool, NoMemory>
 }
 
 /// What bytes are of which all but the last one are no head.
-pub(crate) fn judge(alloc: Global, bytes: &[u8], headers: &mut [HeaderSpan]) -> Result<Judged, NoMemory>
+pub(crate) fn judge(
+    alloc: Global,
+    bytes: &[u8],
+    headers: &mut [HeaderSpan],
+) -> Result<Judged, NoMemory>
     requires some { 0 < length bytes.now }
     requires size { length bytes.now ≤ 16384 }
     requires before { HasNoRequest (take (length bytes.now - 1) bytes.now) }
@@ -107,7 +111,11 @@ pub(crate) fn judge(alloc: Global, bytes: &[u8], headers: &mut [HeaderSpan]) -> 
 }
 
 /// Whether bytes that are no head may become one, where a link has ended behind them.
-pub(crate) fn may_go_on(alloc: Global, bytes: &[u8], headers: &mut [HeaderSpan]) -> Result<Look, NoMemory>
+pub(crate) fn may_go_on(
+    alloc: Global,
+    bytes: &[u8],
+    headers: &mut [HeaderSpan],
+) -> Result<Look, NoMemory>
     requires size { length bytes.now ≤ 16384 }
     requires none { HasNoRequest bytes.now }
     requires room { length headers.old ≡ 64 }

@@ -90,6 +90,7 @@ head_fails bytes headers (NoMemory false) old new fits = ((fits.1.0, fits.1.1), 
   where
     none_some : (n : ℕ) → None ≡ Some n → ⊥
     none_some n e = cc
+
     no : ¬ (TakesRequest old new)
     no (h, rest, has, n, is, (body, took)) =
         let whole : (print_request h ++ body) ++ new ≡ fits.1.0 ++ new =
@@ -117,10 +118,13 @@ behind_fits bytes headers spans r result lent old mid new whole fits = by result
   where
     h : RequestHead
     h = whole.head
+
     is : r ≡ heading h
     is = heading_is r h (lent.method ∙ whole.at.method) (lent.target ∙ whole.at.path) (lent.lines ∙ whole.at.fields)
+
     same_length : delimited_length r ≡ delimited_length (heading h)
     same_length = ap delimited_length is
+
     by : (result : Result Incoming LinkFault) → FitsBehind r result mid new → Fits result old new
     by (Ok incoming) fits =
         let P : Heading → Type 0 = λ r. Follows (delimited_length r) r incoming mid new in

@@ -162,8 +162,10 @@ route-to path r e = by (bytes_eq path (codes "/acks")) refl (bytes_eq path (code
     front (Some rest) c eb ec g = let n = channel-to rest r g in (n.0, behind-to (codes "/channels/") path rest eb ∙ n.1)
     front None (Some rest) eb ec g = let n = index-to rest r g in (n.0, behind-to (codes "/indexes/") path rest ec ∙ n.1)
     front None None eb ec g = cc
+
     some_inj : (x y : Route) → Some x ≡ Some y → x ≡ y
     some_inj x y e = cc
+
     by : (a : Bool) → bytes_eq path (codes "/acks") ≡ a → (b : Bool) → bytes_eq path (codes "/buckets") ≡ b
         → cond a (Some acks) (cond b (Some buckets) (by_front (behind (codes "/channels/") path) (behind (codes "/indexes/") path))) ≡ Some r → IsNamed r × (path ≡ path_text r)
     by true ea b eb g = subst (λ r. IsNamed r × (path ≡ path_text r)) (some_inj acks r g) (tt, (bytes_eq-Decides path (codes "/acks")).0 ea)

@@ -19,8 +19,7 @@ part_nothing n (Some x) = ([], refl, omega arith)
 pub part_more : (n rest k : ℕ) (piece : List ℕ) → k ≤ length piece → k ≤ rest → (old mid new : List ℕ) → TakesPart n rest old mid → Took (take k piece) mid new → TakesPart n (rest - k) old new
 part_more n rest k piece inside fits old mid new part took =
     let size = length-append part.0 (take k piece) in
-    let len = length-take-le k piece inside in
-    (
+    let len = length-take-le k piece inside in (
       part.0 ++ take k piece,
       part.1 ∙ ap (λ t. part.0 ++ t) took ∙ sym (append_assoc part.0 (take k piece) new),
       omega (arith, size, len, part.2, fits),

@@ -46,6 +46,7 @@ open_faulty h unsaid none = by (route_of (path_of h.target)) good.1
   where
     good : (not (is_good h) ≡ false) × (route_fault h (route_of (path_of h.target)) ≡ None)
     good = without (not (is_good h)) (route_fault h (route_of (path_of h.target))) BadHead none
+
     by : (r : Option Route) → route_fault h r ≡ None → ⊥
     by None e = cc
     by (Some r) e =

@@ -56,7 +56,12 @@ fn events(alloc: Global, name: &[u8], query: &[u8]) -> Result<Option<Ask>, NoMem
 
 /// What a request asks, by its place, its query and its body.
 #[tactic(auto, unfolding(crate::specs::Asked::asked_of))]
-pub(crate) fn asked_of(alloc: Global, place: Place<'_>, query: &[u8], body: Bytes) -> Result<Incoming, NoMemory>
+pub(crate) fn asked_of(
+    alloc: Global,
+    place: Place<'_>,
+    query: &[u8],
+    body: Bytes,
+) -> Result<Incoming, NoMemory>
     ensures { IfOk result (λ incoming. incoming ≡ asked_of (seen place.entry) query.now body) }
 {
     match place {

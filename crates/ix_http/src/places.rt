@@ -43,7 +43,11 @@ pub(crate) fn query_of(target: &[u8]) -> &[u8]
     ensures { result.now ≡ query_of target.now }
 {
     let end = path_len(target);
-    if end < target.len() { &target[end + 1..] } else { &target[end..] }
+    if end < target.len() {
+        &target[end + 1..]
+    } else {
+        &target[end..]
+    }
 }
 
 fn is_name_byte(b: u8) -> bool
@@ -103,12 +107,24 @@ fn channel_place(rest: &[u8]) -> Option<Place<'_>>
     ensures { option_map seen result ≡ channel_route rest.now }
 {
     if let Some(name) = before(b"/blocks", rest) {
-        return if is_channel_name(name) { Some(Place::Blocks(name)) } else { None };
+        return if is_channel_name(name) {
+            Some(Place::Blocks(name))
+        } else {
+            None
+        };
     }
     if let Some(name) = before(b"/end", rest) {
-        return if is_channel_name(name) { Some(Place::End(name)) } else { None };
+        return if is_channel_name(name) {
+            Some(Place::End(name))
+        } else {
+            None
+        };
     }
-    if is_channel_name(rest) { Some(Place::Channel(rest)) } else { None }
+    if is_channel_name(rest) {
+        Some(Place::Channel(rest))
+    } else {
+        None
+    }
 }
 
 #[tactic(auto, unfolding(crate::specs::Routes::index_route))]
@@ -116,7 +132,11 @@ fn index_place(rest: &[u8]) -> Option<Place<'_>>
     ensures { option_map seen result ≡ index_route rest.now }
 {
     let name = before(b"/events", rest)?;
-    if is_segment(name) { Some(Place::Events(name)) } else { None }
+    if is_segment(name) {
+        Some(Place::Events(name))
+    } else {
+        None
+    }
 }
 
 /// What a path names.

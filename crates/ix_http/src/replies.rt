@@ -121,7 +121,12 @@ fn put_headers<K: Link>(link: &mut K, length: usize, kind: Kind) -> Result<(), F
 
 /// Writes a reply: the status line with the phrase of the status, the length and the type of the body, `Connection: close`, and
 /// the body. Where the link fails, a front of it is written. It takes no memory.
-pub fn write_reply<K: Link>(link: &mut K, status: u16, kind: Kind, body: &[u8]) -> Result<(), Failed>
+pub fn write_reply<K: Link>(
+    link: &mut K,
+    status: u16,
+    kind: Kind,
+    body: &[u8],
+) -> Result<(), Failed>
     ensures written { OnOk result (HasWritten (reply_text status kind body.now) (K.given link.old) (K.given link.new)) }
     ensures begun { OnErr result (HasBegun (reply_text status kind body.now) (K.given link.old) (K.given link.new)) }
     ensures left { K.left link.new ≡ K.left link.old }

@@ -51,7 +51,11 @@ fn fill<K: Link>(link: &mut K, buffer: &mut [u8]) -> Result<(), LinkFault>
 }
 
 /// Reads a body of so many bytes. Where there is no room for it, it is read over.
-pub(crate) fn read_body<K: Link>(alloc: Global, link: &mut K, count: usize) -> Result<Bytes, LinkFault>
+pub(crate) fn read_body<K: Link>(
+    alloc: Global,
+    link: &mut K,
+    count: usize,
+) -> Result<Bytes, LinkFault>
     ensures read { Told (FitsBody count result) (K.left link.old) (K.left link.new) }
     ensures reads { OnlyReads (K.given link.old) (K.given link.new) (K.standing link.old) (K.standing link.new) (K.faults link.old) (K.faults link.new) }
     ensures failed { result ≡ Err LinkFault.Failed → Rose (K.faults link.old) (K.faults link.new) }
