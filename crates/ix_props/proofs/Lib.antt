@@ -3,6 +3,7 @@ pub mod FindLemmas
 pub mod KindLemmas
 pub mod NameLemmas
 pub mod NearestLemmas
+pub mod OneLemmas
 pub mod OrderLemmas
 pub mod PropLemmas
 pub mod RankLemmas

@@ -107,3 +107,7 @@ pub record IsFirst (entries : List PropsEntry) (H : List ℕ → Rank → Type 0
 abbrev pub IsChosen : List PropsEntry → (List ℕ → Rank → Type 0) → List ℕ → Option Value → Type 0
 IsChosen entries H key None = (stanza : List ℕ) (rank : Rank) → H stanza rank → value_in stanza key entries ≡ None
 IsChosen entries H key (Some v) = IsFirst entries H key v
+
+-- a key has one value, or none
+abbrev pub IsOneChoice : List PropsEntry → (List ℕ → Rank → Type 0) → Type 0
+IsOneChoice entries H = (key : List ℕ) (found other : Option Value) → IsChosen entries H key found → IsChosen entries H key other → found ≡ other

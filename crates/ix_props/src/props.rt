@@ -1,9 +1,10 @@
 //! props.conf as a whole, with the transforms and zones that it names.
 
-ghost use Rattle.std.specs.Prelude.{IfOk, IfErr};
+ghost use Rattle.std.specs.Prelude.{List, ℕ, IfOk, IfErr};
 ghost use Rattle.ix_conf.specs.Lent.{item_entry};
 ghost use Rattle.ix_props.specs.Kinds.{entry_kind};
-ghost use Rattle.ix_props.specs.Settings.{AreSettings, AreUsable};
+ghost use Rattle.ix_props.specs.Choice.{Holds, IsOneChoice};
+ghost use Rattle.ix_props.specs.Settings.{AreSettings, AreUsable, origin_of};
 ghost use Rattle.ix_props.specs.Props.{IsOfKind, RefusesKind, AreRead, RefusesProps};
 
 use crate::faults::SettingFault;
@@ -118,6 +119,7 @@ impl Props {
     pub fn settings(&self, alloc: Global, meta: &ChannelMeta) -> Result<Settings, NoMemory>
         ensures chosen { IfOk result (λ settings. AreSettings self.now meta.now settings) }
         ensures usable { IfOk result (λ settings. AreUsable settings) }
+        ensures one_choice { (sourcetype : List ℕ) → IsOneChoice self.now (Holds self.now (origin_of meta.now sourcetype)) }
     {
         settings_of(alloc, self.entries.as_slice(), meta)
     }
