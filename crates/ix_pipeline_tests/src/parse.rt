@@ -2,35 +2,42 @@
 
 ghost use Rattle.std.specs.Prelude.{◌≡◌, ◌<◌};
 
-use ix_base::{Bytes, ChannelMeta, NoMemory, Steps};
+use ix_base::{Bytes, ChannelMeta, Event, NoMemory, Steps};
 use ix_lines::default_breaker;
 use ix_parse::{Channel, Routed, RoutedList};
 use std::alloc::Global;
 use std::marker::Brand;
 use std::sync::ledger::{Blank, Ledger};
+use std::test::Fail;
 
-/// The fields of events with commas between, and a bar behind each event. Moments are shown as one digit.
-fn shown(alloc: Global, routed: &RoutedList) -> Result<Bytes, NoMemory> {
-    let mut text = Bytes::new(alloc);
+/// Writes a comma and a field.
+fn note_field(text: &mut Bytes, field: &Bytes) {
+    let _ = text.push(b',');
+    let _ = text.extend(field.as_slice());
+}
+
+/// Writes the fields of an event with commas between. Moments are shown as one digit. Where memory is lacking the text stays too
+/// short, and is not what is wanted.
+fn note_event(text: &mut Bytes, event: &Event) {
+    let _ = text.push(b'0' + event.time.clamp(0, 9) as u8);
+    let _ = text.push(b'0' + event.arrival.clamp(0, 9) as u8);
+    note_field(text, &event.index);
+    note_field(text, &event.host);
+    note_field(text, &event.source);
+    note_field(text, &event.sourcetype);
+    note_field(text, &event.meta);
+    note_field(text, &event.raw);
+}
+
+/// Writes what events come to as a line, with a bar behind each.
+fn note_line(text: &mut Bytes, routed: &RoutedList) {
     for to in routed.as_slice() {
         if let Routed::To(event) = to {
-            text.push(b'0' + event.time.clamp(0, 9) as u8)?;
-            text.push(b'0' + event.arrival.clamp(0, 9) as u8)?;
-            for field in [
-                &event.index,
-                &event.host,
-                &event.source,
-                &event.sourcetype,
-                &event.meta,
-                &event.raw,
-            ] {
-                text.push(b',')?;
-                text.extend(field.as_slice())?;
-            }
+            note_event(text, event);
         }
-        text.push(b'|')?;
+        let _ = text.push(b'|');
     }
-    Ok(text)
+    let _ = text.push(b'\n');
 }
 
 /// A channel that has no byte yet, and cuts its lines at five bytes.
@@ -44,11 +51,11 @@ fn channel_of(alloc: Global, sourcetype: Option<Bytes>) -> Result<Channel, NoMem
     Channel::start(alloc, default_breaker(alloc)?, 5, meta)
 }
 
-/// Adds what events come to as a line.
-fn add_shown(alloc: Global, routed: &RoutedList, text: &mut Bytes) -> Result<(), NoMemory> {
-    let line = shown(alloc, routed)?;
-    text.extend(line.as_slice())?;
-    text.push(b'\n')
+/// Writes what a channel would settle if it ended here.
+fn note_end(text: &mut Bytes, channel: &Channel) {
+    if let Ok(ended) = channel.ended() {
+        note_line(text, &ended);
+    }
 }
 
 /// What a channel settles with each of three blocks and at its end, and before each block what it would settle if it
@@ -67,13 +74,11 @@ fn settled_in<L: Ledger>(
     let mut text = Bytes::new(alloc);
     for (bytes, moment) in [(&b"ab\nc"[..], -5), (b"d\nlonger\n", 7), (b"e", 8)] {
         let (next, routed) = channel.fed(bytes, moment, &mut steps)?;
-        let ended = channel.ended()?;
-        add_shown(alloc, &ended, &mut text)?;
-        add_shown(alloc, &routed, &mut text)?;
+        note_end(&mut text, &channel);
+        note_line(&mut text, &routed);
         channel = next;
     }
-    let ended = channel.ended()?;
-    add_shown(alloc, &ended, &mut text)?;
+    note_end(&mut text, &channel);
     Ok(text)
 }
 
@@ -81,17 +86,21 @@ fn settled(alloc: Global, sourcetype: Option<Bytes>) -> Result<Bytes, NoMemory> 
     settled_in::<Brand>(alloc, sourcetype, Blank::new(1))
 }
 
+const NAMED: &[u8] =
+    b"\n00,i,h,s,t,,ab|\n00,i,h,s,t,,c|\n00,i,h,s,t,,cd|\n77,i,h,s,t,,longe|\n77,i,h,s,t,,longe|\n88,i,h,s,t,,e|\n";
+
 #[test]
-fn events_are_settled_once_and_keep_the_fields_of_the_channel(rt: HostRuntime) {
-    let named = Bytes::copy_of(rt.alloc(), b"t").expect(&rt, "memory");
-    let text = settled(rt.alloc(), Some(named)).expect(&rt, "memory");
-    assert!(rt;
-        text.as_slice()
-            == b"\n00,i,h,s,t,,ab|\n00,i,h,s,t,,c|\n00,i,h,s,t,,cd|\n77,i,h,s,t,,longe|\n77,i,h,s,t,,longe|\n88,i,h,s,t,,e|\n".as_slice()
-    );
-    let text = settled(rt.alloc(), None).expect(&rt, "memory");
-    assert!(rt;
-        text.as_slice()
-            .starts_with(b"\n00,i,h,s,unknown,,ab|\n".as_slice())
-    );
+fn events_are_settled_once_and_keep_the_fields_of_the_channel(rt: HostRuntime) -> Result<(), Fail> {
+    let named = Bytes::copy_of(rt.alloc(), b"t")?;
+    let text = settled(rt.alloc(), Some(named))?;
+    assert!(rt; text.as_slice() == NAMED);
+    Ok(())
+}
+
+#[test]
+fn a_channel_without_a_source_type_has_an_unknown_one(rt: HostRuntime) -> Result<(), Fail> {
+    let text = settled(rt.alloc(), None)?;
+    let front = b"\n00,i,h,s,unknown,,ab|\n".as_slice();
+    assert!(rt; text.as_slice().starts_with(front));
+    Ok(())
 }

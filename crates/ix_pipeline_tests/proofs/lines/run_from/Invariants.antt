@@ -1,4 +1,4 @@
-use Rattle.ix_pipeline_tests.proofs.lines.run.Given as goal
+use Rattle.ix_pipeline_tests.proofs.lines.run_from.Given as goal
 
 -- the ledger of the blank one
 abbrev pub ghosts-run_in : goal.ghosts-run_in
