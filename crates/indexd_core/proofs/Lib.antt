@@ -1,4 +1,3 @@
-pub mod WordLemmas
 pub mod PreviewLemmas
 pub mod RunLemmas
-pub mod SettingsLemmas
+pub mod StopLemmas

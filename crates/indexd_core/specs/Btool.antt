@@ -7,13 +7,13 @@ use Rattle.ix_conf.specs.Value.{AreMerged}
 use Rattle.ix_conf.specs.Listing.{listing}
 use Rattle.ix_conf.specs.declared.layers.Layer.{Layer}
 use Rattle.ix_conf.specs.declared.layers.MergedEntry.{MergedEntry}
-use Rattle.indexd_core.specs.Settings.{settings, refusal_text, ReadAs}
+use Rattle.indexd_settings.specs.Layers.{settings, refusal_text, ReadAs}
 use Rattle.indexd_core.specs.Sides.{Side}
 use Rattle.indexd_core.specs.Texts.{status_text, Said}
-use Rattle.indexd_core.specs.declared.settings.SettingsFile.{SettingsFile}
-use Rattle.indexd_core.specs.declared.settings.Refusal.{Refusal}
+use Rattle.indexd_settings.specs.declared.layers.SettingsFile.{SettingsFile}
+use Rattle.indexd_settings.specs.declared.layers.Refusal.{Refusal}
 use Rattle.indexd_core.specs.declared.status.Status.{Status}
-use Rattle.indexd_core.specs.declared.status.Status.TheVariants.{Done, Memory, Usage, Configuration, Input, Output, Endless}
+use Rattle.indexd_core.specs.declared.status.Status.TheVariants.{Done, Memory, Usage, Configuration, Input, Output, NotFound, Endless}
 
 -- the listing of layers
 pub record Lists (layers : List Layer) (text : List ℕ) : Type 0 where
@@ -40,6 +40,7 @@ Tells Configuration file files failed failed' output output' =
 Tells Input file files failed failed' output output' = Rose failed failed' × Said (status_text Input) output output'
 Tells Output file files failed failed' output output' =
     (text : List ℕ) × HasListing file files text × Rose output.faults output'.faults × HasBegun text output.told output'.told
+Tells NotFound file files failed failed' output output' = ⊥
 Tells Endless file files failed failed' output output' = ⊥
 
 -- the line of a fault was written, or there was no room for it
@@ -50,4 +51,5 @@ RefusalSaid Usage file refusal output output' = ⊥
 RefusalSaid Configuration file refusal output output' = Said (refusal_text file refusal) output output'
 RefusalSaid Input file refusal output output' = ⊥
 RefusalSaid Output file refusal output output' = ⊥
+RefusalSaid NotFound file refusal output output' = ⊥
 RefusalSaid Endless file refusal output output' = ⊥

@@ -1,9 +1,9 @@
-pub mod Words
-pub mod Asked
+pub mod Commands
 pub mod Sides
 pub mod Texts
 pub mod Stops
 pub mod Steps
+pub mod Prepared
+pub mod Origins
 pub mod Runs
-pub mod Settings
 pub mod Btool

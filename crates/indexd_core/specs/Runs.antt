@@ -1,21 +1,26 @@
 -- A run of `preview`.
-use Rattle.std.specs.Prelude.{◌≡◌, ◌≤◌, ◌<◌, ◌^◌, ℕ, ℤ, Bool, true, false, List, length, Option}
+use Rattle.std.specs.Prelude.{◌⊎◌, ◌≡◌, ◌≤◌, ◌<◌, ◌^◌, ℕ, ℤ, Bool, true, false, List, length, Option}
 use Rattle.ix_base.specs.Faults.{Rose}
 use Rattle.ix_base.specs.Clocks.{Moments, Answered, clamped}
 use Rattle.ix_base.specs.Told.{Told, Took, IsFrontOf, HasWritten, HasBegun}
-use Rattle.ix_base.specs.declared.events.ChannelMeta.{ChannelMeta}
+use Rattle.ix_base.specs.declared.trees.TreeFile.{TreeFile}
+use Rattle.indexd_settings.specs.Faults.{HasFault}
+use Rattle.indexd_settings.specs.Texts.{fault_line}
+use Rattle.indexd_settings.specs.declared.faults.ConfigurationFault.{ConfigurationFault}
+use Rattle.indexd_core.specs.Prepared.{Stated, IsPrepared, IsNotFound, not_found_line}
+use Rattle.indexd_core.specs.declared.prepare.Prepared.{Prepared}
 use Rattle.indexd_core.specs.Sides.{Side, IsAtEnd}
 use Rattle.indexd_core.specs.Texts.{preview_text, status_text, Said}
 use Rattle.indexd_core.specs.declared.status.Status.{Status}
-use Rattle.indexd_core.specs.declared.status.Status.TheVariants.{Done, Memory, Usage, Configuration, Input, Output, Endless}
+use Rattle.indexd_core.specs.declared.status.Status.TheVariants.{Done, Memory, Usage, Configuration, Input, Output, NotFound, Endless}
 
 -- the lines of the events that bytes settle, of a stream that is open (false) or closed
 abbrev pub Text : Type 0
 Text = List ℕ → Bool → List ℕ
 
 -- those of a preview whose clock showed this moment
-abbrev pub text_of : ChannelMeta → ℤ → Text
-text_of meta shown = preview_text meta (clamped shown)
+abbrev pub text_of : Prepared → ℤ → Text
+text_of prepared shown = preview_text prepared (clamped shown)
 
 -- how many bytes of input are taken at the most
 abbrev pub input_limit : ℕ
@@ -39,6 +44,7 @@ Wrote Input text taken input input' output output' =
 Wrote Output text taken input input' output output' =
     (closed : Bool) × (closed ≡ true → IsAtEnd input') × Rose output.faults output'.faults
     × HasBegun (text taken closed) output.told output'.told
+Wrote NotFound text taken input input' output output' = ⊥
 Wrote Endless text taken input input' output output' =
     (length taken ≡ input_limit) × HasWritten (text taken false) output.told output'.told
 
@@ -49,17 +55,43 @@ pub record Runs (status : Status) (text : Text) (input input' output output' : S
   pub later : output.faults ≤ output'.faults
   pub outcome : Wrote status text taken input input' output output'
 
--- A whole run: the clock is asked once, its answer is the moment of all bytes, and behind the lines stands the line of
+-- A run that was prepared: the clock is asked once, its answer is the moment of all bytes, and behind the lines stands the line of
 -- the status, or a front of it where the output failed.
-pub record Previews (status : Status) (meta : ChannelMeta) (ahead ahead' : Option Moments) (input input' output output' : Side) : Type 0 where
+pub record RunsPrepared (status : Status) (prepared : Prepared) (ahead ahead' : Option Moments) (input input' output output' : Side) : Type 0 where
   pub shown : ℤ
-  pub asked : Told (Answered shown) ahead ahead'
+  pub clock : Told (Answered shown) ahead ahead'
   pub middle : Side
-  pub lines : Runs status (text_of meta shown) input input' output middle
+  pub lines : Runs status (text_of prepared shown) input input' output middle
   pub line : Said (status_text status) middle output'
+  pub later : middle.faults ≤ output'.faults
 
--- The words were refused: nothing was asked or read, and the line of the status was written.
-pub record Refuses (ahead ahead' : Option Moments) (input input' output output' : Side) : Type 0 where
+-- Nothing was read or asked but the tree, whose failures are counted before and after. At `Configuration` the line of the first
+-- fault of the files was written, at `NotFound` that of the index, which is stated and not configured.
+abbrev pub WroteUnprepared : Status → Stated → Option (List TreeFile) → ℕ → ℕ → Side → Side → Type 0
+WroteUnprepared Done stated files failed failed' output output' = ⊥
+WroteUnprepared Memory stated files failed failed' output output' = Said (status_text Memory) output output'
+WroteUnprepared Usage stated files failed failed' output output' = ⊥
+WroteUnprepared Configuration stated files failed failed' output output' =
+    (fault : ConfigurationFault) × HasFault files fault × Said (fault_line fault) output output'
+WroteUnprepared Input stated files failed failed' output output' = Rose failed failed' × Said (status_text Input) output output'
+WroteUnprepared Output stated files failed failed' output output' = ⊥
+WroteUnprepared NotFound stated files failed failed' output output' =
+    (index : List ℕ) × IsNotFound stated files index × Said (not_found_line index) output output'
+WroteUnprepared Endless stated files failed failed' output output' = ⊥
+
+-- A whole run: it stops before it is prepared, or it runs with the settings that the files have for what is stated.
+pub data Previews (status : Status) (stated : Stated) (files : Option (List TreeFile)) (failed failed' : ℕ)
+    (ahead ahead' : Option Moments) (input input' output output' : Side) : Type 0 where
+  unprepared : ahead' ≡ ahead → input' ≡ input → WroteUnprepared status stated files failed failed' output output' →
+      Previews status stated files failed failed' ahead ahead' input input' output output'
+  ran : (prepared : Prepared) → IsPrepared stated files prepared →
+      RunsPrepared status prepared ahead ahead' input input' output output' →
+      Previews status stated files failed failed' ahead ahead' input input' output output'
+
+-- The words were refused, or there was no room to read them: nothing was asked or read, and the line of the status was written.
+pub record Refuses (status : Status) (failed failed' : ℕ) (ahead ahead' : Option Moments) (input input' output output' : Side) : Type 0 where
+  pub status_is : (status ≡ Usage) ⊎ (status ≡ Memory)
+  pub tree_not_asked : failed' ≡ failed
   pub not_asked : ahead' ≡ ahead
   pub not_read : input' ≡ input
-  pub line : Said (status_text Usage) output output'
+  pub line : Said (status_text status) output output'

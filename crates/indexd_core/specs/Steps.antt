@@ -4,31 +4,29 @@ use Rattle.ix_base.specs.Faults.{Rose}
 use Rattle.ix_base.specs.Stream.{dated}
 use Rattle.ix_base.specs.Clocks.{clamped}
 use Rattle.ix_base.specs.Told.{Told, Took, HasWritten, HasBegun}
-use Rattle.ix_base.specs.declared.events.ChannelMeta.{ChannelMeta}
-use Rattle.ix_lines.specs.Newlines.{newlines}
 use Rattle.ix_parse.specs.Standing.{StandsFor}
-use Rattle.ix_parse.specs.declared.channel.Channel.{Channel}
 use Rattle.indexd_core.specs.Sides.{Side, IsAtEnd}
-use Rattle.indexd_core.specs.Texts.{line_limit}
 use Rattle.indexd_core.specs.Runs.{Text, text_of, input_limit}
+use Rattle.indexd_core.specs.declared.prepare.Prepared.{Prepared}
 use Rattle.indexd_core.specs.declared.preview.Preview.{Preview}
 use Rattle.indexd_core.specs.declared.preview.Stop.{Stop}
 use Rattle.indexd_core.specs.declared.preview.Stop.TheVariants.{Memory, Input, Output}
 
--- the channel has taken in these bytes, all at this moment
-abbrev pub Holds : ChannelMeta → List ℕ → ℤ → Channel → Type 0
-Holds meta taken moment channel = StandsFor newlines line_limit meta (dated taken (clamped moment)) channel
+-- the channel has taken in these bytes, all at this moment, and the writer prints events by these limits
+pub record Holds (prepared : Prepared) (taken : List ℕ) (preview : Preview) : Type 0 where
+  pub channel : StandsFor prepared.settings prepared.meta (dated taken (clamped preview.moment)) preview.channel
+  pub limits : preview.events.limits ≡ prepared.limits
 
 -- these bytes were taken in and the lines that they settle written
-pub record IsAt (meta : ChannelMeta) (input output : Side) (taken : List ℕ) (preview : Preview) (input' output' : Side) : Type 0 where
-  pub holds : Holds meta taken preview.moment preview.channel
+pub record IsAt (prepared : Prepared) (input output : Side) (taken : List ℕ) (preview : Preview) (input' output' : Side) : Type 0 where
+  pub holds : Holds prepared taken preview
   pub took : Told (Took taken) input.told input'.told
-  pub written : HasWritten (text_of meta preview.moment taken false) output.told output'.told
+  pub written : HasWritten (text_of prepared preview.moment taken false) output.told output'.told
 
 -- More bytes were taken in: whatever the run has come from, it has come so far.
 pub record Advances (more : List ℕ) (old new : Preview) (input input' output output' : Side) : Type 0 where
-  pub at : (meta : ChannelMeta) (input₀ output₀ : Side) (taken : List ℕ) →
-      IsAt meta input₀ output₀ taken old input output → IsAt meta input₀ output₀ (taken ++ more) new input' output'
+  pub at : (prepared : Prepared) (input₀ output₀ : Side) (taken : List ℕ) →
+      IsAt prepared input₀ output₀ taken old input output → IsAt prepared input₀ output₀ (taken ++ more) new input' output'
   pub moment : new.moment ≡ old.moment
 
 -- more bytes were read, and the run stopped before their lines were written
@@ -41,8 +39,8 @@ pub record StopsUnwritten (input input' output output' : Side) : Type 0 where
 pub record StopsWriting (preview : Preview) (input input' output output' : Side) : Type 0 where
   pub more : List ℕ
   pub took : Told (Took more) input.told input'.told
-  pub begun : (meta : ChannelMeta) (input₀ output₀ : Side) (taken : List ℕ) →
-      IsAt meta input₀ output₀ taken preview input output → HasBegun (text_of meta preview.moment (taken ++ more) false) output₀.told output'.told
+  pub begun : (prepared : Prepared) (input₀ output₀ : Side) (taken : List ℕ) →
+      IsAt prepared input₀ output₀ taken preview input output → HasBegun (text_of prepared preview.moment (taken ++ more) false) output₀.told output'.told
 
 -- why a step stopped, and what it left
 abbrev pub StepStops : Stop → Preview → Side → Side → Side → Side → Type 0
@@ -58,9 +56,9 @@ CameToEnd true taken input = (length taken < input_limit) × IsAtEnd input
 CameToEnd false taken input = length taken ≡ input_limit
 
 -- all that is to be read was taken in, and the lines that it settles were written
-pub record ReadsAll (ended : Bool) (meta : ChannelMeta) (new : Preview) (input input' output output' : Side) : Type 0 where
+pub record ReadsAll (ended : Bool) (prepared : Prepared) (new : Preview) (input input' output output' : Side) : Type 0 where
   pub taken : List ℕ
-  pub at : IsAt meta input output taken new input' output'
+  pub at : IsAt prepared input output taken new input' output'
   pub end : CameToEnd ended taken input'
 
 -- bytes were taken in and their lines written, and then more bytes read
@@ -91,13 +89,13 @@ RunStops Output text input input' output output' = Rose output.faults output'.fa
 
 -- what the end of the input settles was written behind what stood there
 abbrev pub EndsAll : Preview → Side → Side → Type 0
-EndsAll preview output output' = (meta : ChannelMeta) (input₀ output₀ input : Side) (taken : List ℕ) →
-    IsAt meta input₀ output₀ taken preview input output → HasWritten (text_of meta preview.moment taken true) output₀.told output'.told
+EndsAll preview output output' = (prepared : Prepared) (input₀ output₀ input : Side) (taken : List ℕ) →
+    IsAt prepared input₀ output₀ taken preview input output → HasWritten (text_of prepared preview.moment taken true) output₀.told output'.told
 
 -- a front of it was
 abbrev pub EndsPart : Preview → Side → Side → Type 0
-EndsPart preview output output' = (meta : ChannelMeta) (input₀ output₀ input : Side) (taken : List ℕ) →
-    IsAt meta input₀ output₀ taken preview input output → HasBegun (text_of meta preview.moment taken true) output₀.told output'.told
+EndsPart preview output output' = (prepared : Prepared) (input₀ output₀ input : Side) (taken : List ℕ) →
+    IsAt prepared input₀ output₀ taken preview input output → HasBegun (text_of prepared preview.moment taken true) output₀.told output'.told
 
 -- why writing that stopped
 abbrev pub EndStops : Stop → Preview → Side → Side → Type 0

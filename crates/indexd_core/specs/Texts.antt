@@ -1,40 +1,50 @@
 -- What a run writes.
-use Rattle.std.specs.Prelude.{◌⊎◌, ℕ, ℤ, Bool, List, [], codes, Some, None}
+use Rattle.std.specs.Prelude.{◌⊎◌, ℕ, ℤ, Bool, List, [], codes, Option, Some, None}
 use Rattle.std.specs.List.{flat_map}
 use Rattle.ix_base.specs.Faults.{Rose}
 use Rattle.ix_base.specs.Stream.{dated}
 use Rattle.ix_base.specs.Told.{HasWritten, HasBegun}
 use Rattle.ix_base.specs.EventLine.{line}
-use Rattle.ix_base.specs.declared.events.ChannelMeta.{ChannelMeta}
+use Rattle.ix_base.specs.declared.events.Event.{Event}
 use Rattle.ix_base.specs.declared.events.Routed.{Routed}
 use Rattle.ix_base.specs.declared.events.Routed.TheVariants.{To, Null}
-use Rattle.ix_lines.specs.Lines.{effective}
-use Rattle.ix_lines.specs.Newlines.{newlines}
+use Rattle.ix_life.specs.Limits.{route}
+use Rattle.ix_life.specs.declared.sets.LimitSet.{LimitSet}
+use Rattle.ix_life.specs.declared.sets.Route.{Route}
+use Rattle.ix_life.specs.declared.sets.Route.TheVariants as routes
 use Rattle.ix_parse.specs.Settled.{settled}
+use Rattle.indexd_core.specs.declared.prepare.Prepared.{Prepared}
 use Rattle.indexd_core.specs.Sides.{Side}
 use Rattle.indexd_core.specs.declared.status.Status.{Status}
-use Rattle.indexd_core.specs.declared.status.Status.TheVariants.{Done, Memory, Usage, Configuration, Input, Output, Endless}
+use Rattle.indexd_core.specs.declared.status.Status.TheVariants.{Done, Memory, Usage, Configuration, Input, Output, NotFound, Endless}
 
--- the line of an event that goes to an index; one that goes to the null queue has none
-abbrev pub routed_line : Routed → List ℕ
-routed_line (To event) = line event
-routed_line Null = []
+-- where an event of an index is kept, by how it is routed: in the index itself, in the one for events without an index of their own,
+-- or nowhere
+abbrev pub home_by : LimitSet → List ℕ → Route → Option (List ℕ)
+home_by limits index routes.Given = Some index
+home_by limits index routes.LastChance = limits.last_chance
+home_by limits index routes.Nowhere = None
 
-abbrev pub lines_of : List Routed → List ℕ
-lines_of routed = flat_map routed_line routed
+abbrev pub home : LimitSet → List ℕ → Option (List ℕ)
+home limits index = home_by limits index (route limits index)
 
--- what is known of previewed bytes: the index is `main`, and the source type is not stated
-abbrev pub preview_meta : List ℕ → List ℕ → ChannelMeta
-preview_meta host source = record { host = host; source = source; sourcetype = None; index = Some (codes "main") }
+-- the line of an event in the index that keeps it; none where no index does
+abbrev pub kept_line : Event → Option (List ℕ) → List ℕ
+kept_line event None = []
+kept_line event (Some index) = line (record event { index = index })
 
--- a line is cut at this many bytes
-abbrev pub line_limit : ℕ
-line_limit = effective 10000
+-- the line of an event; one that goes to the null queue has none
+abbrev pub routed_line : LimitSet → Routed → List ℕ
+routed_line limits (To event) = kept_line event (home limits event.index)
+routed_line limits Null = []
 
--- the lines of the events that are settled of bytes which all come at one moment, the stream being open or closed; a line
--- of the stream stands between runs of newlines
-abbrev pub preview_text : ChannelMeta → ℤ → List ℕ → Bool → List ℕ
-preview_text meta moment bytes closed = lines_of (settled newlines line_limit meta (dated bytes moment) closed)
+abbrev pub lines_of : LimitSet → List Routed → List ℕ
+lines_of limits routed = flat_map (routed_line limits) routed
+
+-- The lines of the events that are settled of bytes which all come at one moment, the stream being open or closed.
+abbrev pub preview_text : Prepared → ℤ → List ℕ → Bool → List ℕ
+preview_text prepared moment bytes closed =
+    lines_of prepared.limits (settled prepared.settings prepared.meta (dated bytes moment) closed)
 
 -- the exit status of the program
 abbrev pub status_code : Status → ℕ
@@ -44,6 +54,7 @@ status_code Usage = 2
 status_code Configuration = 3
 status_code Input = 4
 status_code Output = 7
+status_code NotFound = 10
 status_code Endless = 13
 
 -- the line of a status that always has the same one, which stands behind the output
@@ -54,6 +65,7 @@ status_text Usage = codes "indexd: usage\n"
 status_text Configuration = []
 status_text Input = codes "indexd: input fault\n"
 status_text Output = []
+status_text NotFound = []
 status_text Endless = codes "indexd: endless input\n"
 
 -- the text stands behind what stood there, or a front of it where the output failed

@@ -3,13 +3,13 @@
 ghost use Rattle.std.specs.Prelude.{◌≡◌, ◌≢◌, ◌≤◌, ℕ, List, IfOk, IfErr};
 ghost use Rattle.ix_base.specs.Faults.{HasCause, Rose};
 ghost use Rattle.ix_base.specs.Told.{HasWritten, HasBegun};
-ghost use Rattle.indexd_core.specs.Settings.{settings, refusal_text, LayerStops};
+ghost use Rattle.indexd_settings.specs.Layers.{settings, refusal_text, LayerStops};
 ghost use Rattle.indexd_core.specs.Btool.{Lists, HasListing, RefusalSaid, Tells};
 ghost use Rattle.indexd_core.specs.Sides.{side};
 ghost use Rattle.indexd_core.specs.Texts.{Said, status_text};
 
-use crate::settings::{LayerStop, Refusal, SettingsFile};
 use crate::status::{Status, say};
+use indexd_settings::{LayerStop, Refusal, SettingsFile};
 use ix_base::{Bytes, NoMemory, Sink, Tree};
 use ix_conf::{Layers, merge};
 use std::alloc::Global;

@@ -3,11 +3,10 @@
 
 mod btool;
 mod events;
+mod prepare;
 mod preview;
 mod program;
-mod settings;
 mod status;
-mod words;
 
 pub use program::top;
 pub use status::{Status, say};

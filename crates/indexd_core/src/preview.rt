@@ -1,19 +1,21 @@
 //! `preview`: the input as one closed stream, its events as lines.
 
-ghost use Rattle.std.specs.Prelude.{◌≡◌, ◌≢◌, ◌≤◌, ◌<◌, ℕ, ℤ, List, [], ◌++◌, length, take, true, false, IfOk, OnOk, IfErr, OnErr, Option, Some, IfSome, vec_len};
+ghost use Rattle.std.specs.Prelude.{◌≡◌, ◌≢◌, ◌≤◌, ◌<◌, ℕ, ℤ, List, [], ◌++◌, length, take, true, false, IfOk, OnOk, IfErr, OnErr, Option, Some, IfSome, IsSome, vec_len};
 ghost use Rattle.indexd_core.specs.Stops.{stop_status};
 ghost use Rattle.ix_base.specs.Faults.{Rose};
 ghost use Rattle.ix_base.specs.Told.{Told, Took, HasWritten, HasBegun};
-ghost use Rattle.ix_base.specs.declared.events.ChannelMeta.{ChannelMeta};
+ghost use Rattle.ix_props.specs.Settings.{AreUsable};
+ghost use Rattle.indexd_core.specs.Origins.{stated_of};
+ghost use Rattle.indexd_core.specs.declared.prepare.Prepared.{Prepared as Ready};
 ghost use Rattle.indexd_core.specs.Sides.{side, IsAtEnd};
-ghost use Rattle.indexd_core.specs.Texts.{lines_of, preview_meta};
-ghost use Rattle.indexd_core.specs.Runs.{Runs, Previews, text_of};
+ghost use Rattle.indexd_core.specs.Texts.{lines_of};
+ghost use Rattle.indexd_core.specs.Runs.{Runs, RunsPrepared, Previews, text_of};
 
 use crate::events::EventWriter;
+use crate::prepare::{Prepared, prepare, say_stop};
 use crate::status::{Status, say};
-use crate::words::Origin;
-use ix_base::{Bytes, ChannelMeta, Clock, NoMemory, Sink, Source, Steps};
-use ix_lines::default_breaker;
+use indexd_words::Origin;
+use ix_base::{Clock, NoMemory, Sink, Source, Steps, Tree};
 use ix_parse::Channel;
 use std::alloc::Global;
 use std::marker::Brand;
@@ -24,9 +26,6 @@ const INPUT_LIMIT: u64 = 1 << 40;
 
 /// How many bytes are read at once.
 const BLOCK: usize = 1 << 20;
-
-/// The number of bytes at which a line is cut.
-const TRUNCATE: u32 = 10_000;
 
 /// A run of `preview`.
 #[derive(Drop)]
@@ -68,33 +67,21 @@ fn make_block(alloc: Global) -> Result<Vec<u8>, NoMemory>
     Ok(block)
 }
 
-/// What is known of previewed bytes.
-fn meta_of(alloc: Global, origin: Origin<'_>) -> Result<ChannelMeta, NoMemory>
-    ensures { IfOk result (λ meta. meta ≡ preview_meta origin.entry.host.now origin.entry.source.now) }
-{
-    Ok(ChannelMeta {
-        host: Bytes::copy_of(alloc, origin.host)?,
-        source: Bytes::copy_of(alloc, origin.source)?,
-        sourcetype: None,
-        index: Some(Bytes::copy_of(alloc, b"main")?),
-    })
-}
-
 impl Preview {
     ghost use Rattle.indexd_core.specs.Steps.{Holds, Advances, StepStops, ReadsAll, RunStops, EndsAll, EndStops};
 
     /// A run that has read nothing yet.
-    fn start(alloc: Global, origin: Origin<'_>, moment: i64) -> Result<Preview, NoMemory>
-        ensures holds { IfOk result (λ preview. Holds (preview_meta origin.entry.host.now origin.entry.source.now) [] moment preview.channel) }
+    fn start(alloc: Global, prepared: Prepared, moment: i64) -> Result<Preview, NoMemory>
+        requires meta { IsSome prepared.meta.index }
+        requires usable { AreUsable prepared.settings }
+        ensures holds { IfOk result (λ preview. Holds prepared [] preview) }
         ensures moment { IfOk result (λ preview. preview.moment ≡ moment) }
     {
-        let meta = meta_of(alloc, origin)?;
-        let breaker = default_breaker(alloc)?;
-        let channel = Channel::start(alloc, breaker, TRUNCATE, meta)?;
+        let channel = Channel::start(alloc, prepared.settings, prepared.meta)?;
         Ok(Preview {
             channel,
             moment,
-            events: EventWriter::new(alloc),
+            events: EventWriter::new(alloc, prepared.limits),
         })
     }
 
@@ -139,12 +126,12 @@ impl Preview {
         steps: &mut Steps<L>,
     ) -> Result<bool, Stop>
         requires { 0 < length block.old }
-        ensures all { IfOk result (λ ended. (meta : ChannelMeta) → Holds meta [] self.old.moment self.old.channel →
-            ReadsAll ended meta self.new
+        ensures all { IfOk result (λ ended. (prepared : Ready) → Holds prepared [] self.old →
+            ReadsAll ended prepared self.new
             (side (S.faults input.old) (S.left input.old)) (side (S.faults input.new) (S.left input.new))
             (side (W.faults output.old) (W.given output.old)) (side (W.faults output.new) (W.given output.new))) }
-        ensures stopped { IfErr result (λ stop. (meta : ChannelMeta) → Holds meta [] self.old.moment self.old.channel →
-            RunStops stop (text_of meta self.old.moment)
+        ensures stopped { IfErr result (λ stop. (prepared : Ready) → Holds prepared [] self.old →
+            RunStops stop (text_of prepared self.old.moment)
             (side (S.faults input.old) (S.left input.old)) (side (S.faults input.new) (S.left input.new))
             (side (W.faults output.old) (W.given output.old)) (side (W.faults output.new) (W.given output.new))) }
         ensures moment { OnOk result (self.new.moment ≡ self.old.moment) }
@@ -191,8 +178,8 @@ impl Preview {
         requires name { blank.name ≡ L.name }
         requires parts { blank.parts ≡ L.parts }
         requires some { 0 < blank.parts }
-        ensures run { (meta : ChannelMeta) → Holds meta [] self.old.moment self.old.channel →
-            Runs result (text_of meta self.old.moment)
+        ensures run { (prepared : Ready) → Holds prepared [] self.old →
+            Runs result (text_of prepared self.old.moment)
             (side (S.faults input.old) (S.left input.old)) (side (S.faults input.new) (S.left input.new))
             (side (W.faults output.old) (W.given output.old)) (side (W.faults output.new) (W.given output.new)) }
         ensures read_later { S.faults input.old ≤ S.faults input.new }
@@ -214,12 +201,14 @@ impl Preview {
 /// The lines of the input's events, all before the line of the status.
 fn preview_lines<S: Source, W: Sink>(
     alloc: Global,
-    origin: Origin<'_>,
+    prepared: Prepared,
     moment: i64,
     input: &mut S,
     output: &mut W,
 ) -> Status
-    ensures runs { Runs result (text_of (preview_meta origin.entry.host.now origin.entry.source.now) moment)
+    requires meta { IsSome prepared.meta.index }
+    requires usable { AreUsable prepared.settings }
+    ensures runs { Runs result (text_of prepared moment)
         (side (S.faults input.old) (S.left input.old)) (side (S.faults input.new) (S.left input.new))
         (side (W.faults output.old) (W.given output.old)) (side (W.faults output.new) (W.given output.new)) }
     ensures read_later { S.faults input.old ≤ S.faults input.new }
@@ -228,7 +217,7 @@ fn preview_lines<S: Source, W: Sink>(
     let Ok(mut block) = make_block(alloc) else {
         return Status::Memory;
     };
-    let Ok(mut preview) = Preview::start(alloc, origin, moment) else {
+    let Ok(mut preview) = Preview::start(alloc, prepared, moment) else {
         return Status::Memory;
     };
     preview.run::<S, W, Brand>(&mut block, input, output, Blank::new(1))
@@ -236,24 +225,48 @@ fn preview_lines<S: Source, W: Sink>(
 
 /// Reads the input as one closed stream, all of whose bytes have the moment that the clock shows first, and writes the
 /// lines of its events and the line of the status.
-pub fn preview_input<S: Source, W: Sink, C: Clock>(
+fn preview_input<S: Source, W: Sink, C: Clock>(
+    alloc: Global,
+    prepared: Prepared,
+    input: &mut S,
+    output: &mut W,
+    clock: &mut C,
+) -> Status
+    requires meta { IsSome prepared.meta.index }
+    requires usable { AreUsable prepared.settings }
+    ensures previews { RunsPrepared result prepared (C.ahead clock.old) (C.ahead clock.new)
+        (side (S.faults input.old) (S.left input.old)) (side (S.faults input.new) (S.left input.new))
+        (side (W.faults output.old) (W.given output.old)) (side (W.faults output.new) (W.given output.new)) }
+    ensures read_later { S.faults input.old ≤ S.faults input.new }
+    ensures written_later { W.faults output.old ≤ W.faults output.new }
+{
+    let moment = clock.now();
+    let status = preview_lines(alloc, prepared, moment, input, output);
+    say(status, output);
+    status
+}
+
+/// Prepares a preview by the files of the tree, and runs it, or says why it was not prepared.
+pub fn run_preview<S: Source, W: Sink, C: Clock, T: Tree>(
     alloc: Global,
     origin: Origin<'_>,
     input: &mut S,
     output: &mut W,
     clock: &mut C,
+    tree: &mut T,
 ) -> Status
-    ensures previews { Previews result (preview_meta origin.entry.host.now origin.entry.source.now) (C.ahead clock.old) (C.ahead clock.new)
+    ensures previews { Previews result (stated_of origin.entry) (T.files tree.old) (T.faults tree.old) (T.faults tree.new)
+        (C.ahead clock.old) (C.ahead clock.new)
         (side (S.faults input.old) (S.left input.old)) (side (S.faults input.new) (S.left input.new))
         (side (W.faults output.old) (W.given output.old)) (side (W.faults output.new) (W.given output.new)) }
-    ensures not_usage { result ≢ Status.Usage }
-    ensures input { result ≡ Status.Input → Rose (S.faults input.old) (S.faults input.new) }
-    ensures output { result ≡ Status.Output → Rose (W.faults output.old) (W.faults output.new) }
+    ensures same { T.files tree.new ≡ T.files tree.old }
     ensures read_later { S.faults input.old ≤ S.faults input.new }
     ensures written_later { W.faults output.old ≤ W.faults output.new }
+    ensures tree_later { T.faults tree.old ≤ T.faults tree.new }
+    ensures missing_later { T.missing tree.old ≤ T.missing tree.new }
 {
-    let moment = clock.now();
-    let status = preview_lines(alloc, origin, moment, input, output);
-    say(status, output);
-    status
+    match prepare(alloc, origin, tree) {
+        Ok(prepared) => preview_input(alloc, prepared, input, output, clock),
+        Err(stop) => say_stop(alloc, &stop, output),
+    }
 }

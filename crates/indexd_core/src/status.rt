@@ -21,6 +21,8 @@ pub enum Status {
     Input,
     /// 7: writing the output failed.
     Output,
+    /// 10: the stated index is not configured. `indexd: not found: ` and its name
+    NotFound,
     /// 13: the input has 2^40 bytes or more. `indexd: endless input`
     Endless,
 }
@@ -37,6 +39,7 @@ impl Status {
             Status::Configuration => 3,
             Status::Input => 4,
             Status::Output => 7,
+            Status::NotFound => 10,
             Status::Endless => 13,
         }
     }
@@ -46,7 +49,7 @@ impl Status {
         ensures { result.now ≡ status_text self }
     {
         match self {
-            Status::Done | Status::Configuration | Status::Output => b"",
+            Status::Done | Status::Configuration | Status::Output | Status::NotFound => b"",
             Status::Memory => b"indexd: want of memory\n",
             Status::Usage => b"indexd: usage\n",
             Status::Input => b"indexd: input fault\n",

@@ -5,3 +5,5 @@
 mod btool;
 #[cfg(test)]
 mod program;
+#[cfg(test)]
+mod settings;

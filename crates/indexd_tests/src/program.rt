@@ -272,59 +272,67 @@ fn moments_lie_between_1970_and_2100(rt: HostRuntime) -> Result<(), Fail> {
     Ok(())
 }
 
-/// Words and how a run on them ends, the input being empty.
+/// How a run on these words over an empty input ends, as its number and what it wrote.
+fn ended(alloc: Global, line: &str, shown: &mut String) -> Result<(), Fail> {
+    let mut input = source(alloc, b"", 1, &[])?;
+    let mut output = sink(alloc, &[])?;
+    let mut clock = MemClock::new(Vec::new(alloc));
+    let status = run(alloc, line, &mut input, &mut output, &mut clock)?;
+    let text = str::from_utf8(output.bytes()).unwrap_or("?");
+    let end = format!(in alloc; "{} {text};", status.code())?;
+    shown.push_str(end.as_str())?;
+    Ok(())
+}
+
+/// Words that are a command which is built, and such as are none.
 #[test]
 fn words_are_those_of_the_two_commands(rt: HostRuntime) -> Result<(), Fail> {
     let alloc = rt.alloc();
-    let longest = "h".repeat(alloc, 1024)?;
-    let whole = format!(in alloc; "preview --host {longest} --source {longest}")?;
-    let long_host = format!(in alloc; "preview --host {longest}h --source s")?;
-    let long_source = format!(in alloc; "preview --host h --source {longest}s")?;
-    for (line, want) in [
-        ("preview --host h --source s", Status::Done),
-        (whole.as_str(), Status::Done),
-        ("btool props", Status::Done),
-        ("btool zones", Status::Done),
-        ("", Status::Usage),
-        ("preview", Status::Usage),
-        ("preview --source s --host h", Status::Usage),
-        ("preview --host h --source s ", Status::Usage),
-        ("preview --host h --source s --store", Status::Usage),
-        ("preview --host  --source s", Status::Usage),
-        (long_host.as_str(), Status::Usage),
-        (long_source.as_str(), Status::Usage),
-        ("review --host h --source s", Status::Usage),
-        ("btool", Status::Usage),
-        ("btool Props", Status::Usage),
-        ("btool props.conf", Status::Usage),
-        ("btool props list", Status::Usage),
-        ("--help", Status::Usage),
+    let mut good = String::new(alloc);
+    for line in [
+        "preview --host h --source s",
+        "preview --source s --host h",
+        "preview --host=h --source=- --index main --sourcetype t",
+        "btool props",
+        "btool zones",
     ] {
-        let mut input = source(alloc, b"", 1, &[])?;
-        let mut output = sink(alloc, &[])?;
-        let mut clock = MemClock::new(Vec::new(alloc));
-        let status = run(alloc, line, &mut input, &mut output, &mut clock)?;
-        let is_told = output.bytes() == b"indexd: usage\n".as_slice();
-        assert!(rt;
-            status == want && is_told == (want == Status::Usage),
-            "{line}"
-        );
+        ended(alloc, line, &mut good)?;
     }
+    assert!(rt; good == "0 ;0 ;0 ;0 ;0 ;", "{good}");
+    let mut bad = String::new(alloc);
+    for line in [
+        "",
+        "preview --host h",
+        "preview --host h --source s --store",
+        "preview --host  --source s",
+        "btool props.conf",
+        "buckets",
+        "--help",
+    ] {
+        ended(alloc, line, &mut bad)?;
+    }
+    let usage = "2 indexd: usage\n;".repeat(alloc, 7)?;
+    assert!(rt; bad == usage, "{bad}");
     Ok(())
 }
 
 #[test]
-fn statuses_have_their_numbers(rt: HostRuntime) {
-    let numbers = [
-        (Status::Done, 0),
-        (Status::Memory, 1),
-        (Status::Usage, 2),
-        (Status::Configuration, 3),
-        (Status::Input, 4),
-        (Status::Output, 7),
-        (Status::Endless, 13),
-    ];
-    for (status, number) in numbers {
-        assert_eq!(rt; status.code(), number);
+fn statuses_have_their_numbers(rt: HostRuntime) -> Result<(), Fail> {
+    let alloc = rt.alloc();
+    let mut numbers = String::new(alloc);
+    for status in [
+        Status::Done,
+        Status::Memory,
+        Status::Usage,
+        Status::Configuration,
+        Status::Input,
+        Status::Output,
+        Status::NotFound,
+        Status::Endless,
+    ] {
+        let number = format!(in alloc; "{} ", status.code())?;
+        numbers.push_str(number.as_str())?;
     }
+    assert!(rt; numbers == "0 1 2 3 4 7 10 13 ", "{numbers}");
+    Ok(())
 }

@@ -1,8 +1,9 @@
 -- How large what a channel settles is.
-use Rattle.std.proofs.Common.{◌≡◌, ℕ, ◌+◌, ◌-◌, ◌≤◌, ◌<◌, ◌^◌, Bool, true, false, List, [], ◌∷◌, ◌++◌, length, take, map, Option, Some, None, ℤ, refl, subst, arith}
-use Rattle.std.specs.Prelude.{nat_le, IfSome, unwrap_or, codes, if◌then◌else◌}
+use Rattle.std.proofs.Common.{◌≡◌, ℕ, ◌-◌, ◌≤◌, Bool, true, false, List, [], ◌∷◌, ◌++◌, length, take, Option, Some, None, ℤ, refl, subst, arith}
+use Rattle.std.specs.Prelude.{nat_le, IfSome, unwrap_or, if◌then◌else◌}
 use Rattle.std.specs.List.{All, flat_map}
 use Rattle.std.proofs.lemmas.Bool.{leb-true}
+use Rattle.std.proofs.lemmas.Bool.Decides.{nat_tests}
 use Rattle.std.proofs.lemmas.List.{length-take}
 use Rattle.std.proofs.lemmas.List.Elements.{All-nil, All-cons, All-tail, All-append, All-map, All-weaker}
 use Rattle.ix_base.specs.Stream.{Dated, bytes_of}
@@ -10,7 +11,9 @@ use Rattle.ix_base.specs.declared.events.ChannelMeta.{ChannelMeta}
 use Rattle.ix_base.specs.declared.events.Line.{Line}
 use Rattle.ix_base.specs.declared.events.Routed.{Routed}
 use Rattle.ix_lines.specs.Walk.{Looker, walk_of}
-use Rattle.ix_lines.specs.Lines.{cut, step_back, line_of, unless_empty}
+use Rattle.ix_lines.specs.Breaks.{breaks_by}
+use Rattle.ix_lines.specs.Lines.{cut, step_back, line_of, unless_empty, effective}
+use Rattle.ix_props.specs.declared.settings.Settings.{Settings}
 use Rattle.ix_parse.specs.Settled.{lines_of, outcome_of, settled}
 use Rattle.ix_parse.specs.Limits.{KeepsLimits, IsSmall}
 
@@ -47,13 +50,19 @@ stated : (name : Option (List ℕ)) (other : List ℕ) → length other ≤ 1024
 stated None other h k = h
 stated (Some name) other h k = k
 
+-- a line is cut at no more than so many bytes
+cut-bounded : (t : ℕ) → effective t ≤ 1048576
+cut-bounded t = grind (arith, nat_tests)
+
 -- what a channel within its limits settles is small
-settles-small : (look : Looker) (t : ℕ) (meta : ChannelMeta) (stream : List Dated) (closed : Bool) → t ≤ 1048576 → KeepsLimits meta →
-    All IsSmall (settled look t meta stream closed)
-settles-small look t meta stream closed cut limits =
-    All-map IsSmall (outcome_of meta) (lines_of look t stream closed)
-    (All-weaker (IsCut t) (λ line. IsSmall (outcome_of meta line))
-    (λ line h. omega (arith, h, limits.host, limits.source, stated meta.index [] (omega arith) limits.index, stated meta.sourcetype (codes "unknown") (omega arith) limits.sourcetype))
+settles-small : (settings : Settings) (meta : ChannelMeta) (stream : List Dated) (closed : Bool) → KeepsLimits settings meta →
+    All IsSmall (settled settings meta stream closed)
+settles-small settings meta stream closed limits =
+    let look : Looker = breaks_by settings.breaker in
+    let t : ℕ = effective settings.truncate in
+    All-map IsSmall (outcome_of settings.sourcetype meta) (lines_of look t stream closed)
+    (All-weaker (IsCut t) (λ line. IsSmall (outcome_of settings.sourcetype meta line))
+    (λ line h. omega (arith, h, cut-bounded settings.truncate, limits.host, limits.source, stated meta.index [] (omega arith) limits.index, limits.sourcetype))
     (lines_of look t stream closed) (lines-cut look t stream closed))
 
 All-behind : {X : Type 0} (P : X → Type 0) (xs ys : List X) → All P (xs ++ ys) → All P ys
@@ -61,7 +70,8 @@ All-behind P [] ys h = h
 All-behind P (x ∷ xs) ys h = All-behind P xs ys (All-tail P x (xs ++ ys) h)
 
 -- and so is what is newly settled
-pub adds-small : (look : Looker) (t : ℕ) (meta : ChannelMeta) (stream longer : List Dated) (closed : Bool) (added : List Routed) → t ≤ 1048576 → KeepsLimits meta →
-    settled look t meta longer closed ≡ settled look t meta stream false ++ added → All IsSmall added
-adds-small look t meta stream longer closed added cut limits e =
-    All-behind IsSmall (settled look t meta stream false) added (subst (All IsSmall) e (settles-small look t meta longer closed cut limits))
+pub adds-small : (settings : Settings) (meta : ChannelMeta) (stream longer : List Dated) (closed : Bool) (added : List Routed) →
+    KeepsLimits settings meta → settled settings meta longer closed ≡ settled settings meta stream false ++ added → All IsSmall added
+adds-small settings meta stream longer closed added limits e =
+    All-behind IsSmall (settled settings meta stream false) added
+    (subst (All IsSmall) e (settles-small settings meta longer closed limits))

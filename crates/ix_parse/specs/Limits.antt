@@ -4,12 +4,13 @@ use Rattle.ix_base.specs.declared.events.ChannelMeta.{ChannelMeta}
 use Rattle.ix_base.specs.declared.events.Event.{Event}
 use Rattle.ix_base.specs.declared.events.Routed.{Routed}
 use Rattle.ix_base.specs.declared.events.Routed.TheVariants.{To, Null}
+use Rattle.ix_props.specs.declared.settings.Settings.{Settings}
 
--- what a channel states has at most 1,024 bytes, and a source that is a path at most 4,096
-pub record KeepsLimits (meta : ChannelMeta) : Type 0 where
+-- what a channel states has at most 1,024 bytes, and so has its source type; a source that is a path has at most 4,096
+pub record KeepsLimits (settings : Settings) (meta : ChannelMeta) : Type 0 where
   pub host : length meta.host ≤ 1024
   pub source : length meta.source ≤ 4096
-  pub sourcetype : IfSome meta.sourcetype (λ name. length name ≤ 1024)
+  pub sourcetype : length settings.sourcetype ≤ 1024
   pub index : IfSome meta.index (λ name. length name ≤ 1024)
 
 -- how many bytes the fields of an event have together

@@ -8,6 +8,4 @@ mod matching;
 #[cfg(test)]
 mod merge;
 #[cfg(test)]
-mod parse;
-#[cfg(test)]
 mod pattern;

@@ -1,10 +1,10 @@
 use Rattle.ix_lines.specs.Breaks.{breaks_by}
-use Rattle.ix_lines.specs.Newlines.{newlines}
+use Rattle.ix_lines.specs.Lines.{effective}
+use Rattle.ix_parse.specs.Settled.{outcome_of}
 use Rattle.ix_parse.proofs.Channels.{stays}
 use Rattle.ix_parse.proofs.settled_stays.Goals as goal
 
-pub returns-clause-patterns : goal.returns-clause-patterns
-returns-clause-patterns c = λ p sound takes. stays (breaks_by p) (c.lines_stay.ensures.patterns p sound takes)
-
-pub returns-clause-newlines : goal.returns-clause-newlines
-returns-clause-newlines c = stays newlines c.lines_stay.ensures.newlines
+pub returns : goal.returns
+returns c = λ settings sound is meta stream later closed.
+    stays (breaks_by settings.breaker) (c.lines_stay.ensures.patterns settings.breaker sound is.takes)
+    (effective settings.truncate) (outcome_of settings.sourcetype meta) stream later closed

@@ -8,9 +8,9 @@ use Rattle.indexd_core.proofs.preview.Preview.read_all.Goals as goal
 pub returns-in_err-n-clause-stopped : goal.returns-in_err-n-clause-stopped
 returns-in_err-n-clause-stopped g c =
     let p = err_from_is_err_and c.from_residual.result c.from_residual.ensures.1 in
-    rw (p.1, p.2) (λ meta holds.
-    let came = c.loop-taken.invariant.came meta holds in
-    run-stops c.in_err-n.field-0.0 meta c.loop-taken.self c.args.self.now.moment came.0
+    rw (p.1, p.2) (λ prepared holds.
+    let came = c.loop-taken.invariant.came prepared holds in
+    run-stops c.in_err-n.field-0.0 prepared c.loop-taken.self c.args.self.now.moment came.0
     (side (g.S.Source.faults c.args.input.now) (g.S.Source.left c.args.input.now))
     (side (g.S.Source.faults c.loop-taken.input) (g.S.Source.left c.loop-taken.input))
     (side (g.S.Source.faults c.take_block.new.input) (g.S.Source.left c.take_block.new.input))
@@ -21,11 +21,11 @@ returns-in_err-n-clause-stopped g c =
     came.2 c.in_err-n.ensures.stopped)
 
 pub returns-then-n-eq0-clause-all : goal.returns-then-n-eq0-clause-all
-returns-then-n-eq0-clause-all g c = λ meta holds.
-    let came = c.loop-taken.invariant.came meta holds in
+returns-then-n-eq0-clause-all g c = λ prepared holds.
+    let came = c.loop-taken.invariant.came prepared holds in
     record {
       taken = came.0 ++ take c.in_ok-n.n c.take_block.new.block;
-      at = c.in_ok-n.ensures.taken.1.at meta (side (g.S.Source.faults c.args.input.now) (g.S.Source.left c.args.input.now))
+      at = c.in_ok-n.ensures.taken.1.at prepared (side (g.S.Source.faults c.args.input.now) (g.S.Source.left c.args.input.now))
           (side (g.W.Sink.faults c.args.output.now) (g.W.Sink.given c.args.output.now)) came.0 came.2;
       end = (
         let none : length (take c.in_ok-n.n c.take_block.new.block) ≤ 0 = omega (arith, length-take c.in_ok-n.n c.take_block.new.block) in
@@ -37,13 +37,13 @@ returns-then-n-eq0-clause-all g c = λ meta holds.
 pub loop-taken-preserved : goal.loop-taken-preserved
 loop-taken-preserved g c = record {
   within = omega (arith, c.in_ok-n.ensures.taken.0, length-take c.min-room.result c.loop-taken.block, c.min-room.ensures);
-  came = λ meta holds.
-      let came = c.loop-taken.invariant.came meta holds in
+  came = λ prepared holds.
+      let came = c.loop-taken.invariant.came prepared holds in
       let more : List ℕ = take c.in_ok-n.n c.take_block.new.block in
       let fits : c.in_ok-n.n ≤ length c.take_block.new.block = omega (arith, c.in_ok-n.ensures.taken.0, c.take_block.auto.block) in (
         came.0 ++ more,
         omega (arith, length-append came.0 more, length-take-le c.in_ok-n.n c.take_block.new.block fits, came.1),
-        c.in_ok-n.ensures.taken.1.at meta (side (g.S.Source.faults c.args.input.now) (g.S.Source.left c.args.input.now))
+        c.in_ok-n.ensures.taken.1.at prepared (side (g.S.Source.faults c.args.input.now) (g.S.Source.left c.args.input.now))
             (side (g.W.Sink.faults c.args.output.now) (g.W.Sink.given c.args.output.now)) came.0 came.2,
       );
   moment = c.in_ok-n.ensures.taken.1.moment ∙ c.loop-taken.invariant.moment;
@@ -52,6 +52,6 @@ loop-taken-preserved g c = record {
 }
 
 pub returns-clause-all : goal.returns-clause-all
-returns-clause-all g c = λ meta holds.
-    let came = c.loop-taken.invariant.came meta holds in
+returns-clause-all g c = λ prepared holds.
+    let came = c.loop-taken.invariant.came prepared holds in
     record { taken = came.0; at = came.2; end = omega (arith, came.1, c.loop-taken.invariant.within) }

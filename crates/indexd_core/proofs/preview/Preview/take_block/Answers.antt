@@ -26,5 +26,5 @@ returns-clause-taken g c =
           (side (g.S.Source.faults c.read.new.self) (g.S.Source.left c.read.new.self))
           (side (g.W.Sink.faults c.args.output.now) (g.W.Sink.given c.args.output.now))
           (side (g.W.Sink.faults c.put.new.output) (g.W.Sink.given c.put.new.output))
-          refl c.in-Ok.ensures.bytes c.in_ok-put.ensures.written (simp to_z-of_z at c.in-Ok-fed.ensures.settles),
+          refl c.put.ensures.limits c.in-Ok.ensures.bytes c.in_ok-put.ensures.written (simp to_z-of_z at c.in-Ok-fed.ensures.settles),
     )

@@ -9,7 +9,8 @@ returns c =
     let breaks = ap breaks_by c.in_ok-lines.ensures.breaker in
     record {
       breaks_are = breaks;
-      lines_are = stands (breaks_by c.args.breaker) (effective c.args.truncate) [] c.in_ok-lines.lines breaks
+      lines_are = stands (breaks_by c.args.settings.breaker) (effective c.args.settings.truncate) [] c.in_ok-lines.lines breaks
           c.in_ok-lines.ensures.truncate c.in_ok-lines.ensures.stands;
+      sourcetype_is = refl;
       meta_is = refl;
     }

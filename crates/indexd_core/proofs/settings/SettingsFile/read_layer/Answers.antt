@@ -1,9 +1,0 @@
-use Rattle.std.proofs.Common.{rules}
-use Rattle.indexd_core.proofs.SettingsLemmas.{layer_reads}
-use Rattle.indexd_core.proofs.settings.SettingsFile.read_layer.Goals as goal
-
-pub returns-clause-reads : goal.returns-clause-reads
-returns-clause-reads g c =
-    layer_reads c.layer_of.result (g.T.Tree.faults c.args.tree.now) (g.T.Tree.faults c.read_text.new.tree) (g.T.Tree.files c.args.tree.now)
-    c.args.self c.args.name.now c.in_ok-path.path c.in_ok-text.text c.entries_of.result (search rules) (search rules) c.entries_of.ensures
-    c.layer_of.ensures.ok c.layer_of.ensures.err c.layer_of.ensures.no_tree

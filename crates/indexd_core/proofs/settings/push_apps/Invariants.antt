@@ -1,6 +1,0 @@
-use Rattle.std.proofs.Common.{◌≡◌, ◌++◌, take, map}
-use Rattle.indexd_core.specs.Settings.{app_layer}
-use Rattle.indexd_core.proofs.settings.push_apps.Given as goal
-
-abbrev pub invariant-loop-app : goal.invariant-loop-app
-invariant-loop-app l = l.names ≡ l.initial.names ++ map (app_layer l.kind) (take l.app-index l.apps)

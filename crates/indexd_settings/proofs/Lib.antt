@@ -1,0 +1,3 @@
+pub mod LayerLemmas
+pub mod MergedLemmas
+pub mod ValueLemmas

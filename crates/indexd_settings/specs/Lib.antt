@@ -1,0 +1,5 @@
+pub mod Layers
+pub mod Merged
+pub mod Faults
+pub mod Texts
+pub mod Configuration
