@@ -79,11 +79,7 @@ impl Channel {
 
     /// A channel that has no byte yet. Of its settings it uses the breaker, `truncate` and the source type so far. They are such as
     /// `Props::settings` gives. The metadata name the index.
-    pub fn start(
-        alloc: Global,
-        settings: Settings,
-        meta: ChannelMeta,
-    ) -> Result<Channel, NoMemory>
+    pub fn start(alloc: Global, settings: Settings, meta: ChannelMeta) -> Result<Channel, NoMemory>
         requires meta { IsSome meta.index }
         requires usable { AreUsable settings }
         ensures { IfOk result (λ channel. StandsFor settings meta [] channel) }

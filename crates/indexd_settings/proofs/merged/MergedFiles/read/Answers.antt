@@ -15,7 +15,10 @@ returns-in_err-zones-clause-stopped g c =
     let zones = c.read_file-4.ensures.same ∙ inputs in
     rw (p.1, p.2) (all-stop Zones c.in_err-zones.field-0.0 (g.T.Tree.faults c.args.tree.now) (g.T.Tree.faults c.read_file-4.new.tree)
     (g.T.Tree.faults c.read_file-5.new.tree) (g.T.Tree.files c.args.tree.now)
-    (omega (arith, c.layer_folders.ensures.later, c.read_file.ensures.later, c.read_file-2.ensures.later, c.read_file-3.ensures.later, c.read_file-4.ensures.later))
-    (is-sound _ _ Props _ _ props told c.in_ok-props.ensures.ok, is-sound _ _ Transforms _ _ transforms told c.in_ok-transforms.ensures.ok,
-    is-sound _ _ Indexes _ _ indexes told c.in_ok-indexes.ensures.ok, is-sound _ _ Inputs _ _ inputs told c.in_ok-inputs.ensures.ok)
+    (omega (arith, c.layer_folders.ensures.later, c.read_file.ensures.later, c.read_file-2.ensures.later, c.read_file-3.ensures.later, c.read_file-4.ensures.later)) (
+      is-sound _ _ Props _ _ props told c.in_ok-props.ensures.ok,
+      is-sound _ _ Transforms _ _ transforms told c.in_ok-transforms.ensures.ok,
+      is-sound _ _ Indexes _ _ indexes told c.in_ok-indexes.ensures.ok,
+      is-sound _ _ Inputs _ _ inputs told c.in_ok-inputs.ensures.ok,
+    )
     (stops-told _ _ Zones _ _ _ _ zones told c.in_err-zones.ensures.stopped))
