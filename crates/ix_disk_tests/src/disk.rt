@@ -1,10 +1,11 @@
-//! Tests of `ix_disk`.
+//! Tests of `ix_disk`. Each test asks a disk for a row of calls, and compares what they answer as one text.
 
-use ix_base::{Area, FailPlan, Failed, File};
+use ix_base::{Area, FailPlan, Failed, File, NoMemory};
 use ix_disk::{Disk, HostDisk, MemDisk, OneFail, StopDisk};
-use std::fs;
-use std::process::Abort;
+use std::alloc::Global;
+use std::rt::Files;
 use std::test::Fail;
+use std::{fs, str};
 
 const LOG: File = File {
     area: Area::Meta,
@@ -31,7 +32,20 @@ const NEVER: File = File {
     number: 0,
 };
 
-/// Writes where the place is within the file.
+/// A call of a disk.
+#[derive(Clone, Copy)]
+enum Ask<'a> {
+    /// A write, where the place is within the file.
+    Write(File, u64, &'a [u8]),
+    Sync(File),
+    Remove(File),
+    Length(File),
+    /// A read of three bytes into a buffer of dots, which is shown whole.
+    Read(File, u64),
+    /// What the file holds, of 16 bytes at the most, and how long it is.
+    Held(File),
+}
+
 fn write<D: Disk>(disk: &mut D, file: File, at: u64, bytes: &[u8]) -> Result<(), Failed> {
     if at > disk.length(file)? {
         return Err(Failed);
@@ -39,199 +53,367 @@ fn write<D: Disk>(disk: &mut D, file: File, at: u64, bytes: &[u8]) -> Result<(),
     disk.write_at(file, at, bytes)
 }
 
-/// The file holds these bytes, and is as long.
-fn holds<D: Disk>(rt: &impl Abort, disk: &mut D, file: File, want: &[u8]) -> Result<(), Failed> {
-    let mut buf = [0xEE; 16];
-    let count = disk.read(file, 0, &mut buf)?;
-    assert!(*rt; count <= 16);
-    assert_eq!(*rt; &buf[..count], want, "in {file:?}");
-    assert_eq!(*rt; disk.length(file)?, want.len() as u64);
-    Ok(())
+/// Writes what a call answered. Where memory is lacking the text stays too short, and is not what is wanted.
+fn note_done(text: &mut String, done: Result<(), Failed>) {
+    let word = if done.is_ok() { "ok " } else { "failed " };
+    let _ = text.push_str(word);
 }
 
-/// Each file holds these bytes.
-fn all_hold<D: Disk>(rt: &impl Abort, disk: &mut D, want: &[(File, &[u8])]) -> Result<(), Failed> {
-    for (file, bytes) in want {
-        holds(rt, disk, *file, bytes)?;
+fn note_length(text: &mut String, length: Result<u64, Failed>) {
+    match length {
+        Ok(length) => {
+            let _ = write!(text, "{length} ");
+        }
+        Err(failed) => note_done(text, Err(failed)),
     }
-    Ok(())
 }
 
-/// What `run` leaves to be read.
-const READ: [(File, &[u8]); 5] = [
-    (LOG, b"abXYefZ"),
-    (BUCKET, b"new"),
-    (KEPT, b""),
-    (GONE, b""),
-    (NEVER, b""),
-];
+/// Writes the front of a buffer, and how many bytes were read into the buffer.
+fn note_bytes(text: &mut String, bytes: &[u8], read: Result<usize, Failed>) {
+    let bytes = str::from_utf8(bytes).unwrap_or("?");
+    let _ = write!(text, "[{bytes}]");
+    note_length(text, read.map(|count| count as u64));
+}
 
-/// What it leaves where a crash tears the files.
-const TORN: [(File, &[u8]); 5] = [
-    (LOG, b"ab\x01\x01ef"),
-    (BUCKET, b""),
-    (KEPT, b"old"),
-    (GONE, b""),
-    (NEVER, b""),
-];
+fn note_read<D: Disk>(text: &mut String, disk: &mut D, file: File, at: u64) {
+    let mut buf = [b'.'; 3];
+    let read = disk.read(file, at, &mut buf);
+    note_bytes(text, &buf, read);
+}
+
+fn note_held<D: Disk>(text: &mut String, disk: &mut D, file: File) {
+    let mut buf = [0xEE; 16];
+    let read = disk.read(file, 0, &mut buf);
+    let bytes = buf.get(..read.unwrap_or(0)).unwrap_or(&[]);
+    note_bytes(text, bytes, read);
+    note_length(text, disk.length(file));
+}
+
+fn note<D: Disk>(text: &mut String, disk: &mut D, ask: Ask<'_>) {
+    match ask {
+        Ask::Write(file, at, bytes) => note_done(text, write(disk, file, at, bytes)),
+        Ask::Sync(file) => note_done(text, disk.sync(file)),
+        Ask::Remove(file) => note_done(text, disk.remove(file)),
+        Ask::Length(file) => note_length(text, disk.length(file)),
+        Ask::Read(file, at) => note_read(text, disk, file, at),
+        Ask::Held(file) => note_held(text, disk, file),
+    }
+}
+
+/// Writes what the calls answer, one behind the other.
+fn note_all<D: Disk>(text: &mut String, disk: &mut D, asks: &[Ask<'_>]) {
+    for ask in asks {
+        note(text, disk, *ask);
+    }
+}
+
+/// Writes what the calls answer on the disk that a crash leaves.
+fn note_left(text: &mut String, disk: &MemDisk, torn: bool, asks: &[Ask<'_>]) {
+    if let Ok(mut left) = disk.crash(torn) {
+        note_all(text, &mut left, asks);
+    }
+}
+
+/// Writes how many calls there were, how many asked for the bytes or the length of the log, and how many found no room.
+fn note_counts(text: &mut String, disk: &MemDisk) {
+    let _ = write!(
+        text,
+        "{} {} {} ",
+        disk.calls(),
+        disk.asked(LOG),
+        disk.shortages()
+    );
+}
 
 /// One file with a part written anew and one byte more, one that no sync settled, and two that were removed.
-fn run<D: Disk>(disk: &mut D) -> Result<(), Failed> {
-    write(disk, LOG, 0, b"abcdef")?;
-    disk.sync(LOG)?;
-    write(disk, LOG, 2, b"XY")?;
-    write(disk, LOG, 6, b"Z")?;
-    write(disk, BUCKET, 0, b"new")?;
-    for file in [KEPT, GONE] {
-        write(disk, file, 0, b"old")?;
-        disk.sync(file)?;
-        disk.remove(file)?;
+static RUN: [Ask<'static>; 12] = [
+    Ask::Write(LOG, 0, b"abcdef"),
+    Ask::Sync(LOG),
+    Ask::Write(LOG, 2, b"XY"),
+    Ask::Write(LOG, 6, b"Z"),
+    Ask::Write(BUCKET, 0, b"new"),
+    Ask::Write(KEPT, 0, b"old"),
+    Ask::Sync(KEPT),
+    Ask::Remove(KEPT),
+    Ask::Write(GONE, 0, b"old"),
+    Ask::Sync(GONE),
+    Ask::Remove(GONE),
+    Ask::Sync(GONE),
+];
+
+const RAN: &str = "ok ok ok ok ok ok ok ok ok ok ok ok ";
+
+static ALL: [Ask<'static>; 5] = [
+    Ask::Held(LOG),
+    Ask::Held(BUCKET),
+    Ask::Held(KEPT),
+    Ask::Held(GONE),
+    Ask::Held(NEVER),
+];
+
+/// What the run leaves to be read.
+const READ: &str = "[abXYefZ]7 7 [new]3 3 []0 0 []0 0 []0 0 ";
+
+/// What it leaves where a crash tears the files.
+const TORN: &str = "[ab\x01\x01ef]6 6 []0 0 [old]3 3 []0 0 []0 0 ";
+
+fn ample(alloc: Global) -> MemDisk {
+    MemDisk::new(alloc, FailPlan::none(alloc))
+}
+
+fn crashes_said(alloc: Global) -> String {
+    let mut text = String::new(alloc);
+    let mut disk = ample(alloc);
+    note_all(&mut text, &mut disk, &RUN);
+    note_counts(&mut text, &disk);
+    note_all(&mut text, &mut disk, &ALL);
+    note_counts(&mut text, &disk);
+    note_left(&mut text, &disk, false, &ALL);
+    note_left(&mut text, &disk, true, &ALL);
+    if let Ok(torn) = disk.crash(true) {
+        note_left(&mut text, &torn, true, &ALL);
     }
-    disk.sync(GONE)
+    text
 }
 
 #[test]
 fn a_crash_leaves_what_was_read_or_tears_it(rt: HostRuntime) -> Result<(), Fail> {
-    let mut disk = MemDisk::new(rt.alloc(), FailPlan::none(rt.alloc()));
-    run(&mut disk)?;
-    assert_eq!(rt; disk.asked(LOG), 3);
-    assert_eq!(rt; disk.asked(NEVER), 0);
-    all_hold(&rt, &mut disk, &READ)?;
-    assert_eq!(rt; disk.asked(LOG), 5);
-    all_hold(&rt, &mut disk.crash(false)?, &READ)?;
-    let mut torn = disk.crash(true)?;
-    all_hold(&rt, &mut torn, &TORN)?;
-    all_hold(&rt, &mut torn.crash(true)?, &TORN)?;
-    // A file that was removed and made anew over the settled one, and then settled.
-    write(&mut disk, KEPT, 0, b"now")?;
-    write(&mut disk, KEPT, 3, b"er")?;
-    holds(&rt, &mut disk.crash(true)?, KEPT, b"\x01\x01\x01")?;
-    disk.sync(KEPT)?;
-    holds(&rt, &mut disk.crash(true)?, KEPT, b"nower")?;
-    assert_eq!(rt; disk.shortages(), 0);
+    let want = format!(in rt.alloc(); "{RAN}18 3 0 {READ}28 5 0 {READ}{TORN}{TORN}")?;
+    assert_eq!(rt; crashes_said(rt.alloc()).as_str(), want.as_str());
     Ok(())
+}
+
+/// A file that was removed and made anew over the settled one, and then settled.
+fn anew_said(alloc: Global) -> String {
+    let mut text = String::new(alloc);
+    let mut disk = ample(alloc);
+    note_all(&mut text, &mut disk, &RUN);
+    note(&mut text, &mut disk, Ask::Write(KEPT, 0, b"now"));
+    note(&mut text, &mut disk, Ask::Write(KEPT, 3, b"er"));
+    note_left(&mut text, &disk, true, &[Ask::Held(KEPT)]);
+    note(&mut text, &mut disk, Ask::Sync(KEPT));
+    note_left(&mut text, &disk, true, &[Ask::Held(KEPT)]);
+    text
+}
+
+#[test]
+fn a_file_that_is_made_anew_is_torn_until_it_is_settled(rt: HostRuntime) -> Result<(), Fail> {
+    let want = format!(in rt.alloc(); "{RAN}ok ok [\x01\x01\x01]3 3 ok [nower]5 5 ")?;
+    assert_eq!(rt; anew_said(rt.alloc()).as_str(), want.as_str());
+    Ok(())
+}
+
+/// Calls 0 to 2 make the file; 4 is a write, 7 a sync, 8 a removal, 9 a read.
+static WITH_FAULTS: [Ask<'static>; 7] = [
+    Ask::Write(LOG, 0, b"abcd"),
+    Ask::Sync(LOG),
+    Ask::Write(LOG, 0, b"X"),
+    Ask::Write(LOG, 3, b"YY"),
+    Ask::Sync(LOG),
+    Ask::Remove(LOG),
+    Ask::Length(LOG),
+];
+
+/// What is read behind them, and that the file is settled.
+static BEHIND_FAULTS: [Ask<'static>; 5] = [
+    Ask::Sync(LOG),
+    Ask::Read(LOG, 0),
+    Ask::Read(LOG, 3),
+    Ask::Read(LOG, 5),
+    Ask::Read(LOG, u64::MAX),
+];
+
+fn faults_said(alloc: Global) -> Result<String, NoMemory> {
+    let mut text = String::new(alloc);
+    let mut disk = MemDisk::new(alloc, FailPlan::new([4, 7, 8, 9].to_vec(alloc)?));
+    note_all(&mut text, &mut disk, &WITH_FAULTS);
+    note_counts(&mut text, &disk);
+    note_left(&mut text, &disk, false, &[Ask::Held(LOG)]);
+    note_left(&mut text, &disk, true, &[Ask::Held(LOG)]);
+    note_all(&mut text, &mut disk, &BEHIND_FAULTS);
+    note_left(&mut text, &disk, true, &[Ask::Held(LOG)]);
+    Ok(text)
 }
 
 #[test]
 fn a_failed_call_counts_as_begun(rt: HostRuntime) -> Result<(), Fail> {
-    // Calls 0 to 2 make the file; 4 is a write, 7 a sync, 8 a removal, 9 a read.
-    let failing = [4, 7, 8, 9].to_vec(rt.alloc())?;
-    let mut disk = MemDisk::new(rt.alloc(), FailPlan::new(failing));
-    write(&mut disk, LOG, 0, b"abcd")?;
-    disk.sync(LOG)?;
-    assert_eq!(rt; write(&mut disk, LOG, 0, b"X"), Err(Failed));
-    write(&mut disk, LOG, 3, b"YY")?;
-    assert_eq!(rt; disk.sync(LOG), Err(Failed));
-    assert_eq!(rt; disk.remove(LOG), Err(Failed));
-    assert_eq!(rt; disk.length(LOG), Err(Failed));
-    assert_eq!(rt; disk.calls(), 10);
-    assert_eq!(rt; disk.asked(LOG), 4);
-    assert_eq!(rt; disk.shortages(), 0);
-    holds(&rt, &mut disk.crash(false)?, LOG, b"abcYY")?;
-    holds(&rt, &mut disk.crash(true)?, LOG, b"\x01bc\x01")?;
-    disk.sync(LOG)?;
-    holds(&rt, &mut disk.crash(true)?, LOG, b"abcYY")?;
-    for (at, want) in [
-        (0, b"abc".as_slice()),
-        (3, b"YY.".as_slice()),
-        (5, b"...".as_slice()),
-        (u64::MAX, b"...".as_slice()),
-    ] {
-        let mut buf = [b'.'; 3];
-        let count = disk.read(LOG, at, &mut buf)?;
-        assert_eq!(rt; &buf[..], want, "at {at}");
-        assert_eq!(rt; count as u64, 5u64.saturating_sub(at).min(3), "at {at}");
+    let want = "ok ok failed ok failed failed failed 10 4 0 [abcYY]5 5 [\x01bc\x01]4 4 \
+        ok [abc]3 [YY.]2 [...]0 [...]0 [abcYY]5 5 ";
+    assert_eq!(rt; faults_said(rt.alloc())?.as_str(), want);
+    Ok(())
+}
+
+static STOPPED: [Ask<'static>; 4] = [
+    Ask::Write(LOG, 0, b"abcdef"),
+    Ask::Sync(LOG),
+    Ask::Write(LOG, 2, b"XY"),
+    Ask::Remove(LOG),
+];
+
+/// The disk stops before the write of the part, and before each call behind it.
+fn stop_said(alloc: Global) -> String {
+    let mut text = String::new(alloc);
+    let mut stopped = StopDisk::new(ample(alloc), 4);
+    note_all(&mut text, &mut stopped, &STOPPED);
+    let faults = stopped.faults;
+    let _ = write!(text, "{faults} {} ", stopped.into_inner().calls());
+    text
+}
+
+#[test]
+fn a_disk_stops_before_a_call(rt: HostRuntime) {
+    assert_eq!(rt; stop_said(rt.alloc()).as_str(), "ok ok failed failed 2 4 ");
+}
+
+/// A disk that is lent to the one that stops it goes on behind it.
+fn lent_said(alloc: Global) -> String {
+    let mut text = String::new(alloc);
+    let mut disk = ample(alloc);
+    note_all(&mut text, &mut StopDisk::new(&mut disk, 4), &STOPPED);
+    note_all(&mut text, &mut disk, &[Ask::Held(LOG), Ask::Sync(LOG)]);
+    text
+}
+
+#[test]
+fn a_disk_goes_on_behind_the_one_that_stopped_it(rt: HostRuntime) {
+    assert_eq!(rt;
+        lent_said(rt.alloc()).as_str(),
+        "ok ok failed failed [abcdef]6 6 ok "
+    );
+}
+
+static ONCE: [Ask<'static>; 3] = [
+    Ask::Write(LOG, 0, b"abcd"),
+    Ask::Write(LOG, 2, b"12"),
+    Ask::Write(LOG, 4, b"34"),
+];
+
+/// The second write fails, and nothing else.
+fn once_said(alloc: Global) -> String {
+    let mut text = String::new(alloc);
+    let mut once = OneFail::new(ample(alloc), 3);
+    note_all(&mut text, &mut once, &ONCE);
+    let faults = once.faults;
+    let mut disk = once.into_inner();
+    let _ = write!(text, "{faults} {} ", disk.calls());
+    note(&mut text, &mut disk, Ask::Held(LOG));
+    text
+}
+
+#[test]
+fn a_disk_fails_once(rt: HostRuntime) {
+    assert_eq!(rt;
+        once_said(rt.alloc()).as_str(),
+        "ok failed ok 1 5 [abcd34]6 6 "
+    );
+}
+
+/// Settles so many blocks, each behind the others.
+fn fill<D: Disk>(disk: &mut D, blocks: usize) -> Result<(), Failed> {
+    let block = [7; 1024];
+    for _ in 0..blocks {
+        let length = disk.length(LOG)?;
+        write(disk, LOG, length, &block)?;
+        disk.sync(LOG)?;
     }
     Ok(())
 }
 
-#[test]
-fn disks_that_stop_or_fail_once(rt: HostRuntime) -> Result<(), Fail> {
-    let mut inner = MemDisk::new(rt.alloc(), FailPlan::none(rt.alloc()));
-    let mut stopped = StopDisk::new(&mut inner, 4);
-    assert_eq!(rt; run(&mut stopped), Err(Failed));
-    assert_eq!(rt; stopped.remove(LOG), Err(Failed));
-    assert_eq!(rt; stopped.faults, 2);
-    assert_eq!(rt; inner.calls(), 4);
-    let mut once = OneFail::new(inner, 1);
-    assert_eq!(rt; write(&mut once, LOG, 2, b"12"), Err(Failed));
-    write(&mut once, LOG, 4, b"34")?;
-    assert_eq!(rt; once.faults, 1);
-    let mut disk = once.into_inner();
-    assert_eq!(rt; disk.calls(), 7);
-    holds(&rt, &mut disk, LOG, b"abcd34")?;
-    let mut owned = StopDisk::new(disk, 1);
-    assert_eq!(rt; owned.length(LOG)?, 6);
-    assert_eq!(rt; owned.sync(LOG), Err(Failed));
-    assert_eq!(rt; owned.into_inner().calls(), 10);
-    Ok(())
+/// How many bytes so many reads of a block get.
+fn read_often<D: Disk>(disk: &mut D, times: usize) -> Result<usize, Failed> {
+    let mut buf = [0; 1024];
+    let mut count = 0usize;
+    for _ in 0..times {
+        let read = disk.read(LOG, 1_000_000, &mut buf)?;
+        count = count.saturating_add(read);
+    }
+    Ok(count)
 }
 
 #[test]
 fn many_syncs_and_reads_of_a_long_file(rt: HostRuntime) -> Result<(), Fail> {
-    let mut disk = MemDisk::new(rt.alloc(), FailPlan::none(rt.alloc()));
-    let block = [7; 1024];
-    for _ in 0..4000 {
-        let length = disk.length(LOG)?;
-        write(&mut disk, LOG, length, &block)?;
-        disk.sync(LOG)?;
-    }
-    let mut buf = [0; 1024];
-    for _ in 0..20_000 {
-        let count = disk.read(LOG, 1_000_000, &mut buf)?;
-        assert_eq!(rt; count, 1024);
-    }
+    let mut disk = ample(rt.alloc());
+    fill(&mut disk, 4000)?;
+    assert_eq!(rt; read_often(&mut disk, 20_000)?, 20_480_000);
     assert_eq!(rt; disk.crash(true)?.length(LOG)?, 4_096_000);
     Ok(())
 }
 
-/// Each of the five calls on the file fails, and is counted.
-fn all_fail<R: std::rt::Files + Drop>(rt: &impl Abort, disk: &mut HostDisk<R>, file: File) {
-    let before = disk.faults();
-    let mut buf = [0; 4];
-    assert_eq!(*rt; disk.length(file), Err(Failed));
-    assert_eq!(*rt; disk.read(file, 0, &mut buf), Err(Failed));
-    assert_eq!(*rt; disk.write_at(file, 0, b"x"), Err(Failed));
-    assert_eq!(*rt; disk.sync(file), Err(Failed));
-    assert_eq!(*rt; disk.remove(file), Err(Failed));
-    assert_eq!(*rt; disk.faults().saturating_sub(before), 5);
+/// Files are kept where a disk of the machine puts them.
+fn kept_said(rt: &HostRuntime) -> Result<String, Fail> {
+    let mut text = String::new(rt.alloc());
+    let mut disk = HostDisk::new(rt);
+    note_all(&mut text, &mut disk, &[Ask::Sync(LOG), Ask::Remove(LOG)]);
+    note_all(&mut text, &mut disk, &RUN);
+    note_all(&mut text, &mut disk, &ALL);
+    note_all(&mut text, &mut HostDisk::new(rt), &ALL);
+    let file = fs::read_to_string(rt, "var/meta/1")?;
+    let _ = write!(text, "{file} {}", disk.faults());
+    Ok(text)
+}
+
+/// Writes what the five calls on a file answer, each of which fails where a folder is in its place or its folder cannot be.
+fn note_five<R: Files + Drop>(text: &mut String, disk: &mut HostDisk<R>, file: File) {
+    note(text, disk, Ask::Length(file));
+    note(text, disk, Ask::Read(file, 0));
+    note_done(text, disk.write_at(file, 0, b"x"));
+    note(text, disk, Ask::Sync(file));
+    note(text, disk, Ask::Remove(file));
+}
+
+const FIVE_FAULTS: &str = "failed [...]failed failed failed failed ";
+
+/// A folder in place of a file, and a file in place of a folder; and a place past each file's end.
+fn no_file_said(rt: &HostRuntime) -> Result<String, Fail> {
+    fs::remove_file(rt, "var/home/7")?;
+    fs::create_dir(rt, "var/home/7")?;
+    fs::write(rt, "var/frozen", "")?;
+    let mut text = String::new(rt.alloc());
+    let mut disk = HostDisk::new(rt);
+    note_five(&mut text, &mut disk, BUCKET);
+    note_five(&mut text, &mut disk, NEVER);
+    note_done(&mut text, disk.write_at(LOG, u64::MAX, b"x"));
+    let _ = write!(text, "{}", disk.faults());
+    Ok(text)
+}
+
+/// Keeps a folder from being written, unless by the owner of the machine.
+fn make_readonly(rt: &HostRuntime, path: &str) -> Result<(), Fail> {
+    let mut how = fs::metadata(rt, path)?.permissions();
+    how.set_readonly(true);
+    Ok(fs::set_permissions(rt, path, how)?)
+}
+
+/// A folder that cannot be written stays empty.
+fn readonly_said(rt: &HostRuntime) -> Result<String, Fail> {
+    make_readonly(rt, "var/thawed")?;
+    let mut text = String::new(rt.alloc());
+    let mut disk = HostDisk::new(rt);
+    note_done(&mut text, disk.write_at(GONE, 0, b"x"));
+    note(&mut text, &mut disk, Ask::Held(GONE));
+    let _ = write!(text, "{}", disk.faults());
+    Ok(text)
+}
+
+/// A file that is taken away between a write and its sync: no sync answers Ok any more.
+fn taken_away_said(rt: &HostRuntime) -> Result<String, Fail> {
+    let mut text = String::new(rt.alloc());
+    let mut disk = HostDisk::new(rt);
+    note(&mut text, &mut disk, Ask::Write(LOG, 7, b"!"));
+    fs::rename(rt, "var/meta/1", "var/meta/2")?;
+    note_all(&mut text, &mut disk, &[Ask::Sync(LOG), Ask::Sync(KEPT)]);
+    let _ = write!(text, "{}", disk.faults());
+    Ok(text)
 }
 
 #[test]
-fn the_disk_of_the_machine_keeps_files(rt: HostRuntime) -> Result<(), Fail> {
-    let mut disk = HostDisk::new(&rt);
-    disk.sync(LOG)?;
-    disk.remove(LOG)?;
-    run(&mut disk)?;
-    all_hold(&rt, &mut disk, &READ)?;
-    all_hold(&rt, &mut HostDisk::new(&rt), &READ)?;
-    assert_eq!(rt; fs::read_to_string(&rt, "var/meta/1")?.as_str(), "abXYefZ");
-    assert_eq!(rt; disk.faults(), 0);
-    assert_eq!(rt; disk.write_at(LOG, u64::MAX, b"x"), Err(Failed));
-    // A folder in place of a file, and a file in place of a folder.
-    fs::remove_file(&rt, "var/home/7")?;
-    fs::create_dir(&rt, "var/home/7")?;
-    all_fail(&rt, &mut disk, BUCKET);
-    fs::write(&rt, "var/frozen", "")?;
-    all_fail(&rt, &mut disk, NEVER);
-    // A folder that cannot be written, unless by the owner of the machine.
-    let mut how = fs::metadata(&rt, "var/thawed")?.permissions();
-    how.set_readonly(true);
-    fs::set_permissions(&rt, "var/thawed", how)?;
-    let before = disk.faults();
-    match disk.write_at(GONE, 0, b"x") {
-        Ok(()) => holds(&rt, &mut disk, GONE, b"x")?,
-        Err(Failed) => {
-            assert_eq!(rt; disk.faults().saturating_sub(before), 1);
-            holds(&rt, &mut disk, GONE, b"")?;
-        }
-    }
-    // A file that is taken away between a write and its sync: no sync answers Ok any more.
-    let mut lost = HostDisk::new(&rt);
-    write(&mut lost, LOG, 7, b"!")?;
-    fs::rename(&rt, "var/meta/1", "var/meta/2")?;
-    assert_eq!(rt; lost.sync(LOG), Err(Failed));
-    assert_eq!(rt; lost.sync(KEPT), Err(Failed));
-    assert_eq!(rt; lost.faults(), 2);
+fn the_disk_of_the_machine_has_real_files(rt: HostRuntime) -> Result<(), Fail> {
+    let want = format!(in rt.alloc(); "ok ok {RAN}{READ}{READ}abXYefZ 0")?;
+    assert_eq!(rt; kept_said(&rt)?.as_str(), want.as_str());
+    let want = format!(in rt.alloc(); "{FIVE_FAULTS}{FIVE_FAULTS}failed 11")?;
+    assert_eq!(rt; no_file_said(&rt)?.as_str(), want.as_str());
+    let found = readonly_said(&rt)?;
+    assert!(rt; ["ok [x]1 1 0", "failed []0 0 1"].contains(&found.as_str()));
+    assert_eq!(rt; taken_away_said(&rt)?.as_str(), "ok failed failed 2");
     Ok(())
 }
