@@ -294,11 +294,11 @@ fn words_are_those_of_the_two_commands(rt: HostRuntime) -> Result<(), Fail> {
         "preview --source s --host h",
         "preview --host=h --source=- --index main --sourcetype t",
         "btool props",
-        "btool zones",
+        "btool indexes",
     ] {
         ended(alloc, line, &mut good)?;
     }
-    assert!(rt; good == "0 ;0 ;0 ;0 ;0 ;", "{good}");
+    assert!(rt; good.as_str() == "0 ;0 ;0 ;0 ;0 ;", "{good}");
     let mut bad = String::new(alloc);
     for line in [
         "",
@@ -333,6 +333,6 @@ fn statuses_have_their_numbers(rt: HostRuntime) -> Result<(), Fail> {
         let number = format!(in alloc; "{} ", status.code())?;
         numbers.push_str(number.as_str())?;
     }
-    assert!(rt; numbers == "0 1 2 3 4 7 10 13 ", "{numbers}");
+    assert!(rt; numbers.as_str() == "0 1 2 3 4 7 10 13 ", "{numbers}");
     Ok(())
 }

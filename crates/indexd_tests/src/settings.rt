@@ -263,7 +263,10 @@ const FAULTS: [(Files<'static>, &str); 57] = [
     (
         [
             ("props", "[x]\nTRANSFORMS-c = t"),
-            ("transforms", "[t]\nREGEX = a\nWRITE_META = maybe"),
+            (
+                "transforms",
+                "[t]\nREGEX = a\nDEST_KEY = queue\nWRITE_META = maybe",
+            ),
         ],
         "transforms [t] WRITE_META: BadValue",
     ),
@@ -547,6 +550,6 @@ fn an_unknown_index_is_told(rt: HostRuntime) -> Result<(), Fail> {
         "a",
         &mut shown,
     )?;
-    assert!(rt; shown == "10: indexd: not found: web\n", "{shown}");
+    assert!(rt; shown.as_str() == "10: indexd: not found: web\n", "{shown}");
     Ok(())
 }
