@@ -1,19 +1,17 @@
 -- Laws on heads at the front of bytes that come one by one.
-use Rattle.std.proofs.Common.{◌≡◌, ◌≢◌, ℕ, ◌+◌, ◌-◌, ◌*◌, ◌<◌, ◌≤◌, ◌⊎◌, List, [], ◌∷◌, ◌++◌, length, take, drop, get_or, refl, sym, ap, ◌∙◌, subst, inl, inr, arith, append_assoc, length-append, add-one}
-use Rattle.std.proofs.lemmas.List.{same_from_push, take-append-drop, take-append-le, take_more, length_push, append-nil, nil_from_length, length-drop, take_all, length-take-le}
+use Rattle.std.proofs.Common.{◌≡◌, ◌≢◌, ℕ, ◌+◌, ◌-◌, ◌*◌, ◌<◌, ◌≤◌, ◌⊎◌, List, [], ◌∷◌, ◌++◌, length, take, get_or, refl, sym, ap, ◌∙◌, subst, inl, inr, arith, append_assoc, length-append}
+use Rattle.std.proofs.lemmas.List.{same_from_push, take_more, length_push, append-nil, take_all}
 use Rattle.std.proofs.lemmas.List.Elements.{All-head, All-tail}
 use Rattle.std.proofs.lemmas.Bool.{cases_lt}
-use Rattle.std.specs.Prelude.{All, Result, Ok, Err, IfErr}
+use Rattle.std.specs.Prelude.{All, Result, Ok, Err}
 use Rattle.std.specs.List.{flat_map}
 use Rattle.httparse.specs.declared.Error.{Error}
 use Rattle.httparse.specs.declared.Error.TheVariants as error
-use Rattle.httparse.specs.declared.Status.{Status}
 use Rattle.httparse.specs.Outcome.{OnInvalid, OnTooManyHeaders}
-use Rattle.httparse.specs.Spans.{RequestExceeds, RequestOverflows, IsRequestAt, IsRequestOf}
+use Rattle.httparse.specs.Spans.{RequestExceeds, RequestOverflows, IsRequestOf}
 use Rattle.httparse.specs.declared.spans.HeaderSpan.{HeaderSpan}
 use Rattle.httparse.specs.declared.spans.RequestSpans.{RequestSpans}
-use Rattle.httparse.specs.Grammar.{LineEnd, crlf, lf, print_end, print_blank, print_version, print_section, print_field, Field, IsField, RequestHead, IsRequestHead, ReadsRequest, print_request, HasNoRequest, NeverHasRequest}
-use Rattle.httparse.proofs.GrammarLemmas.{print_request-append}
+use Rattle.httparse.specs.Grammar.{LineEnd, crlf, lf, print_end, print_blank, print_version, print_field, Field, IsField, RequestHead, IsRequestHead, ReadsRequest, print_request, HasNoRequest, NeverHasRequest}
 use Rattle.std.proofs.Math.Seq.{take-append-add}
 use Rattle.std.proofs.lemmas.Grind.{common_steps}
 use Rattle.ix_heads.specs.Judging.{EndsInEmptyLine}

@@ -1,9 +1,9 @@
 -- What was taken of a link, and what it is.
-use Rattle.std.proofs.Common.{◌≡◌, ℕ, ◌+◌, ◌<◌, ◌≤◌, ◌⊎◌, List, [], ◌∷◌, ◌++◌, length, take, drop, false, refl, sym, ap, ◌∙◌, subst, inl, inr, arith, append_assoc, length-append}
+use Rattle.std.proofs.Common.{◌≡◌, ℕ, ◌<◌, ◌≤◌, ◌⊎◌, List, [], ◌∷◌, ◌++◌, length, take, drop, false, refl, sym, ap, ◌∙◌, subst, inl, inr, arith, append_assoc}
 use Rattle.std.proofs.lemmas.List.{append-nil, drop_all}
 use Rattle.std.proofs.Math.Seq.{take-append_seam}
 use Rattle.std.specs.Prelude.{Option, Some, None, Result, Ok, Err}
-use Rattle.httparse.specs.Grammar.{RequestHead, ReadsRequest, print_request, HasNoRequest, NeverHasRequest, MayBecomeRequest}
+use Rattle.httparse.specs.Grammar.{RequestHead, ReadsRequest, print_request, HasNoRequest, NeverHasRequest}
 use Rattle.httparse.specs.Spans.{IsRequestAt}
 use Rattle.httparse.specs.declared.spans.HeaderSpan.{HeaderSpan}
 use Rattle.httparse.specs.declared.spans.RequestSpans.{RequestSpans}
@@ -13,7 +13,7 @@ use Rattle.ix_heads.specs.declared.faults.LinkFault.TheVariants.{Failed, Cut, No
 use Rattle.ix_heads.specs.declared.reading.HeadRead.{HeadRead}
 use Rattle.ix_heads.specs.declared.reading.HeadRead.TheVariants.{Ended, Bad, Whole}
 use Rattle.ix_heads.specs.Limits.{max_head, max_lines}
-use Rattle.ix_heads.specs.Heads.{HasHead, LacksHead, IsHeadless, IsCut, IsCrowded, TakesSome, TakesNoGood, IsWhole, FitsEnd, FitsHead}
+use Rattle.ix_heads.specs.Heads.{IsHeadless, IsCut, IsCrowded, IsWhole, FitsEnd, FitsHead}
 use Rattle.ix_heads.specs.Judging.{OnlyCrowded, IsHeadAt}
 use Rattle.ix_heads.proofs.FrontLemmas.{longer_than_front}
 

@@ -1,5 +1,5 @@
 -- Calls that only read, one behind the other.
-use Rattle.std.proofs.Common.{◌≡◌, ℕ, ◌≤◌, ◌<◌, ◌⊎◌, List, refl, ◌∙◌, inl, inr, arith}
+use Rattle.std.proofs.Common.{ℕ, ◌≤◌, List, refl, ◌∙◌, inl, inr, arith}
 use Rattle.std.specs.Prelude.{Option}
 use Rattle.ix_base.specs.Faults.{Rose}
 use Rattle.ix_link.specs.Links.{Standing}

@@ -1,5 +1,4 @@
 -- Steps of what is told.
-use Rattle.std.proofs.Common.{◌≡◌, ℕ, List}
 use Rattle.std.specs.Prelude.{Option, Some, None}
 use Rattle.ix_base.specs.Told.{Told}
 

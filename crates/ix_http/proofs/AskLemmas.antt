@@ -1,19 +1,17 @@
 -- What was read of a link, and what it asks.
-use Rattle.std.proofs.Common.{◌≡◌, ℕ, ◌<◌, ◌≤◌, ◌⊎◌, List, [], ◌∷◌, ◌++◌, length, map, take, Bool, true, false, not, ◌&&◌, cond, refl, sym, ap, ◌∙◌, subst, inl, inr, arith, append_assoc}
+use Rattle.std.proofs.Common.{◌≡◌, ℕ, ◌<◌, ◌⊎◌, List, ◌++◌, length, map, take, Bool, true, false, not, ◌&&◌, cond, refl, sym, ap, ◌∙◌, subst, inl, inr, arith, append_assoc}
 use Rattle.std.specs.Prelude.{Option, Some, None, Result, Ok, Err, nat_le}
 use Rattle.std.proofs.lemmas.Bool.Decides.{nat_tests}
 use Rattle.std.proofs.lemmas.List.{append_cancel_right, length-map}
-use Rattle.httparse.specs.Grammar.{RequestHead, ReadsRequest, print_request}
-use Rattle.httparse.specs.Spans.{IsRequestAt, name_and_value, header_bytes, span_bytes}
+use Rattle.httparse.specs.Grammar.{RequestHead, print_request}
+use Rattle.httparse.specs.Spans.{name_and_value, header_bytes, span_bytes}
 use Rattle.httparse.specs.declared.spans.HeaderSpan.{HeaderSpan}
 use Rattle.httparse.specs.declared.spans.RequestSpans.{RequestSpans}
-use Rattle.ix_base.specs.Told.{Told}
 use Rattle.ix_heads.specs.Limits.{max_lines}
-use Rattle.ix_heads.specs.Heads.{Heading, heading, HasHead, IsHeadless, IsCrowded, IsWhole, TakesSome, FitsHead}
+use Rattle.ix_heads.specs.Heads.{Heading, heading, IsHeadless, IsCrowded, IsWhole, FitsHead}
 use Rattle.ix_heads.specs.Lengths.{declared_length}
 use Rattle.ix_heads.specs.declared.faults.LinkFault.{LinkFault}
 use Rattle.ix_heads.specs.declared.faults.LinkFault.TheVariants.{Failed, Cut, NoMemory}
-use Rattle.ix_heads.specs.declared.reading.HeadRead.TheVariants.{Bad}
 use Rattle.ix_http.specs.declared.kinds.HttpFault.{HttpFault}
 use Rattle.ix_http.specs.declared.kinds.HttpFault.TheVariants.{BadHead, NoRoute}
 use Rattle.ix_http.specs.declared.kinds.Incoming.{Incoming}

@@ -1,14 +1,12 @@
 -- What is taken behind a head, piece by piece.
-use Rattle.std.proofs.Common.{◌≡◌, ℕ, ◌+◌, ◌-◌, ◌<◌, ◌≤◌, List, [], ◌∷◌, ◌++◌, length, take, drop, refl, sym, ap, ◌∙◌, arith, append_assoc, length-append}
-use Rattle.std.proofs.lemmas.List.{append-nil, take_all, length-take-le}
+use Rattle.std.proofs.Common.{◌≡◌, ℕ, ◌+◌, ◌-◌, ◌<◌, ◌≤◌, List, [], ◌++◌, length, take, drop, refl, sym, ap, ◌∙◌, arith, append_assoc, length-append}
+use Rattle.std.proofs.lemmas.List.{append-nil, length-take-le}
 use Rattle.std.specs.Prelude.{Option, Some, None, IfSome}
 use Rattle.std.proofs.lemmas.List.{take-append-drop, take-append-le}
 use Rattle.std.proofs.lemmas.Grind.{common_steps}
 use Rattle.ix_heads.proofs.FrontLemmas.{take_over}
 use Rattle.ix_base.specs.Told.{Told, Took}
 use Rattle.ix_heads.specs.Heads.{TakesSome}
-use Rattle.ix_heads.proofs.ToldLemmas.{told_map, told_join}
-use Rattle.ix_http.specs.Asked.{TakesBody}
 use Rattle.ix_http.specs.Behind.{EndsBefore, TakesCount, TakesPart}
 
 pub part_nothing : (n : ℕ) (x : Option (List ℕ)) → Told (TakesPart n n) x x

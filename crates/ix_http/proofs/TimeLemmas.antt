@@ -1,11 +1,11 @@
 -- A time of the query is a number that an `i64` holds.
-use Rattle.std.proofs.Common.{◌≡◌, ◌≢◌, ℕ, ◌+◌, ◌^◌, ◌<◌, ◌≤◌, List, [], ◌∷◌, Bool, true, false, length, drop, cond, zero, suc, refl, ap, sym, arith, rules, get_or, ℤ}
-use Rattle.std.specs.Prelude.{◌&&◌, ◌==◌, nat_le, pos, negsuc, neg_ℤ, FitsSigned, slice_index}
+use Rattle.std.proofs.Common.{◌≡◌, ℕ, ◌<◌, ◌≤◌, List, [], ◌∷◌, Bool, true, false, length, cond, zero, suc, refl, ap, arith}
+use Rattle.std.specs.Prelude.{◌&&◌, ◌==◌, nat_le, pos, neg_ℤ, FitsSigned}
 use Rattle.std.specs.List.{list_all}
 use Rattle.std.specs.Int.{w64}
 use Rattle.std.specs.Int.RustNames.{unsigned_abs}
 use Rattle.std.specs.Char.{is_ascii_digit, digit_value}
-use Rattle.std.specs.Str.Parse.{AllDigits, IsNumeral, digits_value, signed_digits_value, starts_with_minus, without_leading_sign, without_leading_plus}
+use Rattle.std.specs.Str.Parse.{AllDigits, IsNumeral, digits_value, signed_digits_value, starts_with_minus, without_leading_sign}
 use Rattle.std.proofs.lemmas.Int.{fits_signed_from_abs}
 use Rattle.std.proofs.lemmas.Str.Parse.{IsNumeralModel, digits_value_short}
 use Rattle.std.proofs.lemmas.Bool.Decides.{nat_tests}

@@ -1,5 +1,5 @@
 -- A head that does not say where its request ends has a fault.
-use Rattle.std.proofs.Common.{◌≡◌, ℕ, ◌≤◌, ◌^◌, Bool, true, false, cond, not, ◌&&◌, ◌||◌, List, Option, Some, None, refl, arith, lit≤}
+use Rattle.std.proofs.Common.{◌≡◌, ℕ, ◌≤◌, Bool, true, false, cond, not, ◌&&◌, ◌||◌, Option, Some, None, refl, arith, lit≤}
 use Rattle.std.specs.Prelude.{nat_lt, nat_le, codes}
 use Rattle.std.specs.Str.{bytes_eq}
 use Rattle.std.proofs.lemmas.Bool.Decides.{nat_tests}
@@ -7,7 +7,7 @@ use Rattle.ix_heads.specs.Heads.{Heading}
 use Rattle.ix_heads.specs.Lines.{has_other}
 use Rattle.ix_heads.specs.Lengths.{declared_length}
 use Rattle.ix_http.specs.declared.kinds.HttpFault.{HttpFault}
-use Rattle.ix_http.specs.declared.kinds.HttpFault.TheVariants.{BadHead, NoRoute, WrongMethod, NoLength, Encoded, TooLong}
+use Rattle.ix_http.specs.declared.kinds.HttpFault.TheVariants.{BadHead, WrongMethod, NoLength, Encoded, TooLong}
 use Rattle.ix_http.specs.Routes.{Route, channel, blocks, end, acks, buckets, events, route_of, path_of}
 use Rattle.ix_http.specs.Verdicts.{method_of, limit_of, needs_length, is_missing, body_length, is_good, is_chunked, delimited_length, route_fault, head_fault}
 

@@ -1,5 +1,5 @@
 -- What is asked by the bytes at the front of a link, and how many of them that takes.
-use Rattle.std.specs.Prelude.{◌≡◌, ◌<◌, ◌⊎◌, ℕ, List, [], ◌++◌, length, Bool, true, false, Option, Some, None, Result, Ok, Err, option_map, option_and_then}
+use Rattle.std.specs.Prelude.{◌≡◌, ◌<◌, ◌⊎◌, ℕ, List, [], ◌++◌, length, true, false, Option, Some, None, Result, Ok, Err, option_map, option_and_then}
 use Rattle.httparse.specs.Grammar.{RequestHead}
 use Rattle.ix_heads.specs.Heads.{Heading, heading, HasHead, IsHeadless, IsCut, TakesSome}
 use Rattle.ix_heads.specs.declared.faults.LinkFault.{LinkFault}

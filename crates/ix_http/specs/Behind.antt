@@ -1,5 +1,5 @@
 -- What is read behind a head.
-use Rattle.std.specs.Prelude.{◌≡◌, ◌<◌, ◌+◌, ℕ, List, [], ◌++◌, length, Bool, true, Option, Some, None, Result, Ok, Err, ⊤}
+use Rattle.std.specs.Prelude.{◌≡◌, ◌<◌, ◌+◌, ℕ, List, [], ◌++◌, length, true, Some, Result, Ok, Err, ⊤}
 use Rattle.ix_heads.specs.Heads.{Heading, TakesSome}
 use Rattle.ix_heads.specs.declared.faults.LinkFault.{LinkFault}
 use Rattle.ix_heads.specs.declared.faults.LinkFault.TheVariants.{Failed, Cut, NoMemory}

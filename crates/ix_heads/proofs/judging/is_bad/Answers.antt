@@ -1,4 +1,4 @@
-use Rattle.std.proofs.Common.{◌≡◌, true, false, sym, ◌∙◌, inr, Bool}
+use Rattle.std.proofs.Common.{◌≡◌, true, false, inr, Bool}
 use Rattle.ix_heads.proofs.FrontLemmas.{open_without_empty, crowded_all}
 use Rattle.ix_heads.proofs.judging.is_bad.Goals as goal
 

@@ -1,4 +1,4 @@
-use Rattle.std.proofs.Common.{arith, sym, subst}
+use Rattle.std.proofs.Common.{sym, subst}
 use Rattle.httparse.specs.declared.spans.RequestSpans.{RequestSpans}
 use Rattle.ix_heads.specs.Judging.{IsHeadAt}
 use Rattle.ix_heads.proofs.FrontLemmas.{open_without_lf, len_is_all}

@@ -1,5 +1,5 @@
-use Rattle.std.proofs.Common.{length, decimal, codes}
-use Rattle.ix_http.specs.Replies.{phrase_of, type_of, status_line, header_lines}
+use Rattle.std.proofs.Common.{decimal, codes}
+use Rattle.ix_http.specs.Replies.{type_of}
 use Rattle.ix_base.proofs.ToldLemmas.{on_err_always, begun_of_more, then_begun, then_written}
 use Rattle.ix_http.proofs.replies.put_headers.Goals as goal
 

@@ -1,4 +1,4 @@
-use Rattle.std.proofs.Common.{◌≡◌, ◌+◌, ◌≤◌, ◌++◌, take, length, refl, arith}
+use Rattle.std.proofs.Common.{◌≤◌, take, length, refl, arith}
 use Rattle.std.proofs.lemmas.Slice.{take-put_mid}
 use Rattle.ix_heads.proofs.ToldLemmas.{told_join}
 use Rattle.ix_heads.proofs.ReadLemmas.{reads_on}
