@@ -1,0 +1,9 @@
+pub mod Applying
+pub mod Blocks
+pub mod Bodies
+pub mod InPlace
+pub mod Numbers
+pub mod Once
+pub mod Renaming
+pub mod Replays
+pub mod Runs

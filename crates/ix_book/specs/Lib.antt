@@ -1,0 +1,5 @@
+pub mod Book
+pub mod Plain
+pub mod Replaying
+pub mod Root
+pub mod Slots

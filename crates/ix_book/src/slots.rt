@@ -1,0 +1,159 @@
+//! The staged items: one slot a name. Staging a draft calls `drop_older`, a commit `last_removals`.
+
+ghost use Rattle.std.specs.Prelude.{◌≡◌, ◌<◌, ◌≤◌, ◌+◌, ℕ, length, get_or, take, true, false, All};
+ghost use Rattle.std.specs.List.{AllByRecursion};
+ghost use Rattle.ix_items.specs.Spelling.{HasSpelling};
+ghost use Rattle.ix_book.specs.Book.{Book, name_of, is_same, replay};
+ghost use Rattle.ix_book.specs.Slots.{bytes_of, items_of, without, AreOnce, AreRemovals};
+ghost use Rattle.ix_book.specs.declared.slot.Slot.{Slot};
+
+use crate::plain::removals_after;
+use crate::slot::Slot;
+use ix_base::{File, Sequence};
+use ix_items::Item;
+use std::mem;
+
+fn kind(item: &Item) -> u8
+    ensures { result ≡ (name_of item.now).kind }
+{
+    match item {
+        Item::Settings { .. } => 1,
+        Item::Run { .. } => 2,
+        Item::Moments { .. } => 3,
+        Item::Channel { .. } | Item::Ended { .. } => 4,
+        Item::Bucket { .. } | Item::Gone { .. } => 6,
+        Item::Ledger { .. } => 8,
+        Item::Counts { .. } => 9,
+        Item::Spot { .. } => 10,
+        Item::NextFile { .. } => 11,
+        Item::Removals { .. } => 12,
+        Item::NextId { .. } => 13,
+    }
+}
+
+fn text(item: &Item) -> &[u8]
+    ensures { result.now ≡ (name_of item.now).text }
+{
+    match item {
+        Item::Channel { name, .. } => name.as_slice(),
+        Item::Ended { name } => name.as_slice(),
+        Item::Bucket { index, .. } => index.as_slice(),
+        Item::Gone { index, .. } => index.as_slice(),
+        Item::Ledger { entry } => entry.index.as_slice(),
+        Item::Spot { spot } => spot.path.as_slice(),
+        Item::NextId { index, .. } => index.as_slice(),
+        Item::Settings { .. }
+        | Item::Run { .. }
+        | Item::Moments { .. }
+        | Item::Counts { .. }
+        | Item::NextFile { .. }
+        | Item::Removals { .. } => &[],
+    }
+}
+
+fn number(item: &Item) -> u64
+    ensures { result ≡ (name_of item.now).number }
+{
+    match item {
+        Item::Bucket { bucket, .. } => bucket.id,
+        Item::Gone { id, .. } => *id,
+        Item::Ledger { entry } => entry.id,
+        Item::Settings { .. }
+        | Item::Run { .. }
+        | Item::Moments { .. }
+        | Item::Channel { .. }
+        | Item::Ended { .. }
+        | Item::Counts { .. }
+        | Item::Spot { .. }
+        | Item::NextFile { .. }
+        | Item::Removals { .. }
+        | Item::NextId { .. } => 0,
+    }
+}
+
+/// Whether the two stand under one name.
+fn same_name(a: &Item, b: &Item) -> bool
+    ensures { result ≡ is_same (name_of a.now) (name_of b.now) }
+{
+    kind(a) == kind(b) && text(a) == text(b) && number(a) == number(b)
+}
+
+/// The place of an earlier item under the name of the one at a place, or that place.
+fn earlier(slots: &[Slot], at: usize) -> usize
+    requires { at < length slots.now }
+    ensures within { result ≤ at }
+    ensures found { (d : Slot) → result < at → is_same (name_of (get_or slots.now result d).item) (name_of (get_or slots.now at d).item) ≡ true }
+    ensures none { (d : Slot) → result ≡ at → All (λ slot. is_same (name_of slot.item) (name_of (get_or slots.now at d).item) ≡ false) (take at slots.now) }
+{
+    let item = &slots[at].item;
+    let mut k = 0;
+    while k < at {
+        if same_name(&slots[k].item, item) {
+            return k;
+        }
+        k += 1;
+    }
+    k
+}
+
+/// How many bytes the item at the place has.
+fn size_at(slots: &[Slot], at: usize) -> u64
+    requires { at < length slots.now }
+    ensures { length (bytes_of (without at slots.now)) + result ≡ length (bytes_of slots.now) }
+{
+    let slot = &slots[at];
+    slot.bytes.len() as u64
+}
+
+/// Drops each item under whose name a later one stands, from a place on, and answers how many bytes are left.
+fn drop_in(slots: &mut Vec<Slot>, from: usize, size: u64) -> u64
+    requires size { size ≡ length (bytes_of slots.old.items) }
+    requires from { from ≤ length slots.old.items }
+    ensures size { result ≡ length (bytes_of slots.new.items) }
+    ensures book { (book : Book) → replay (items_of slots.new.items) book ≡ replay (items_of slots.old.items) book }
+    ensures proper { AllByRecursion HasSpelling (items_of slots.old.items) → AllByRecursion HasSpelling (items_of slots.new.items) }
+    ensures once { AreOnce (items_of (take from slots.old.items)) → AreOnce (items_of slots.new.items) }
+    ensures least { length (bytes_of slots.new.items) ≤ length (bytes_of slots.old.items) }
+{
+    let mut size = size;
+    let mut k = from;
+    while k < slots.len() {
+        let at = earlier(slots.as_slice(), k);
+        if at < k {
+            size -= size_at(slots.as_slice(), at);
+            slots.remove(at);
+        } else {
+            k += 1;
+        }
+    }
+    size
+}
+
+/// Drops each item under whose name a later one stands, where that one stands at `from` or behind, so that each name is
+/// there once. It answers how many bytes the items have then, and takes no memory.
+pub fn drop_older(slots: &mut Sequence<Slot>, from: usize, size: u64) -> u64
+    requires size { size ≡ length (bytes_of slots.old) }
+    requires from { from ≤ length slots.old }
+    ensures size { result ≡ length (bytes_of slots.new) }
+    ensures book { (book : Book) → replay (items_of slots.new) book ≡ replay (items_of slots.old) book }
+    ensures proper { AllByRecursion HasSpelling (items_of slots.old) → AllByRecursion HasSpelling (items_of slots.new) }
+    ensures once { AreOnce (items_of (take from slots.old)) → AreOnce (items_of slots.new) }
+    ensures least { length (bytes_of slots.new) ≤ length (bytes_of slots.old) }
+{
+    let own = slots.empty();
+    let mut list = mem::replace(slots, own).into_vec();
+    let left = drop_in(&mut list, from, size);
+    *slots = Sequence::from_vec(list);
+    left
+}
+
+/// The files that the last removals among these items name; none where there are none.
+pub fn last_removals(slots: &[Slot]) -> &[File]
+    ensures { AreRemovals slots.now result.now }
+{
+    let mut files: &[File] = &[];
+    for slot in slots {
+        files = removals_after(&slot.item, files);
+    }
+    files
+}
