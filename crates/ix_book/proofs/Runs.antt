@@ -5,10 +5,10 @@ use Rattle.std.proofs.lemmas.List.{map-append}
 use Rattle.ix_base.specs.declared.files.File.{File}
 use Rattle.ix_items.specs.declared.items.Item.{Item}
 use Rattle.ix_items.specs.declared.items.Item.TheVariants as items
-use Rattle.ix_book.specs.Book.{Book, empty, after_item, replay, run_in, removals_in}
+use Rattle.ix_book.specs.Book.{Book, empty, after_item, replay, run_in, removals_in, has_settings}
 use Rattle.ix_book.specs.Slots.{in_slot, items_of, AreRemovals}
 use Rattle.ix_book.specs.declared.slot.Slot.{Slot}
-use Rattle.ix_book.specs.Plain.{run_after, removals_after}
+use Rattle.ix_book.specs.Plain.{run_after, removals_after, settled_after}
 use Rattle.ix_book.proofs.Applying.{replay_behind}
 
 run_step : (item : Item) (book : Book) → run_in (after_item item book) ≡ run_after item (run_in book)
@@ -52,6 +52,27 @@ removals_more list i d within =
     ap (λ (l : List Item). removals_in (replay l empty)) (take_more list i d within)
     ∙ ap removals_in (replay_behind (take i list) (get_or list i d ∷ []) empty)
     ∙ removals_step (get_or list i d) (replay (take i list) empty)
+
+settled_step : (item : Item) (book : Book) → has_settings (after_item item book) ≡ settled_after item (has_settings book)
+settled_step (items.Settings kept) book = refl
+settled_step (items.Run run) book = refl
+settled_step (items.Moments last tick) book = refl
+settled_step (items.Channel name meta carry) book = refl
+settled_step (items.Ended name) book = refl
+settled_step (items.Bucket index bucket) book = refl
+settled_step (items.Gone index id) book = refl
+settled_step (items.Ledger entry) book = refl
+settled_step (items.Counts settled nulled dropped placed) book = refl
+settled_step (items.Spot spot) book = refl
+settled_step (items.NextFile number) book = refl
+settled_step (items.Removals files) book = refl
+settled_step (items.NextId index id) book = refl
+
+pub settled_more : (list : List Item) (i : ℕ) (d : Item) → i < length list → has_settings (replay (take (i + 1) list) empty) ≡ settled_after (get_or list i d) (has_settings (replay (take i list) empty))
+settled_more list i d within =
+    ap (λ (l : List Item). has_settings (replay l empty)) (take_more list i d within)
+    ∙ ap has_settings (replay_behind (take i list) (get_or list i d ∷ []) empty)
+    ∙ settled_step (get_or list i d) (replay (take i list) empty)
 
 -- the last removals among staged items
 step_behind : (slots : List Slot) (slot : Slot) (item : Item) → slot.item ≡ item → (book : Book) → removals_in (replay (items_of (slots ++ slot ∷ [])) book) ≡ removals_after item (removals_in (replay (items_of slots) book))

@@ -1,5 +1,5 @@
 -- The book: what stands under each name after the items of a log.
-use Rattle.std.specs.Prelude.{◌≡◌, ◌<◌, ◌==◌, ◌&&◌, if◌then◌else◌, ℕ, Bool, false, List, [], ◌∷◌, Option, Some, None, length, bytes_eq}
+use Rattle.std.specs.Prelude.{◌≡◌, ◌<◌, ◌==◌, ◌&&◌, if◌then◌else◌, ℕ, Bool, true, false, List, [], ◌∷◌, Option, Some, None, length, bytes_eq}
 use Rattle.std.specs.List.{AllByRecursion}
 use Rattle.ix_base.specs.declared.files.File.{File}
 use Rattle.ix_items.specs.declared.items.Item.{Item}
@@ -125,3 +125,11 @@ removals_of (Some (items.NextId index id)) = []
 -- the files that the last removals name
 abbrev pub removals_in : Book → List File
 removals_in book = removals_of (book (named 12 [] 0))
+
+abbrev pub is_there : Option Item → Bool
+is_there None = false
+is_there (Some item) = true
+
+-- whether settings stand
+abbrev pub has_settings : Book → Bool
+has_settings book = is_there (book (named 1 [] 0))

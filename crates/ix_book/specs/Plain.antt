@@ -1,5 +1,5 @@
 -- What a plain book stands for.
-use Rattle.std.specs.Prelude.{ℕ, List}
+use Rattle.std.specs.Prelude.{ℕ, Bool, true, List}
 use Rattle.ix_base.specs.declared.files.File.{File}
 use Rattle.ix_book.specs.Book.{Book, empty, replay}
 use Rattle.ix_items.specs.declared.items.Item.{Item}
@@ -44,3 +44,19 @@ removals_after (items.Spot spot) before = before
 removals_after (items.NextFile number) before = before
 removals_after (items.Removals files) before = files
 removals_after (items.NextId index id) before = before
+
+-- whether settings stand behind an item
+abbrev pub settled_after : Item → Bool → Bool
+settled_after (items.Settings kept) before = true
+settled_after (items.Run run) before = before
+settled_after (items.Moments last tick) before = before
+settled_after (items.Channel name meta carry) before = before
+settled_after (items.Ended name) before = before
+settled_after (items.Bucket index bucket) before = before
+settled_after (items.Gone index id) before = before
+settled_after (items.Ledger entry) before = before
+settled_after (items.Counts settled nulled dropped placed) before = before
+settled_after (items.Spot spot) before = before
+settled_after (items.NextFile number) before = before
+settled_after (items.Removals files) before = before
+settled_after (items.NextId index id) before = before

@@ -1,7 +1,7 @@
 //! A plain book: all items of a log, in order. It takes any book, and serves tests and whoever only reads a log.
 
 ghost use Rattle.std.specs.Prelude.{◌≡◌, ℕ, List};
-ghost use Rattle.ix_book.specs.Plain.{run_after, removals_after};
+ghost use Rattle.ix_book.specs.Plain.{run_after, removals_after, settled_after};
 
 use crate::replaying::Replay;
 use ix_base::{File, NoMemory, Sequence};
@@ -60,6 +60,15 @@ impl Replay for PlainBook {
         run
     }
 
+    fn has_settings(&self) -> bool {
+        let mut settled = false;
+        let items = self.items.as_slice();
+        for item in items {
+            settled = settled_after(item, settled);
+        }
+        settled
+    }
+
     fn removals(&self) -> &[File] {
         let mut files: &[File] = &[];
         let items = self.items.as_slice();
@@ -76,6 +85,16 @@ fn run_after(item: &Item, before: u64) -> u64
 {
     match item {
         Item::Run { run } => *run,
+        _ => before,
+    }
+}
+
+/// Whether settings stand behind an item.
+fn settled_after(item: &Item, before: bool) -> bool
+    ensures { result ≡ settled_after item.now before }
+{
+    match item {
+        Item::Settings { .. } => true,
         _ => before,
     }
 }

@@ -8,7 +8,7 @@ ghost use Rattle.ix_disk.specs.Moments.{Goes};
 ghost use Rattle.ix_items.specs.declared.items.Item.{Item};
 ghost use Rattle.ix_items.specs.Spelling.{HasSpelling};
 ghost use Rattle.ix_log.specs.Log.{IsReading, IsMounted, OnMore, HasBodies, file_of};
-ghost use Rattle.ix_book.specs.Book.{Book, after_item, replay, run_in, removals_in, AreItems, IsBody, Replays};
+ghost use Rattle.ix_book.specs.Book.{Book, after_item, replay, run_in, removals_in, has_settings, AreItems, IsBody, Replays};
 ghost use Rattle.ix_book.specs.Root.{Taken, IsNoLog};
 ghost use Rattle.ix_book.specs.Replaying.{HasApplied, IsReplaying, IsReplayed, IsDamaged, IsBadGate, BadGateReplaysNothing, as_replay, first_after};
 
@@ -41,6 +41,10 @@ pub trait Replay {
     /// The run that was last begun, 0 where there was none.
     fn run(&self) -> u64
         ensures { result ≡ run_in (stands self.now) };
+
+    /// Whether settings stand.
+    fn has_settings(&self) -> bool
+        ensures { result ≡ has_settings (stands self.now) };
 
     /// The files that the last removals name.
     fn removals(&self) -> &[File]
