@@ -1,0 +1,34 @@
+use Rattle.std.proofs.Common.{take, sym, subst, refl, ◌∙◌}
+use Rattle.ix_base.specs.declared.files.Area.TheVariants.{Meta}
+use Rattle.ix_keep.specs.Contents.{Contents}
+use Rattle.ix_keep.specs.Snapshot.{Stages}
+use Rattle.ix_keep.specs.Drafts.{with_copies}
+use Rattle.ix_keep.specs.declared.copied.Copied.{Copied}
+use Rattle.ix_keep.specs.declared.copied.Place.TheVariants.{Cold}
+use Rattle.ix_keep.proofs.Cutting.{grew_self, grew_on}
+use Rattle.ix_keep.proofs.Steps.{with_copies_more, fit_copy_at}
+use Rattle.ix_keep.proofs.drafting.stage_copies.Goals as goal
+
+abbrev none : Copied
+none = record { from = record { area = Meta; number = 0 }; place = Cold; number = 0; len = 0 }
+
+pub loop-copied-init : goal.loop-copied-init
+loop-copied-init c = record { staged = λ old new stages fit. stages; grew = grew_self c.args.keeper.now; size = refl }
+
+pub returns-in_err-push_copy-clause-grew : goal.returns-in_err-push_copy-clause-grew
+returns-in_err-push_copy-clause-grew c = grew_on c.args.keeper.now c.loop-copied.keeper c.push_copy.new.self c.loop-copied.invariant.grew c.push_copy.ensures.grew
+
+pub loop-copied-preserved : goal.loop-copied-preserved
+loop-copied-preserved c =
+    let xs = c.args.copies.now in
+    let i = c.loop-copied.copied-index in
+    let inv = c.loop-copied.invariant in
+    record {
+      staged = λ old new stages fit.
+          let before = with_copies (take i xs) new.contents in
+          let is = fit_copy_at old.contents new.contents xs i none c.loop-copied-test.true fit in
+          let step = c.in_ok-push_copy.ensures.staged old (record { book = new.book; contents = before }) (inv.staged old new stages fit) is in
+          subst (λ (s : Contents). Stages c.push_copy.new.self old (record { book = new.book; contents = s })) (sym (with_copies_more xs i none new.contents c.loop-copied-test.true)) step;
+      grew = grew_on c.args.keeper.now c.loop-copied.keeper c.push_copy.new.self inv.grew c.push_copy.ensures.grew;
+      size = c.push_copy.ensures.size ∙ inv.size;
+    }

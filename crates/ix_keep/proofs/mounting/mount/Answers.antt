@@ -1,0 +1,125 @@
+use Rattle.std.proofs.Common.{rules, ◌≡◌, ◌+◌, Err, refl, ap, subst, sym, ◌∙◌, arith}
+use Rattle.std.specs.Prelude.{All, None, not}
+use Rattle.std.proofs.lemmas.Result.{err_from_is_err_and}
+use Rattle.ix_keep.specs.declared.mounting.MountFault.TheVariants as mounts
+use Rattle.ix_base.specs.declared.files.File.{File}
+use Rattle.ix_disk.specs.Moments.{Goes}
+use Rattle.ix_disk.proofs.Runs.{always_still, always_on, still_all}
+use Rattle.ix_book.specs.Book.{run_in, removals_in, has_settings}
+use Rattle.ix_keep.specs.Contents.{Contents, IsFree, Spares, filling}
+use Rattle.ix_keep.specs.Snapshot.{Snapshot, log_of}
+use Rattle.ix_keep.specs.Mounting.{KeepsOneOf}
+use Rattle.ix_keep.proofs.Settling.{loosely}
+use Rattle.ix_keep.proofs.Beginning.{read_over, removed_images, begun_images, mounted_at, run_begun}
+use Rattle.ix_keep.proofs.mounting.mount.Goals as goal
+
+pub returns-in_err-begin-clause-images : goal.returns-in_err-begin-clause-images
+returns-in_err-begin-clause-images g c = λ family from to is keep.
+    let fits = g.B.Replay.fits in
+    let keeper = c.in_ok-keeper.keeper in
+    let first = c.args.disk.now in
+    let mid = c.read.new.disk in
+    let book = g.B.Replay.stands c.read.new.state in
+    let keep_mid = still_all g.D.Disk first mid (KeepsOneOf fits family from to) c.read.ensures.images keep in
+    let start = always_still g.D.Disk first mid (KeepsOneOf fits family from to) c.read.ensures.images keep in
+    let files = c.removals.result.now in
+    let named : files ≡ removals_in book = c.removals.ensures in
+    let del = c.remove_all.new.disk in
+    let current : c.log_file.result ≡ log_of keeper = c.log_file.ensures ∙ sym (read_over g.D.Disk fits keeper mid book c.in_ok-keeper.ensures.read).file in
+    let removed = subst (λ (f : File). (contents : Contents) → All (IsFree f contents) files → Goes g.D.Disk mid del (Spares f (filling contents))) current c.remove_all.ensures.images in
+    let gone = loosely g.D.Disk mid del _ c.remove_all.ensures.logs in
+    always_on g.D.Disk first mid c.begin.new.disk (KeepsOneOf fits family from to) start
+    (begun_images g.D.Disk fits keeper mid book c.in_ok-keeper.ensures.read family from to is keep_mid (λ image disk told. g.met.D.Disk.seen_may_stay disk image told) files named del removed gone (c.run-run.result + 1) c.begin.new.disk c.begin.ensures.images c.begin.ensures.comes)
+
+pub returns-clause-images : goal.returns-clause-images
+returns-clause-images g c = λ family from to is keep.
+    let fits = g.B.Replay.fits in
+    let keeper = c.in_ok-keeper.keeper in
+    let first = c.args.disk.now in
+    let mid = c.read.new.disk in
+    let book = g.B.Replay.stands c.read.new.state in
+    let keep_mid = still_all g.D.Disk first mid (KeepsOneOf fits family from to) c.read.ensures.images keep in
+    let start = always_still g.D.Disk first mid (KeepsOneOf fits family from to) c.read.ensures.images keep in
+    let files = c.removals.result.now in
+    let named : files ≡ removals_in book = c.removals.ensures in
+    let del = c.remove_all.new.disk in
+    let current : c.log_file.result ≡ log_of keeper = c.log_file.ensures ∙ sym (read_over g.D.Disk fits keeper mid book c.in_ok-keeper.ensures.read).file in
+    let removed = subst (λ (f : File). (contents : Contents) → All (IsFree f contents) files → Goes g.D.Disk mid del (Spares f (filling contents))) current c.remove_all.ensures.images in
+    let gone = loosely g.D.Disk mid del _ c.remove_all.ensures.logs in
+    always_on g.D.Disk first mid c.begin.new.disk (KeepsOneOf fits family from to) start
+    (begun_images g.D.Disk fits keeper mid book c.in_ok-keeper.ensures.read family from to is keep_mid (λ image disk told. g.met.D.Disk.seen_may_stay disk image told) files named del removed gone (c.run-run.result + 1) c.begin.new.disk c.begin.ensures.images c.begin.ensures.comes)
+
+pub returns-clause-mounted : goal.returns-clause-mounted
+returns-clause-mounted g c = λ family from to is keep image told.
+    let fits = g.B.Replay.fits in
+    let keeper = c.in_ok-keeper.keeper in
+    let first = c.args.disk.now in
+    let mid = c.read.new.disk in
+    let book = g.B.Replay.stands c.read.new.state in
+    let keep_mid = still_all g.D.Disk first mid (KeepsOneOf fits family from to) c.read.ensures.images keep in
+    let start = always_still g.D.Disk first mid (KeepsOneOf fits family from to) c.read.ensures.images keep in
+    let files = c.removals.result.now in
+    let named : files ≡ removals_in book = c.removals.ensures in
+    let del = c.remove_all.new.disk in
+    let current : c.log_file.result ≡ log_of keeper = c.log_file.ensures ∙ sym (read_over g.D.Disk fits keeper mid book c.in_ok-keeper.ensures.read).file in
+    let removed = subst (λ (f : File). (contents : Contents) → All (IsFree f contents) files → Goes g.D.Disk mid del (Spares f (filling contents))) current c.remove_all.ensures.images in
+    let gone = loosely g.D.Disk mid del _ c.remove_all.ensures.logs in
+    let left = g.met.D.Disk.seen_may_stay mid image (c.read.ensures.same ∙ told) in
+    mounted_at g.D.Disk fits keeper mid book c.in_ok-keeper.ensures.read family from to is keep_mid image left files named del removed c.begin.new.keeper c.begin.new.disk (g.B.Replay.stands c.begin.new.state) (c.run-run.result + 1)
+    (search rules) c.in_ok-begin.ensures.made c.in_ok-begin.ensures.done
+
+pub returns-then-is_err-clause-images : goal.returns-then-is_err-clause-images
+returns-then-is_err-clause-images g c = λ family from to is keep.
+    let fits = g.B.Replay.fits in
+    let keeper = c.in_ok-keeper.keeper in
+    let first = c.args.disk.now in
+    let mid = c.read.new.disk in
+    let book = g.B.Replay.stands c.read.new.state in
+    let keep_mid = still_all g.D.Disk first mid (KeepsOneOf fits family from to) c.read.ensures.images keep in
+    let start = always_still g.D.Disk first mid (KeepsOneOf fits family from to) c.read.ensures.images keep in
+    let files = c.removals.result.now in
+    let named : files ≡ removals_in book = c.removals.ensures in
+    let del = c.remove_all.new.disk in
+    let current : c.log_file.result ≡ log_of keeper = c.log_file.ensures ∙ sym (read_over g.D.Disk fits keeper mid book c.in_ok-keeper.ensures.read).file in
+    let removed = subst (λ (f : File). (contents : Contents) → All (IsFree f contents) files → Goes g.D.Disk mid del (Spares f (filling contents))) current c.remove_all.ensures.images in
+    let gone = loosely g.D.Disk mid del _ c.remove_all.ensures.logs in
+    always_on g.D.Disk first mid del (KeepsOneOf fits family from to) start
+    (removed_images g.D.Disk fits keeper mid book c.in_ok-keeper.ensures.read family from to is keep_mid (λ image disk told. g.met.D.Disk.seen_may_stay disk image told) files named del removed gone)
+
+pub returns-then-run-ge9223372036854775807-clause-images : goal.returns-then-run-ge9223372036854775807-clause-images
+returns-then-run-ge9223372036854775807-clause-images g c = λ family from to is keep.
+    let fits = g.B.Replay.fits in
+    let keeper = c.in_ok-keeper.keeper in
+    let first = c.args.disk.now in
+    let mid = c.read.new.disk in
+    let book = g.B.Replay.stands c.read.new.state in
+    let keep_mid = still_all g.D.Disk first mid (KeepsOneOf fits family from to) c.read.ensures.images keep in
+    let start = always_still g.D.Disk first mid (KeepsOneOf fits family from to) c.read.ensures.images keep in
+    let files = c.removals.result.now in
+    let named : files ≡ removals_in book = c.removals.ensures in
+    let del = c.remove_all.new.disk in
+    let current : c.log_file.result ≡ log_of keeper = c.log_file.ensures ∙ sym (read_over g.D.Disk fits keeper mid book c.in_ok-keeper.ensures.read).file in
+    let removed = subst (λ (f : File). (contents : Contents) → All (IsFree f contents) files → Goes g.D.Disk mid del (Spares f (filling contents))) current c.remove_all.ensures.images in
+    let gone = loosely g.D.Disk mid del _ c.remove_all.ensures.logs in
+    always_on g.D.Disk first mid del (KeepsOneOf fits family from to) start
+    (removed_images g.D.Disk fits keeper mid book c.in_ok-keeper.ensures.read family from to is keep_mid (λ image disk told. g.met.D.Disk.seen_may_stay disk image told) files named del removed gone)
+
+pub returns-in_err-keeper-clause-images : goal.returns-in_err-keeper-clause-images
+returns-in_err-keeper-clause-images g c = λ family from to is keep. always_still g.D.Disk c.args.disk.now c.read.new.disk (KeepsOneOf g.B.Replay.fits family from to) c.read.ensures.images keep
+
+pub returns-in_err-keeper-clause-damaged : goal.returns-in_err-keeper-clause-damaged
+returns-in_err-keeper-clause-damaged g c = λ named at is.
+    let p = err_from_is_err_and c.from_residual.result c.from_residual.ensures.1 in
+    let p1 = p.1 in
+    let p2 = p.2 in
+    let w : c.read.result ≡ Err c.in_err-keeper.field-0.0 = c.in_err-keeper.was in
+    let was : c.read.result ≡ Err (mounts.Damaged named at) = cc in
+    c.read.ensures.damaged named at was
+
+pub returns-clause-not_full : goal.returns-clause-not_full
+returns-clause-not_full g c =
+    let book = g.B.Replay.stands c.read.new.state in
+    let s : Snapshot = record { book = book; contents = λ file. None } in
+    let made = c.in_ok-begin.ensures.made s refl in
+    let is : run_in (g.B.Replay.stands c.begin.new.state) ≡ c.run-run.result + 1 = ap run_in made ∙ run_begun (not (has_settings book)) (c.run-run.result + 1) s in
+    omega (arith, is, c.if-run-ge9223372036854775807.false)

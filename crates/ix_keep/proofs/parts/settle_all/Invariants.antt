@@ -1,0 +1,18 @@
+use Rattle.std.proofs.Common.{◌≡◌, ◌≤◌, take}
+use Rattle.std.specs.Prelude.{All}
+use Rattle.ix_base.specs.declared.files.Area.TheVariants.{Meta}
+use Rattle.ix_base.specs.declared.files.File.{File}
+use Rattle.ix_disk.specs.Moments.{Goes, Holds}
+use Rattle.ix_keep.specs.Contents.{Filling, BeginsWith, HoldsFilling, Spares, Keeping}
+use Rattle.ix_keep.specs.Parts.{AreParts, file_in}
+use Rattle.ix_keep.specs.declared.parts.Part.{Part}
+use Rattle.ix_keep.proofs.parts.settle_all.Given as goal
+
+abbrev pub invariant-loop-part : goal.invariant-loop-part
+invariant-loop-part g l = record {
+  run : (log : File) (old new : Filling) → log.area ≡ Meta → AreParts old new l.parts → Goes g.D.Disk l.fn.disk l.disk (Spares log old);
+  done : (log : File) (old new : Filling) → log.area ≡ Meta → AreParts old new l.parts → HoldsFilling g.D.Disk l.fn.disk old →
+      All (λ (p : Part). Holds g.D.Disk l.disk (file_in p) (BeginsWith (new (file_in p)))) (take l.part-index l.parts);
+  logs : (log : File) → log.area ≡ Meta → Goes g.D.Disk l.fn.disk l.disk (Keeping log);
+  later : g.D.Disk.faults l.fn.disk ≤ g.D.Disk.faults l.disk;
+}

@@ -1,0 +1,12 @@
+use Rattle.ix_keep.specs.Contents.{filling}
+use Rattle.ix_keep.proofs.Settling.{settle_none}
+use Rattle.ix_keep.proofs.FreeFiles.{remove_run}
+use Rattle.ix_keep.proofs.removing.remove_one.Goals as goal
+
+pub returns-in_err-remove-clause-images : goal.returns-in_err-remove-clause-images
+returns-in_err-remove-clause-images g c = λ contents free.
+    remove_run g.D.Disk c.args.current contents c.args.disk.now c.args.disk.now c.remove.new.self c.args.file free (settle_none g.D.Disk c.args.current (filling contents) c.args.disk.now) c.remove.ensures.images
+
+pub returns-clause-images : goal.returns-clause-images
+returns-clause-images g c = λ contents free.
+    remove_run g.D.Disk c.args.current contents c.args.disk.now c.args.disk.now c.remove.new.self c.args.file free (settle_none g.D.Disk c.args.current (filling contents) c.args.disk.now) c.remove.ensures.images

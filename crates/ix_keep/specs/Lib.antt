@@ -1,0 +1,9 @@
+pub mod Committing
+pub mod Contents
+pub mod Copies
+pub mod Cuts
+pub mod Drafts
+pub mod Mounting
+pub mod Parts
+pub mod Snapshot
+pub mod Undo

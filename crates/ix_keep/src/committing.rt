@@ -1,0 +1,86 @@
+//! A commit: what is staged is made durable, in one body of the log.
+
+ghost use Rattle.std.specs.Prelude.{◌≡◌, ◌<◌, ◌≤◌, ℕ, length, Some, Err, OnOk, OnErr, IsErrOf, true};
+ghost use Rattle.ix_base.specs.Faults.{Rose};
+ghost use Rattle.ix_base.specs.declared.files.Area.TheVariants.{Meta};
+ghost use Rattle.ix_base.specs.declared.files.File.{File};
+ghost use Rattle.ix_disk.specs.Image.{Image, bytes_in};
+ghost use Rattle.ix_disk.specs.Moments.{Always, Goes};
+ghost use Rattle.ix_keep.specs.Committing.{IsShort};
+ghost use Rattle.ix_keep.specs.Contents.{Filling, Spares, HoldsFilling, Keeping, Anyhow};
+ghost use Rattle.ix_keep.specs.Parts.{AreParts};
+ghost use Rattle.ix_keep.specs.Copies.{AreCopies, after_copies};
+ghost use Rattle.ix_keep.specs.Snapshot.{Snapshot, KeepsEither, Held, IsOver, log_of};
+ghost use Rattle.ix_keep.specs.declared.fault.CommitFault.{CommitFault};
+
+use crate::copied::Copied;
+use crate::copying::copy_all;
+use crate::fault::CommitFault;
+use crate::keeper::Keeper;
+use crate::parts::{Part, settle_all};
+use crate::removing::remove_all;
+use ix_book::{Replay, last_removals, log_file, put_body};
+use ix_disk::Disk;
+
+/// Puts staged bytes where they belong, and then makes the copies.
+fn fill<D: Disk>(
+    disk: &mut D,
+    parts: &[Part],
+    copies: &[Copied],
+    buf: &mut [u8],
+) -> Result<(), CommitFault>
+    requires { 0 < length buf.old }
+    ensures images { (log : File) (old grown : Filling) → log.area ≡ Meta → AreParts old grown parts.now → AreCopies old grown copies.now →
+        Goes D.Disk disk.old disk.new (Spares log old) }
+    ensures logs { (log : File) → log.area ≡ Meta → Goes D.Disk disk.old disk.new (Keeping log) }
+    ensures filled { (log : File) (old grown : Filling) → log.area ≡ Meta → AreParts old grown parts.now → AreCopies old grown copies.now → HoldsFilling D.Disk disk.old old →
+        OnOk result (HoldsFilling D.Disk disk.new (after_copies copies.now grown)) }
+    ensures damaged { (file : File) (at : ℕ) → result ≡ Err (CommitFault.Damaged file at) → IsShort parts.now copies.now file at
+        × ((image : Image) → D.Disk.seen disk.new ≡ Some image → at ≡ length (bytes_in image file)) }
+    ensures later { D.Disk.faults disk.old ≤ D.Disk.faults disk.new }
+    ensures cause { IsErrOf result CommitFault.Disk → Rose (D.Disk.faults disk.old) (D.Disk.faults disk.new) }
+{
+    settle_all(disk, parts)?;
+    copy_all(disk, copies, buf)?;
+    Ok(())
+}
+
+/// Makes durable what is staged: first the bytes and the copies, then the items, and then it removes the files that the
+/// staged removals name. It takes no memory. After a fault the keeper is closed.
+pub fn commit<D: Disk, B: Replay>(keeper: &mut Keeper, disk: &mut D) -> Result<(), CommitFault>
+    requires { IsOver D.Disk keeper.old disk.old }
+    // Every image since the start keeps the old snapshot or the new one.
+    ensures images { (old new : Snapshot) → Held D.Disk B.fits keeper.old disk.old old new → Always D.Disk disk.old disk.new (KeepsEither B.fits old new) }
+    // After Ok all images keep the new one, and nothing is staged.
+    ensures done { (old new : Snapshot) → Held D.Disk B.fits keeper.old disk.old old new → OnOk result (Held D.Disk B.fits keeper.new disk.new new new) }
+    ensures over { OnOk result (IsOver D.Disk keeper.new disk.new) }
+    // Each image comes from one at the start.
+    ensures comes { Goes D.Disk disk.old disk.new Anyhow }
+    ensures closed { OnErr result (keeper.new.closed ≡ true) }
+    ensures file { log_of keeper.new ≡ log_of keeper.old }
+    // The named file has so many bytes, fewer than were committed.
+    ensures damaged { (file : File) (at : ℕ) → result ≡ Err (CommitFault.Damaged file at) → IsShort keeper.old.parts keeper.old.copies file at
+        × ((image : Image) → D.Disk.seen disk.new ≡ Some image → at ≡ length (bytes_in image file)) }
+    ensures later { D.Disk.faults disk.old ≤ D.Disk.faults disk.new }
+    ensures cause { IsErrOf result CommitFault.Disk → Rose (D.Disk.faults disk.old) (D.Disk.faults disk.new) }
+{
+    keeper.closed = true;
+    fill(
+        disk,
+        keeper.parts.as_slice(),
+        keeper.copies.as_slice(),
+        keeper.buffer.as_mut_slice(),
+    )?;
+    put_body(&mut keeper.log, disk, keeper.slots.as_slice())?;
+    remove_all(
+        disk,
+        last_removals(keeper.slots.as_slice()),
+        log_file(keeper.number),
+    )?;
+    keeper.parts.clear();
+    keeper.copies.clear();
+    keeper.slots.clear();
+    keeper.size = 0;
+    keeper.closed = false;
+    Ok(())
+}

@@ -1,0 +1,200 @@
+//! The keeper of a store: its logs, and what is staged.
+
+ghost use Rattle.std.specs.Prelude.{◌≡◌, ◌<◌, ◌≤◌, ◌+◌, ◌^◌, ◌++◌, ◌∷◌, ℕ, [], length, take, false, IfOk, OnOk, OnErr, IsErrOf};
+ghost use Rattle.std.specs.List.{AllByRecursion};
+ghost use Rattle.ix_book.specs.Slots.{bytes_of, items_of, AreOnce};
+ghost use Rattle.ix_items.specs.Spelling.{HasSpelling, item_bytes};
+ghost use Rattle.ix_keep.specs.declared.keeper.StageFault.TheVariants as stages;
+
+use crate::copied::Copied;
+use crate::parts::{Part, cut_parts, extend_part, home, lengths_of, part_of};
+use crate::piece::Piece;
+use ix_base::{Bytes, NoMemory as OutOfMemory, Sequence};
+use ix_book::{Slot, drop_older};
+use ix_items::{Item, write_item};
+use ix_log::Log;
+use std::alloc::Global;
+
+/// Why nothing was staged.
+#[derive(Clone, Copy, Debug, PartialEq, Eq)]
+pub enum StageFault {
+    /// The staged items and the new ones would have 2^32 bytes or more.
+    Full,
+    /// There was no room in memory.
+    NoMemory,
+}
+
+impl From<OutOfMemory> for StageFault {
+    ghost from_gives = { λ _ e. e ≡ stages.NoMemory };
+
+    fn from(_: OutOfMemory) -> StageFault {
+        StageFault::NoMemory
+    }
+}
+
+/// What is committed on the disk stays there, and what is staged is put behind it by a commit.
+#[derive(Drop)]
+pub struct Keeper {
+    pub(crate) root: Log,
+    pub(crate) log: Log,
+    /// The number of the log.
+    pub(crate) number: u64,
+    /// The staged bytes of buckets, one part a file.
+    pub(crate) parts: Sequence<Part>,
+    /// The staged copies, made one behind the other.
+    pub(crate) copies: Sequence<Copied>,
+    /// The staged items, one a name.
+    pub(crate) slots: Sequence<Slot>,
+    /// How many bytes these have.
+    pub(crate) size: u64,
+    /// Room to copy with.
+    pub(crate) buffer: Vec<u8>,
+    /// Whether a fault of the disk, or damage, was met.
+    pub(crate) closed: bool,
+    ghost sized: { size ≡ length (bytes_of slots) },
+    ghost short: { size < 2 ^ 32 },
+    ghost room: { 0 < length buffer.items },
+}
+
+/// What a keeper had staged at a moment.
+#[derive(Drop)]
+pub struct Mark {
+    lens: Vec<usize>,
+    copies: usize,
+    slots: usize,
+    size: u64,
+}
+
+/// How many bytes are copied at a time.
+const PIECE: usize = 1 << 20;
+
+impl Keeper {
+    ghost use Rattle.ix_keep.specs.Undo.{GrewTo, IsMarkOf, IsSame, HasSameLogs};
+    ghost use Rattle.ix_keep.specs.Drafts.{IsFit, IsFitCopy, with_piece, with_copy};
+    ghost use Rattle.ix_keep.specs.declared.keeper.Keeper.{Keeper};
+    ghost use Rattle.ix_keep.specs.Snapshot.{Snapshot, Stages, with_item};
+
+    /// A keeper that has staged nothing, over logs that were read.
+    pub fn over(alloc: Global, root: Log, log: Log, number: u64) -> Result<Keeper, OutOfMemory>
+        ensures root { IfOk result (λ keeper. keeper.root ≡ root) }
+        ensures log { IfOk result (λ keeper. keeper.log ≡ log) }
+        ensures number { IfOk result (λ keeper. keeper.number ≡ number) }
+        ensures parts { IfOk result (λ keeper. keeper.parts ≡ []) }
+        ensures copies { IfOk result (λ keeper. keeper.copies ≡ []) }
+        ensures slots { IfOk result (λ keeper. keeper.slots ≡ []) }
+        ensures open { IfOk result (λ keeper. keeper.closed ≡ false) }
+    {
+        let buffer = vec![in alloc; 0u8; PIECE]?;
+        Ok(Keeper {
+            root,
+            log,
+            number,
+            parts: Sequence::new(alloc),
+            copies: Sequence::new(alloc),
+            slots: Sequence::new(alloc),
+            size: 0,
+            buffer,
+            closed: false,
+        })
+    }
+
+    /// Whether an earlier call met a fault of the disk, or damage. A closed keeper is not used again: the store is
+    /// mounted anew.
+    pub fn is_closed(&self) -> bool
+        ensures { result ≡ self.now.closed }
+    {
+        self.closed
+    }
+
+    /// Whether something is staged.
+    pub fn is_staged(&self) -> bool {
+        !self.parts.is_empty() || !self.copies.is_empty() || !self.slots.is_empty()
+    }
+
+    /// Stages an item behind those that are staged.
+    pub fn push_item(&mut self, alloc: Global, item: Item) -> Result<(), StageFault>
+        requires { HasSpelling item }
+        ensures staged { (old new : Snapshot) → Stages self.old old new → OnOk result (Stages self.new old (with_item item new)) }
+        ensures grew { GrewTo self.old self.new }
+        ensures parts { self.new.parts ≡ self.old.parts }
+        ensures copies { self.new.copies ≡ self.old.copies }
+        ensures size { OnOk result (self.new.size ≡ self.old.size + length (item_bytes item)) }
+        ensures full { IsErrOf result StageFault.Full → 2 ^ 32 ≤ self.old.size + length (item_bytes item) }
+    {
+        let mut bytes = Bytes::new(alloc);
+        write_item(&item, &mut bytes)?;
+        let size = self.size.saturating_add(bytes.len() as u64);
+        if size >= 1 << 32 {
+            return Err(StageFault::Full);
+        }
+        self.slots.push(Slot { item, bytes })?;
+        self.size = size;
+        Ok(())
+    }
+
+    /// Stages a copy behind those that are staged.
+    pub fn push_copy(&mut self, copied: Copied) -> Result<(), OutOfMemory>
+        ensures staged { (old new : Snapshot) → Stages self.old old new → IsFitCopy old.contents new.contents copied →
+            OnOk result (Stages self.new old (record { book = new.book; contents = with_copy copied new.contents })) }
+        ensures grew { GrewTo self.old self.new }
+        ensures size { self.new.size ≡ self.old.size }
+    {
+        self.copies.push(copied)?;
+        Ok(())
+    }
+
+    /// Stages bytes behind those that the file has in the present snapshot.
+    pub fn push_piece(&mut self, alloc: Global, piece: &Piece) -> Result<(), OutOfMemory>
+        ensures staged { (old new : Snapshot) → Stages self.old old new → IsFit new.contents piece.now →
+            OnOk result (Stages self.new old (record { book = new.book; contents = with_piece piece.now new.contents })) }
+        ensures grew { GrewTo self.old self.new }
+        ensures size { self.new.size ≡ self.old.size }
+    {
+        let place = part_of(self.parts.as_slice(), home(piece.number));
+        if place < self.parts.len() {
+            extend_part(&mut self.parts, place, piece.bytes.as_slice())?;
+            return Ok(());
+        }
+        let staged = Bytes::copy_of(alloc, piece.bytes.as_slice())?;
+        self.parts.push(Part {
+            number: piece.number,
+            committed: piece.at,
+            staged,
+        })?;
+        Ok(())
+    }
+
+    /// What is staged now.
+    pub fn mark(&self, alloc: Global) -> Result<Mark, OutOfMemory>
+        ensures { IfOk result (λ mark. IsMarkOf mark self.now) }
+    {
+        let lens = lengths_of(alloc, self.parts.as_slice())?;
+        Ok(Mark {
+            lens,
+            copies: self.copies.len(),
+            slots: self.slots.len(),
+            size: self.size,
+        })
+    }
+
+    /// Takes back what was staged since then.
+    pub fn restore(&mut self, mark: &Mark)
+        requires { (keeper : Keeper) × IsMarkOf mark.now keeper × GrewTo keeper self.old }
+        ensures { (keeper : Keeper) → IsMarkOf mark.now keeper → GrewTo keeper self.old → IsSame keeper self.new }
+    {
+        cut_parts(&mut self.parts, mark.lens.as_slice());
+        self.copies.truncate(mark.copies);
+        self.slots.truncate(mark.slots);
+        self.size = mark.size;
+    }
+
+    /// Drops each staged item under whose name one was staged since then.
+    pub fn drop_older(&mut self, mark: &Mark)
+        requires { (keeper : Keeper) × IsMarkOf mark.now keeper × GrewTo keeper self.old }
+        ensures staged { (old new : Snapshot) → Stages self.old old new → Stages self.new old new }
+        ensures logs { HasSameLogs self.old self.new }
+        ensures once { (keeper : Keeper) → IsMarkOf mark.now keeper → GrewTo keeper self.old → AreOnce (items_of keeper.slots) → AreOnce (items_of self.new.slots) }
+    {
+        self.size = drop_older(&mut self.slots, mark.slots, self.size);
+    }
+}

@@ -1,0 +1,31 @@
+//! What the layer above may use of snapshots: laws, without code.
+
+ghost use Rattle.std.specs.Prelude.{◌≡◌, ◌≢◌, ℕ, []};
+ghost use Rattle.ix_base.specs.declared.files.File.{File};
+ghost use Rattle.ix_items.specs.declared.items.Item.TheVariants as items;
+ghost use Rattle.ix_disk.specs.Image.{nothing};
+ghost use Rattle.ix_book.specs.Book.{Name, empty, after_item};
+ghost use Rattle.ix_keep.specs.Contents.{filling};
+ghost use Rattle.ix_keep.specs.Snapshot.{Snapshot, Stages, Forgets};
+ghost use Rattle.ix_keep.specs.Undo.{IsSame};
+ghost use Rattle.ix_keep.specs.Mounting.{KeepsOneOf};
+ghost use Rattle.ix_keep.specs.declared.keeper.Keeper.{Keeper};
+
+use ix_book::Replay;
+
+/// An empty disk keeps what stands for the first snapshot of a family that begins with no settings set, nothing else and
+/// no bytes.
+pub fn empty_disk_keeps<B: Replay>()
+    ensures { (family : ℕ → Snapshot) (to : ℕ) → ((name : Name) → name.kind ≢ 2 → name.kind ≢ 12 → after_item (items.Settings []) empty name ≡ (family 0).book name) → ((file : File) → filling (family 0).contents file ≡ []) → KeepsOneOf B.fits family 0 to nothing }
+{}
+
+/// What is staged leads as well to a snapshot that says less of the files: a file may be done with at any time, also one
+/// with bytes that are staged.
+pub fn forgets()
+    ensures { (keeper : Keeper) (old new to : Snapshot) → Stages keeper old new → to.book ≡ new.book → Forgets new.contents to.contents → Stages keeper old to }
+{}
+
+/// What two keepers with the same staged have staged is the same.
+pub fn same_stages()
+    ensures { (a b : Keeper) (old new : Snapshot) → IsSame a b → Stages a old new → Stages b old new }
+{}

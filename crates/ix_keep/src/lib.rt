@@ -1,0 +1,25 @@
+//! The crash layer of a store: a snapshot, which is the items of the current log and what the files of buckets begin with, is kept
+//! on a disk whatever a stop leaves.
+#![tactic(auto)]
+
+mod committing;
+mod copied;
+mod copying;
+mod drafting;
+mod fault;
+mod keeper;
+mod lawful;
+mod mounting;
+mod parts;
+mod piece;
+mod removing;
+
+pub use committing::commit;
+pub use copied::{Copied, Place};
+pub use drafting::stage;
+pub use fault::CommitFault;
+pub use keeper::{Keeper, Mark, StageFault};
+pub use lawful::{empty_disk_keeps, forgets, same_stages};
+pub use mounting::{MountFault, mount};
+pub use parts::Part;
+pub use piece::{Draft, Piece};

@@ -1,0 +1,262 @@
+//! Mounting: the logs are read, the state is replayed, and the next run begins.
+
+ghost use Rattle.std.specs.Prelude.{◌≡◌, ◌≤◌, ◌<◌, ◌+◌, ◌-◌, ◌^◌, ◌⊎◌, ℕ, [], Some, Err, OnOk, OnErr, IfOk, IsErrOf, true, false, not};
+ghost use Rattle.ix_base.specs.Faults.{Rose};
+ghost use Rattle.ix_base.specs.declared.files.File.{File};
+ghost use Rattle.ix_items.specs.declared.items.Item.TheVariants as items;
+ghost use Rattle.ix_items.specs.Spelling.{HasSpelling};
+ghost use Rattle.ix_disk.specs.Image.{Image, bytes_in, Stays};
+ghost use Rattle.ix_disk.specs.Moments.{Goes, Always};
+ghost use Rattle.ix_log.specs.Log.{IsAtEnd, IsAsRead, file_of};
+ghost use Rattle.ix_book.specs.Book.{Book, empty, after_item, run_in, removals_in, has_settings};
+ghost use Rattle.ix_book.specs.Root.{Taken, roots, log_file, IsBadRoot};
+ghost use Rattle.ix_book.specs.Replaying.{IsReplayed, IsBadGate};
+ghost use Rattle.ix_keep.specs.Contents.{Anyhow};
+ghost use Rattle.ix_keep.specs.Snapshot.{Snapshot, KeepsEither, Held, IsOver, Stages, log_of, with_item, begun};
+ghost use Rattle.ix_keep.specs.Undo.{HasSameLogs};
+ghost use Rattle.ix_keep.specs.Mounting.{IsRead, IsFamily, AllKeep, KeepsOneOf, IsMountedAt, IsBadMount, IsBadLog, as_mount, as_mount_too};
+
+use crate::committing::commit;
+use crate::fault::CommitFault;
+use crate::keeper::{Keeper, StageFault};
+use crate::removing::remove_all;
+use ix_base::{File, NoMemory as OutOfMemory, Sequence};
+use ix_book::{Replay, ReplayFault, log_file, read_root, replay_log};
+use ix_disk::Disk;
+use ix_items::Item;
+use ix_log::Log;
+use std::alloc::Global;
+
+/// Why nothing was mounted.
+#[derive(Clone, Copy, Debug, PartialEq, Eq)]
+pub enum MountFault {
+    /// The disk has failed.
+    Disk,
+    /// In this log, behind the gate at this place, stands no body that counts.
+    Damaged { file: File, at: u64 },
+    /// No further run has a number, or the state above has no room for the first body of a store.
+    Full,
+    /// There was no room in memory.
+    NoMemory,
+}
+
+/// What a fault of the log in this file is.
+fn as_mount(file: File, fault: ReplayFault) -> MountFault
+    ensures { result ≡ as_mount file fault }
+{
+    match fault {
+        ReplayFault::Disk => MountFault::Disk,
+        ReplayFault::Damaged { at } => MountFault::Damaged { file, at },
+        ReplayFault::NoMemory => MountFault::NoMemory,
+    }
+}
+
+impl From<CommitFault> for MountFault {
+    ghost from_gives = { λ fault e. e ≡ as_mount_too fault };
+
+    fn from(fault: CommitFault) -> MountFault {
+        match fault {
+            CommitFault::Disk => MountFault::Disk,
+            CommitFault::Damaged { file, at } => MountFault::Damaged { file, at },
+        }
+    }
+}
+
+/// Reads the root log: the log, and the number of the current one.
+fn read_numbers<D: Disk>(alloc: Global, disk: &mut D) -> Result<(Log, u64), MountFault>
+    ensures read { IfOk result (λ found. (1 ≤ found.1) × IsAtEnd D.Disk found.0 disk.new (roots (found.1 - 1))) }
+    ensures file { IfOk result (λ found. file_of found.0 ≡ log_file 0) }
+    ensures damaged { (named : File) (at : ℕ) → IsBadMount result named at → (named ≡ log_file 0)
+        × ((image : Image) → D.Disk.seen disk.old ≡ Some image → IsBadRoot at (bytes_in image (log_file 0))) }
+    ensures not_full { IsErrOf result MountFault.Full → ⊥ }
+    ensures same { D.Disk.seen disk.new ≡ D.Disk.seen disk.old }
+    ensures images { Goes D.Disk disk.old disk.new Stays }
+    ensures later { D.Disk.faults disk.old ≤ D.Disk.faults disk.new }
+    ensures cause { IsErrOf result MountFault.Disk → Rose (D.Disk.faults disk.old) (D.Disk.faults disk.new) }
+{
+    let file = log_file(0);
+    let Ok(mut log) = Log::mount(alloc, disk, file) else {
+        return Err(MountFault::Disk);
+    };
+    match read_root(alloc, &mut log, disk) {
+        Ok(number) => Ok((log, number)),
+        Err(fault) => Err(as_mount(file, fault)),
+    }
+}
+
+/// Reads the current log into the state: the log, and how many bytes its first body has.
+fn read_current<D: Disk, B: Replay>(
+    alloc: Global,
+    disk: &mut D,
+    file: File,
+    state: &mut B,
+) -> Result<(Log, u64), MountFault>
+    requires { B.stands state.old ≡ empty }
+    ensures read { IfOk result (λ found. IsReplayed D.Disk (Taken B.fits file) found.0 disk.new empty (B.stands state.new) found.1) }
+    ensures settled { IfOk result (λ found. IsAsRead D.Disk disk.new file) }
+    ensures file { IfOk result (λ found. file_of found.0 ≡ file) }
+    ensures damaged { (named : File) (at : ℕ) → IsBadMount result named at → (named ≡ file)
+        × ((image : Image) → D.Disk.seen disk.old ≡ Some image → IsBadGate (Taken B.fits file) empty at (bytes_in image file)) }
+    ensures not_full { IsErrOf result MountFault.Full → ⊥ }
+    ensures same { D.Disk.seen disk.new ≡ D.Disk.seen disk.old }
+    ensures images { Goes D.Disk disk.old disk.new Stays }
+    ensures later { D.Disk.faults disk.old ≤ D.Disk.faults disk.new }
+    ensures cause { IsErrOf result MountFault.Disk → Rose (D.Disk.faults disk.old) (D.Disk.faults disk.new) }
+{
+    let Ok(mut log) = Log::mount(alloc, disk, file) else {
+        return Err(MountFault::Disk);
+    };
+    match replay_log(alloc, &mut log, disk, state, file) {
+        Ok(first) => Ok((log, first)),
+        Err(fault) => Err(as_mount(file, fault)),
+    }
+}
+
+/// Reads the logs of a disk: a keeper that has staged nothing.
+fn read<D: Disk, B: Replay>(
+    alloc: Global,
+    disk: &mut D,
+    state: &mut B,
+) -> Result<Keeper, MountFault>
+    requires { B.stands state.old ≡ empty }
+    ensures read { IfOk result (λ keeper. IsRead D.Disk B.fits keeper disk.new (B.stands state.new)) }
+    ensures damaged { (named : File) (at : ℕ) → IsBadMount result named at → (image : Image) → D.Disk.seen disk.old ≡ Some image → IsBadLog B.fits named at image }
+    ensures not_full { IsErrOf result MountFault.Full → ⊥ }
+    ensures same { D.Disk.seen disk.new ≡ D.Disk.seen disk.old }
+    ensures images { Goes D.Disk disk.old disk.new Stays }
+    ensures later { D.Disk.faults disk.old ≤ D.Disk.faults disk.new }
+    ensures cause { IsErrOf result MountFault.Disk → Rose (D.Disk.faults disk.old) (D.Disk.faults disk.new) }
+{
+    let (root, number) = read_numbers(alloc, disk)?;
+    let (log, _) = read_current(alloc, disk, log_file(number), state)?;
+    match Keeper::over(alloc, root, log, number) {
+        Ok(keeper) => Ok(keeper),
+        Err(_) => Err(MountFault::NoMemory),
+    }
+}
+
+/// Puts an item into the state and stages it. The two are the same item.
+fn enter<B: Replay>(
+    alloc: Global,
+    keeper: &mut Keeper,
+    state: &mut B,
+    item: Item,
+    again: Item,
+) -> Result<(), MountFault>
+    requires same { again ≡ item }
+    requires proper { HasSpelling item }
+    ensures staged { (old new : Snapshot) → Stages keeper.old old new → OnOk result (Stages keeper.new old (with_item item new)) }
+    ensures made { OnOk result (B.stands state.new ≡ after_item item (B.stands state.old)) }
+    ensures logs { HasSameLogs keeper.old keeper.new }
+    ensures parts { keeper.new.parts ≡ keeper.old.parts }
+    ensures copies { keeper.new.copies ≡ keeper.old.copies }
+    ensures memory { OnErr result (result ≡ Err MountFault.NoMemory) }
+{
+    if state.apply(item).is_err() {
+        return Err(MountFault::NoMemory);
+    }
+    if keeper.push_item(alloc, again).is_err() {
+        return Err(MountFault::NoMemory);
+    }
+    Ok(())
+}
+
+/// Stages what begins a run; in a new store its settings too, none at first.
+fn enter_run<B: Replay>(
+    alloc: Global,
+    keeper: &mut Keeper,
+    state: &mut B,
+    fresh: bool,
+    run: u64,
+) -> Result<(), MountFault>
+    requires { run < 2 ^ 63 }
+    ensures staged { (old new : Snapshot) → Stages keeper.old old new → OnOk result (Stages keeper.new old (begun fresh run new)) }
+    ensures made { (s : Snapshot) → B.stands state.old ≡ s.book → OnOk result (B.stands state.new ≡ (begun fresh run s).book) }
+    ensures logs { HasSameLogs keeper.old keeper.new }
+    ensures parts { keeper.new.parts ≡ keeper.old.parts }
+    ensures copies { keeper.new.copies ≡ keeper.old.copies }
+    ensures memory { OnErr result (result ≡ Err MountFault.NoMemory) }
+{
+    if !fresh {
+        enter(alloc, keeper, state, Item::Run { run }, Item::Run { run })?;
+        return Ok(());
+    }
+    let kept = Sequence::new(alloc);
+    let again = Sequence::new(alloc);
+    enter(
+        alloc,
+        keeper,
+        state,
+        Item::Settings { kept },
+        Item::Settings { kept: again },
+    )?;
+    enter(alloc, keeper, state, Item::Run { run }, Item::Run { run })?;
+    Ok(())
+}
+
+/// Begins a run: writes its number in a body of its own.
+fn begin<D: Disk, B: Replay>(
+    alloc: Global,
+    keeper: &mut Keeper,
+    disk: &mut D,
+    state: &mut B,
+    run: u64,
+) -> Result<(), MountFault>
+    requires over { IsOver D.Disk keeper.old disk.old }
+    requires range { run < 2 ^ 63 }
+    ensures images { (s : Snapshot) → s.book ≡ B.stands state.old → Held D.Disk B.fits keeper.old disk.old s s → Always D.Disk disk.old disk.new (KeepsEither B.fits s (begun (not (has_settings s.book)) run s)) }
+    ensures comes { Goes D.Disk disk.old disk.new Anyhow }
+    ensures done { (s : Snapshot) → s.book ≡ B.stands state.old → Held D.Disk B.fits keeper.old disk.old s s → OnOk result (Held D.Disk B.fits keeper.new disk.new (begun (not (has_settings s.book)) run s) (begun (not (has_settings s.book)) run s)) }
+    ensures over { OnOk result (IsOver D.Disk keeper.new disk.new) }
+    ensures made { (s : Snapshot) → B.stands state.old ≡ s.book → OnOk result (B.stands state.new ≡ (begun (not (has_settings s.book)) run s).book) }
+    ensures damaged { keeper.old.parts ≡ [] → keeper.old.copies ≡ [] → (file : File) (at : ℕ) → IsBadMount result file at → ⊥ }
+    ensures full { IsErrOf result MountFault.Full → B.fits (B.stands state.new) → ⊥ }
+    ensures later { D.Disk.faults disk.old ≤ D.Disk.faults disk.new }
+    ensures cause { IsErrOf result MountFault.Disk → Rose (D.Disk.faults disk.old) (D.Disk.faults disk.new) }
+{
+    let fresh = !state.has_settings();
+    enter_run(alloc, keeper, state, fresh, run)?;
+    match state.judge() {
+        Ok(true) => {}
+        Ok(false) => return Err(MountFault::Full),
+        Err(_) => return Err(MountFault::NoMemory),
+    }
+    commit::<D, B>(keeper, disk)?;
+    Ok(())
+}
+
+/// Mounts a store: replays its current log into the state, removes again the files that its last removals name, and begins
+/// the next run, whose number it writes in a body of its own before it answers. The state is that of no items at the start.
+pub fn mount<D: Disk, B: Replay>(
+    alloc: Global,
+    disk: &mut D,
+    state: &mut B,
+) -> Result<Keeper, MountFault>
+    requires { B.stands state.old ≡ empty }
+    // Where every image at the start keeps one of a family of snapshots, every image since does.
+    ensures images { (family : ℕ → Snapshot) (from to : ℕ) → IsFamily family from to → AllKeep D.Disk disk.old B.fits family from to →
+        Always D.Disk disk.old disk.new (KeepsOneOf B.fits family from to) }
+    // At Ok disk and keeper hold the one that the disk's own reading keeps, with the next run.
+    ensures mounted { IfOk result (λ keeper. (family : ℕ → Snapshot) (from to : ℕ) → IsFamily family from to → AllKeep D.Disk disk.old B.fits family from to →
+        (image : Image) → D.Disk.seen disk.old ≡ Some image → IsMountedAt D.Disk B.fits keeper disk.new (B.stands state.new) family from to image) }
+    // What a commit asks for.
+    ensures over { IfOk result (λ keeper. IsOver D.Disk keeper disk.new) }
+    // It names the gate of the first bad body of the root log or the current one, as the disk reads.
+    ensures damaged { (named : File) (at : ℕ) → IsBadMount result named at → (image : Image) → D.Disk.seen disk.old ≡ Some image → IsBadLog B.fits named at image }
+    // It is full exactly where the run that was found is the last, or the state above takes no first body.
+    ensures full { IsErrOf result MountFault.Full → (2 ^ 63 - 1 ≤ run_in (B.stands state.new)) ⊎ (B.fits (B.stands state.new) → ⊥) }
+    ensures not_full { OnOk result (run_in (B.stands state.new) < 2 ^ 63) }
+    ensures later { D.Disk.faults disk.old ≤ D.Disk.faults disk.new }
+    ensures cause { IsErrOf result MountFault.Disk → Rose (D.Disk.faults disk.old) (D.Disk.faults disk.new) }
+{
+    let mut keeper = read(alloc, disk, state)?;
+    if remove_all(disk, state.removals(), log_file(keeper.number)).is_err() {
+        return Err(MountFault::Disk);
+    }
+    let run = state.run();
+    if run >= 9_223_372_036_854_775_807 {
+        return Err(MountFault::Full);
+    }
+    begin(alloc, &mut keeper, disk, state, run + 1)?;
+    Ok(keeper)
+}
