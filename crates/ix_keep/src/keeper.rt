@@ -66,7 +66,7 @@ pub struct Mark {
 }
 
 /// How many bytes are copied at a time.
-const PIECE: usize = 1 << 20;
+const PIECE: usize = 1 << 16;
 
 impl Keeper {
     ghost use Rattle.ix_keep.specs.Undo.{GrewTo, IsMarkOf, IsSame, HasSameLogs};
