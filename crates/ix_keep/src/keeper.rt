@@ -1,6 +1,6 @@
 //! The keeper of a store: its logs, and what is staged.
 
-ghost use Rattle.std.specs.Prelude.{◌≡◌, ◌<◌, ◌≤◌, ◌+◌, ◌^◌, ◌++◌, ◌∷◌, ℕ, [], length, take, false, IfOk, OnOk, OnErr, IsErrOf};
+ghost use Rattle.std.specs.Prelude.{◌≡◌, ◌<◌, ◌≤◌, ◌+◌, ◌^◌, ◌++◌, ◌∷◌, ℕ, [], length, take, false, IfOk, OnOk, OnErr, IsTrue, ◌↔◌, IsErrOf};
 ghost use Rattle.std.specs.List.{AllByRecursion};
 ghost use Rattle.ix_book.specs.Slots.{bytes_of, items_of, AreOnce};
 ghost use Rattle.ix_items.specs.Spelling.{HasSpelling, item_bytes};
@@ -107,7 +107,9 @@ impl Keeper {
     }
 
     /// Whether something is staged.
-    pub fn is_staged(&self) -> bool {
+    pub fn is_staged(&self) -> bool
+        ensures { IsTrue result ↔ (0 < length self.now.parts + length self.now.copies + length self.now.slots) }
+    {
         !self.parts.is_empty() || !self.copies.is_empty() || !self.slots.is_empty()
     }
 

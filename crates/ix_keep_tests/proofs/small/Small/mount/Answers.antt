@@ -1,0 +1,8 @@
+use Rattle.std.proofs.Common.{length}
+use Rattle.ix_keep_tests.specs.History.{leaves}
+use Rattle.ix_keep_tests.proofs.Standing.{holds_prefix}
+use Rattle.ix_keep_tests.proofs.small.Small.mount.Goals as goal
+
+pub returns-clause-mounted : goal.returns-clause-mounted
+returns-clause-mounted g c = λ snap h k is keep image told.
+    holds_prefix g.D.Disk g.B.Replay.fits snap h _ c.mount.new.disk (g.B.Replay.stands c.mount.new.state) k image (c.in_ok-keeper.ensures.mounted (leaves snap h) k (length h) is keep image told) c.run-run.ensures

@@ -1,0 +1,10 @@
+//! Tests of the book and the keeper by public calls: what stops, failing calls and damage leave of a store.
+#![tactic(auto)]
+
+#[cfg(test)]
+mod damage;
+#[cfg(test)]
+mod script;
+pub mod small;
+#[cfg(test)]
+mod stops;

@@ -1,0 +1,157 @@
+//! A small life of a store: a mount and four groups, with a bucket that grows, one that moves, and one that gets bytes and moves in
+//! one group.
+
+ghost use Rattle.std.specs.Prelude.{◌≡◌, IfOk, IsTrue};
+ghost use Rattle.std.specs.List.{AllByRecursion};
+ghost use Rattle.ix_items.specs.Spelling.{HasSpelling};
+ghost use Rattle.ix_keep.specs.Snapshot.{IsOver};
+
+use ix_base::{Area, Bytes, File, NoMemory, Sequence};
+use ix_book::PlainBook;
+use ix_disk::Disk;
+use ix_items::Item;
+use ix_keep::{Copied, Draft, Keeper, Piece, Place, commit, mount, stage};
+use std::alloc::Global;
+
+/// A file by its area and number.
+pub fn file(area: Area, number: u64) -> File {
+    File { area, number }
+}
+
+/// The items of a group: its number as the last moment, and the file that is done with, where there is one.
+fn items(alloc: Global, group: i64, gone: Option<File>) -> Result<Sequence<Item>, NoMemory>
+    ensures { IfOk result (λ items. AllByRecursion HasSpelling items) }
+{
+    let mut items = Sequence::new(alloc);
+    items.push(Item::Moments {
+        last: group,
+        tick: 0,
+    })?;
+    if let Some(file) = gone {
+        let mut files = Sequence::new(alloc);
+        files.push(file)?;
+        items.push(Item::Removals { files })?;
+    }
+    Ok(items)
+}
+
+/// Bytes for a bucket, behind those that it has.
+fn piece(alloc: Global, number: u64, at: u64, bytes: &[u8]) -> Result<Piece, NoMemory> {
+    let bytes = Bytes::copy_of(alloc, bytes)?;
+    Ok(Piece { number, at, bytes })
+}
+
+/// The pieces of each group.
+fn pieces(alloc: Global, group: i64) -> Result<Sequence<Piece>, NoMemory> {
+    let mut pieces = Sequence::new(alloc);
+    match group {
+        1 => pieces.push(piece(alloc, 1, 0, b"abc")?)?,
+        2 => {
+            pieces.push(piece(alloc, 1, 3, b"de")?)?;
+            pieces.push(piece(alloc, 2, 0, b"x")?)?;
+        }
+        4 => pieces.push(piece(alloc, 2, 1, b"yz")?)?,
+        _ => {}
+    }
+    Ok(pieces)
+}
+
+/// The copy of each group: bucket 1 moves in the third group, bucket 2 in the fourth.
+fn copies(alloc: Global, group: i64) -> Result<Sequence<Copied>, NoMemory> {
+    let mut copies = Sequence::new(alloc);
+    let moved = match group {
+        3 => Some((1, 3, 5)),
+        4 => Some((2, 4, 3)),
+        _ => None,
+    };
+    if let Some((from, number, len)) = moved {
+        copies.push(Copied {
+            from: file(Area::Home, from),
+            place: Place::Cold,
+            number,
+            len,
+        })?;
+    }
+    Ok(copies)
+}
+
+/// The file that each group is done with.
+fn gone(group: i64) -> Option<File> {
+    match group {
+        3 => Some(file(Area::Home, 1)),
+        4 => Some(file(Area::Home, 2)),
+        _ => None,
+    }
+}
+
+/// Stages a group and commits it. It answers whether that was Ok.
+fn group<D: Disk>(
+    alloc: Global,
+    keeper: &mut Keeper,
+    disk: &mut D,
+    group: i64,
+) -> Result<bool, NoMemory>
+    requires { IsOver D.Disk keeper.old disk.old }
+    ensures { IfOk result (λ done. IsTrue done → IsOver D.Disk keeper.new disk.new) }
+{
+    let draft = Draft {
+        pieces: pieces(alloc, group)?,
+        copies: copies(alloc, group)?,
+        items: items(alloc, group, gone(group))?,
+    };
+    if stage(keeper, alloc, draft).is_err() {
+        return Ok(false);
+    }
+    Ok(commit::<D, PlainBook>(keeper, disk).is_ok())
+}
+
+/// Mounts a store and commits so many groups, as long as all goes well. It answers how many were committed.
+pub fn live<D: Disk>(alloc: Global, disk: &mut D, groups: i64) -> Result<i64, NoMemory> {
+    let mut book = PlainBook::new(alloc);
+    let Ok(mut keeper) = mount(alloc, disk, &mut book) else {
+        return Ok(0);
+    };
+    let mut done = 0;
+    while done < groups {
+        if !group(alloc, &mut keeper, disk, done + 1)? {
+            return Ok(done);
+        }
+        done += 1;
+    }
+    Ok(done)
+}
+
+/// The last moment in a book: the number of the last group that it has.
+pub fn last_of(book: &PlainBook) -> i64 {
+    let mut group = 0;
+    for item in book.items() {
+        if let Item::Moments { last, .. } = item {
+            group = *last;
+        }
+    }
+    group
+}
+
+/// Whether a file begins with these bytes.
+fn begins<D: Disk>(disk: &mut D, file: File, bytes: &[u8]) -> bool {
+    let mut found = [0; 8];
+    match disk.read(file, 0, &mut found) {
+        Ok(n) => bytes.len() <= n && &found[..bytes.len()] == bytes,
+        Err(_) => false,
+    }
+}
+
+/// Whether the files begin with what a store has after so many groups.
+pub fn has_files<D: Disk>(disk: &mut D, groups: i64) -> bool {
+    let one = file(Area::Home, 1);
+    let two = file(Area::Home, 2);
+    let three = file(Area::Cold, 3);
+    let four = file(Area::Cold, 4);
+    match groups {
+        1 => begins(disk, one, b"abc"),
+        2 => begins(disk, one, b"abcde") && begins(disk, two, b"x"),
+        3 => begins(disk, three, b"abcde") && begins(disk, two, b"x"),
+        4 => begins(disk, three, b"abcde") && begins(disk, four, b"xyz"),
+        _ => true,
+    }
+}
