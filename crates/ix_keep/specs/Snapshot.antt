@@ -83,6 +83,10 @@ pub record Held {D : Type 0} (g : Ghosts D) (fits : Book → Type 0) (keeper : K
   pub fit : 0 < length keeper.slots → Taken fits (log_of keeper) new.book
   pub free : AreFree (log_of keeper) new
 
+-- nothing is staged
+abbrev pub IsIdle : Keeper → Type 0
+IsIdle keeper = (keeper.parts ≡ []) × ((keeper.copies ≡ []) × (keeper.slots ≡ []))
+
 -- The logs stand at the ends of some bodies, in every image: what holds from a mount on, as long as nobody else writes there.
 pub record AreOver {D : Type 0} (g : Ghosts D) (root log : Log) (number : ℕ) (disk : D) : Type 0 where
   pub least : 1 ≤ number

@@ -10,7 +10,7 @@ ghost use Rattle.ix_keep.specs.Committing.{IsShort};
 ghost use Rattle.ix_keep.specs.Contents.{Filling, Spares, HoldsFilling, Keeping, Anyhow};
 ghost use Rattle.ix_keep.specs.Parts.{AreParts};
 ghost use Rattle.ix_keep.specs.Copies.{AreCopies, after_copies};
-ghost use Rattle.ix_keep.specs.Snapshot.{Snapshot, KeepsEither, Held, IsOver, log_of};
+ghost use Rattle.ix_keep.specs.Snapshot.{Snapshot, KeepsEither, Held, IsOver, IsIdle, log_of};
 ghost use Rattle.ix_keep.specs.declared.fault.CommitFault.{CommitFault};
 
 use crate::copied::Copied;
@@ -54,6 +54,7 @@ pub fn commit<D: Disk, B: Replay>(keeper: &mut Keeper, disk: &mut D) -> Result<(
     // After Ok all images keep the new one, and nothing is staged.
     ensures done { (old new : Snapshot) → Held D.Disk B.fits keeper.old disk.old old new → OnOk result (Held D.Disk B.fits keeper.new disk.new new new) }
     ensures over { OnOk result (IsOver D.Disk keeper.new disk.new) }
+    ensures idle { OnOk result (IsIdle keeper.new) }
     // Each image comes from one at the start.
     ensures comes { Goes D.Disk disk.old disk.new Anyhow }
     ensures closed { OnErr result (keeper.new.closed ≡ true) }

@@ -75,7 +75,7 @@ impl Keeper {
     ghost use Rattle.ix_keep.specs.Snapshot.{Snapshot, Stages, with_item};
 
     /// A keeper that has staged nothing, over logs that were read.
-    pub fn over(alloc: Global, root: Log, log: Log, number: u64) -> Result<Keeper, OutOfMemory>
+    pub(crate) fn over(alloc: Global, root: Log, log: Log, number: u64) -> Result<Keeper, OutOfMemory>
         ensures root { IfOk result (λ keeper. keeper.root ≡ root) }
         ensures log { IfOk result (λ keeper. keeper.log ≡ log) }
         ensures number { IfOk result (λ keeper. keeper.number ≡ number) }
@@ -114,7 +114,7 @@ impl Keeper {
     }
 
     /// Stages an item behind those that are staged.
-    pub fn push_item(&mut self, alloc: Global, item: Item) -> Result<(), StageFault>
+    pub(crate) fn push_item(&mut self, alloc: Global, item: Item) -> Result<(), StageFault>
         requires { HasSpelling item }
         ensures staged { (old new : Snapshot) → Stages self.old old new → OnOk result (Stages self.new old (with_item item new)) }
         ensures grew { GrewTo self.old self.new }
@@ -135,7 +135,7 @@ impl Keeper {
     }
 
     /// Stages a copy behind those that are staged.
-    pub fn push_copy(&mut self, copied: Copied) -> Result<(), OutOfMemory>
+    pub(crate) fn push_copy(&mut self, copied: Copied) -> Result<(), OutOfMemory>
         ensures staged { (old new : Snapshot) → Stages self.old old new → IsFitCopy old.contents new.contents copied →
             OnOk result (Stages self.new old (record { book = new.book; contents = with_copy copied new.contents })) }
         ensures grew { GrewTo self.old self.new }
@@ -146,7 +146,7 @@ impl Keeper {
     }
 
     /// Stages bytes behind those that the file has in the present snapshot.
-    pub fn push_piece(&mut self, alloc: Global, piece: &Piece) -> Result<(), OutOfMemory>
+    pub(crate) fn push_piece(&mut self, alloc: Global, piece: &Piece) -> Result<(), OutOfMemory>
         ensures staged { (old new : Snapshot) → Stages self.old old new → IsFit new.contents piece.now →
             OnOk result (Stages self.new old (record { book = new.book; contents = with_piece piece.now new.contents })) }
         ensures grew { GrewTo self.old self.new }
@@ -167,7 +167,7 @@ impl Keeper {
     }
 
     /// What is staged now.
-    pub fn mark(&self, alloc: Global) -> Result<Mark, OutOfMemory>
+    pub(crate) fn mark(&self, alloc: Global) -> Result<Mark, OutOfMemory>
         ensures { IfOk result (λ mark. IsMarkOf mark self.now) }
     {
         let lens = lengths_of(alloc, self.parts.as_slice())?;
@@ -180,7 +180,7 @@ impl Keeper {
     }
 
     /// Takes back what was staged since then.
-    pub fn restore(&mut self, mark: &Mark)
+    pub(crate) fn restore(&mut self, mark: &Mark)
         requires { (keeper : Keeper) × IsMarkOf mark.now keeper × GrewTo keeper self.old }
         ensures { (keeper : Keeper) → IsMarkOf mark.now keeper → GrewTo keeper self.old → IsSame keeper self.new }
     {
@@ -191,7 +191,7 @@ impl Keeper {
     }
 
     /// Drops each staged item under whose name one was staged since then.
-    pub fn drop_older(&mut self, mark: &Mark)
+    pub(crate) fn drop_older(&mut self, mark: &Mark)
         requires { (keeper : Keeper) × IsMarkOf mark.now keeper × GrewTo keeper self.old }
         ensures staged { (old new : Snapshot) → Stages self.old old new → Stages self.new old new }
         ensures logs { HasSameLogs self.old self.new }

@@ -18,7 +18,7 @@ pub use committing::commit;
 pub use copied::{Copied, Place};
 pub use drafting::stage;
 pub use fault::CommitFault;
-pub use keeper::{Keeper, Mark, StageFault};
+pub use keeper::{Keeper, StageFault};
 pub use lawful::{empty_disk_keeps, forgets, same_stages};
 pub use mounting::{MountFault, mount};
 pub use parts::Part;

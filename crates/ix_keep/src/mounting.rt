@@ -12,7 +12,7 @@ ghost use Rattle.ix_book.specs.Book.{Book, empty, after_item, run_in, removals_i
 ghost use Rattle.ix_book.specs.Root.{Taken, roots, log_file, IsBadRoot};
 ghost use Rattle.ix_book.specs.Replaying.{IsReplayed, IsBadGate};
 ghost use Rattle.ix_keep.specs.Contents.{Anyhow};
-ghost use Rattle.ix_keep.specs.Snapshot.{Snapshot, KeepsEither, Held, IsOver, Stages, log_of, with_item, begun};
+ghost use Rattle.ix_keep.specs.Snapshot.{Snapshot, KeepsEither, Held, IsOver, IsIdle, Stages, log_of, with_item, begun};
 ghost use Rattle.ix_keep.specs.Undo.{HasSameLogs};
 ghost use Rattle.ix_keep.specs.Mounting.{IsRead, IsFamily, AllKeep, KeepsOneOf, IsMountedAt, IsBadMount, IsBadLog, as_mount, as_mount_too};
 
@@ -208,6 +208,7 @@ fn begin<D: Disk, B: Replay>(
     ensures comes { Goes D.Disk disk.old disk.new Anyhow }
     ensures done { (s : Snapshot) → s.book ≡ B.stands state.old → Held D.Disk B.fits keeper.old disk.old s s → OnOk result (Held D.Disk B.fits keeper.new disk.new (begun (not (has_settings s.book)) run s) (begun (not (has_settings s.book)) run s)) }
     ensures over { OnOk result (IsOver D.Disk keeper.new disk.new) }
+    ensures idle { OnOk result (IsIdle keeper.new) }
     ensures made { (s : Snapshot) → B.stands state.old ≡ s.book → OnOk result (B.stands state.new ≡ (begun (not (has_settings s.book)) run s).book) }
     ensures damaged { keeper.old.parts ≡ [] → keeper.old.copies ≡ [] → (file : File) (at : ℕ) → IsBadMount result file at → ⊥ }
     ensures full { IsErrOf result MountFault.Full → B.fits (B.stands state.new) → ⊥ }
@@ -241,6 +242,7 @@ pub fn mount<D: Disk, B: Replay>(
         (image : Image) → D.Disk.seen disk.old ≡ Some image → IsMountedAt D.Disk B.fits keeper disk.new (B.stands state.new) family from to image) }
     // What a commit asks for.
     ensures over { IfOk result (λ keeper. IsOver D.Disk keeper disk.new) }
+    ensures idle { IfOk result (λ keeper. IsIdle keeper) }
     // It names the gate of the first bad body of the root log or the current one, as the disk reads.
     ensures damaged { (named : File) (at : ℕ) → IsBadMount result named at → (image : Image) → D.Disk.seen disk.old ≡ Some image → IsBadLog B.fits named at image }
     // It is full exactly where the run that was found is the last, or the state above takes no first body.
