@@ -1,13 +1,12 @@
-//! Records of events, and readers of them.
+//! Records of events, and readers of them. What calls answer is written into a text, and each text is compared once.
 
 ghost use Rattle.std.specs.Prelude.{◌<◌, ◌^◌, length, IsTrue};
 ghost use Rattle.ix_bucket.specs.Record.{event_bytes};
 
 use ix_base::{Area, Bytes, Event, FailPlan, Failed, File, NoMemory};
-use ix_bucket::{ReadFault, Reader, append, count_records, decode, encode, unique_reading};
+use ix_bucket::{Reader, append, count_records, decode, encode, unique_reading};
 use ix_disk::{Disk, HostDisk, MemDisk, OneFail, StopDisk};
-use std::alloc::Global;
-use std::process::Abort;
+use std::alloc::{AllocError, Global};
 use std::str;
 use std::test::Fail;
 
@@ -69,10 +68,10 @@ fn text(bytes: &[u8]) -> &str {
     str::from_utf8(bytes).unwrap_or("?")
 }
 
-/// What the record at the front says, and how many bytes it takes; nothing where there is none.
-fn said(alloc: Global, bytes: &[u8]) -> Result<String, Fail> {
+/// What the record at the front says, and how many bytes it takes.
+fn said(alloc: Global, bytes: &[u8]) -> Result<String, AllocError> {
     match decode(bytes) {
-        Ok((event, len)) => Ok(format!(in alloc;
+        Ok((event, len)) => format!(in alloc;
             "{} {} {} {} {} {} [{}] {} {len}",
             event.time,
             event.arrival,
@@ -82,41 +81,63 @@ fn said(alloc: Global, bytes: &[u8]) -> Result<String, Fail> {
             text(event.sourcetype),
             text(event.meta),
             text(event.raw)
-        )?),
-        Err(_) => Ok(String::new(alloc)),
+        ),
+        Err(_) => format!(in alloc; "no record"),
     }
 }
 
 #[test]
 fn a_record_is_written_and_read_and_no_prefix_is_one(rt: HostRuntime) -> Result<(), Fail> {
     unique_reading();
-    let alloc = rt.alloc();
-    let out = record(alloc, MOMENT, b"a")?;
-    assert_eq!(rt; out.as_slice(), RECORD.as_slice());
+    let out = record(rt.alloc(), MOMENT, b"a")?;
+    assert!(rt; out.as_slice() == RECORD.as_slice());
+    let found = said(rt.alloc(), &RECORD)?;
     assert_eq!(rt;
-        said(alloc, &RECORD)?.as_str(),
+        found.as_str(),
         "1700000000000000 1700000000000000 main h s unknown [] a 58"
     );
     for cut in 0..58 {
         assert!(rt; decode(&RECORD[..cut]).is_err(), "the first {cut} bytes");
     }
-    // Bytes put in place of others: a length one too long or too short, of the whole, the index and the text.
-    for (place, byte) in [
-        (3usize, 0x37),
-        (3, 0x35),
-        (23, 5),
-        (23, 3),
-        (56, 2),
-        (56, 0),
-        (0, 1),
-    ] {
-        let mut bytes = [0u8; 59];
-        bytes[..58].copy_from_slice(&RECORD);
-        assert!(rt; place < 58);
-        bytes[place] = byte;
+    Ok(())
+}
+
+/// Bytes put in place of others: a length one too long or too short, of the whole, the index and the text.
+static FORGED: [(usize, u8); 7] = [
+    (3, 0x37),
+    (3, 0x35),
+    (23, 5),
+    (23, 3),
+    (56, 2),
+    (56, 0),
+    (0, 1),
+];
+
+/// The record and a zero behind it, with a byte at a place.
+fn forged(place: usize, byte: u8) -> [u8; 59] {
+    let mut bytes = [0u8; 59];
+    bytes[..58].copy_from_slice(&RECORD);
+    if let Some(at) = bytes.get_mut(place) {
+        *at = byte;
+    }
+    bytes
+}
+
+#[test]
+fn a_record_with_a_forged_length_is_none(rt: HostRuntime) {
+    for (place, byte) in FORGED {
+        let bytes = forged(place, byte);
         assert!(rt; decode(&bytes).is_err(), "{byte} at {place}");
     }
-    Ok(())
+    assert!(rt; decode(&forged(58, 1)).is_ok());
+}
+
+/// The moment that a record has.
+fn time_of(record: &[u8]) -> Option<i64> {
+    match decode(record) {
+        Ok((event, _)) => Some(event.time),
+        Err(_) => None,
+    }
 }
 
 #[test]
@@ -127,10 +148,8 @@ fn moments_before_1970_are_in_twos_complement(rt: HostRuntime) -> Result<(), Fai
         (-256, [0xFF, 0xFF, 0xFF, 0xFF, 0xFF, 0xFF, 0xFF, 0]),
     ] {
         let out = record(rt.alloc(), time, b"")?;
-        assert_eq!(rt; out.len(), 57);
-        assert_eq!(rt; &out.as_slice()[4..12], bytes.as_slice());
-        let (found, _) = decode(out.as_slice())?;
-        assert_eq!(rt; found.time, time);
+        assert!(rt; out.len() == 57 && out.as_slice().get(4..12) == Some(&bytes[..]));
+        assert!(rt; time_of(out.as_slice()) == Some(time));
     }
     Ok(())
 }
@@ -141,109 +160,193 @@ fn put<D: Disk>(disk: &mut D, file: File, record: &Bytes) -> Result<(), Failed> 
     append(disk, file, at, record.as_slice())
 }
 
-/// What the reader answers: the text of the event and the place after it, `end`, or the fault.
-fn answer<D: Disk>(
-    alloc: Global,
-    reader: &mut Reader,
-    disk: &mut D,
-    file: File,
-    at: u64,
-    until: u64,
-) -> Result<String, Fail> {
+/// Puts the record of an event where one stands that is as long.
+fn put_over<D: Disk>(disk: &mut D, file: File, at: u64, record: &Bytes) -> Result<(), Failed> {
+    if at > disk.length(file)? {
+        return Err(Failed);
+    }
+    append(disk, file, at, record.as_slice())
+}
+
+/// Puts events with these raw texts.
+fn put_all<D: Disk>(alloc: Global, disk: &mut D, raws: &[(File, &[u8])]) -> Result<(), Fail> {
+    for (file, raw) in raws {
+        put(disk, *file, &record(alloc, MOMENT, *raw)?)?;
+    }
+    Ok(())
+}
+
+/// Writes what the reader answers: the text of the event and the place after it, `end`, or the fault. Where memory is lacking
+/// the text stays too short, and is not what is wanted.
+fn note_next<D: Disk>(said: &mut String, reader: &mut Reader, disk: &mut D, ask: (File, u64, u64)) {
+    let (file, at, until) = ask;
     match reader.next(disk, file, at, until) {
-        Ok(Some((found, next))) => Ok(format!(in alloc; "{} {next}", text(found.raw))?),
-        Ok(None) => Ok(format!(in alloc; "end")?),
-        Err(ReadFault::BadRecord { at }) => Ok(format!(in alloc; "bad {at}")?),
-        Err(ReadFault::Disk) => Ok(format!(in alloc; "disk")?),
-        Err(ReadFault::NoMemory) => Ok(format!(in alloc; "memory")?),
+        Ok(Some((found, next))) => {
+            let _ = write!(said, "{} {next}, ", text(found.raw));
+        }
+        Ok(None) => {
+            let _ = said.push_str("end, ");
+        }
+        Err(fault) => {
+            let _ = write!(said, "{fault:?}, ");
+        }
     }
 }
 
-/// Where records of 60 bytes stand at 0 and 60 in the one file, and one in the other.
-static ANSWERS: [(File, u64, u64, &str); 14] = [
-    (HOME, 0, 120, "one 60"),
-    (HOME, 60, 120, "two 120"),
-    (COLD, 0, 60, "six 60"),
-    (HOME, 60, 120, "two 120"),
-    (HOME, 0, 60, "one 60"),
-    (HOME, 120, 120, "end"),
-    (HOME, 0, 0, "end"),
-    (COLD, 7, 7, "end"),
-    // The record ends past the place, the place is no record's, is behind the end or the file ends before it.
-    (HOME, 0, 59, "bad 0"),
-    (HOME, 60, 119, "bad 60"),
-    (HOME, 1, 120, "bad 1"),
-    (HOME, 120, 60, "bad 120"),
-    (COLD, 60, 120, "bad 60"),
-    (COLD, 9, 8, "bad 9"),
+/// Writes what a reader answers that is asked for one record after the other, each in a file from a place on and up to another.
+fn note_all<D: Disk>(
+    said: &mut String,
+    reader: &mut Reader,
+    disk: &mut D,
+    asks: &[(File, u64, u64)],
+) {
+    for ask in asks {
+        note_next(said, reader, disk, *ask);
+    }
+}
+
+/// Writes how many records a reader counts in a file up to a place.
+fn note_count<D: Disk>(
+    said: &mut String,
+    reader: &mut Reader,
+    disk: &mut D,
+    file: File,
+    until: u64,
+) {
+    let count = count_records(reader, disk, file, until);
+    let _ = write!(said, "{count:?}, ");
+}
+
+/// Records of 60 bytes, two in the one file and one in the other.
+static PUT: [(File, &[u8]); 3] = [(HOME, b"one"), (HOME, b"two"), (COLD, b"six")];
+
+static READ: [(File, u64, u64); 8] = [
+    (HOME, 0, 120),
+    (HOME, 60, 120),
+    (COLD, 0, 60),
+    (HOME, 60, 120),
+    (HOME, 0, 60),
+    (HOME, 120, 120),
+    (HOME, 0, 0),
+    (COLD, 7, 7),
 ];
 
-fn run<D: Disk>(rt: &impl Abort, alloc: Global, disk: &mut D) -> Result<(), Fail> {
-    disk.remove(HOME)?;
-    disk.remove(COLD)?;
-    for (file, raw) in [(HOME, b"one"), (HOME, b"two"), (COLD, b"six")] {
-        put(disk, file, &record(alloc, MOMENT, raw)?)?;
-    }
-    let mut reader = Reader::new(alloc)?;
-    for (file, at, until, want) in ANSWERS {
-        let found = answer(alloc, &mut reader, disk, file, at, until)?;
-        assert_eq!(*rt; found.as_str(), want, "{file:?} from {at} to {until}");
-    }
-    for (file, until, want) in [
-        (HOME, 0, Ok(0)),
-        (HOME, 60, Ok(1)),
-        (HOME, 120, Ok(2)),
-        (HOME, 119, Err(ReadFault::BadRecord { at: 60 })),
-        (HOME, 121, Err(ReadFault::BadRecord { at: 120 })),
-        (COLD, 60, Ok(1)),
-    ] {
-        assert_eq!(*rt;
-            count_records(&mut reader, disk, file, until),
-            want,
-            "{file:?} to {until}"
-        );
-    }
-    // What was put behind what the reader holds is found, and what was changed is, once it has forgotten.
+const READ_SAID: &str = "one 60, two 120, six 60, two 120, one 60, end, end, end, ";
+
+/// The record ends past the place, the place is no record's, is behind the end or the file ends before it.
+static BAD: [(File, u64, u64); 6] = [
+    (HOME, 0, 59),
+    (HOME, 60, 119),
+    (HOME, 1, 120),
+    (HOME, 120, 60),
+    (COLD, 60, 120),
+    (COLD, 9, 8),
+];
+
+const BAD_SAID: &str =
+    "BadRecord { at: 0 }, BadRecord { at: 60 }, BadRecord { at: 1 }, BadRecord { at: 120 }, BadRecord { at: 60 }, \
+    BadRecord { at: 9 }, ";
+
+static COUNTED: [(File, u64); 6] = [
+    (HOME, 0),
+    (HOME, 60),
+    (HOME, 120),
+    (HOME, 119),
+    (HOME, 121),
+    (COLD, 60),
+];
+
+const COUNTED_SAID: &str =
+    "Ok(0), Ok(1), Ok(2), Err(BadRecord { at: 60 }), Err(BadRecord { at: 120 }), Ok(1), ";
+
+/// Writes what a reader answers of a record that is put behind what it holds, and of one that is put over that once it has
+/// forgotten.
+fn note_new<D: Disk>(
+    alloc: Global,
+    said: &mut String,
+    reader: &mut Reader,
+    disk: &mut D,
+) -> Result<(), Fail> {
     put(disk, HOME, &record(alloc, MOMENT, b"ten")?)?;
-    let found = answer(alloc, &mut reader, disk, HOME, 120, 180)?;
-    assert_eq!(*rt; found.as_str(), "ten 180");
-    if disk.length(HOME)? == 180 {
-        append(disk, HOME, 120, record(alloc, MOMENT, b"six")?.as_slice())?;
-    }
+    note_next(said, reader, disk, (HOME, 120, 180));
+    put_over(disk, HOME, 120, &record(alloc, MOMENT, b"six")?)?;
     reader.forget();
-    let found = answer(alloc, &mut reader, disk, HOME, 120, 180)?;
-    assert_eq!(*rt; found.as_str(), "six 180");
+    note_next(said, reader, disk, (HOME, 120, 180));
     Ok(())
+}
+
+/// What a reader answers on a disk with these records, and of what is new there.
+fn run<D: Disk>(alloc: Global, disk: &mut D) -> Result<String, Fail> {
+    put_all(alloc, disk, &PUT)?;
+    let mut said = String::new(alloc);
+    let mut reader = Reader::new(alloc)?;
+    note_all(&mut said, &mut reader, disk, &READ);
+    note_all(&mut said, &mut reader, disk, &BAD);
+    for (file, until) in COUNTED {
+        note_count(&mut said, &mut reader, disk, file, until);
+    }
+    note_new(alloc, &mut said, &mut reader, disk)?;
+    Ok(said)
+}
+
+fn run_said(alloc: Global) -> Result<String, AllocError> {
+    format!(in alloc; "{READ_SAID}{BAD_SAID}{COUNTED_SAID}ten 180, six 180, ")
 }
 
 #[test]
 fn events_are_read_in_turn_and_anywhere(rt: HostRuntime) -> Result<(), Fail> {
-    let alloc = rt.alloc();
-    run(&rt, alloc, &mut MemDisk::new(alloc, FailPlan::none(alloc)))?;
-    run(&rt, alloc, &mut HostDisk::new(rt.clone()?))
+    let mut disk = MemDisk::new(rt.alloc(), FailPlan::none(rt.alloc()));
+    let said = run(rt.alloc(), &mut disk)?;
+    assert_eq!(rt; said.as_str(), run_said(rt.alloc())?.as_str());
+    Ok(())
+}
+
+#[test]
+fn events_of_real_files_are_read(rt: HostRuntime) -> Result<(), Fail> {
+    let mut disk = HostDisk::new(&rt);
+    disk.remove(HOME)?;
+    disk.remove(COLD)?;
+    let said = run(rt.alloc(), &mut disk)?;
+    assert_eq!(rt; said.as_str(), run_said(rt.alloc())?.as_str());
+    Ok(())
+}
+
+/// How many bytes the long record takes, and where it ends behind one of 60.
+const LONG: usize = 1_048_577;
+
+const END: u64 = 60 + 57 + 1_048_577;
+
+/// A disk with a record, a long one, and bytes that begin like a longer one still.
+fn with_long(alloc: Global) -> Result<MemDisk, Fail> {
+    let mut disk = MemDisk::new(alloc, FailPlan::none(alloc));
+    put(&mut disk, HOME, &record(alloc, MOMENT, b"one")?)?;
+    let raw = vec![in alloc; 0x78u8; LONG]?;
+    put(&mut disk, HOME, &record(alloc, MOMENT, &raw)?)?;
+    put(&mut disk, HOME, &Bytes::copy_of(alloc, &[0xFF; 70])?)?;
+    Ok(disk)
+}
+
+/// What a reader counts there, and answers of what is no record.
+fn long_said(alloc: Global) -> Result<String, Fail> {
+    let mut said = String::new(alloc);
+    let mut disk = with_long(alloc)?;
+    let mut reader = Reader::new(alloc)?;
+    note_count(&mut said, &mut reader, &mut disk, HOME, END);
+    note_next(&mut said, &mut reader, &mut disk, (HOME, END, END + 70));
+    note_next(&mut said, &mut reader, &mut disk, (HOME, END, u64::MAX));
+    note_next(&mut said, &mut reader, &mut disk, (HOME, 60, END - 1));
+    Ok(said)
 }
 
 #[test]
 fn a_record_longer_than_a_piece_is_read_and_a_forged_length_is_not(
     rt: HostRuntime,
 ) -> Result<(), Fail> {
-    let alloc = rt.alloc();
-    let mut disk = MemDisk::new(alloc, FailPlan::none(alloc));
-    let text = vec![in alloc; 0x78u8; 1_048_577]?;
-    put(&mut disk, HOME, &record(alloc, MOMENT, b"one")?)?;
-    put(&mut disk, HOME, &record(alloc, MOMENT, &text)?)?;
-    put(&mut disk, HOME, &Bytes::copy_of(alloc, &[0xFF; 70])?)?;
-    let mut reader = Reader::new(alloc)?;
-    let end = 60 + 57 + 1_048_577;
-    assert_eq!(rt; count_records(&mut reader, &mut disk, HOME, end), Ok(2));
-    for (at, until, want) in [
-        (end, end + 70, "bad 1048694"),
-        (end, u64::MAX, "bad 1048694"),
-        (60, end - 1, "bad 60"),
-    ] {
-        let found = answer(alloc, &mut reader, &mut disk, HOME, at, until)?;
-        assert_eq!(rt; found.as_str(), want);
-    }
+    let said = long_said(rt.alloc())?;
+    assert_eq!(rt;
+        said.as_str(),
+        "Ok(2), BadRecord { at: 1048694 }, BadRecord { at: 1048694 }, BadRecord { at: 60 }, "
+    );
     Ok(())
 }
 
@@ -254,36 +357,50 @@ fn with_one(alloc: Global) -> Result<MemDisk, Fail> {
     Ok(disk)
 }
 
+/// What a reader answers that is asked twice for one event, where one call of the disk fails.
+fn read_twice(alloc: Global, number: u64) -> Result<String, Fail> {
+    let mut said = String::new(alloc);
+    let mut disk = OneFail::new(with_one(alloc)?, number);
+    let mut reader = Reader::new(alloc)?;
+    note_next(&mut said, &mut reader, &mut disk, (HOME, 0, 60));
+    note_next(&mut said, &mut reader, &mut disk, (HOME, 0, 60));
+    Ok(said)
+}
+
 #[test]
 fn a_read_that_fails_is_told_and_done_again(rt: HostRuntime) -> Result<(), Fail> {
-    let alloc = rt.alloc();
-    for (number, want) in [(0u64, "disk"), (1, "disk"), (2, "disk"), (3, "one 60")] {
-        let mut disk = OneFail::new(with_one(alloc)?, number);
-        let mut reader = Reader::new(alloc)?;
-        let found = answer(alloc, &mut reader, &mut disk, HOME, 0, 60)?;
-        assert_eq!(rt; found.as_str(), want);
-        let found = answer(alloc, &mut reader, &mut disk, HOME, 0, 60)?;
-        assert_eq!(rt; found.as_str(), "one 60");
+    for (number, want) in [
+        (0u64, "Disk, one 60, "),
+        (1, "Disk, one 60, "),
+        (2, "Disk, one 60, "),
+        (3, "one 60, one 60, "),
+    ] {
+        let said = read_twice(rt.alloc(), number)?;
+        assert_eq!(rt; said.as_str(), want);
     }
     Ok(())
 }
 
+/// How many records a crash leaves where the disk stops before a call of the append of a second one: two where the append was
+/// done, and else the one before.
+fn stopped(alloc: Global, calls: u64, torn: bool) -> Result<String, Fail> {
+    let mut said = String::new(alloc);
+    let mut disk = StopDisk::new(with_one(alloc)?, calls);
+    let done = put(&mut disk, HOME, &record(alloc, MOMENT, b"two")?);
+    let mut left = disk.into_inner().crash(torn)?;
+    let mut reader = Reader::new(alloc)?;
+    let until = if done.is_ok() { 120 } else { 60 };
+    note_count(&mut said, &mut reader, &mut left, HOME, until);
+    Ok(said)
+}
+
 #[test]
 fn an_append_that_stops_leaves_what_stood_before(rt: HostRuntime) -> Result<(), Fail> {
-    let alloc = rt.alloc();
-    for calls in 0..4u64 {
-        for torn in [false, true] {
-            let mut disk = StopDisk::new(with_one(alloc)?, calls);
-            let done = put(&mut disk, HOME, &record(alloc, MOMENT, b"two")?);
-            assert_eq!(rt; done.is_ok(), calls == 3);
-            let mut left = disk.into_inner().crash(torn)?;
-            let mut reader = Reader::new(alloc)?;
-            let (until, count) = if done.is_ok() { (120, 2) } else { (60, 1) };
-            assert_eq!(rt;
-                count_records(&mut reader, &mut left, HOME, until),
-                Ok(count)
-            );
+    for torn in [false, true] {
+        for calls in 0..3u64 {
+            assert_eq!(rt; stopped(rt.alloc(), calls, torn)?.as_str(), "Ok(1), ");
         }
+        assert_eq!(rt; stopped(rt.alloc(), 3, torn)?.as_str(), "Ok(2), ");
     }
     Ok(())
 }
