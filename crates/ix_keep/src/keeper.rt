@@ -75,7 +75,12 @@ impl Keeper {
     ghost use Rattle.ix_keep.specs.Snapshot.{Snapshot, Stages, with_item};
 
     /// A keeper that has staged nothing, over logs that were read.
-    pub(crate) fn over(alloc: Global, root: Log, log: Log, number: u64) -> Result<Keeper, OutOfMemory>
+    pub(crate) fn over(
+        alloc: Global,
+        root: Log,
+        log: Log,
+        number: u64,
+    ) -> Result<Keeper, OutOfMemory>
         ensures root { IfOk result (λ keeper. keeper.root ≡ root) }
         ensures log { IfOk result (λ keeper. keeper.log ≡ log) }
         ensures number { IfOk result (λ keeper. keeper.number ≡ number) }
