@@ -63,276 +63,420 @@ fn show(
     Ok(())
 }
 
-/// Files of settings, and what is wrong with the first one that has a fault.
-const FAULTS: [(Files<'static>, &str); 57] = [
+/// Two files of settings with their texts, and what is wrong with the first one that has a fault.
+type FaultRow = (
+    &'static str,
+    &'static str,
+    &'static str,
+    &'static str,
+    &'static str,
+);
+
+/// Each key that has values of a kind, and each file.
+static FAULTS: [FaultRow; 57] = [
     (
-        [("props", "[x]\nTRUNCATE 5\n"), ("", "")],
+        "props",
+        "[x]\nTRUNCATE 5\n",
+        "",
+        "",
         "etc/system/local/props.conf line 2: NoEquals",
     ),
     (
-        [("props", "# a comment\n\n[x"), ("", "")],
+        "props",
+        "# a comment\n\n[x",
+        "",
+        "",
         "etc/system/local/props.conf line 3: BadStanza",
     ),
     (
-        [("props", "[]"), ("", "")],
+        "props",
+        "[]",
+        "",
+        "",
         "etc/system/local/props.conf line 1: BadStanza",
     ),
     (
-        [("props", "= 1"), ("", "")],
+        "props",
+        "= 1",
+        "",
+        "",
         "etc/system/local/props.conf line 1: NoEquals",
     ),
     (
-        [("props", "[x]\nTRUNCATE = -1"), ("", "")],
+        "props",
+        "[x]\nTRUNCATE = -1",
+        "",
+        "",
         "props [x] TRUNCATE: BadValue",
     ),
     (
-        [("props", "[x]\nTRUNCATE = 4294967296"), ("", "")],
+        "props",
+        "[x]\nTRUNCATE = 4294967296",
+        "",
+        "",
         "props [x] TRUNCATE: BadValue",
     ),
     (
-        [("props", "[x]\nTRUNCATE = 1x"), ("", "")],
+        "props",
+        "[x]\nTRUNCATE = 1x",
+        "",
+        "",
         "props [x] TRUNCATE: BadValue",
     ),
     (
-        [("props", "[x]\nSHOULD_LINEMERGE = maybe"), ("", "")],
+        "props",
+        "[x]\nSHOULD_LINEMERGE = maybe",
+        "",
+        "",
         "props [x] SHOULD_LINEMERGE: BadValue",
     ),
     (
-        [("props", "[x]\nBREAK_ONLY_BEFORE_DATE = 2"), ("", "")],
+        "props",
+        "[x]\nBREAK_ONLY_BEFORE_DATE = 2",
+        "",
+        "",
         "props [x] BREAK_ONLY_BEFORE_DATE: BadValue",
     ),
     (
-        [("props", "[x]\nBREAK_ONLY_BEFORE = ("), ("", "")],
+        "props",
+        "[x]\nBREAK_ONLY_BEFORE = (",
+        "",
+        "",
         "props [x] BREAK_ONLY_BEFORE: BadPattern",
     ),
     (
-        [("props", "[x]\nMUST_BREAK_AFTER = a**"), ("", "")],
+        "props",
+        "[x]\nMUST_BREAK_AFTER = a**",
+        "",
+        "",
         "props [x] MUST_BREAK_AFTER: BadPattern",
     ),
     (
-        [("props", "[x]\nMUST_NOT_BREAK_AFTER = [b"), ("", "")],
+        "props",
+        "[x]\nMUST_NOT_BREAK_AFTER = [b",
+        "",
+        "",
         "props [x] MUST_NOT_BREAK_AFTER: BadPattern",
     ),
     (
-        [("props", "[x]\nMUST_NOT_BREAK_BEFORE = (a|)*"), ("", "")],
+        "props",
+        "[x]\nMUST_NOT_BREAK_BEFORE = (a|)*",
+        "",
+        "",
         "props [x] MUST_NOT_BREAK_BEFORE: BadPattern",
     ),
     (
-        [("props", "[x]\nLINE_BREAKER = \\n"), ("", "")],
+        "props",
+        "[x]\nLINE_BREAKER = \\n",
+        "",
+        "",
         "props [x] LINE_BREAKER: BadPattern",
     ),
     (
-        [("props", "[x]\nLINE_BREAKER = (a)?"), ("", "")],
+        "props",
+        "[x]\nLINE_BREAKER = (a)?",
+        "",
+        "",
         "props [x] LINE_BREAKER: BadPattern",
     ),
     (
-        [("props", "[x]\nMAX_EVENTS = 0"), ("", "")],
+        "props",
+        "[x]\nMAX_EVENTS = 0",
+        "",
+        "",
         "props [x] MAX_EVENTS: BadValue",
     ),
     (
-        [("props", "[x]\nMAX_EVENTS = 1000001"), ("", "")],
+        "props",
+        "[x]\nMAX_EVENTS = 1000001",
+        "",
+        "",
         "props [x] MAX_EVENTS: BadValue",
     ),
     (
-        [("props", "[x]\nTIME_PREFIX = a{1,1001}"), ("", "")],
+        "props",
+        "[x]\nTIME_PREFIX = a{1,1001}",
+        "",
+        "",
         "props [x] TIME_PREFIX: BadPattern",
     ),
     (
-        [("props", "[x]\nTIME_FORMAT = %H:%M"), ("", "")],
+        "props",
+        "[x]\nTIME_FORMAT = %H:%M",
+        "",
+        "",
         "props [x] TIME_FORMAT: BadValue",
     ),
     (
-        [("props", "[x]\nTIME_FORMAT = %Y-%m-%d %Q"), ("", "")],
+        "props",
+        "[x]\nTIME_FORMAT = %Y-%m-%d %Q",
+        "",
+        "",
         "props [x] TIME_FORMAT: BadValue",
     ),
     (
-        [("props", "[x]\nTIME_FORMAT = %Y-%m-%d %"), ("", "")],
+        "props",
+        "[x]\nTIME_FORMAT = %Y-%m-%d %",
+        "",
+        "",
         "props [x] TIME_FORMAT: BadValue",
     ),
     (
-        [("props", "[x]\nMAX_TIMESTAMP_LOOKAHEAD = -2"), ("", "")],
+        "props",
+        "[x]\nMAX_TIMESTAMP_LOOKAHEAD = -2",
+        "",
+        "",
         "props [x] MAX_TIMESTAMP_LOOKAHEAD: BadValue",
     ),
     (
-        [
-            ("props", "[x]\nMAX_TIMESTAMP_LOOKAHEAD = 1048577"),
-            ("", ""),
-        ],
+        "props",
+        "[x]\nMAX_TIMESTAMP_LOOKAHEAD = 1048577",
+        "",
+        "",
         "props [x] MAX_TIMESTAMP_LOOKAHEAD: BadValue",
     ),
     (
-        [("props", "[x]\nTZ = No/Where"), ("", "")],
+        "props",
+        "[x]\nTZ = No/Where",
+        "",
+        "",
         "props [x] TZ: UnknownZone",
     ),
     (
-        [("props", "[x]\nMAX_DAYS_AGO = 10952"), ("", "")],
+        "props",
+        "[x]\nMAX_DAYS_AGO = 10952",
+        "",
+        "",
         "props [x] MAX_DAYS_AGO: BadValue",
     ),
     (
-        [("props", "[x]\nMAX_DAYS_HENCE = 10951"), ("", "")],
+        "props",
+        "[x]\nMAX_DAYS_HENCE = 10951",
+        "",
+        "",
         "props [x] MAX_DAYS_HENCE: BadValue",
     ),
     (
-        [("props", "[x]\nSEDCMD-c = s/a/b"), ("", "")],
+        "props",
+        "[x]\nSEDCMD-c = s/a/b",
+        "",
+        "",
         "props [x] SEDCMD-c: BadValue",
     ),
     (
-        [("props", "[x]\nSEDCMD-c = s/(/b/"), ("", "")],
+        "props",
+        "[x]\nSEDCMD-c = s/(/b/",
+        "",
+        "",
         "props [x] SEDCMD-c: BadPattern",
     ),
     (
-        [("props", "[x]\nSEDCMD-c = s/a/\\q/"), ("", "")],
+        "props",
+        "[x]\nSEDCMD-c = s/a/\\q/",
+        "",
+        "",
         "props [x] SEDCMD-c: BadValue",
     ),
     (
-        [("props", "[x]\nSEDCMD-c = s/a/b/0"), ("", "")],
+        "props",
+        "[x]\nSEDCMD-c = s/a/b/0",
+        "",
+        "",
         "props [x] SEDCMD-c: BadValue",
     ),
     (
-        [("props", "[x]\nSEDCMD-c = y/ab/c/"), ("", "")],
+        "props",
+        "[x]\nSEDCMD-c = y/ab/c/",
+        "",
+        "",
         "props [x] SEDCMD-c: BadValue",
     ),
     (
-        [("props", "[x]\nSEDCMD-c = d"), ("", "")],
+        "props",
+        "[x]\nSEDCMD-c = d",
+        "",
+        "",
         "props [x] SEDCMD-c: BadValue",
     ),
     (
-        [("props", "[x]\nTRANSFORMS-c = t"), ("", "")],
+        "props",
+        "[x]\nTRANSFORMS-c = t",
+        "",
+        "",
         "props [x] TRANSFORMS-c: UnknownTransform",
     ),
     (
-        [("props", "[x]\npriority = 1000001"), ("", "")],
+        "props",
+        "[x]\npriority = 1000001",
+        "",
+        "",
         "props [x] priority: BadValue",
     ),
     (
-        [("props", "[source::(a]"), ("", "")],
+        "props",
+        "[source::(a]",
+        "",
+        "",
         "props [source::(a]: BadStanzaPattern",
     ),
     (
-        [("props", "[host::(?a)]\nTRUNCATE = -1"), ("", "")],
+        "props",
+        "[host::(?a)]\nTRUNCATE = -1",
+        "",
+        "",
         "props [host::(?a)]: BadStanzaPattern",
     ),
     (
-        [
-            ("props", "[x]\nTRANSFORMS-c = t"),
-            ("transforms", "[t]\nDEST_KEY = queue"),
-        ],
+        "props",
+        "[x]\nTRANSFORMS-c = t",
+        "transforms",
+        "[t]\nDEST_KEY = queue",
         "transforms [t] REGEX: BadValue",
     ),
     (
-        [
-            ("props", "[x]\nTRANSFORMS-c = t"),
-            ("transforms", "[t]\nDEST_KEY = queue\nREGEX = ("),
-        ],
+        "props",
+        "[x]\nTRANSFORMS-c = t",
+        "transforms",
+        "[t]\nDEST_KEY = queue\nREGEX = (",
         "transforms [t] REGEX: BadPattern",
     ),
     (
-        [
-            ("props", "[x]\nTRANSFORMS-c = t"),
-            ("transforms", "[t]\nREGEX = a"),
-        ],
+        "props",
+        "[x]\nTRANSFORMS-c = t",
+        "transforms",
+        "[t]\nREGEX = a",
         "transforms [t] DEST_KEY: BadValue",
     ),
     (
-        [
-            ("props", "[x]\nTRANSFORMS-c = t"),
-            ("transforms", "[t]\nREGEX = a\nDEST_KEY = nowhere"),
-        ],
+        "props",
+        "[x]\nTRANSFORMS-c = t",
+        "transforms",
+        "[t]\nREGEX = a\nDEST_KEY = nowhere",
         "transforms [t] DEST_KEY: BadValue",
     ),
     (
-        [
-            ("props", "[x]\nTRANSFORMS-c = t"),
-            (
-                "transforms",
-                "[t]\nREGEX = a\nDEST_KEY = queue\nSOURCE_KEY = raw",
-            ),
-        ],
+        "props",
+        "[x]\nTRANSFORMS-c = t",
+        "transforms",
+        "[t]\nREGEX = a\nDEST_KEY = queue\nSOURCE_KEY = raw",
         "transforms [t] SOURCE_KEY: BadValue",
     ),
     (
-        [
-            ("props", "[x]\nTRANSFORMS-c = t"),
-            (
-                "transforms",
-                "[t]\nREGEX = a\nDEST_KEY = queue\nLOOKAHEAD = 0",
-            ),
-        ],
+        "props",
+        "[x]\nTRANSFORMS-c = t",
+        "transforms",
+        "[t]\nREGEX = a\nDEST_KEY = queue\nLOOKAHEAD = 0",
         "transforms [t] LOOKAHEAD: BadValue",
     ),
     (
-        [
-            ("props", "[x]\nTRANSFORMS-c = t"),
-            (
-                "transforms",
-                "[t]\nREGEX = a\nDEST_KEY = queue\nWRITE_META = maybe",
-            ),
-        ],
+        "props",
+        "[x]\nTRANSFORMS-c = t",
+        "transforms",
+        "[t]\nREGEX = a\nDEST_KEY = queue\nWRITE_META = maybe",
         "transforms [t] WRITE_META: BadValue",
     ),
     (
-        [("props", "[x]\nTZ = Z"), ("zones", "[Z]\nRULE = nonsense")],
+        "props",
+        "[x]\nTZ = Z",
+        "zones",
+        "[Z]\nRULE = nonsense",
         "zones [Z] RULE: BadValue",
     ),
     (
-        [("props", "[x]\nTZ = Z"), ("zones", "[Z]")],
+        "props",
+        "[x]\nTZ = Z",
+        "zones",
+        "[Z]",
         "props [x] TZ: UnknownZone",
     ),
+    ("indexes", "[Main]", "", "", "indexes [Main]: BadIndexName"),
+    ("indexes", "[_i]", "", "", "indexes [_i]: BadIndexName"),
     (
-        [("indexes", "[Main]"), ("", "")],
-        "indexes [Main]: BadIndexName",
-    ),
-    (
-        [("indexes", "[_i]"), ("", "")],
-        "indexes [_i]: BadIndexName",
-    ),
-    (
-        [("indexes", "[kvstore1]"), ("", "")],
+        "indexes",
+        "[kvstore1]",
+        "",
+        "",
         "indexes [kvstore1]: BadIndexName",
     ),
     (
-        [("indexes", "[i]\nmaxDataSize = 0"), ("", "")],
+        "indexes",
+        "[i]\nmaxDataSize = 0",
+        "",
+        "",
         "indexes [i] maxDataSize: BadValue",
     ),
     (
-        [("indexes", "[i]\nmaxHotBuckets = 1001"), ("", "")],
+        "indexes",
+        "[i]\nmaxHotBuckets = 1001",
+        "",
+        "",
         "indexes [i] maxHotBuckets: BadValue",
     ),
     (
-        [("indexes", "[i]\nfrozenTimePeriodInSecs = 0"), ("", "")],
+        "indexes",
+        "[i]\nfrozenTimePeriodInSecs = 0",
+        "",
+        "",
         "indexes [i] frozenTimePeriodInSecs: BadValue",
     ),
     (
-        [("indexes", "[default]\nlastChanceIndex = lost"), ("", "")],
+        "indexes",
+        "[default]\nlastChanceIndex = lost",
+        "",
+        "",
         "indexes [default] lastChanceIndex: BadValue",
     ),
     (
-        [("indexes", "[default]\nrotatePeriodInSecs = 0"), ("", "")],
+        "indexes",
+        "[default]\nrotatePeriodInSecs = 0",
+        "",
+        "",
         "indexes [default] rotatePeriodInSecs: BadValue",
     ),
     (
-        [("props", "[x]\nTRUNCATE = -1"), ("zones", "no")],
+        "props",
+        "[x]\nTRUNCATE = -1",
+        "zones",
+        "no",
         "etc/system/local/zones.conf line 1: NoEquals",
     ),
     (
-        [("inputs", "no"), ("indexes", "[Main]")],
+        "inputs",
+        "no",
+        "indexes",
+        "[Main]",
         "etc/system/local/inputs.conf line 1: NoEquals",
     ),
     (
-        [("props", "[x]\nTRUNCATE = -1"), ("indexes", "[Main]")],
+        "props",
+        "[x]\nTRUNCATE = -1",
+        "indexes",
+        "[Main]",
         "props [x] TRUNCATE: BadValue",
     ),
     (
-        [
-            (
-                "props",
-                "[y]\nTRUNCATE = -1\nMAX_EVENTS = 0\n[x]\nTZ = No\nSEDCMD-c = d",
-            ),
-            ("", ""),
-        ],
+        "props",
+        "[y]\nTRUNCATE = -1\nMAX_EVENTS = 0\n[x]\nTZ = No\nSEDCMD-c = d",
+        "",
+        "",
         "props [x] SEDCMD-c: BadValue",
     ),
 ];
+
+/// Adds what a preview over these files writes, and what it has to write.
+fn show_fault(
+    alloc: Global,
+    row: &FaultRow,
+    shown: &mut String,
+    want: &mut String,
+) -> Result<(), Fail> {
+    let files = [(row.0, row.1), (row.2, row.3)];
+    show(alloc, "preview --host h --source s", files, "a", shown)?;
+    want.push_str("3: indexd: configuration: ")?;
+    want.push_str(row.4)?;
+    want.push_str("\n")?;
+    Ok(())
+}
 
 /// The grammar of all five files is judged before any value, then props.conf with what it names, and then indexes.conf.
 #[test]
@@ -340,11 +484,8 @@ fn the_first_fault_is_told(rt: HostRuntime) -> Result<(), Fail> {
     let alloc = rt.alloc();
     let mut shown = String::new(alloc);
     let mut want = String::new(alloc);
-    for (files, line) in FAULTS {
-        show(alloc, "preview --host h --source s", files, "a", &mut shown)?;
-        want.push_str("3: indexd: configuration: ")?;
-        want.push_str(line)?;
-        want.push_str("\n")?;
+    for row in &FAULTS {
+        show_fault(alloc, row, &mut shown, &mut want)?;
     }
     assert!(rt; shown == want, "{shown}");
     Ok(())

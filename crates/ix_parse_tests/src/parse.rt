@@ -1,6 +1,7 @@
 //! Tests of `ix_parse`.
 
-ghost use Rattle.std.specs.Prelude.{◌≡◌, ◌<◌};
+ghost use Rattle.std.specs.Prelude.{◌≡◌, ◌<◌, IfOk};
+ghost use Rattle.ix_props.specs.Settings.{AreUsable};
 
 use ix_base::{Bytes, ChannelMeta, Event, NoMemory, Steps};
 use ix_conf::{Layer, Layers, Merged, merge, parse};
@@ -55,7 +56,9 @@ fn merged(alloc: Global, text: &[u8]) -> Result<Merged, NoMemory> {
 }
 
 /// The settings that cut lines at five bytes.
-fn settings_of(alloc: Global, meta: &ChannelMeta) -> Result<Settings, NoMemory> {
+fn settings_of(alloc: Global, meta: &ChannelMeta) -> Result<Settings, NoMemory>
+    ensures { IfOk result (λ settings. AreUsable settings) }
+{
     let props = merged(alloc, b"TRUNCATE = 5")?;
     let none = merged(alloc, b"")?;
     let Ok(props) = Props::load(alloc, &props, &none, &none) else {
