@@ -6,7 +6,7 @@ mod events;
 mod merging;
 
 ghost use Rattle.std.specs.Prelude.{ℕ, Bool};
-ghost use Rattle.ix_merge.specs.Laws.{EventsStay, KeepsLines};
+ghost use Rattle.ix_merge.specs.Laws.{EventsStay, KeepsLines, CarryDecides};
 
 pub use carry::MergeParts;
 pub use events::{Marks, Whole};
@@ -17,4 +17,10 @@ pub use merging::Merge;
 pub fn events_stay()
     ensures stay { (on : Bool) (max : ℕ) → EventsStay on max }
     ensures lines { (max : ℕ) → KeepsLines max }
+{}
+
+/// A law about the definitions, and no code: what is carried of some lines decides what further lines come to. Behind two lists
+/// of which the same is carried, the same lines settle the same events, open or closed, and then the same is carried again.
+pub fn events_follow_carry()
+    ensures { (on : Bool) (max : ℕ) → CarryDecides on max }
 {}
