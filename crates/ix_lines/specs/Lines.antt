@@ -1,5 +1,5 @@
 -- The lines of a stream.
-use Rattle.std.specs.Prelude.{ℕ, ◌-◌, ◌==◌, ◌||◌, ℤ, Bool, true, false, not, ◌&&◌, if◌then◌else◌, nat_le, nat_lt, List, [], ◌∷◌, ◌++◌, length, take, slice_index, unwrap_or, find}
+use Rattle.std.specs.Prelude.{ℕ, ◌≤◌, ◌-◌, ◌==◌, ◌||◌, ℤ, Bool, true, false, not, ◌&&◌, if◌then◌else◌, nat_le, nat_lt, List, [], ◌∷◌, ◌++◌, length, take, slice_index, unwrap_or, find}
 use Rattle.std.specs.List.{flat_map}
 use Rattle.ix_base.specs.Stream.{Dated, bytes_of}
 use Rattle.ix_lines.specs.Walk.{Looker, walk_of}
@@ -19,6 +19,10 @@ step_back t line = unwrap_or (find (λ k. nat_le k t && not (goes_on (slice_inde
 
 abbrev pub cut : ℕ → List ℕ → List ℕ
 cut t line = if nat_le (length line) t then line else take (t - step_back t line) line
+
+-- a line has at most 2^20 bytes
+abbrev pub IsShort : Line → Type 0
+IsShort line = length line.bytes ≤ 1048576
 
 abbrev pub unless_empty : List ℕ → ℤ → List Line
 unless_empty [] moment = []

@@ -1,10 +1,10 @@
 //! The walk over bytes that have come: each break that they settle ends a line.
 
 ghost use Rattle.std.specs.Prelude.{◌≡◌, ℕ, ◌+◌, ◌-◌, ◌<◌, ◌≤◌, List, length, take, drop, OnErr, IfOk};
-ghost use Rattle.std.specs.List.{flat_map};
+ghost use Rattle.std.specs.List.{All, flat_map};
 ghost use Rattle.ix_base.specs.Stream.{Dated};
 ghost use Rattle.ix_lines.specs.Walk.{walk};
-ghost use Rattle.ix_lines.specs.Lines.{line_of};
+ghost use Rattle.ix_lines.specs.Lines.{line_of, IsShort};
 ghost use Rattle.ix_match.specs.Attempt.{reach};
 ghost use Rattle.ix_lines.specs.Breaks.{breaks_by};
 ghost use Rattle.ix_lines.specs.Laws.{IsStable};
@@ -54,6 +54,7 @@ impl Cutter {
         ensures later { steps.old ≤ steps.new }
         ensures err { OnErr result ((stretch : List Dated) → Keeps self.old.truncate stretch self.old.kept →
             AddsSome (flat_map (line_of self.old.truncate) (walk (breaks_by self.old.breaker) unfinished pending.now.before stretch 0 (dated_in pending.now)).done) out.old out.new) }
+        ensures lines { All IsShort out.old → All IsShort out.new }
     {
         let truncate = self.truncate;
         let bytes = pending.bytes.as_slice();

@@ -1,8 +1,9 @@
 //! The line that is open.
 
 ghost use Rattle.std.specs.Prelude.{◌≡◌, ℕ, ◌+◌, ◌<◌, ◌≤◌, List, [], ◌∷◌, ◌++◌, ◌-◌, length, OnOk, OnErr, IfOk, None};
+ghost use Rattle.std.specs.List.{All};
 ghost use Rattle.ix_base.specs.Stream.{Dated};
-ghost use Rattle.ix_lines.specs.Lines.{line_of, goes_on, step_back, cut, unless_empty};
+ghost use Rattle.ix_lines.specs.Lines.{line_of, goes_on, step_back, cut, unless_empty, IsShort};
 ghost use Rattle.ix_lines.specs.Kept.{Keeps, IsPart};
 ghost use Rattle.ix_lines.specs.Carry.{open_line};
 
@@ -46,7 +47,8 @@ fn cut_at(bytes: &[u8], truncate: usize) -> usize
 
 /// The bytes of a line, cut so that no character of UTF-8 is.
 fn cut(bytes: &[u8], truncate: usize) -> &[u8]
-    ensures { result.now ≡ cut truncate bytes.now }
+    ensures is { result.now ≡ cut truncate bytes.now }
+    ensures bound { length result.now ≤ truncate }
 {
     if bytes.len() <= truncate {
         return bytes;
@@ -63,8 +65,10 @@ fn add_line(
     moment: i64,
     out: &mut LineList,
 ) -> Result<(), NoMemory>
+    requires { truncate ≤ 1048576 }
     ensures ok { OnOk result (out.new ≡ out.old ++ unless_empty (cut truncate bytes.now) moment) }
     ensures err { OnErr result (out.new ≡ out.old) }
+    ensures short { All IsShort out.old → All IsShort out.new }
 {
     let bytes = cut(bytes, truncate);
     if bytes.is_empty() {
@@ -113,6 +117,7 @@ impl Kept {
         ensures ok { OnOk result ((stretch part : List Dated) → Keeps truncate stretch self.old → IsPart bytes.now moment part →
             Keeps truncate [] self.new × (out.new ≡ out.old ++ line_of truncate (stretch ++ part))) }
         ensures err { OnErr result (out.new ≡ out.old) }
+        ensures short { All IsShort out.old → All IsShort out.new }
     {
         let Some(begun) = self.moment else {
             return add_line(alloc, truncate, bytes, moment, out);

@@ -1,9 +1,10 @@
 //! A stream in blocks. Whoever reads a stream feeds its blocks to `Lines`.
 
 ghost use Rattle.std.specs.Prelude.{◌≡◌, ◌<◌, ◌≤◌, List, [], ◌++◌, length, IsTrue, IfOk, OnOk, OnErr, IsErr};
+ghost use Rattle.std.specs.List.{All};
 ghost use Rattle.ix_base.specs.Clocks.{clamped};
 ghost use Rattle.ix_base.specs.Stream.{Dated, dated};
-ghost use Rattle.ix_lines.specs.Lines.{effective};
+ghost use Rattle.ix_lines.specs.Lines.{effective, IsShort};
 ghost use Rattle.ix_match.specs.Attempt.{reach};
 ghost use Rattle.ix_lines.specs.Breaks.{breaks_by};
 ghost use Rattle.ix_lines.specs.Parts.{Holds, IsBreaker, Adds, AddsPart, Ends, EndsPart};
@@ -118,6 +119,7 @@ impl Lines {
         ensures breaker { self.new.breaker ≡ self.old.breaker }
         ensures truncate { self.new.parts.truncate ≡ self.old.parts.truncate }
         ensures pending { OnOk result (length self.new.parts.pending < reach) }
+        ensures short { All IsShort out.old → All IsShort out.new }
         ensures later { steps.old ≤ steps.new }
     {
         if self.broken {
@@ -139,6 +141,7 @@ impl Lines {
         ensures added { OnErr result ((stream : List Dated) → Holds stream self →
             EndsPart (breaks_by self.breaker) self.parts.truncate stream out.old out.new) }
         ensures broken { IsTrue self.parts.broken → IsErr result × (out.new ≡ out.old) }
+        ensures short { All IsShort out.old → All IsShort out.new }
         ensures later { steps.old ≤ steps.new }
     {
         if self.broken {

@@ -90,5 +90,6 @@ loop-found-preserved g c =
           (λ s q k part. c.in_ok-end_line-in-Break.ensures.ok s q k (part-lent bs all start end m _ q is (to_z-of_z fits) part));
       breaker = c.in_ok-found.ensures.same ∙ inv.breaker;
       truncate = inv.truncate;
+      lines = λ short. c.in_ok-end_line-in-Break.ensures.short (inv.lines short);
       later = omega (arith, inv.later, c.in_ok-found.ensures.later);
     }

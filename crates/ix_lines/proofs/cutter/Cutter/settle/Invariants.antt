@@ -1,5 +1,7 @@
 use Rattle.std.proofs.Common.{◌≡◌, ◌-◌, ◌≤◌, length, List}
+use Rattle.std.specs.List.{All}
 use Rattle.ix_base.specs.Stream.{Dated}
+use Rattle.ix_lines.specs.Lines.{IsShort}
 use Rattle.ix_lines.specs.Walk.{walk}
 use Rattle.ix_lines.specs.Breaks.{breaks_by}
 use Rattle.ix_lines.specs.Kept.{Keeps}
@@ -20,6 +22,7 @@ invariant-loop-found g l = record {
       (dated_in l.pending) l.start l.at l.self.kept l.initial.out l.out;
   breaker : l.self.breaker ≡ l.initial.self.breaker;
   truncate : l.self.truncate ≡ l.initial.self.truncate;
+  lines : All IsShort l.initial.out → All IsShort l.out;
   later : l.initial.steps ≤ l.steps;
 }
 
