@@ -11,3 +11,4 @@ pub mod KeptLemmas
 pub mod Answering
 pub mod Settling
 pub mod Feeding
+pub mod CarryLaw

@@ -5,8 +5,9 @@ use Rattle.std.proofs.lemmas.List.{map-append, length-map, take-append-le, drop-
 use Rattle.std.proofs.lemmas.Grind.{flat_map-append}
 use Rattle.ix_base.specs.Stream.{Dated, bytes_of}
 use Rattle.ix_lines.specs.Walk.{Look, match, no_match, more, Looker, Walked, preceded, after, walk, walk_of}
-use Rattle.ix_lines.specs.Lines.{line_of}
+use Rattle.ix_lines.specs.Lines.{line_of, settled, all_lines}
 use Rattle.ix_lines.specs.Laws.{IsStable, LinesStay}
+use Rattle.ix_base.specs.declared.events.Line.{Line}
 
 pub bytes_of-append : (xs ys : List Dated) → bytes_of (xs ++ ys) ≡ bytes_of xs ++ bytes_of ys
 bytes_of-append xs ys = map-append (λ (d : Dated). d.0) xs ys
@@ -70,20 +71,29 @@ pub walk_of-append : (look : Looker) → IsStable look → (u : Bool) (stream la
     walk_of look u (stream ++ later) ≡ on_from look u (walk_of look true stream) later
 walk_of-append look stable u stream later = walk-append look stable u None [] 0 stream later (omega arith)
 
--- the lines of an open stream are the first of each continuation's
-pub lines-stay : (look : Looker) → IsStable look → LinesStay look
-lines-stay look stable t stream later =
+-- the lines that further bytes settle
+pub lines-on : (look : Looker) → IsStable look → (t : ℕ) (stream later : List Dated) →
+    let w = walk_of look true stream in
+    settled look t (stream ++ later) ≡ settled look t stream ++ flat_map (line_of t) (walk look true w.before w.rest 0 (w.pending ++ later)).done
+lines-on look stable t stream later =
     let w : Walked = walk_of look true stream in
     let v : Walked = walk look true w.before w.rest 0 (w.pending ++ later) in
-    let v' : Walked = walk look false w.before w.rest 0 (w.pending ++ later) in (
-      (
-        flat_map (line_of t) v.done,
-        ap (λ x. flat_map (line_of t) x.done) (walk_of-append look stable true stream later) ∙ flat_map-append (line_of t) w.done v.done,
-      ),
-      (
-        flat_map (line_of t) v'.done ++ line_of t (v'.rest ++ v'.pending),
-        ap (λ x. flat_map (line_of t) x.done ++ line_of t (x.rest ++ x.pending)) (walk_of-append look stable false stream later)
-            ∙ ap (λ l. l ++ line_of t (v'.rest ++ v'.pending)) (flat_map-append (line_of t) w.done v'.done)
-            ∙ append_assoc (flat_map (line_of t) w.done) (flat_map (line_of t) v'.done) (line_of t (v'.rest ++ v'.pending)),
-      ),
-    )
+    ap (λ x. flat_map (line_of t) x.done) (walk_of-append look stable true stream later) ∙ flat_map-append (line_of t) w.done v.done
+
+-- those of a stream that ends with them, of which the last rest is a line too
+abbrev pub last_lines : ℕ → Walked → List Line
+last_lines t w = flat_map (line_of t) w.done ++ line_of t (w.rest ++ w.pending)
+
+pub lines-end : (look : Looker) → IsStable look → (t : ℕ) (stream later : List Dated) →
+    let w = walk_of look true stream in
+    all_lines look t (stream ++ later) ≡ settled look t stream ++ last_lines t (walk look false w.before w.rest 0 (w.pending ++ later))
+lines-end look stable t stream later =
+    let w : Walked = walk_of look true stream in
+    let v : Walked = walk look false w.before w.rest 0 (w.pending ++ later) in
+    ap (last_lines t) (walk_of-append look stable false stream later)
+    ∙ ap (λ l. l ++ line_of t (v.rest ++ v.pending)) (flat_map-append (line_of t) w.done v.done)
+    ∙ append_assoc (flat_map (line_of t) w.done) (flat_map (line_of t) v.done) (line_of t (v.rest ++ v.pending))
+
+-- the lines of an open stream are the first of each continuation's
+pub lines-stay : (look : Looker) → IsStable look → LinesStay look
+lines-stay look stable t stream later = ((_, lines-on look stable t stream later), (_, lines-end look stable t stream later))

@@ -3,6 +3,7 @@ use Rattle.std.specs.Prelude.{◌≡◌, ℕ, ◌<◌, ◌≤◌, Bool, true, fa
 use Rattle.ix_base.specs.Stream.{Dated}
 use Rattle.ix_lines.specs.Walk.{match, no_match, more, Looker}
 use Rattle.ix_lines.specs.Lines.{settled, all_lines}
+use Rattle.ix_lines.specs.Carry.{carry_of}
 use Rattle.ix_base.specs.declared.events.Line.{Line}
 
 -- an answer other than `more` stays as it is when more bytes come or the end does
@@ -27,3 +28,19 @@ abbrev pub LinesStay : Looker → Type 0
 LinesStay look = (t : ℕ) (stream later : List Dated) →
     ((added : List Line) × (settled look t (stream ++ later) ≡ settled look t stream ++ added))
     × ((added : List Line) × (all_lines look t (stream ++ later) ≡ settled look t stream ++ added))
+
+-- one list of lines is added to both
+pub record AddSame (first first_longer second second_longer : List Line) : Type 0 where
+  pub added : List Line
+  pub to_first : first_longer ≡ first ++ added
+  pub to_second : second_longer ≡ second ++ added
+
+-- further bytes settle the same lines behind either stream, whether more may come or not, and leave the same to be carried
+pub record GoOnAlike (look : Looker) (t : ℕ) (stream other later : List Dated) : Type 0 where
+  pub settles : AddSame (settled look t stream) (settled look t (stream ++ later)) (settled look t other) (settled look t (other ++ later))
+  pub ends : AddSame (settled look t stream) (all_lines look t (stream ++ later)) (settled look t other) (all_lines look t (other ++ later))
+  pub carries : carry_of look t (stream ++ later) ≡ carry_of look t (other ++ later)
+
+-- what is carried of a stream decides what further bytes come to
+abbrev pub CarryDecides : Looker → Type 0
+CarryDecides look = (t : ℕ) (stream other later : List Dated) → carry_of look t stream ≡ carry_of look t other → GoOnAlike look t stream other later

@@ -14,7 +14,7 @@ mod stream;
 ghost use Rattle.std.specs.Prelude.{◌≡◌, ◌<◌};
 ghost use Rattle.ix_pattern.specs.Piece.{IsSound, least_length};
 ghost use Rattle.ix_pattern.specs.Rows.{Shape, tree};
-ghost use Rattle.ix_lines.specs.Laws.{LinesStay};
+ghost use Rattle.ix_lines.specs.Laws.{LinesStay, CarryDecides};
 ghost use Rattle.ix_lines.specs.Breaks.{breaks_by};
 ghost use Rattle.ix_lines.specs.Newlines.{newlines};
 
@@ -28,4 +28,11 @@ pub use stream::Lines;
 pub fn lines_stay()
     ensures patterns { (p : Shape) → IsSound (tree p.rows) → 0 < least_length (tree p.rows) → LinesStay (breaks_by p) }
     ensures newlines { LinesStay newlines }
+{}
+
+/// A law about the definitions, and no code: what is carried of a stream decides what further bytes come to. Behind two
+/// streams of which the same is carried, the same bytes settle the same lines, open or closed, and then the same is carried
+/// again; by a pattern whose matches take a byte.
+pub fn lines_follow_carry()
+    ensures { (p : Shape) → IsSound (tree p.rows) → 0 < least_length (tree p.rows) → CarryDecides (breaks_by p) }
 {}
