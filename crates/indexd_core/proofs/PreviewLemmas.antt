@@ -1,6 +1,6 @@
 -- Steps of a preview.
-use Rattle.std.proofs.Common.{◌≡◌, ℕ, ℤ, true, false, List, [], ◌∷◌, ◌++◌, length, refl, sym, ◌∙◌, ap, subst, append_assoc, ◌<◌, ◌≤◌, inl, inr, arith}
-use Rattle.std.specs.Prelude.{Option, Some, None}
+use Rattle.std.proofs.Common.{◌≡◌, ℕ, ℤ, Bool, true, false, List, [], ◌∷◌, ◌++◌, length, refl, sym, ◌∙◌, ap, subst, append_assoc, ◌<◌, ◌≤◌, inl, inr, arith}
+use Rattle.std.specs.Prelude.{if◌then◌else◌, Option, Some, None}
 use Rattle.std.proofs.lemmas.Grind.{flat_map-append}
 use Rattle.ix_base.specs.Clocks.{clamped}
 use Rattle.ix_base.specs.Stream.{Dated, dated}
@@ -13,7 +13,7 @@ use Rattle.ix_base.specs.declared.events.ChannelMeta.{ChannelMeta}
 use Rattle.ix_life.specs.declared.sets.LimitSet.{LimitSet}
 use Rattle.ix_props.specs.declared.settings.Settings.{Settings}
 use Rattle.ix_parse.specs.declared.channel.Channel.{Channel}
-use Rattle.ix_parse.specs.Settled.{settled}
+use Rattle.ix_parse.specs.Settled.{outcomes, settled}
 use Rattle.ix_parse.specs.Standing.{StandsFor}
 use Rattle.indexd_core.specs.Sides.{Side}
 use Rattle.indexd_core.specs.Texts.{routed_line, lines_of}
@@ -111,11 +111,23 @@ pub took-nothing : (x : Option (List ℕ)) → Told (Took []) x x
 took-nothing None = tt
 took-nothing (Some x) = refl
 
+-- nothing is settled of nothing, whether lines are merged or not
+by-nothing : {A : Type 0} (on : Bool) (text : List A → List ℕ) → text [] ≡ [] → text (if on then [] else []) ≡ []
+by-nothing true text e = e
+by-nothing false text e = e
+
+pub text-of-nothing : (prepared : Prepared) (m : ℤ) → text_of prepared m [] false ≡ []
+text-of-nothing prepared m =
+    by-nothing prepared.settings.merge.on (λ events. lines_of prepared.limits (outcomes prepared.settings prepared.meta None events)) refl
+
+pub nothing-shown : (prepared : Prepared) (m : ℤ) (told : Option (List ℕ)) → HasWritten (text_of prepared m [] false) told told
+nothing-shown prepared m told = subst (λ (x : List ℕ). HasWritten x told told) (sym (text-of-nothing prepared m)) (nothing_written told)
+
 -- at the start
 pub starts : (prepared : Prepared) (preview : Preview) (input output : Side) → Holds prepared [] preview →
     IsAt prepared input output [] preview input output
 starts prepared preview input output holds =
-    record { holds = holds; took = took-nothing input.told; written = nothing_written output.told }
+    record { holds = holds; took = took-nothing input.told; written = nothing-shown prepared preview.moment output.told }
 
 -- a count that rose has risen since an earlier time, and until a later one
 pub rose-since : (a b c : ℕ) → a ≤ b → Rose b c → Rose a c

@@ -6,7 +6,6 @@ use Rattle.ix_base.specs.Faults.{Rose}
 use Rattle.ix_base.specs.Told.{HasWritten, HasBegun}
 use Rattle.indexd_core.specs.declared.prepare.Prepared.{Prepared}
 use Rattle.std.proofs.lemmas.List.{append-nil}
-use Rattle.ix_base.proofs.ToldLemmas.{nothing_written}
 use Rattle.indexd_core.specs.Sides.{Side}
 use Rattle.indexd_core.specs.Steps.{ReadsAll, RunStops, EndsAll, EndStops}
 use Rattle.indexd_core.specs.Stops.{stop_status}
@@ -18,7 +17,7 @@ use Rattle.indexd_core.specs.declared.preview.Preview.{Preview}
 use Rattle.indexd_core.specs.declared.preview.Stop.{Stop}
 use Rattle.indexd_core.specs.declared.preview.Stop.TheVariants as stop
 use Rattle.indexd_core.specs.declared.status.Status.TheVariants as status
-use Rattle.indexd_core.proofs.PreviewLemmas.{took-nothing, rose-since, rose-until}
+use Rattle.indexd_core.proofs.PreviewLemmas.{took-nothing, nothing-shown, rose-since, rose-until}
 
 -- there was no room at the start
 pub no-room : (prepared : Prepared) (m : ℤ) (input output : Side) → output.faults ≤ output.faults →
@@ -27,7 +26,7 @@ no-room prepared m input output later = record {
   taken = [];
   took = took-nothing input.told;
   later = later;
-  outcome = ([], record { rest = []; whole_is = refl }, nothing_written output.told);
+  outcome = ([], record { rest = []; whole_is = refl }, nothing-shown prepared m output.told);
 }
 
 -- reading stopped

@@ -55,7 +55,7 @@ pub record Runs (status : Status) (text : Text) (input input' output output' : S
   pub later : output.faults ≤ output'.faults
   pub outcome : Wrote status text taken input input' output output'
 
--- A run that was prepared: the clock is asked once, its answer is the moment of all bytes, and behind the lines stands the line of
+-- A run that was prepared: the clock is asked once, its answer is the moment at which all bytes arrive, and behind the lines stands the line of
 -- the status, or a front of it where the output failed.
 pub record RunsPrepared (status : Status) (prepared : Prepared) (ahead ahead' : Option Moments) (input input' output output' : Side) : Type 0 where
   pub shown : ℤ

@@ -18,8 +18,8 @@ use Rattle.indexd_core.specs.Sides.{Side}
 use Rattle.indexd_core.specs.declared.status.Status.{Status}
 use Rattle.indexd_core.specs.declared.status.Status.TheVariants.{Done, Memory, Usage, Configuration, Input, Output, NotFound, Endless}
 
--- where an event of an index is kept, by how it is routed: in the index itself, in the one for events without an index of their own,
--- or nowhere
+-- Where an event of an index is kept, by how it is routed: in the index itself, in the one for events without an index of their own,
+-- or nowhere. The index is the one that the event names once its changes were made.
 abbrev pub home_by : LimitSet → List ℕ → Route → Option (List ℕ)
 home_by limits index routes.Given = Some index
 home_by limits index routes.LastChance = limits.last_chance
@@ -41,7 +41,9 @@ routed_line limits Null = []
 abbrev pub lines_of : LimitSet → List Routed → List ℕ
 lines_of limits routed = flat_map (routed_line limits) routed
 
--- The lines of the events that are settled of bytes which all come at one moment, the stream being open or closed.
+-- The lines of the events that are settled of bytes which all come at one moment, the stream being open or closed. `settled` merges the
+-- lines of the stream into events, dates these, and changes them, all by the settings; the time of an event is then that of its date, an
+-- earlier event's, or the moment.
 abbrev pub preview_text : Prepared → ℤ → List ℕ → Bool → List ℕ
 preview_text prepared moment bytes closed =
     lines_of prepared.limits (settled prepared.settings prepared.meta (dated bytes moment) closed)

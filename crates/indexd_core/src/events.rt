@@ -1,4 +1,4 @@
-//! The lines of the events that a preview writes.
+//! The lines of the events that a preview writes. One that was sent to the null queue, or that no index keeps, has none.
 
 ghost use Rattle.std.specs.Prelude.{◌≡◌, ◌≤◌, ◌++◌, [], ℕ, List, Some, OnOk, IfErr};
 ghost use Rattle.std.specs.Option.{option_copied};

@@ -1,4 +1,4 @@
-//! `preview`: the input as one closed stream, its events as lines.
+//! `preview`: the input as one closed stream, and a line for each event that it comes to. An event may be of several lines of the input.
 
 ghost use Rattle.std.specs.Prelude.{◌≡◌, ◌≢◌, ◌≤◌, ◌<◌, ℕ, ℤ, List, [], ◌++◌, length, take, true, false, IfOk, OnOk, IfErr, OnErr, Option, Some, IfSome, IsSome, vec_len};
 ghost use Rattle.indexd_core.specs.Stops.{stop_status};
@@ -31,7 +31,7 @@ const BLOCK: usize = 1 << 20;
 #[derive(Drop)]
 pub struct Preview {
     pub channel: Channel,
-    /// The moment of all its bytes.
+    /// The moment at which all its bytes arrive. An event without a date of its own has it too, or an earlier event's time.
     pub moment: i64,
     events: EventWriter,
 }
@@ -85,7 +85,7 @@ impl Preview {
         })
     }
 
-    /// Reads a block, takes it in and writes the lines that it settles; 0 bytes at the end of the input.
+    /// Reads a block, takes it in and writes the lines of the events that it settles; 0 bytes at the end of the input.
     fn take_block<S: Source, W: Sink, L: Ledger>(
         &mut self,
         block: &mut [u8],
@@ -117,7 +117,7 @@ impl Preview {
         Ok(n)
     }
 
-    /// Reads the input to its end, or up to the limit, and writes the lines that it settles; whether it came to the end.
+    /// Reads the input to its end, or up to the limit, and writes the lines of the events that it settles; whether it came to the end.
     fn read_all<S: Source, W: Sink, L: Ledger>(
         &mut self,
         block: &mut [u8],
@@ -150,7 +150,7 @@ impl Preview {
         Ok(false)
     }
 
-    /// Writes the lines that the end of the input settles.
+    /// Writes the lines of the events that the end of the input settles.
     fn finish<W: Sink>(&mut self, output: &mut W) -> Result<(), Stop>
         ensures all { OnOk result (EndsAll self.old
             (side (W.faults output.old) (W.given output.old)) (side (W.faults output.new) (W.given output.new))) }
@@ -223,7 +223,7 @@ fn preview_lines<S: Source, W: Sink>(
     preview.run::<S, W, Brand>(&mut block, input, output, Blank::new(1))
 }
 
-/// Reads the input as one closed stream, all of whose bytes have the moment that the clock shows first, and writes the
+/// Reads the input as one closed stream, all of whose bytes arrive at the moment that the clock shows first, and writes the
 /// lines of its events and the line of the status.
 fn preview_input<S: Source, W: Sink, C: Clock>(
     alloc: Global,

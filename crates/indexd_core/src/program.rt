@@ -35,8 +35,10 @@ fn stop<W: Sink>(status: Status, output: &mut W) -> Status
 /// name, `input` and `output` its standard input and output, `tree` the files of the folder that it stands in.
 ///
 /// `preview --host HOST --source SOURCE [--sourcetype TYPE] [--index INDEX]` reads the input as one closed stream and writes its
-/// events, a line each, by the settings that the files of the tree have for the host, the source and the source type. The time of each
-/// is the moment that the clock shows before the input is read. `btool FILE` writes the settings of all layers of a file. Any other
+/// events, a line each, by the settings that the files of the tree have for the host, the source and the source type: lines are merged
+/// into events and their dates read unless these settings say otherwise, and events are then changed by `SEDCMD` and transforms. All bytes
+/// arrive at the moment that the clock shows before the input is read. An event that is sent to the null queue, or that no index
+/// keeps, has no line; any other is shown in the index that keeps it. `btool FILE` writes the settings of all layers of a file. Any other
 /// words are `Usage`. `Configuration` comes exactly where the files that the command reads have a fault, `NotFound` exactly where
 /// INDEX is not configured. `Input` comes only where the input of `preview` or the tree has failed, `Output` only where the output
 /// has, `Endless` only where `preview` took 2^40 bytes, and `Memory` where there was no room. The line of the status stands behind
@@ -55,7 +57,7 @@ pub fn top<S: Source, W: Sink, C: Clock, T: Tree>(
         (side (S.faults input.old) (S.left input.old)) (side (S.faults input.new) (S.left input.new))
         (side (W.faults output.old) (W.given output.old)) (side (W.faults output.new) (W.given output.new)) }
 
-    // At 0 the output is the lines of all events of the whole input, by the settings chosen for it; exactly where the files have a
+    // At 0 the output is the lines of all events of the whole input, merged, dated and changed by the settings chosen for it; exactly where the files have a
     // fault the status is `Configuration` and the output the line of the first one; at any other status it is known as well.
     ensures preview { (stated : Stated) → AskPreview words.now stated →
         Previews result stated (T.files tree.old) (T.faults tree.old) (T.faults tree.new) (C.ahead clock.old) (C.ahead clock.new)

@@ -4,6 +4,10 @@
 #[cfg(test)]
 mod btool;
 #[cfg(test)]
+mod events;
+#[cfg(test)]
 mod program;
 #[cfg(test)]
 mod settings;
+#[cfg(test)]
+mod shows;

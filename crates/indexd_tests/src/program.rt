@@ -1,10 +1,8 @@
 //! Tests of `preview`, of the words of the command line, and of the numbers of the statuses.
 
+use crate::shows::{tree_of, words_of};
 use indexd_core::{Status, top};
-use ix_base::{
-    Bytes, Clock, FailPlan, Failed, MemClock, MemSink, MemSource, MemTree, Sink, Source, Text,
-    TreeFileList,
-};
+use ix_base::{Bytes, Clock, FailPlan, Failed, MemClock, MemSink, MemSource, Sink, Source};
 use std::alloc::Global;
 use std::cell::Cell;
 use std::process::Abort;
@@ -16,15 +14,6 @@ const NOON: i64 = 1_700_000_000_000_000;
 /// What a line of a test's event begins with.
 const FRONT: &str = "main\t1700000000.000000\th\ts\tunknown\t\t";
 
-/// The words that a line has between its spaces.
-fn words_of(alloc: Global, line: &str) -> Result<Vec<Text>, Fail> {
-    let mut words = Vec::new(alloc);
-    for word in line.split(' ') {
-        words.push(Text::from_string(String::from_str(alloc, word)?))?;
-    }
-    Ok(words)
-}
-
 /// Input of which each read takes so many bytes at the most, and some reads fail.
 fn source(alloc: Global, bytes: &[u8], most: usize, failing: &[u64]) -> Result<MemSource, Fail> {
     let plan = FailPlan::new(failing.to_vec(alloc)?);
@@ -35,7 +24,7 @@ fn sink(alloc: Global, failing: &[u64]) -> Result<MemSink, Fail> {
     Ok(MemSink::new(alloc, FailPlan::new(failing.to_vec(alloc)?)))
 }
 
-/// Runs the program on these words over a tree without files.
+/// Runs the program on these words over a tree whose only file has lines not merged.
 fn run<S: Source, W: Sink, C: Clock>(
     alloc: Global,
     line: &str,
@@ -44,7 +33,7 @@ fn run<S: Source, W: Sink, C: Clock>(
     clock: &mut C,
 ) -> Result<Status, Fail> {
     let words = words_of(alloc, line)?;
-    let mut tree = MemTree::new(TreeFileList::new(alloc), FailPlan::none(alloc));
+    let mut tree = tree_of(alloc, &[("props", "[default]\nSHOULD_LINEMERGE = false")])?;
     Ok(top(alloc, &words, input, output, clock, &mut tree))
 }
 
@@ -293,7 +282,7 @@ fn words_are_those_of_the_two_commands(rt: HostRuntime) -> Result<(), Fail> {
         "preview --host h --source s",
         "preview --source s --host h",
         "preview --host=h --source=- --index main --sourcetype t",
-        "btool props",
+        "btool transforms",
         "btool indexes",
     ] {
         ended(alloc, line, &mut good)?;

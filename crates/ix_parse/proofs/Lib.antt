@@ -1,2 +1,6 @@
-pub mod Channels
-pub mod Sizes
+pub mod CarryLemmas
+pub mod EventLemmas
+pub mod FormLemmas
+pub mod LineLemmas
+pub mod SizeLemmas
+pub mod StandLemmas

@@ -1,3 +1,6 @@
+pub mod Marks
 pub mod Settled
+pub mod Stage
 pub mod Limits
 pub mod Standing
+pub mod Carry

@@ -1,96 +1,107 @@
-//! A channel.
+//! A channel. Whoever has the bytes of a stream feeds them to it, block by block.
 
-ghost use Rattle.std.specs.Prelude.{◌≡◌, ◌<◌, ◌≤◌, ℕ, List, [], ◌++◌, map, IfOk, IsSome, false, true, unwrap_or};
+ghost use Rattle.std.specs.Prelude.{◌≡◌, ◌<◌, ◌≤◌, ℕ, List, [], ◌++◌, IfOk, IsSome, Err, false, true};
 ghost use Rattle.std.specs.List.{All};
 ghost use Rattle.ix_base.specs.Clocks.{clamped};
 ghost use Rattle.ix_base.specs.Stream.{Dated, dated};
 ghost use Rattle.ix_base.specs.declared.events.ChannelMeta.{ChannelMeta};
+ghost use Rattle.ix_carry.specs.Form.{IsCarryOf};
+ghost use Rattle.ix_carry.specs.Spelling.{spell};
+ghost use Rattle.ix_carry.specs.declared.carry.Carry.{Carry as Carried};
 ghost use Rattle.ix_props.specs.Settings.{AreUsable};
 ghost use Rattle.ix_props.specs.declared.settings.Settings.{Settings as Chosen};
+ghost use Rattle.ix_parse.specs.Carry.{rules_of, carry_of, HasMoments};
 ghost use Rattle.ix_parse.specs.Limits.{KeepsLimits, IsSmall};
-ghost use Rattle.ix_parse.specs.Settled.{event_of, outcome_of, settled};
+ghost use Rattle.ix_parse.specs.Settled.{settled};
+ghost use Rattle.ix_parse.specs.Standing.{StandsFor};
 
-use ix_base::{Bytes, ChannelMeta, Event, Line, LineList, NoMemory, Routed, RoutedList, Steps};
+use crate::outcomes::{Outcomes, Owner};
+use ix_base::{Bytes, ChannelMeta, LineList, NoMemory, RoutedList, Steps};
+use ix_carry::{Carry, CarryRules, ResumeFault, read_carry};
 use ix_lines::Lines;
+use ix_merge::Merge;
 use ix_props::Settings;
 use std::alloc::Global;
-use std::marker::Brand;
+use std::marker::{Brand, Model};
 use std::sync::ledger::{Blank, Ledger};
 
-/// A stream of bytes with what is known of it. It holds back what later bytes may still change.
+/// A stream of bytes with what is known of it. Its bytes are cut into lines, the lines are merged into events, and each event is
+/// dated and changed, all by the settings that were chosen for it. It holds back what later bytes may still change: the bytes at
+/// which a break may begin, the open line, and the open event.
 #[derive(Drop)]
 pub struct Channel {
     alloc: Global,
-    /// The source type of its events.
-    sourcetype: Bytes,
+    settings: Settings,
     meta: ChannelMeta,
     lines: Lines,
+    merge: Merge,
+    /// The latest time that was read of an event and accepted.
+    latest: Option<i64>,
 }
 
-/// A copy of these bytes, or of those that stand in for them.
-fn copy_or(alloc: Global, bytes: &Option<Bytes>, other: &[u8]) -> Result<Bytes, NoMemory>
-    ensures { IfOk result (λ copy. copy ≡ unwrap_or bytes.now other.now) }
+impl Model for Channel {
+    ghost use Rattle.std.specs.Prelude.{IsFalse};
+    ghost use Rattle.ix_props.specs.Settings.{AreUsable};
+    ghost use Rattle.ix_parse.specs.Standing.{Kept};
+
+    ghost Value = { Kept };
+
+    ghost view = { λ c. record { settings = c.settings; meta = c.meta; lines = c.lines; merge = c.merge; latest = c.latest } };
+
+    ghost invariant = { λ c. IsFalse c.merge.broken × AreUsable c.settings };
+}
+
+/// The settings that a carry is judged by.
+fn rules_of(settings: &Settings) -> CarryRules
+    ensures { result ≡ rules_of settings.now }
 {
-    match bytes {
-        Some(bytes) => bytes.copy(),
-        None => Bytes::copy_of(alloc, other),
+    CarryRules {
+        truncate: settings.truncate,
+        merging: settings.merge.on,
+        max_lines: settings.merge.max_lines,
     }
-}
-
-/// The event of a line.
-fn make_event(
-    alloc: Global,
-    sourcetype: &Bytes,
-    meta: &ChannelMeta,
-    line: Line,
-) -> Result<Event, NoMemory>
-    ensures { IfOk result (λ event. event ≡ event_of sourcetype.now meta.now line) }
-{
-    Ok(Event {
-        time: line.moment,
-        arrival: line.moment,
-        index: copy_or(alloc, &meta.index, b"")?,
-        host: meta.host.copy()?,
-        source: meta.source.copy()?,
-        sourcetype: sourcetype.copy()?,
-        meta: Bytes::new(alloc),
-        raw: line.bytes,
-    })
-}
-
-/// What the lines come to.
-fn route(
-    alloc: Global,
-    sourcetype: &Bytes,
-    meta: &ChannelMeta,
-    lines: LineList,
-) -> Result<RoutedList, NoMemory>
-    ensures { IfOk result (λ routed. routed ≡ map (outcome_of sourcetype.now meta.now) lines) }
-{
-    let mut routed = RoutedList::new(alloc);
-    for line in lines.into_vec() {
-        routed.push(Routed::To(make_event(alloc, sourcetype, meta, line)?))?;
-    }
-    Ok(routed)
 }
 
 impl Channel {
-    ghost use Rattle.ix_parse.specs.Standing.{StandsFor};
-
-    /// A channel that has no byte yet. Of its settings it uses the breaker, `truncate` and the source type so far. They are such as
-    /// `Props::settings` gives. The metadata name the index.
+    /// A channel that has no byte yet. The settings are such as `Props::settings` gives. The metadata name the index.
     pub fn start(alloc: Global, settings: Settings, meta: ChannelMeta) -> Result<Channel, NoMemory>
         requires meta { IsSome meta.index }
         requires usable { AreUsable settings }
         ensures { IfOk result (λ channel. StandsFor settings meta [] channel) }
     {
-        let lines = Lines::new(alloc, settings.breaker, settings.truncate)?;
+        let lines = Lines::new(alloc, settings.breaker.copy()?, settings.truncate)?;
+        let merge = Merge::new(alloc, settings.merge.on, settings.merge.max_lines);
         Ok(Channel {
             alloc,
-            sourcetype: settings.sourcetype,
+            settings,
             meta,
             lines,
+            merge,
+            latest: None,
         })
+    }
+
+    /// Whose events those of this channel are.
+    fn owner(&self) -> Owner<'_>
+        ensures settings { result.settings.now ≡ self.now.settings }
+        ensures meta { result.meta.now ≡ self.now.meta }
+    {
+        Owner {
+            alloc: self.alloc,
+            settings: &self.settings,
+            meta: &self.meta,
+        }
+    }
+
+    /// The latest accepted time, and no event yet.
+    fn outcomes(&self) -> Outcomes
+        ensures latest { result.latest ≡ self.now.latest }
+        ensures routed { result.routed ≡ [] }
+    {
+        Outcomes {
+            latest: self.latest,
+            routed: RoutedList::new(self.alloc),
+        }
     }
 
     /// The channel once these bytes have come, all at one moment (microseconds since 1970-01-01T00:00:00Z; one before
@@ -113,14 +124,20 @@ impl Channel {
         let mut lines = self.lines.copy()?;
         let mut settled = LineList::new(self.alloc);
         lines.feed(bytes, moment, &mut settled, steps)?;
-        let routed = route(self.alloc, &self.sourcetype, &self.meta, settled)?;
+        let mut merge = self.merge.copy()?;
+        let mut outcomes = self.outcomes();
+        self.owner().take_lines(settled, &mut merge, &mut outcomes)?;
+        let settings = self.settings.copy(self.alloc)?;
+        let meta = self.meta.copy()?;
         let next = Channel {
             alloc: self.alloc,
-            sourcetype: self.sourcetype.copy()?,
-            meta: self.meta.copy()?,
+            settings,
+            meta,
             lines,
+            merge,
+            latest: outcomes.latest,
         };
-        Ok((next, routed))
+        Ok((next, outcomes.routed))
     }
 
     /// What closing the stream settles, counted in the ledger that the blank one opens.
@@ -128,16 +145,21 @@ impl Channel {
         requires name { blank.name ≡ L.name }
         requires parts { blank.parts ≡ L.parts }
         requires some { 0 < blank.parts }
-        ensures { IfOk result (λ ended. (settings : Chosen) (meta : ChannelMeta) (stream : List Dated) →
+        ensures settles { IfOk result (λ ended. (settings : Chosen) (meta : ChannelMeta) (stream : List Dated) →
             StandsFor settings meta stream self.now →
             settled settings meta stream true ≡ settled settings meta stream false ++ ended) }
+        ensures small { IfOk result (λ ended. (settings : Chosen) (meta : ChannelMeta) (stream : List Dated) →
+            StandsFor settings meta stream self.now → KeepsLimits settings meta → All IsSmall ended) }
     {
         let mut steps = Steps::<L>::new(blank);
-        let lines = self.lines.copy()?;
         let mut last = LineList::new(self.alloc);
-        lines.close(&mut last, &mut steps)?;
-        let routed = route(self.alloc, &self.sourcetype, &self.meta, last)?;
-        Ok(routed)
+        self.lines.copy()?.close(&mut last, &mut steps)?;
+        let mut merge = self.merge.copy()?;
+        let mut outcomes = self.outcomes();
+        let owner = self.owner();
+        owner.take_lines(last, &mut merge, &mut outcomes)?;
+        owner.take_end(merge, &mut outcomes)?;
+        Ok(outcomes.routed)
     }
 
     /// What closing the stream settles. This channel stays as it is.
@@ -150,5 +172,62 @@ impl Channel {
     {
         let ended = self.counted_end::<Brand>(Blank::new(1))?;
         Ok(ended)
+    }
+
+    /// What is to be carried of this channel over a stop, as bytes: the byte before the place from which on breaks are still to be
+    /// found, the bytes that wait there, and the open line; the open event and the two marks; and the latest accepted time. It is a
+    /// function of the settings and of the stream. The moments of each stream that was fed lie between 1970 and 2100.
+    pub fn carry(&self) -> Result<Bytes, NoMemory>
+        ensures spelled { IfOk result (λ bytes. (settings : Chosen) (meta : ChannelMeta) (stream : List Dated) →
+            StandsFor settings meta stream self.now → bytes ≡ spell (carry_of settings stream)) }
+        ensures is_carry { IfOk result (λ bytes. (settings : Chosen) (meta : ChannelMeta) (stream : List Dated) →
+            StandsFor settings meta stream self.now → HasMoments stream → IsCarryOf (rules_of settings) bytes (carry_of settings stream)) }
+    {
+        ix_merge::events_stay();
+        let lines = self.lines.parts()?;
+        let merge = self.merge.parts()?;
+        let latest = self.latest;
+        let carry = Carry {
+            lines,
+            merge,
+            latest,
+        };
+        let bytes = carry.write(self.alloc)?;
+        Ok(bytes)
+    }
+
+    /// A channel that goes on from a carry: it stands for each stream of which the bytes are the carry under these settings. The
+    /// settings are such as `Props::settings` gives. The metadata name the index. `BadCarry` comes exactly where the bytes are no
+    /// carry under these settings.
+    pub fn resume(
+        alloc: Global,
+        settings: Settings,
+        meta: ChannelMeta,
+        carry: &[u8],
+    ) -> Result<Channel, ResumeFault>
+        requires meta { IsSome meta.index }
+        requires usable { AreUsable settings }
+        ensures stands { IfOk result (λ channel. (stream : List Dated) → IsCarryOf (rules_of settings) carry.now (carry_of settings stream) →
+            StandsFor settings meta stream channel) }
+        ensures read { IfOk result (λ channel. (said : Carried) × IsCarryOf (rules_of settings) carry.now said) }
+        ensures bad { result ≡ Err ResumeFault.BadCarry → (said : Carried) → IsCarryOf (rules_of settings) carry.now said → ⊥ }
+    {
+        let said = read_carry(alloc, rules_of(&settings), carry)?;
+        let breaker = settings.breaker.copy()?;
+        let lines = Lines::resume(alloc, breaker, settings.truncate, said.lines)?;
+        let merge = Merge::resume(
+            alloc,
+            settings.merge.on,
+            settings.merge.max_lines,
+            said.merge,
+        );
+        Ok(Channel {
+            alloc,
+            settings,
+            meta,
+            lines,
+            merge,
+            latest: said.latest,
+        })
     }
 }

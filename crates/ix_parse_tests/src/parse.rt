@@ -8,43 +8,50 @@ use ix_conf::{Layer, Layers, Merged, merge, parse};
 use ix_parse::{Channel, Routed, RoutedList};
 use ix_props::{Props, Settings};
 use std::alloc::Global;
+use std::fmt::Write;
 use std::marker::Brand;
 use std::sync::ledger::{Blank, Ledger};
 use std::test::Fail;
 
-/// Writes a comma and a field.
-fn note_field(text: &mut Bytes, field: &Bytes) {
-    let _ = text.push(b',');
-    let _ = text.extend(field.as_slice());
+fn text_of(bytes: &Bytes) -> &str {
+    str::from_utf8(bytes.as_slice()).unwrap_or("?")
 }
 
-/// Writes the fields of an event with commas between. Moments are shown as one digit. Where memory is lacking the text stays too
+/// Writes an event: its two moments, its fields with commas behind, and its raw text. Where memory is lacking the text stays too
 /// short, and is not what is wanted.
-fn note_event(text: &mut Bytes, event: &Event) {
-    let _ = text.push(b'0' + event.time.clamp(0, 9) as u8);
-    let _ = text.push(b'0' + event.arrival.clamp(0, 9) as u8);
-    note_field(text, &event.index);
-    note_field(text, &event.host);
-    note_field(text, &event.source);
-    note_field(text, &event.sourcetype);
-    note_field(text, &event.meta);
-    note_field(text, &event.raw);
+fn note_event(text: &mut String, event: &Event) {
+    let _ = write!(text, "{} {} ", event.time, event.arrival);
+    for field in [
+        &event.index,
+        &event.host,
+        &event.source,
+        &event.sourcetype,
+        &event.meta,
+    ] {
+        let _ = write!(text, "{},", text_of(field));
+    }
+    let _ = write!(text, "{}", text_of(&event.raw));
 }
 
-/// Writes what events come to as a line, with a bar behind each.
-fn note_line(text: &mut Bytes, routed: &RoutedList) {
+/// Writes what events come to, with a bar behind each.
+fn note(text: &mut String, routed: &RoutedList) {
     for to in routed.as_slice() {
         if let Routed::To(event) = to {
             note_event(text, event);
         }
-        let _ = text.push(b'|');
+        let _ = write!(text, "|");
     }
-    let _ = text.push(b'\n');
+}
+
+/// Writes what events come to as a line.
+fn note_line(text: &mut String, routed: &RoutedList) {
+    note(text, routed);
+    let _ = write!(text, "\n");
 }
 
 /// The merged entries of one text of settings.
-fn merged(alloc: Global, text: &[u8]) -> Result<Merged, NoMemory> {
-    let Ok(file) = parse(alloc, text) else {
+fn merged(alloc: Global, text: &str) -> Result<Merged, NoMemory> {
+    let Ok(file) = parse(alloc, text.as_bytes()) else {
         return Err(NoMemory);
     };
     let mut layers = Layers::new(alloc);
@@ -55,53 +62,70 @@ fn merged(alloc: Global, text: &[u8]) -> Result<Merged, NoMemory> {
     merge(alloc, &layers)
 }
 
-/// The settings that cut lines at five bytes.
-fn settings_of(alloc: Global, meta: &ChannelMeta) -> Result<Settings, NoMemory>
+/// The texts of props.conf and of transforms.conf.
+#[derive(Clone, Copy)]
+struct Files {
+    props: &'static str,
+    transforms: &'static str,
+}
+
+/// The settings of these files for a channel.
+fn settings_of(alloc: Global, files: Files, meta: &ChannelMeta) -> Result<Settings, NoMemory>
     ensures { IfOk result (λ settings. AreUsable settings) }
 {
-    let props = merged(alloc, b"TRUNCATE = 5")?;
-    let none = merged(alloc, b"")?;
-    let Ok(props) = Props::load(alloc, &props, &none, &none) else {
+    let props = merged(alloc, files.props)?;
+    let transforms = merged(alloc, files.transforms)?;
+    let none = merged(alloc, "")?;
+    let Ok(props) = Props::load(alloc, &props, &transforms, &none) else {
         return Err(NoMemory);
     };
     props.settings(alloc, meta)
 }
 
-/// A channel that has no byte yet, and cuts its lines at five bytes.
-fn channel_of(alloc: Global, sourcetype: Option<Bytes>) -> Result<Channel, NoMemory> {
+/// A channel that has no byte yet, with the settings of these files.
+fn channel_of(alloc: Global, files: Files, named: bool) -> Result<Channel, NoMemory> {
+    let sourcetype = if named {
+        Some(Bytes::copy_of(alloc, b"t")?)
+    } else {
+        None
+    };
     let meta = ChannelMeta {
         host: Bytes::copy_of(alloc, b"h")?,
         source: Bytes::copy_of(alloc, b"s")?,
         sourcetype,
         index: Some(Bytes::copy_of(alloc, b"i")?),
     };
-    let settings = settings_of(alloc, &meta)?;
+    let settings = settings_of(alloc, files, &meta)?;
     Channel::start(alloc, settings, meta)
 }
 
 /// Writes what a channel would settle if it ended here.
-fn note_end(text: &mut Bytes, channel: &Channel) {
+fn note_end(text: &mut String, channel: &Channel) {
     if let Ok(ended) = channel.ended() {
         note_line(text, &ended);
     }
 }
 
+/// Blocks with their moments.
+type Blocks = [(&'static str, i64); 3];
+
 /// What a channel settles with each of three blocks and at its end, and before each block what it would settle if it
 /// ended there, each as a line.
 fn settled_in<L: Ledger>(
     alloc: Global,
-    sourcetype: Option<Bytes>,
+    channel: Channel,
+    blocks: Blocks,
     blank: Blank,
-) -> Result<Bytes, NoMemory>
+) -> Result<String, NoMemory>
     requires name { blank.name ≡ L.name }
     requires parts { blank.parts ≡ L.parts }
     requires some { 0 < blank.parts }
 {
     let mut steps = Steps::<L>::new(blank);
-    let mut channel = channel_of(alloc, sourcetype)?;
-    let mut text = Bytes::new(alloc);
-    for (bytes, moment) in [(&b"ab\nc"[..], -5), (b"d\nlonger\n", 7), (b"e", 8)] {
-        let (next, routed) = channel.fed(bytes, moment, &mut steps)?;
+    let mut channel = channel;
+    let mut text = String::new(alloc);
+    for (block, moment) in blocks {
+        let (next, routed) = channel.fed(block.as_bytes(), moment, &mut steps)?;
         note_end(&mut text, &channel);
         note_line(&mut text, &routed);
         channel = next;
@@ -110,25 +134,164 @@ fn settled_in<L: Ledger>(
     Ok(text)
 }
 
-fn settled(alloc: Global, sourcetype: Option<Bytes>) -> Result<Bytes, NoMemory> {
-    settled_in::<Brand>(alloc, sourcetype, Blank::new(1))
+/// Lines are not merged, and cut at five bytes.
+const SHORT: Files = Files {
+    props: "SHOULD_LINEMERGE = false\nTRUNCATE = 5",
+    transforms: "",
+};
+
+fn settled_short(alloc: Global, named: bool) -> Result<String, NoMemory> {
+    let channel = channel_of(alloc, SHORT, named)?;
+    let blocks = [("ab\nc", -5), ("d\nlonger\n", 7), ("e", 8)];
+    settled_in::<Brand>(alloc, channel, blocks, Blank::new(1))
 }
 
-const NAMED: &[u8] =
-    b"\n00,i,h,s,t,,ab|\n00,i,h,s,t,,c|\n00,i,h,s,t,,cd|\n77,i,h,s,t,,longe|\n77,i,h,s,t,,longe|\n88,i,h,s,t,,e|\n";
+const NAMED: &str = "
+0 0 i,h,s,t,,ab|
+0 0 i,h,s,t,,c|
+0 0 i,h,s,t,,cd|
+7 7 i,h,s,t,,longe|
+7 7 i,h,s,t,,longe|
+8 8 i,h,s,t,,e|
+";
 
 #[test]
 fn events_are_settled_once_and_keep_the_fields_of_the_channel(rt: HostRuntime) -> Result<(), Fail> {
-    let named = Bytes::copy_of(rt.alloc(), b"t")?;
-    let text = settled(rt.alloc(), Some(named))?;
-    assert!(rt; text.as_slice() == NAMED);
+    let text = settled_short(rt.alloc(), true)?;
+    assert!(rt; text.as_str() == NAMED, "{text}");
     Ok(())
 }
 
 #[test]
 fn a_channel_without_a_source_type_has_an_unknown_one(rt: HostRuntime) -> Result<(), Fail> {
-    let text = settled(rt.alloc(), None)?;
-    let front = b"\n00,i,h,s,unknown,,ab|\n".as_slice();
-    assert!(rt; text.as_slice().starts_with(front));
+    let text = settled_short(rt.alloc(), false)?;
+    let front = "\n0 0 i,h,s,unknown,,ab|\n";
+    assert!(rt; text.as_str().starts_with(front), "{text}");
+    Ok(())
+}
+
+/// Breaks stand before years alone.
+const YEARS: Files = Files {
+    props: "SHOULD_LINEMERGE = false\nLINE_BREAKER = ([\\r\\n]+)(?=\\d{4}-)",
+    transforms: "",
+};
+
+/// 2024-01-03T16:40:00Z.
+const LATER: i64 = 1_704_300_000_000_000;
+
+const BY_YEARS: &str = "
+
+1704164645000000 1704300000000000 i,h,s,t,,2024-01-02 03:04:05 x
+ at y
+2024|
+1704164645000000 1704300000000000 i,h,s,t,,2024-01-02 03:04:05 x
+ at y|
+1704164645000000 1704300000000000 i,h,s,t,,2024-|
+
+1704251046000000 1704300000000000 i,h,s,t,,2024-01-03 03:04:06 z
+|
+";
+
+/// The byte that makes a year of four digits settles the event before it. The newline at the end belongs to the last one, since
+/// nothing dated follows.
+#[test]
+fn an_event_is_settled_once_nothing_can_change_it(rt: HostRuntime) -> Result<(), Fail> {
+    let channel = channel_of(rt.alloc(), YEARS, true)?;
+    let blocks = [
+        ("2024-01-02 03:04:05 x\n at y\n2024", LATER),
+        ("-", LATER + 1),
+        ("01-03 03:04:06 z\n", LATER + 2),
+    ];
+    let text = settled_in::<Brand>(rt.alloc(), channel, blocks, Blank::new(1))?;
+    assert!(rt; text.as_str() == BY_YEARS, "{text}");
+    Ok(())
+}
+
+/// What a channel settles of a stream that is fed in blocks of so many bytes and then closed.
+fn settled_whole<L: Ledger>(
+    alloc: Global,
+    channel: Channel,
+    bytes: &[u8],
+    size: usize,
+    blank: Blank,
+) -> Result<String, NoMemory>
+    requires size { 0 < size }
+    requires name { blank.name ≡ L.name }
+    requires parts { blank.parts ≡ L.parts }
+    requires some { 0 < blank.parts }
+{
+    let mut steps = Steps::<L>::new(blank);
+    let mut channel = channel;
+    let mut text = String::new(alloc);
+    for block in bytes.chunks(size) {
+        let (next, routed) = channel.fed(block, LATER, &mut steps)?;
+        note(&mut text, &routed);
+        channel = next;
+    }
+    let ended = channel.ended()?;
+    note_line(&mut text, &ended);
+    Ok(text)
+}
+
+/// Settings, a stream, and what it comes to.
+type Row = (Files, &'static str, &'static str);
+
+static ROWS: [Row; 3] = [
+    (
+        YEARS,
+        "2024-01-02 03:04:05 x\n at y\n2024-01-03 03:04:06 z\n",
+        "1704164645000000 1704300000000000 i,h,s,t,,2024-01-02 03:04:05 x\n at y|1704251046000000 1704300000000000 i,h,s,t,,2024-01-03 03:04:06 z\n|\n",
+    ),
+    // merged by dates, and by a pattern; the event in the middle is dropped, and the one behind it has its time
+    (
+        Files {
+            props: "BREAK_ONLY_BEFORE = ^end\nTRANSFORMS-drop = drop",
+            transforms: "[drop]\nREGEX = debug\nDEST_KEY = queue\nFORMAT = nullQueue",
+        },
+        "2023-11-14 22:10:01 start\n at a\r\n2023-11-14 22:10:05 debug\n at b\n\nend\n at c\n",
+        "1699999801000000 1704300000000000 i,h,s,t,,2023-11-14 22:10:01 start\n at a||1699999805000000 1704300000000000 i,h,s,t,,end\n at c|\n",
+    ),
+    // held back, out of room, and forced
+    (
+        Files {
+            props: "MAX_EVENTS = 3\nBREAK_ONLY_BEFORE = ^L\nMUST_NOT_BREAK_AFTER = ^BEGIN\nMUST_BREAK_AFTER = ^END",
+            transforms: "",
+        },
+        "L1\nx\nBEGIN\nL2\nL3\nEND\nm\nL4",
+        "1704300000000000 1704300000000000 i,h,s,t,,L1\nx\nBEGIN|1704300000000000 1704300000000000 i,h,s,t,,L2\nL3\nEND|1704300000000000 1704300000000000 i,h,s,t,,m|1704300000000000 1704300000000000 i,h,s,t,,L4|\n",
+    ),
+];
+
+/// Adds what a row's stream comes to in blocks of so many bytes, and what is wanted.
+fn show_row(alloc: Global, row: &Row, size: usize, shown: &mut String, want: &mut String)
+    requires size { 0 < size }
+{
+    let _ = write!(want, "{}", row.2);
+    let Ok(channel) = channel_of(alloc, row.0, true) else {
+        return;
+    };
+    if let Ok(text) = settled_whole::<Brand>(
+        alloc,
+        channel,
+        row.1.as_bytes(),
+        size,
+        Blank::new(1),
+    ) {
+        let _ = write!(shown, "{text}");
+    }
+}
+
+#[test]
+fn a_stream_cut_behind_each_byte_settles_what_the_whole_one_does(
+    rt: HostRuntime,
+) -> Result<(), Fail> {
+    let alloc = rt.alloc();
+    let mut shown = String::new(alloc);
+    let mut want = String::new(alloc);
+    for row in &ROWS {
+        show_row(alloc, row, 1, &mut shown, &mut want);
+        show_row(alloc, row, 1000, &mut shown, &mut want);
+    }
+    assert!(rt; shown == want, "{shown}");
     Ok(())
 }

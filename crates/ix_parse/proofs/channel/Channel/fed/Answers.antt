@@ -1,35 +1,45 @@
-use Rattle.std.proofs.Common.{rules, ◌∙◌, ap, sym, map, ◌++◌, false, w64}
+use Rattle.std.proofs.Common.{◌∙◌, ap, sym, subst, ◌++◌, w64}
+use Rattle.std.specs.List.{All}
+use Rattle.std.proofs.lemmas.List.Elements.{All-nil}
 use mir.Val.{SFits}
 use Rattle.std.proofs.lemmas.Int.{to_z-of_z}
 use Rattle.ix_base.specs.Clocks.{clamped}
 use Rattle.ix_base.specs.Stream.{dated}
 use Rattle.ix_lines.specs.Breaks.{breaks_by}
-use Rattle.ix_lines.specs.Lines.{effective}
-use Rattle.ix_parse.specs.Settled.{outcome_of, settled}
-use Rattle.ix_parse.proofs.Channels.{fed, as-stated}
-use Rattle.ix_parse.proofs.Sizes.{adds-small}
+use Rattle.ix_lines.specs.Lines.{effective, IsShort}
+use Rattle.ix_parse.specs.Standing.{Kept}
+use Rattle.ix_parse.proofs.LineLemmas.{fed-lines}
+use Rattle.ix_parse.proofs.StandLemmas.{marked_of, copied, as-stated, goes-on}
 use Rattle.ix_parse.proofs.channel.Channel.fed.Goals as goal
+
+pub take_lines-requires-clause-short : goal.take_lines-requires-clause-short
+take_lines-requires-clause-short g c = c.feed.ensures.short (subst (All IsShort) (sym c.new-settled.ensures) (All-nil IsShort))
 
 pub returns-clause-settles : goal.returns-clause-settles
 returns-clause-settles g c = λ settings meta stream is.
     let f : SFits w64 c.args.moment = c.ranges.moment in
-    let r = fed (breaks_by settings.breaker) (effective settings.truncate) (outcome_of settings.sourcetype meta) stream
-    (dated c.args.bytes.now (clamped c.args.moment)) c.args.self.now.lines c.in_ok-lines.lines c.feed.new.self
-    c.new-settled.result c.feed.new.out is.breaks_are is.lines_are c.in_ok-lines.ensures c.new-settled.ensures
-    c.feed.ensures.breaker c.feed.ensures.truncate
-    (λ s stands. simp to_z-of_z at (c.in_ok-feed.ensures.ok s stands)) in (
+    let later = dated c.args.bytes.now (clamped c.args.moment) in
+    let k = c.args.self.now in
+    let copy = c.in_ok-merge.merge in
+    let none = c.outcomes-outcomes.result in
+    let r = fed-lines (breaks_by settings.breaker) (effective settings.truncate) stream later k.lines c.in_ok-lines.lines c.feed.new.self
+    c.new-settled.result c.feed.new.out is.breaks_are is.lines_are (c.in_ok-lines.ensures ∙ ap (λ (v : Kept). v.lines) c.self.view_is) c.new-settled.ensures
+    c.feed.ensures.breaker c.feed.ensures.truncate (λ s stands. simp to_z-of_z at (c.in_ok-feed.ensures.ok s stands)) in
+    let before = copied settings meta stream k copy none is (c.in_ok-merge.ensures ∙ ap (λ (v : Kept). v.merge) c.self.view_is) c.outcomes-outcomes.ensures.latest c.outcomes-outcomes.ensures.routed in
+    let takes = as-stated settings c.owner.result.settings.now meta c.owner.result.meta.now (marked_of settings stream) c.feed.new.out copy c.take_lines.new.merge
+    none c.take_lines.new.outcomes (c.owner.ensures.settings ∙ is.settings_are) (c.owner.ensures.meta ∙ is.meta_is)
+    (c.in_ok-take_lines.ensures.takes (marked_of settings stream) before.events_are) in
+    let o = goes-on settings meta stream (stream ++ later) c.feed.new.out copy c.take_lines.new.merge none c.take_lines.new.outcomes before
+    c.take_lines.ensures.on c.take_lines.ensures.max_lines r.2 takes in (
       record {
+        settings_are = c.in_ok-settings.ensures ∙ ap (λ (v : Kept). v.settings) c.self.view_is ∙ is.settings_are;
+        meta_is = c.in_ok-meta.ensures ∙ ap (λ (v : Kept). v.meta) c.self.view_is ∙ is.meta_is;
         breaks_are = r.0;
         lines_are = r.1;
-        sourcetype_is = search rules;
-        meta_is = search rules;
+        merges = o.merges;
+        most_lines = o.most_lines;
+        events_are = o.events_are;
+        latest_is = o.latest_is;
       },
-      r.2 ∙ ap (λ l. settled settings meta stream false ++ l)
-          (as-stated settings.sourcetype c.args.self.now.sourcetype meta c.args.self.now.meta c.feed.new.out is.sourcetype_is is.meta_is
-          ∙ sym c.in_ok-routed.ensures),
+      o.settles,
     )
-
-pub returns-clause-small : goal.returns-clause-small
-returns-clause-small g c = λ settings meta stream is limits.
-    adds-small settings meta stream (stream ++ dated c.args.bytes.now (clamped c.args.moment)) false c.in_ok-routed.routed limits
-    (returns-clause-settles g c settings meta stream is).1

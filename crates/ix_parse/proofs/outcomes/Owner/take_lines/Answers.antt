@@ -1,0 +1,21 @@
+use Rattle.std.proofs.Common.{[], ◌∷◌, ◌++◌, ◌∙◌}
+use Rattle.ix_parse.specs.Marks.{marked}
+use Rattle.ix_parse.proofs.EventLemmas.{takes-more}
+use Rattle.ix_parse.proofs.outcomes.Owner.take_lines.Goals as goal
+
+pub loop-line-preserved : goal.loop-line-preserved
+loop-line-preserved c =
+    let inv = c.loop-line.invariant in
+    let s = c.args.self.now.settings.now in
+    let xs = c.loop-line.yielded in
+    record {
+      takes = λ earlier holds.
+          let first = inv.takes earlier holds in
+          takes-more s c.args.self.now.meta.now earlier xs (c.in-Some.line ∷ []) c.args.merge.now c.loop-line.merge c.take_line.new.merge
+          c.args.outcomes.now c.loop-line.outcomes c.take_line.new.outcomes inv.on inv.max_lines first
+          (c.in_ok-take_line.ensures.takes (earlier ++ marked s.merge s.time xs) first.holds);
+      small = λ limits small. c.in_ok-take_line.ensures.small limits (inv.small limits small);
+      whole = c.in_ok-take_line.ensures.whole;
+      on = c.take_line.ensures.on ∙ inv.on;
+      max_lines = c.take_line.ensures.max_lines ∙ inv.max_lines;
+    }
