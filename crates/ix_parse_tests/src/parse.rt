@@ -1,6 +1,6 @@
 //! Tests of `ix_parse`.
 
-ghost use Rattle.std.specs.Prelude.{◌≡◌, ◌<◌, IfOk};
+ghost use Rattle.std.specs.Prelude.{◌≡◌, ◌<◌, IfOk, IsSome};
 ghost use Rattle.ix_props.specs.Settings.{AreUsable};
 
 use ix_base::{Bytes, ChannelMeta, Event, NoMemory, Steps};
@@ -82,21 +82,39 @@ fn settings_of(alloc: Global, files: Files, meta: &ChannelMeta) -> Result<Settin
     props.settings(alloc, meta)
 }
 
-/// A channel that has no byte yet, with the settings of these files.
-fn channel_of(alloc: Global, files: Files, named: bool) -> Result<Channel, NoMemory> {
+/// What a channel states, with a source type or without one.
+fn meta_of(alloc: Global, named: bool) -> Result<ChannelMeta, NoMemory>
+    ensures { IfOk result (λ meta. IsSome meta.index) }
+{
     let sourcetype = if named {
         Some(Bytes::copy_of(alloc, b"t")?)
     } else {
         None
     };
-    let meta = ChannelMeta {
+    Ok(ChannelMeta {
         host: Bytes::copy_of(alloc, b"h")?,
         source: Bytes::copy_of(alloc, b"s")?,
         sourcetype,
         index: Some(Bytes::copy_of(alloc, b"i")?),
-    };
+    })
+}
+
+/// A channel that has no byte yet, with the settings of these files.
+fn channel_of(alloc: Global, files: Files, named: bool) -> Result<Channel, NoMemory> {
+    let meta = meta_of(alloc, named)?;
     let settings = settings_of(alloc, files, &meta)?;
     Channel::start(alloc, settings, meta)
+}
+
+/// The channel as it goes on from its carry.
+fn resumed(alloc: Global, files: Files, channel: &Channel) -> Result<Channel, NoMemory> {
+    let carry = channel.carry()?;
+    let meta = meta_of(alloc, true)?;
+    let settings = settings_of(alloc, files, &meta)?;
+    match Channel::resume(alloc, settings, meta, carry.as_slice()) {
+        Ok(channel) => Ok(channel),
+        Err(_) => Err(NoMemory),
+    }
 }
 
 /// Writes what a channel would settle if it ended here.
@@ -134,6 +152,11 @@ fn settled_in<L: Ledger>(
     Ok(text)
 }
 
+/// The same, counted in a ledger of its own.
+fn settled(alloc: Global, channel: Channel, blocks: Blocks) -> Result<String, NoMemory> {
+    settled_in::<Brand>(alloc, channel, blocks, Blank::new(1))
+}
+
 /// Lines are not merged, and cut at five bytes.
 const SHORT: Files = Files {
     props: "SHOULD_LINEMERGE = false\nTRUNCATE = 5",
@@ -143,7 +166,7 @@ const SHORT: Files = Files {
 fn settled_short(alloc: Global, named: bool) -> Result<String, NoMemory> {
     let channel = channel_of(alloc, SHORT, named)?;
     let blocks = [("ab\nc", -5), ("d\nlonger\n", 7), ("e", 8)];
-    settled_in::<Brand>(alloc, channel, blocks, Blank::new(1))
+    settled(alloc, channel, blocks)
 }
 
 const NAMED: &str = "
@@ -202,35 +225,53 @@ fn an_event_is_settled_once_nothing_can_change_it(rt: HostRuntime) -> Result<(),
         ("-", LATER + 1),
         ("01-03 03:04:06 z\n", LATER + 2),
     ];
-    let text = settled_in::<Brand>(rt.alloc(), channel, blocks, Blank::new(1))?;
+    let text = settled(rt.alloc(), channel, blocks)?;
     assert!(rt; text.as_str() == BY_YEARS, "{text}");
     Ok(())
 }
 
-/// What a channel settles of a stream that is fed in blocks of so many bytes and then closed.
-fn settled_whole<L: Ledger>(
-    alloc: Global,
-    channel: Channel,
-    bytes: &[u8],
+/// In what pieces a stream is fed, and whether the channel goes on from its carry behind each.
+#[derive(Clone, Copy)]
+struct Cut {
     size: usize,
+    carried: bool,
+}
+
+/// What a channel settles of a stream that is fed in pieces and then closed.
+fn settled_whole_in<L: Ledger>(
+    alloc: Global,
+    files: Files,
+    bytes: &[u8],
+    cut: Cut,
     blank: Blank,
 ) -> Result<String, NoMemory>
-    requires size { 0 < size }
+    requires size { 0 < cut.size }
     requires name { blank.name ≡ L.name }
     requires parts { blank.parts ≡ L.parts }
     requires some { 0 < blank.parts }
 {
     let mut steps = Steps::<L>::new(blank);
-    let mut channel = channel;
+    let mut channel = channel_of(alloc, files, true)?;
     let mut text = String::new(alloc);
-    for block in bytes.chunks(size) {
+    for block in bytes.chunks(cut.size) {
         let (next, routed) = channel.fed(block, LATER, &mut steps)?;
         note(&mut text, &routed);
-        channel = next;
+        channel = if cut.carried {
+            resumed(alloc, files, &next)?
+        } else {
+            next
+        };
     }
     let ended = channel.ended()?;
     note_line(&mut text, &ended);
     Ok(text)
+}
+
+/// The same, counted in a ledger of its own.
+fn settled_whole(alloc: Global, files: Files, bytes: &[u8], cut: Cut) -> Result<String, NoMemory>
+    requires size { 0 < cut.size }
+{
+    settled_whole_in::<Brand>(alloc, files, bytes, cut, Blank::new(1))
 }
 
 /// Settings, a stream, and what it comes to.
@@ -262,36 +303,69 @@ static ROWS: [Row; 3] = [
     ),
 ];
 
-/// Adds what a row's stream comes to in blocks of so many bytes, and what is wanted.
-fn show_row(alloc: Global, row: &Row, size: usize, shown: &mut String, want: &mut String)
-    requires size { 0 < size }
+/// Adds what a row's stream comes to in such pieces, and what is wanted.
+fn show_row(alloc: Global, row: &Row, cut: Cut, shown: &mut String, want: &mut String)
+    requires size { 0 < cut.size }
 {
     let _ = write!(want, "{}", row.2);
-    let Ok(channel) = channel_of(alloc, row.0, true) else {
-        return;
-    };
-    if let Ok(text) = settled_whole::<Brand>(
-        alloc,
-        channel,
-        row.1.as_bytes(),
-        size,
-        Blank::new(1),
-    ) {
+    let bytes = row.1.as_bytes();
+    if let Ok(text) = settled_whole(alloc, row.0, bytes, cut) {
         let _ = write!(shown, "{text}");
     }
 }
 
 #[test]
-fn a_stream_cut_behind_each_byte_settles_what_the_whole_one_does(
+fn a_stream_cut_or_carried_over_behind_each_byte_settles_what_the_whole_one_does(
     rt: HostRuntime,
 ) -> Result<(), Fail> {
     let alloc = rt.alloc();
     let mut shown = String::new(alloc);
     let mut want = String::new(alloc);
     for row in &ROWS {
-        show_row(alloc, row, 1, &mut shown, &mut want);
-        show_row(alloc, row, 1000, &mut shown, &mut want);
+        for (size, carried) in [(1, false), (1, true), (1000, false)] {
+            let cut = Cut { size, carried };
+            show_row(alloc, row, cut, &mut shown, &mut want);
+        }
     }
     assert!(rt; shown == want, "{shown}");
+    Ok(())
+}
+
+/// Lines are not merged.
+const PLAIN: Files = Files {
+    props: "SHOULD_LINEMERGE = false",
+    transforms: "",
+};
+
+/// What is carried of a channel that was fed these bytes at this moment.
+fn carried_in<L: Ledger>(
+    alloc: Global,
+    bytes: &[u8],
+    moment: i64,
+    blank: Blank,
+) -> Result<Bytes, NoMemory>
+    requires name { blank.name ≡ L.name }
+    requires parts { blank.parts ≡ L.parts }
+    requires some { 0 < blank.parts }
+{
+    let mut steps = Steps::<L>::new(blank);
+    let channel = channel_of(alloc, PLAIN, true)?;
+    let (next, _) = channel.fed(bytes, moment, &mut steps)?;
+    next.carry()
+}
+
+/// The same, counted in a ledger of its own.
+fn carried(alloc: Global, bytes: &[u8], moment: i64) -> Result<Bytes, NoMemory> {
+    carried_in::<Brand>(alloc, bytes, moment, Blank::new(1))
+}
+
+/// The byte before the scan place, no bytes that wait, an open line of two bytes, no event, no mark, no time.
+const CARRY: &[u8] = b"\x01d\0\0\0\0\x01\x00\x06\x0A\x24\x18\x1E\x40\x00\0\0\0\x02cd\0\0\0\0";
+
+#[test]
+fn an_open_line_is_carried_in_25_bytes(rt: HostRuntime) -> Result<(), Fail> {
+    let moment = 1_700_000_000_000_000;
+    let carry = carried(rt.alloc(), b"ab\ncd", moment)?;
+    assert!(rt; carry.as_slice() == CARRY);
     Ok(())
 }
