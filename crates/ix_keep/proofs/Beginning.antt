@@ -29,6 +29,7 @@ use Rattle.ix_keep.specs.declared.fault.CommitFault.{CommitFault}
 use Rattle.ix_keep.specs.declared.fault.CommitFault.TheVariants as commits
 use Rattle.ix_keep.specs.declared.mounting.MountFault.TheVariants as mounts
 use Rattle.ix_keep.proofs.Settling.{spared, anyhow_on}
+use Rattle.ix_keep.proofs.Firsts.{replayed_some}
 use Rattle.ix_keep.proofs.Holding.{nothing_staged, commit_first, held_keeps}
 
 pub commit_damaged : (fault : CommitFault) (file : File) (at : ℕ) → as_mount_too fault ≡ mounts.Damaged file at → fault ≡ commits.Damaged file at
@@ -129,13 +130,15 @@ module _ {D : Type 0} (g : Ghosts D) (fits : Book → Type 0) where
   -- the logs stand at their ends
   pub read_over : (keeper : Keeper) (disk : D) (book : Book) → IsRead g fits keeper disk book → IsOver g keeper disk
   read_over keeper disk book read = record {
-    least = omega (arith, read.number);
+    checkpoints = read.checkpoints;
+    counted = read.number;
     root_file = read.root_file;
     file = read.file ∙ ap log_file (sym read.number);
-    numbers = roots read.checkpoints;
     root_end = read.root;
     bodies = read.bodies;
     end = read.end;
+    measured = read.measured;
+    none = replayed_some (Taken fits (log_of keeper)) read.bodies empty book keeper.first read.replayed read.measured;
   }
 
   -- the keeper and the disk hold the same once something was removed
@@ -185,13 +188,15 @@ module _ {D : Type 0} (g : Ghosts D) (fits : Book → Type 0) where
   -- the logs stand where they stood
   pub over_same : (keeper after : Keeper) (disk : D) → HasSameLogs keeper after → IsOver g keeper disk → IsOver g after disk
   over_same keeper after disk same over = record {
-    least = omega (arith, over.least, same.number);
+    checkpoints = over.checkpoints;
+    counted = same.number ∙ over.counted;
     root_file = ap file_of same.root ∙ over.root_file;
     file = ap file_of same.log ∙ over.file ∙ ap log_file (sym same.number);
-    numbers = over.numbers;
-    root_end = subst (λ (l : Log). IsAtEnd g l disk over.numbers) (sym same.root) over.root_end;
+    root_end = subst (λ (l : Log). IsAtEnd g l disk (roots over.checkpoints)) (sym same.root) over.root_end;
     bodies = over.bodies;
     end = subst (λ (l : Log). IsAtEnd g l disk over.bodies) (sym same.log) over.end;
+    measured = same.first ∙ over.measured;
+    none = λ zero. over.none (sym same.first ∙ zero);
   }
 
   -- while no call is made

@@ -82,29 +82,30 @@ cut_next k n lens xs now old new is l m read at cut = simp unary_clauses (
 -- ---- keepers
 
 pub logs_same : (a : Keeper) → HasSameLogs a a
-logs_same a = record { root = refl; log = refl; number = refl; closed = refl }
+logs_same a = record { root = refl; log = refl; number = refl; first = refl; closed = refl }
 
 pub logs_on : (a b c : Keeper) → HasSameLogs a b → HasSameLogs b c → HasSameLogs a c
-logs_on a b c p q = record { root = q.root ∙ p.root; log = q.log ∙ p.log; number = q.number ∙ p.number; closed = q.closed ∙ p.closed }
+logs_on a b c p q = record { root = q.root ∙ p.root; log = q.log ∙ p.log; number = q.number ∙ p.number; first = q.first ∙ p.first; closed = q.closed ∙ p.closed }
 
-pub grew_parts : (a b : Keeper) → HasSameLogs a b → Grew a.parts b.parts → b.copies ≡ a.copies → b.slots ≡ a.slots → GrewTo a b
-grew_parts a b logs parts copies slots = record { logs = logs; parts = parts; more_copies = []; copies = copies ∙ sym (append-nil a.copies); more_slots = []; slots = slots ∙ sym (append-nil a.slots) }
+pub grew_parts : (a b : Keeper) → HasSameLogs a b → b.bytes ≡ a.bytes → Grew a.parts b.parts → b.copies ≡ a.copies → b.slots ≡ a.slots → GrewTo a b
+grew_parts a b logs bytes parts copies slots = record { logs = logs; bytes = bytes; parts = parts; more_copies = []; copies = copies ∙ sym (append-nil a.copies); more_slots = []; slots = slots ∙ sym (append-nil a.slots) }
 
-pub grew_as : (a b : Keeper) → HasSameLogs a b → b.parts ≡ a.parts → b.copies ≡ a.copies → b.slots ≡ a.slots → GrewTo a b
-grew_as a b logs parts copies slots = grew_parts a b logs (subst (λ (ps : List Part). Grew a.parts ps) (sym parts) (grew_same a.parts)) copies slots
+pub grew_as : (a b : Keeper) → HasSameLogs a b → b.bytes ≡ a.bytes → b.parts ≡ a.parts → b.copies ≡ a.copies → b.slots ≡ a.slots → GrewTo a b
+grew_as a b logs bytes parts copies slots = grew_parts a b logs bytes (subst (λ (ps : List Part). Grew a.parts ps) (sym parts) (grew_same a.parts)) copies slots
 
-pub grew_slots : (a b : Keeper) (rest : List Slot) → HasSameLogs a b → b.parts ≡ a.parts → b.copies ≡ a.copies → b.slots ≡ a.slots ++ rest → GrewTo a b
-grew_slots a b rest logs parts copies slots = record { logs = logs; parts = subst (λ (ps : List Part). Grew a.parts ps) (sym parts) (grew_same a.parts); more_copies = []; copies = copies ∙ sym (append-nil a.copies); more_slots = rest; slots = slots }
+pub grew_slots : (a b : Keeper) (rest : List Slot) → HasSameLogs a b → b.bytes ≡ a.bytes → b.parts ≡ a.parts → b.copies ≡ a.copies → b.slots ≡ a.slots ++ rest → GrewTo a b
+grew_slots a b rest logs bytes parts copies slots = record { logs = logs; bytes = bytes; parts = subst (λ (ps : List Part). Grew a.parts ps) (sym parts) (grew_same a.parts); more_copies = []; copies = copies ∙ sym (append-nil a.copies); more_slots = rest; slots = slots }
 
-pub grew_copies : (a b : Keeper) (rest : List Copied) → HasSameLogs a b → b.parts ≡ a.parts → b.copies ≡ a.copies ++ rest → b.slots ≡ a.slots → GrewTo a b
-grew_copies a b rest logs parts copies slots = record { logs = logs; parts = subst (λ (ps : List Part). Grew a.parts ps) (sym parts) (grew_same a.parts); more_copies = rest; copies = copies; more_slots = []; slots = slots ∙ sym (append-nil a.slots) }
+pub grew_copies : (a b : Keeper) (rest : List Copied) → HasSameLogs a b → b.bytes ≡ a.bytes → b.parts ≡ a.parts → b.copies ≡ a.copies ++ rest → b.slots ≡ a.slots → GrewTo a b
+grew_copies a b rest logs bytes parts copies slots = record { logs = logs; bytes = bytes; parts = subst (λ (ps : List Part). Grew a.parts ps) (sym parts) (grew_same a.parts); more_copies = rest; copies = copies; more_slots = []; slots = slots ∙ sym (append-nil a.slots) }
 
 pub grew_self : (a : Keeper) → GrewTo a a
-grew_self a = grew_as a a (logs_same a) refl refl refl
+grew_self a = grew_as a a (logs_same a) refl refl refl refl
 
 pub grew_on : (a b c : Keeper) → GrewTo a b → GrewTo b c → GrewTo a c
 grew_on a b c p q = record {
   logs = logs_on a b c p.logs q.logs;
+  bytes = q.bytes ∙ p.bytes;
   parts = grew_then a.parts b.parts c.parts p.parts q.parts;
   more_copies = p.more_copies ++ q.more_copies;
   copies = q.copies ∙ ap (λ (l : List Copied). l ++ q.more_copies) p.copies ∙ append_assoc a.copies p.more_copies q.more_copies;

@@ -17,6 +17,7 @@ use Rattle.ix_log.proofs.Elsewhere.{at_end_stays}
 use Rattle.ix_book.specs.Book.{Book, empty, replay, removals_in, Replays, IsBody}
 use Rattle.ix_book.specs.Root.{Taken, roots, current, log_file}
 use Rattle.ix_book.specs.Slots.{bytes_of, items_of, AreRemovals, WithBody}
+use Rattle.ix_book.specs.Replaying.{first_after, first_length}
 use Rattle.ix_book.specs.declared.slot.Slot.{Slot}
 use Rattle.ix_book.proofs.Applying.{replays_push}
 use Rattle.ix_book.proofs.Bodies.{end_bodies, slots_body}
@@ -29,6 +30,7 @@ use Rattle.ix_keep.specs.declared.parts.Part.{Part}
 use Rattle.ix_keep.specs.declared.copied.Copied.{Copied}
 use Rattle.ix_keep.proofs.Settling.{spared, home_no_log}
 use Rattle.ix_keep.proofs.FreeFiles.{log_untouched}
+use Rattle.ix_keep.proofs.Firsts.{first_stays, first_push, first_some, slots_some}
 
 -- ---- what is staged leaves the logs alone
 
@@ -62,7 +64,7 @@ filled_new keeper old new stages image had = record { begins = λ file. go file 
     go file (Some bytes) is = subst (λ (l : List ℕ). BeginsWith l (bytes_in image file)) (stages.live file bytes is ∙ sym (ap content is)) (had.begins file)
 
 -- a change of a log leaves the rest
-apart_filling : (log : File) (bytes : Filling) (P : List ℕ → Type 0) (a b : Image) → bytes log ≡ [] → InFile log P a b → HasFilling bytes a → HasFilling bytes b
+pub apart_filling : (log : File) (bytes : Filling) (P : List ℕ → Type 0) (a b : Image) → bytes log ≡ [] → InFile log P a b → HasFilling bytes a → HasFilling bytes b
 apart_filling log bytes P a b none step had = record { begins = λ file. ⊎_elim (here file) (elsewhere file) (is_it file log) }
   where
     here : (file : File) → file ≡ log → BeginsWith (bytes file) (bytes_in b file)
@@ -71,7 +73,7 @@ apart_filling log bytes P a b none step had = record { begins = λ file. ⊎_eli
     elsewhere : (file : File) → file ≢ log → BeginsWith (bytes file) (bytes_in b file)
     elsewhere file ne = subst (BeginsWith (bytes file)) (sym (ap content (step.others file ne))) (had.begins file)
 
-abbrev number_in : File → ℕ
+abbrev pub number_in : File → ℕ
 number_in file = file.number
 
 root_apart : (log : File) (k : ℕ) → log ≡ current k → log_file 0 ≢ log
@@ -265,34 +267,47 @@ module _ {D : Type 0} (g : Ghosts D) (keeper : Keeper) (first mid : D) (over : I
   pub over_end : IsAtEnd g keeper.log mid over.bodies
   over_end = at_end_stays g first mid keeper.log over.bodies (Keeping (file_of keeper.log)) (λ a b same. same) (kept (file_of keeper.log) (over_meta g keeper first over)) over.end
 
-  over_root : IsAtEnd g keeper.root mid over.numbers
-  over_root = at_end_stays g first mid keeper.root over.numbers (Keeping (file_of keeper.root)) (λ a b same. same) (kept (file_of keeper.root) (meta_of (file_of keeper.root) 0 over.root_file)) over.root_end
+  over_root : IsAtEnd g keeper.root mid (roots over.checkpoints)
+  over_root = at_end_stays g first mid keeper.root (roots over.checkpoints) (Keeping (file_of keeper.root)) (λ a b same. same) (kept (file_of keeper.root) (meta_of (file_of keeper.root) 0 over.root_file)) over.root_end
 
   root_other : file_of keeper.root ≢ file_of keeper.log
   root_other same =
       let numbers : 0 ≡ keeper.number = ap number_in (sym over.root_file ∙ same ∙ over.file) in
-      omega (arith, numbers, over.least)
+      omega (arith, numbers, over.counted)
+
+  abbrev first_now : ℕ
+  first_now = first_after keeper.first keeper.first keeper.size
 
   module _ (last gone : D) (put : Goes g mid last (InFile (file_of keeper.log) (WithBody over.bodies keeper.slots))) (now : Log) (file : file_of now ≡ file_of keeper.log)
       (some : 0 < length keeper.slots → IsAtEnd g now last (over.bodies ++ bytes_of keeper.slots ∷ []))
       (none : length keeper.slots ≡ 0 → IsAtEnd g now last over.bodies)
       (removed : Goes g last gone (KeepsLogs (log_file keeper.number))) where
-    over_ending : (all : List (List ℕ)) × IsAtEnd g now last all
+    over_ending : (all : List (List ℕ)) × IsAtEnd g now last all × (first_now ≡ first_length all) × (first_now ≡ 0 → all ≡ [])
     over_ending = by_count keeper.slots refl
       where
-        by_count : (slots : List Slot) → slots ≡ keeper.slots → (all : List (List ℕ)) × IsAtEnd g now last all
-        by_count [] is = (over.bodies, none (ap length (sym is)))
-        by_count (slot ∷ slots) is = (over.bodies ++ bytes_of keeper.slots ∷ [], some (subst (λ (s : List Slot). 0 < length s) is (omega arith)))
+        by_count : (slots : List Slot) → slots ≡ keeper.slots → (all : List (List ℕ)) × IsAtEnd g now last all × (first_now ≡ first_length all) × (first_now ≡ 0 → all ≡ [])
+        by_count [] is =
+            let size : keeper.size ≡ 0 = keeper.sized ∙ ap (λ (s : List Slot). length (bytes_of s)) (sym is) in
+            let same : first_now ≡ keeper.first = first_stays keeper.first keeper.size size in
+            (over.bodies, none (ap length (sym is)), same ∙ over.measured, (λ zero. over.none (sym same ∙ zero)))
+        by_count (slot ∷ slots) is =
+            let there : 0 < length keeper.slots = subst (λ (s : List Slot). 0 < length s) is (omega arith) in
+            let some_bytes : 0 < length (bytes_of keeper.slots) = subst (λ (s : List Slot). 0 < length (bytes_of s)) is (slots_some slot slots) in
+            (over.bodies ++ bytes_of keeper.slots ∷ [], some there,
+            first_push keeper.first keeper.size over.bodies (bytes_of keeper.slots) over.measured over.none keeper.sized,
+            first_some keeper.first keeper.size over.bodies (bytes_of keeper.slots) (omega (arith, keeper.sized, some_bytes)))
 
     -- the logs stand at their ends again
-    pub over_after : AreOver g keeper.root now keeper.number gone
+    pub over_after : AreOver g keeper.root now keeper.number first_now gone
     over_after = record {
-      least = over.least;
+      checkpoints = over.checkpoints;
+      counted = over.counted;
       root_file = over.root_file;
       file = file ∙ over.file;
-      numbers = over.numbers;
-      root_end = at_end_stays g last gone keeper.root over.numbers (KeepsLogs (log_file keeper.number)) (λ a b kept. subst (λ (f : File). b f ≡ a f) (sym over.root_file) kept.root_stays) removed
-          (at_end_stays g mid last keeper.root over.numbers (InFile (file_of keeper.log) (WithBody over.bodies keeper.slots)) (λ a b step. step.others (file_of keeper.root) root_other) put over_root);
+      root_end = at_end_stays g last gone keeper.root (roots over.checkpoints) (KeepsLogs (log_file keeper.number)) (λ a b kept. subst (λ (f : File). b f ≡ a f) (sym over.root_file) kept.root_stays) removed
+          (at_end_stays g mid last keeper.root (roots over.checkpoints) (InFile (file_of keeper.log) (WithBody over.bodies keeper.slots)) (λ a b step. step.others (file_of keeper.root) root_other) put over_root);
       bodies = over_ending.0;
       end = at_end_stays g last gone now over_ending.0 (KeepsLogs (log_file keeper.number)) (λ a b kept. subst (λ (f : File). b f ≡ a f) (sym (file ∙ over.file)) kept.log_stays) removed over_ending.1;
+      measured = over_ending.2;
+      none = over_ending.3;
     }

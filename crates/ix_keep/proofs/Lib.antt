@@ -1,4 +1,5 @@
 pub mod Fronts
+pub mod Firsts
 pub mod Settling
 pub mod FreeFiles
 pub mod Holding
@@ -6,3 +7,5 @@ pub mod Cutting
 pub mod MoreBytes
 pub mod Steps
 pub mod Beginning
+pub mod Resting
+pub mod Shorter

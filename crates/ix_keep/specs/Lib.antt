@@ -5,5 +5,6 @@ pub mod Cuts
 pub mod Drafts
 pub mod Mounting
 pub mod Parts
+pub mod Shortening
 pub mod Snapshot
 pub mod Undo

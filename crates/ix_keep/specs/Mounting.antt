@@ -6,7 +6,7 @@ use Rattle.ix_disk.specs.Image.{Image, bytes_in}
 use Rattle.ix_disk.specs.declared.disk.Disk.{Ghosts}
 use Rattle.ix_log.specs.Log.{HasBodies, IsAtEnd, IsAsRead, file_of}
 use Rattle.ix_book.specs.Book.{Name, Book, empty, run_in, has_settings, Replays}
-use Rattle.ix_book.specs.Replaying.{IsBadGate}
+use Rattle.ix_book.specs.Replaying.{IsBadGate, first_length}
 use Rattle.ix_book.specs.Root.{Taken, roots, current, log_file, IsBadRoot}
 use Rattle.ix_book.specs.declared.replaying.ReplayFault.{ReplayFault}
 use Rattle.ix_book.specs.declared.replaying.ReplayFault.TheVariants as faults
@@ -54,6 +54,7 @@ pub record IsRead {D : Type 0} (g : Ghosts D) (fits : Book → Type 0) (keeper :
   pub bodies : List (List ℕ)
   pub end : IsAtEnd g keeper.log disk bodies
   pub replayed : Replays (Taken fits (log_of keeper)) bodies empty book
+  pub measured : keeper.first ≡ first_length bodies
   pub settled : IsAsRead g disk (log_of keeper)
   pub usable : keeper.closed ≡ false
   pub no_parts : keeper.parts ≡ []

@@ -1,5 +1,5 @@
 -- What a disk keeps of a store, and what a keeper holds of it.
-use Rattle.std.specs.Prelude.{◌≡◌, ◌≢◌, ◌⊎◌, ◌<◌, ◌≤◌, ◌+◌, ℕ, Bool, true, false, List, [], length, Option, Some, All, if◌then◌else◌}
+use Rattle.std.specs.Prelude.{◌≡◌, ◌≢◌, ◌⊎◌, ◌<◌, ◌≤◌, ◌+◌, ◌*◌, ℕ, Bool, true, false, List, [], length, Option, Some, All, if◌then◌else◌}
 use Rattle.std.specs.List.{AllByRecursion}
 use Rattle.ix_base.specs.declared.files.Area.TheVariants.{Meta}
 use Rattle.ix_base.specs.declared.files.File.{File}
@@ -14,6 +14,7 @@ use Rattle.ix_log.specs.declared.log.Log.{Log}
 use Rattle.ix_book.specs.Book.{Name, Book, empty, after_item, replay, removals_in, Replays}
 use Rattle.ix_book.specs.Root.{Taken, roots, current, log_file}
 use Rattle.ix_book.specs.Slots.{items_of}
+use Rattle.ix_book.specs.Replaying.{first_length}
 use Rattle.ix_keep.specs.Contents.{Contents, Filling, filling, HasFilling, HoldsFilling, IsFree}
 use Rattle.ix_keep.specs.Parts.{AreParts}
 use Rattle.ix_keep.specs.Copies.{AreCopies, after_copies}
@@ -87,18 +88,29 @@ pub record Held {D : Type 0} (g : Ghosts D) (fits : Book → Type 0) (keeper : K
 abbrev pub IsIdle : Keeper → Type 0
 IsIdle keeper = (keeper.parts ≡ []) × ((keeper.copies ≡ []) × (keeper.slots ≡ []))
 
--- The logs stand at the ends of some bodies, in every image: what holds from a mount on, as long as nobody else writes there.
-pub record AreOver {D : Type 0} (g : Ghosts D) (root log : Log) (number : ℕ) (disk : D) : Type 0 where
-  pub least : 1 ≤ number
+-- The logs stand at the ends of their bodies, in every image: what holds from a mount on, as long as nobody else writes there.
+pub record AreOver {D : Type 0} (g : Ghosts D) (root log : Log) (number first : ℕ) (disk : D) : Type 0 where
+  pub checkpoints : ℕ
+  pub counted : number ≡ checkpoints + 1
   pub root_file : file_of root ≡ log_file 0
   pub file : file_of log ≡ log_file number
-  pub numbers : List (List ℕ)
-  pub root_end : IsAtEnd g root disk numbers
+  pub root_end : IsAtEnd g root disk (roots checkpoints)
   pub bodies : List (List ℕ)
   pub end : IsAtEnd g log disk bodies
+  pub measured : first ≡ first_length bodies
+  pub none : first ≡ 0 → bodies ≡ []
 
 abbrev pub IsOver : {D : Type 0} → Ghosts D → Keeper → D → Type 0
-IsOver g keeper disk = AreOver g keeper.root keeper.log keeper.number disk
+IsOver g keeper disk = AreOver g keeper.root keeper.log keeper.number keeper.first disk
+
+-- the keeper knows how long the file of its log is, as the disk reads
+abbrev pub IsMeasured : {D : Type 0} → Ghosts D → Keeper → D → Type 0
+IsMeasured g keeper disk = (image : Image) → g.seen disk ≡ Some image → keeper.bytes ≡ length (bytes_in image (log_of keeper))
+
+-- A log of so many bytes, so many of them in its first body, is long.
+pub record IsLong (bytes first : ℕ) : Type 0 where
+  pub most : 8388608 ≤ bytes
+  pub twice : 2 * first ≤ bytes
 
 -- Steps of snapshots.
 

@@ -1,16 +1,17 @@
 //! A commit: what is staged is made durable, in one body of the log.
 
-ghost use Rattle.std.specs.Prelude.{◌≡◌, ◌<◌, ◌≤◌, ℕ, length, Some, Err, OnOk, OnErr, IsErrOf, true};
+ghost use Rattle.std.specs.Prelude.{◌≡◌, ◌<◌, ◌≤◌, ℕ, length, Some, Ok, Err, OnOk, OnErr, IsErrOf, true};
 ghost use Rattle.ix_base.specs.Faults.{Rose};
 ghost use Rattle.ix_base.specs.declared.files.Area.TheVariants.{Meta};
 ghost use Rattle.ix_base.specs.declared.files.File.{File};
 ghost use Rattle.ix_disk.specs.Image.{Image, bytes_in};
 ghost use Rattle.ix_disk.specs.Moments.{Always, Goes};
+ghost use Rattle.ix_book.specs.Replaying.{first_after};
 ghost use Rattle.ix_keep.specs.Committing.{IsShort};
 ghost use Rattle.ix_keep.specs.Contents.{Filling, Spares, HoldsFilling, Keeping, Anyhow};
 ghost use Rattle.ix_keep.specs.Parts.{AreParts};
 ghost use Rattle.ix_keep.specs.Copies.{AreCopies, after_copies};
-ghost use Rattle.ix_keep.specs.Snapshot.{Snapshot, KeepsEither, Held, IsOver, IsIdle, log_of};
+ghost use Rattle.ix_keep.specs.Snapshot.{Snapshot, KeepsEither, Held, IsOver, IsIdle, IsMeasured, log_of};
 ghost use Rattle.ix_keep.specs.declared.fault.CommitFault.{CommitFault};
 
 use crate::copied::Copied;
@@ -45,21 +46,17 @@ fn fill<D: Disk>(
     Ok(())
 }
 
-/// Makes durable what is staged: first the bytes and the copies, then the items, and then it removes the files that the
-/// staged removals name. It takes no memory. After a fault the keeper is closed.
-pub fn commit<D: Disk, B: Replay>(keeper: &mut Keeper, disk: &mut D) -> Result<(), CommitFault>
+/// Makes durable what is staged, in the order of `commit`, which asks afterwards how long the log is.
+fn commit_staged<D: Disk, B: Replay>(keeper: &mut Keeper, disk: &mut D) -> Result<(), CommitFault>
     requires { IsOver D.Disk keeper.old disk.old }
-    // Every image since the start keeps the old snapshot or the new one.
     ensures images { (old new : Snapshot) → Held D.Disk B.fits keeper.old disk.old old new → Always D.Disk disk.old disk.new (KeepsEither B.fits old new) }
-    // After Ok all images keep the new one, and nothing is staged.
     ensures done { (old new : Snapshot) → Held D.Disk B.fits keeper.old disk.old old new → OnOk result (Held D.Disk B.fits keeper.new disk.new new new) }
     ensures over { OnOk result (IsOver D.Disk keeper.new disk.new) }
     ensures idle { OnOk result (IsIdle keeper.new) }
-    // Each image comes from one at the start.
     ensures comes { Goes D.Disk disk.old disk.new Anyhow }
     ensures closed { OnErr result (keeper.new.closed ≡ true) }
     ensures file { log_of keeper.new ≡ log_of keeper.old }
-    // The named file has so many bytes, fewer than were committed.
+    ensures number { OnOk result (keeper.new.number ≡ keeper.old.number) }
     ensures damaged { (file : File) (at : ℕ) → result ≡ Err (CommitFault.Damaged file at) → IsShort keeper.old.parts keeper.old.copies file at
         × ((image : Image) → D.Disk.seen disk.new ≡ Some image → at ≡ length (bytes_in image file)) }
     ensures later { D.Disk.faults disk.old ≤ D.Disk.faults disk.new }
@@ -78,10 +75,50 @@ pub fn commit<D: Disk, B: Replay>(keeper: &mut Keeper, disk: &mut D) -> Result<(
         last_removals(keeper.slots.as_slice()),
         log_file(keeper.number),
     )?;
+    keeper.first = first_of(keeper.first, keeper.size);
     keeper.parts.clear();
     keeper.copies.clear();
     keeper.slots.clear();
     keeper.size = 0;
     keeper.closed = false;
+    Ok(())
+}
+
+/// How many bytes the first body has, once one of so many bytes is put behind it; 0 stands for none.
+fn first_of(first: u64, size: u64) -> u64
+    ensures { result ≡ first_after first first size }
+{
+    if first == 0 { size } else { first }
+}
+
+/// Makes durable what is staged: first the bytes and the copies, then the items, and then it removes the files that the
+/// staged removals name. It takes no memory. After a fault the keeper is closed.
+pub fn commit<D: Disk, B: Replay>(keeper: &mut Keeper, disk: &mut D) -> Result<(), CommitFault>
+    requires { IsOver D.Disk keeper.old disk.old }
+    // Every image since the start keeps the old snapshot or the new one.
+    ensures images { (old new : Snapshot) → Held D.Disk B.fits keeper.old disk.old old new → Always D.Disk disk.old disk.new (KeepsEither B.fits old new) }
+    // After Ok all images keep the new one, and nothing is staged.
+    ensures done { (old new : Snapshot) → Held D.Disk B.fits keeper.old disk.old old new → OnOk result (Held D.Disk B.fits keeper.new disk.new new new) }
+    ensures over { OnOk result (IsOver D.Disk keeper.new disk.new) }
+    ensures idle { OnOk result (IsIdle keeper.new) }
+    // Where nothing is staged, the disk and the keeper are left alone.
+    ensures none { IsIdle keeper.old → (result ≡ Ok tt) × ((keeper.new ≡ keeper.old) × (disk.new ≡ disk.old)) }
+    // The keeper knows how long the log is.
+    ensures measured { (IsIdle keeper.old → IsMeasured D.Disk keeper.old disk.old) → OnOk result (IsMeasured D.Disk keeper.new disk.new) }
+    // Each image comes from one at the start.
+    ensures comes { Goes D.Disk disk.old disk.new Anyhow }
+    ensures closed { OnErr result (keeper.new.closed ≡ true) }
+    ensures file { log_of keeper.new ≡ log_of keeper.old }
+    // The named file has so many bytes, fewer than were committed.
+    ensures damaged { (file : File) (at : ℕ) → result ≡ Err (CommitFault.Damaged file at) → IsShort keeper.old.parts keeper.old.copies file at
+        × ((image : Image) → D.Disk.seen disk.new ≡ Some image → at ≡ length (bytes_in image file)) }
+    ensures later { D.Disk.faults disk.old ≤ D.Disk.faults disk.new }
+    ensures cause { IsErrOf result CommitFault.Disk → Rose (D.Disk.faults disk.old) (D.Disk.faults disk.new) }
+{
+    if !keeper.is_staged() {
+        return Ok(());
+    }
+    commit_staged::<D, B>(keeper, disk)?;
+    keeper.measure(disk)?;
     Ok(())
 }

@@ -76,6 +76,8 @@ pub fn stage(keeper: &mut Keeper, alloc: Global, draft: Draft) -> Result<(), Sta
     ensures root { keeper.new.root ≡ keeper.old.root }
     ensures log { keeper.new.log ≡ keeper.old.log }
     ensures number { keeper.new.number ≡ keeper.old.number }
+    ensures first { keeper.new.first ≡ keeper.old.first }
+    ensures bytes { keeper.new.bytes ≡ keeper.old.bytes }
     ensures closed { keeper.new.closed ≡ keeper.old.closed }
     ensures once { AreOnce (items_of keeper.old.slots) → AreOnce (items_of keeper.new.slots) }
     ensures full { IsErrOf result StageFault.Full → 2 ^ 32 ≤ length (bytes_of keeper.old.slots) + length (body_bytes draft.items) }

@@ -1,6 +1,6 @@
 //! The keeper of a store: its logs, and what is staged.
 
-ghost use Rattle.std.specs.Prelude.{◌≡◌, ◌<◌, ◌≤◌, ◌+◌, ◌^◌, ◌++◌, ◌∷◌, ℕ, [], length, take, false, IfOk, OnOk, OnErr, IsTrue, ◌↔◌, IsErrOf};
+ghost use Rattle.std.specs.Prelude.{◌≡◌, true, ◌<◌, ◌≤◌, ◌+◌, ◌^◌, ◌++◌, ◌∷◌, ℕ, [], length, take, false, IfOk, OnOk, OnErr, IsTrue, ◌↔◌, IsErrOf};
 ghost use Rattle.std.specs.List.{AllByRecursion};
 ghost use Rattle.ix_book.specs.Slots.{bytes_of, items_of, AreOnce};
 ghost use Rattle.ix_items.specs.Spelling.{HasSpelling, item_bytes};
@@ -9,8 +9,9 @@ ghost use Rattle.ix_keep.specs.declared.keeper.StageFault.TheVariants as stages;
 use crate::copied::Copied;
 use crate::parts::{Part, cut_parts, extend_part, home, lengths_of, part_of};
 use crate::piece::Piece;
-use ix_base::{Bytes, NoMemory as OutOfMemory, Sequence};
-use ix_book::{Slot, drop_older};
+use ix_base::{Bytes, Failed, NoMemory as OutOfMemory, Sequence};
+use ix_book::{Slot, drop_older, log_file};
+use ix_disk::Disk;
 use ix_items::{Item, write_item};
 use ix_log::Log;
 use std::alloc::Global;
@@ -39,6 +40,10 @@ pub struct Keeper {
     pub(crate) log: Log,
     /// The number of the log.
     pub(crate) number: u64,
+    /// How many bytes its first body has, 0 where it has none.
+    pub(crate) first: u64,
+    /// How many bytes its file had when it was last asked.
+    pub(crate) bytes: u64,
     /// The staged bytes of buckets, one part a file.
     pub(crate) parts: Sequence<Part>,
     /// The staged copies, made one behind the other.
@@ -65,6 +70,9 @@ pub struct Mark {
     size: u64,
 }
 
+/// How many bytes a long log has at least.
+const LONG: u64 = 8_388_608;
+
 /// How many bytes are copied at a time.
 const PIECE: usize = 1 << 16;
 
@@ -72,7 +80,12 @@ impl Keeper {
     ghost use Rattle.ix_keep.specs.Undo.{GrewTo, IsMarkOf, IsSame, HasSameLogs};
     ghost use Rattle.ix_keep.specs.Drafts.{IsFit, IsFitCopy, with_piece, with_copy};
     ghost use Rattle.ix_keep.specs.declared.keeper.Keeper.{Keeper};
-    ghost use Rattle.ix_keep.specs.Snapshot.{Snapshot, Stages, with_item};
+    ghost use Rattle.ix_keep.specs.Snapshot.{Snapshot, Stages, IsMeasured, IsLong, with_item};
+    ghost use Rattle.ix_log.specs.Log.{file_of};
+    ghost use Rattle.ix_book.specs.Root.{log_file};
+    ghost use Rattle.ix_disk.specs.Image.{Stays};
+    ghost use Rattle.ix_disk.specs.Moments.{Goes};
+    ghost use Rattle.ix_base.specs.Faults.{HasCause};
 
     /// A keeper that has staged nothing, over logs that were read.
     pub(crate) fn over(
@@ -80,10 +93,12 @@ impl Keeper {
         root: Log,
         log: Log,
         number: u64,
+        first: u64,
     ) -> Result<Keeper, OutOfMemory>
         ensures root { IfOk result (λ keeper. keeper.root ≡ root) }
         ensures log { IfOk result (λ keeper. keeper.log ≡ log) }
         ensures number { IfOk result (λ keeper. keeper.number ≡ number) }
+        ensures first { IfOk result (λ keeper. keeper.first ≡ first) }
         ensures parts { IfOk result (λ keeper. keeper.parts ≡ []) }
         ensures copies { IfOk result (λ keeper. keeper.copies ≡ []) }
         ensures slots { IfOk result (λ keeper. keeper.slots ≡ []) }
@@ -94,6 +109,8 @@ impl Keeper {
             root,
             log,
             number,
+            first,
+            bytes: 0,
             parts: Sequence::new(alloc),
             copies: Sequence::new(alloc),
             slots: Sequence::new(alloc),
@@ -118,6 +135,40 @@ impl Keeper {
         !self.parts.is_empty() || !self.copies.is_empty() || !self.slots.is_empty()
     }
 
+    /// Whether the current log is long: it has at least 8,388,608 bytes, and at least twice those of its first body. Then a
+    /// checkpoint makes it shorter.
+    pub fn wants_checkpoint(&self) -> bool
+        ensures { IsTrue result ↔ IsLong self.now.bytes self.now.first }
+    {
+        self.bytes >= LONG && self.first <= self.bytes / 2
+    }
+
+    /// Asks the disk how long the log is. After `Failed` the keeper is closed.
+    pub(crate) fn measure<D: Disk>(&mut self, disk: &mut D) -> Result<(), Failed>
+        requires { file_of self.old.log ≡ log_file self.old.number }
+        ensures measured { OnOk result (IsMeasured D.Disk self.new disk.new) }
+        ensures logs { OnOk result (HasSameLogs self.old self.new) }
+        ensures closed { OnErr result (self.new.closed ≡ true) }
+        ensures file { self.new.log ≡ self.old.log }
+        ensures parts { self.new.parts ≡ self.old.parts }
+        ensures copies { self.new.copies ≡ self.old.copies }
+        ensures slots { self.new.slots ≡ self.old.slots }
+        ensures same { D.Disk.seen disk.new ≡ D.Disk.seen disk.old }
+        ensures images { Goes D.Disk disk.old disk.new Stays }
+        ensures cause { HasCause (D.Disk.faults disk.old) (D.Disk.faults disk.new) result }
+    {
+        match disk.length(log_file(self.number)) {
+            Ok(bytes) => {
+                self.bytes = bytes;
+                Ok(())
+            }
+            Err(fault) => {
+                self.closed = true;
+                Err(fault)
+            }
+        }
+    }
+
     /// Stages an item behind those that are staged.
     pub(crate) fn push_item(&mut self, alloc: Global, item: Item) -> Result<(), StageFault>
         requires { HasSpelling item }
@@ -126,6 +177,7 @@ impl Keeper {
         ensures parts { self.new.parts ≡ self.old.parts }
         ensures copies { self.new.copies ≡ self.old.copies }
         ensures size { OnOk result (self.new.size ≡ self.old.size + length (item_bytes item)) }
+        ensures some { OnOk result (0 < length self.new.slots) }
         ensures full { IsErrOf result StageFault.Full → 2 ^ 32 ≤ self.old.size + length (item_bytes item) }
     {
         let mut bytes = Bytes::new(alloc);
@@ -200,6 +252,7 @@ impl Keeper {
         requires { (keeper : Keeper) × IsMarkOf mark.now keeper × GrewTo keeper self.old }
         ensures staged { (old new : Snapshot) → Stages self.old old new → Stages self.new old new }
         ensures logs { HasSameLogs self.old self.new }
+        ensures bytes { self.new.bytes ≡ self.old.bytes }
         ensures once { (keeper : Keeper) → IsMarkOf mark.now keeper → GrewTo keeper self.old → AreOnce (items_of keeper.slots) → AreOnce (items_of self.new.slots) }
     {
         self.size = drop_older(&mut self.slots, mark.slots, self.size);

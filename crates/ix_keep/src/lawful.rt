@@ -8,10 +8,12 @@ ghost use Rattle.ix_book.specs.Book.{Name, empty, after_item};
 ghost use Rattle.ix_keep.specs.Contents.{filling};
 ghost use Rattle.ix_keep.specs.Snapshot.{Snapshot, Stages, Forgets};
 ghost use Rattle.ix_keep.specs.Undo.{IsSame};
+ghost use Rattle.ix_keep.specs.Shortening.{TellsLong};
 ghost use Rattle.ix_keep.specs.Mounting.{KeepsOneOf};
 ghost use Rattle.ix_keep.specs.declared.keeper.Keeper.{Keeper};
 
 use ix_book::Replay;
+use ix_disk::Disk;
 
 /// An empty disk keeps what stands for the first snapshot of a family that begins with no settings set, nothing else and
 /// no bytes.
@@ -28,4 +30,10 @@ pub fn forgets()
 /// What two keepers with the same staged have staged is the same.
 pub fn same_stages()
     ensures { (a b : Keeper) (old new : Snapshot) → IsSame a b → Stages a old new → Stages b old new }
+{}
+
+/// Whether a checkpoint is wanted goes by the log as the disk reads it: behind a mount, a commit and a checkpoint the keeper
+/// knows how long that is.
+pub fn wants_for_a_long_log<D: Disk>()
+    ensures { TellsLong D.Disk }
 {}

@@ -13,13 +13,15 @@ mod mounting;
 mod parts;
 mod piece;
 mod removing;
+mod shortening;
 
 pub use committing::commit;
 pub use copied::{Copied, Place};
 pub use drafting::stage;
 pub use fault::CommitFault;
 pub use keeper::{Keeper, StageFault};
-pub use lawful::{empty_disk_keeps, forgets, same_stages};
+pub use lawful::{empty_disk_keeps, forgets, same_stages, wants_for_a_long_log};
 pub use mounting::{MountFault, mount};
 pub use parts::Part;
 pub use piece::{Draft, Piece};
+pub use shortening::checkpoint;

@@ -1,6 +1,6 @@
 //! Mounting: the logs are read, the state is replayed, and the next run begins.
 
-ghost use Rattle.std.specs.Prelude.{◌≡◌, ◌≤◌, ◌<◌, ◌+◌, ◌-◌, ◌^◌, ◌⊎◌, ℕ, [], Some, Err, OnOk, OnErr, IfOk, IsErrOf, true, false, not};
+ghost use Rattle.std.specs.Prelude.{◌≡◌, ◌≤◌, ◌<◌, ◌+◌, ◌-◌, ◌^◌, ◌⊎◌, ℕ, [], length, Some, Err, OnOk, OnErr, IfOk, IsErrOf, true, false, not};
 ghost use Rattle.ix_base.specs.Faults.{Rose};
 ghost use Rattle.ix_base.specs.declared.files.File.{File};
 ghost use Rattle.ix_items.specs.declared.items.Item.TheVariants as items;
@@ -12,7 +12,7 @@ ghost use Rattle.ix_book.specs.Book.{Book, empty, after_item, run_in, removals_i
 ghost use Rattle.ix_book.specs.Root.{Taken, roots, log_file, IsBadRoot};
 ghost use Rattle.ix_book.specs.Replaying.{IsReplayed, IsBadGate};
 ghost use Rattle.ix_keep.specs.Contents.{Anyhow};
-ghost use Rattle.ix_keep.specs.Snapshot.{Snapshot, KeepsEither, Held, IsOver, IsIdle, Stages, log_of, with_item, begun};
+ghost use Rattle.ix_keep.specs.Snapshot.{Snapshot, KeepsEither, Held, IsOver, IsIdle, IsMeasured, Stages, log_of, with_item, begun};
 ghost use Rattle.ix_keep.specs.Undo.{HasSameLogs};
 ghost use Rattle.ix_keep.specs.Mounting.{IsRead, IsFamily, AllKeep, KeepsOneOf, IsMountedAt, IsBadMount, IsBadLog, as_mount, as_mount_too};
 
@@ -128,8 +128,8 @@ fn read<D: Disk, B: Replay>(
     ensures cause { IsErrOf result MountFault.Disk → Rose (D.Disk.faults disk.old) (D.Disk.faults disk.new) }
 {
     let (root, number) = read_numbers(alloc, disk)?;
-    let (log, _) = read_current(alloc, disk, log_file(number), state)?;
-    match Keeper::over(alloc, root, log, number) {
+    let (log, first) = read_current(alloc, disk, log_file(number), state)?;
+    match Keeper::over(alloc, root, log, number, first) {
         Ok(keeper) => Ok(keeper),
         Err(_) => Err(MountFault::NoMemory),
     }
@@ -150,6 +150,7 @@ fn enter<B: Replay>(
     ensures logs { HasSameLogs keeper.old keeper.new }
     ensures parts { keeper.new.parts ≡ keeper.old.parts }
     ensures copies { keeper.new.copies ≡ keeper.old.copies }
+    ensures some { OnOk result (0 < length keeper.new.slots) }
     ensures memory { OnErr result (result ≡ Err MountFault.NoMemory) }
 {
     if state.apply(item).is_err() {
@@ -175,6 +176,7 @@ fn enter_run<B: Replay>(
     ensures logs { HasSameLogs keeper.old keeper.new }
     ensures parts { keeper.new.parts ≡ keeper.old.parts }
     ensures copies { keeper.new.copies ≡ keeper.old.copies }
+    ensures some { OnOk result (0 < length keeper.new.slots) }
     ensures memory { OnErr result (result ≡ Err MountFault.NoMemory) }
 {
     if !fresh {
@@ -209,6 +211,7 @@ fn begin<D: Disk, B: Replay>(
     ensures done { (s : Snapshot) → s.book ≡ B.stands state.old → Held D.Disk B.fits keeper.old disk.old s s → OnOk result (Held D.Disk B.fits keeper.new disk.new (begun (not (has_settings s.book)) run s) (begun (not (has_settings s.book)) run s)) }
     ensures over { OnOk result (IsOver D.Disk keeper.new disk.new) }
     ensures idle { OnOk result (IsIdle keeper.new) }
+    ensures measured { OnOk result (IsMeasured D.Disk keeper.new disk.new) }
     ensures made { (s : Snapshot) → B.stands state.old ≡ s.book → OnOk result (B.stands state.new ≡ (begun (not (has_settings s.book)) run s).book) }
     ensures damaged { keeper.old.parts ≡ [] → keeper.old.copies ≡ [] → (file : File) (at : ℕ) → IsBadMount result file at → ⊥ }
     ensures full { IsErrOf result MountFault.Full → B.fits (B.stands state.new) → ⊥ }
@@ -243,6 +246,8 @@ pub fn mount<D: Disk, B: Replay>(
     // What a commit asks for.
     ensures over { IfOk result (λ keeper. IsOver D.Disk keeper disk.new) }
     ensures idle { IfOk result (λ keeper. IsIdle keeper) }
+    // And the keeper knows how long the log is.
+    ensures measured { IfOk result (λ keeper. IsMeasured D.Disk keeper disk.new) }
     // It names the gate of the first bad body of the root log or the current one, as the disk reads.
     ensures damaged { (named : File) (at : ℕ) → IsBadMount result named at → (image : Image) → D.Disk.seen disk.old ≡ Some image → IsBadLog B.fits named at image }
     // It is full exactly where the run that was found is the last, or the state above takes no first body.

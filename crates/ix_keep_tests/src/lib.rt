@@ -1,6 +1,9 @@
 //! Tests of the book and the keeper by public calls: what stops, failing calls and damage leave of a store.
 #![tactic(auto)]
 
+pub mod counted;
+#[cfg(test)]
+mod counts;
 #[cfg(test)]
 mod damage;
 #[cfg(test)]
@@ -8,3 +11,4 @@ mod script;
 pub mod small;
 #[cfg(test)]
 mod stops;
+pub mod walk;

@@ -1,16 +1,17 @@
-//! A small life of a store: a mount and four groups, with a bucket that grows, one that moves, and one that gets bytes and moves in
-//! one group.
+//! A small life of a store: a mount, four groups and two checkpoints, with a bucket that grows, one that moves, and one that gets bytes
+//! and moves in one group.
 
 ghost use Rattle.std.specs.Prelude.{◌≡◌, IfOk, IsTrue};
 ghost use Rattle.std.specs.List.{AllByRecursion};
 ghost use Rattle.ix_items.specs.Spelling.{HasSpelling};
-ghost use Rattle.ix_keep.specs.Snapshot.{IsOver};
+ghost use Rattle.ix_keep.specs.Snapshot.{IsOver, IsIdle};
 
+use crate::walk::Walk;
 use ix_base::{Area, Bytes, File, NoMemory, Sequence};
 use ix_book::PlainBook;
 use ix_disk::Disk;
 use ix_items::Item;
-use ix_keep::{Copied, Draft, Keeper, Piece, Place, commit, mount, stage};
+use ix_keep::{Copied, Draft, Keeper, Piece, Place, checkpoint, commit, mount, stage};
 use std::alloc::Global;
 
 /// A file by its area and number.
@@ -85,14 +86,15 @@ fn gone(group: i64) -> Option<File> {
 }
 
 /// Stages a group and commits it. It answers whether that was Ok.
-fn group<D: Disk>(
+pub fn group<D: Disk>(
     alloc: Global,
     keeper: &mut Keeper,
     disk: &mut D,
     group: i64,
 ) -> Result<bool, NoMemory>
     requires { IsOver D.Disk keeper.old disk.old }
-    ensures { IfOk result (λ done. IsTrue done → IsOver D.Disk keeper.new disk.new) }
+    ensures over { IfOk result (λ done. IsTrue done → IsOver D.Disk keeper.new disk.new) }
+    ensures idle { IfOk result (λ done. IsTrue done → IsIdle keeper.new) }
 {
     let draft = Draft {
         pieces: pieces(alloc, group)?,
@@ -105,20 +107,39 @@ fn group<D: Disk>(
     Ok(commit::<D, PlainBook>(keeper, disk).is_ok())
 }
 
-/// Mounts a store and commits so many groups, as long as all goes well. It answers how many were committed.
+/// Makes a checkpoint behind a group. It answers whether that was Ok.
+pub fn shorten<D: Disk>(alloc: Global, keeper: &mut Keeper, disk: &mut D, group: i64) -> bool
+    requires over { IsOver D.Disk keeper.old disk.old }
+    requires idle { IsIdle keeper.old }
+    ensures over { IsTrue result → IsOver D.Disk keeper.new disk.new }
+    ensures idle { IsTrue result → IsIdle keeper.new }
+{
+    let mut state = Walk::new(group);
+    checkpoint::<D, PlainBook, Walk>(keeper, alloc, disk, &mut state).is_ok()
+}
+
+/// Mounts a store and commits so many groups, as long as all goes well, with a checkpoint behind each second one. It answers how many
+/// were committed, and 10 more for each checkpoint.
 pub fn live<D: Disk>(alloc: Global, disk: &mut D, groups: i64) -> Result<i64, NoMemory> {
     let mut book = PlainBook::new(alloc);
     let Ok(mut keeper) = mount(alloc, disk, &mut book) else {
         return Ok(0);
     };
     let mut done = 0;
+    let mut shorter: i64 = 0;
     while done < groups {
         if !group(alloc, &mut keeper, disk, done + 1)? {
-            return Ok(done);
+            return Ok(shorter.saturating_add(done));
         }
         done += 1;
+        if done % 2 == 0 {
+            if !shorten(alloc, &mut keeper, disk, done) {
+                return Ok(shorter.saturating_add(done));
+            }
+            shorter = shorter.saturating_add(10);
+        }
     }
-    Ok(done)
+    Ok(shorter.saturating_add(done))
 }
 
 /// The last moment in a book: the number of the last group that it has.

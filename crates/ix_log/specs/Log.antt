@@ -1,5 +1,5 @@
 -- The gated log: bodies behind open gates, and a gate that is shut.
-use Rattle.std.specs.Prelude.{◌≡◌, ◌≢◌, ◌⊎◌, ◌<◌, ◌≤◌, ◌^◌, ℕ, List, [], ◌∷◌, ◌++◌, length, Bool, true, false, Some}
+use Rattle.std.specs.Prelude.{◌≡◌, ◌≢◌, ◌⊎◌, ◌<◌, ◌≤◌, ◌+◌, ◌^◌, if◌then◌else◌, ℕ, List, [], ◌∷◌, ◌++◌, length, Bool, true, false, Some}
 use Rattle.std.specs.List.{AllByRecursion}
 use Rattle.std.specs.Int.{to_be_bytes, w32}
 use Rattle.ix_base.specs.declared.files.File.{File}
@@ -19,6 +19,10 @@ place_of log = log.at
 -- how many bytes of the next body were put
 abbrev pub put_so_far : Log → ℕ
 put_so_far log = log.len
+
+-- where the file ends, if nothing stands behind what was put: behind a gate, or behind the bytes of the next body
+abbrev pub end_of : Log → ℕ
+end_of log = if log.begun then log.at + 5 + log.len else log.at + 1
 
 -- an open gate, the body's length in four bytes, and the body
 abbrev pub block : List ℕ → List ℕ
@@ -67,6 +71,14 @@ pub record Whole (bodies : List (List ℕ)) (body file : List ℕ) : Type 0 wher
 abbrev pub AtEnd : Bool → List (List ℕ) → List ℕ → Type 0
 AtEnd true bodies file = Gated bodies file
 AtEnd false bodies file = (bodies ≡ []) × (length file ≤ 1)
+
+-- as a read gives it, the log's file has so many bytes
+abbrev pub EndsAt : {D : Type 0} → Ghosts D → Log → D → ℕ → Type 0
+EndsAt g log disk end = Reads g disk log.file (λ bytes. length bytes ≡ end)
+
+-- nothing stands behind what was put
+abbrev pub HasNoMore : {D : Type 0} → Ghosts D → Log → D → Type 0
+HasNoMore g log disk = EndsAt g log disk (end_of log)
 
 -- the log stands behind the last of these bodies, in every image
 pub record IsAtEnd {D : Type 0} (g : Ghosts D) (log : Log) (disk : D) (bodies : List (List ℕ)) : Type 0 where

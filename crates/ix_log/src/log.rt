@@ -100,7 +100,7 @@ pub struct Log {
 }
 
 impl Log {
-    ghost use Rattle.ix_log.specs.Log.{OnMore, IsMounted, IsReading, IsUsable, IsBegun, HasBodies, Gated, WithOrWithout, IsAtEnd, IsPutting, IsWhole, IsReady, IsCut, file_of, place_of, put_so_far, blocks};
+    ghost use Rattle.ix_log.specs.Log.{OnMore, IsMounted, IsReading, IsUsable, IsBegun, HasBodies, Gated, WithOrWithout, IsAtEnd, IsPutting, IsWhole, IsReady, IsCut, HasNoMore, EndsAt, file_of, place_of, put_so_far, blocks};
 
     /// Settles the file by a sync, and stands before its first body. The bodies are judged by `next`, so this is never
     /// `Damaged`; and it takes no memory.
@@ -135,6 +135,8 @@ impl Log {
         ensures usable { IfOk result (λ log. IsUsable D.Disk log disk.new) }
         ensures file { IfOk result (λ log. file_of log ≡ file) }
         ensures counted { IfOk result (λ log. put_so_far log ≡ 0) }
+        // Nothing stands behind the gate.
+        ensures alone { IfOk result (λ log. HasNoMore D.Disk log disk.new) }
         // Every image since the start of the call has all other files, and a read of them gives what it gave.
         ensures images { Goes D.Disk disk.old disk.new (Apart file) }
         ensures seen { Told (Apart file) (D.Disk.seen disk.old) (D.Disk.seen disk.new) }
@@ -212,6 +214,7 @@ impl Log {
         requires { (bodies : List (List ℕ)) × IsAtEnd D.Disk self.old disk.old bodies }
         ensures shut { (bodies : List (List ℕ)) → IsAtEnd D.Disk self.old disk.old bodies →
             OnOk result (IsAtEnd D.Disk self.new disk.new bodies × (self.new.closed ≡ true)) }
+        ensures no_more { HasNoMore D.Disk self.old disk.old → OnOk result (HasNoMore D.Disk self.new disk.new) }
         ensures images { (bodies : List (List ℕ)) → IsAtEnd D.Disk self.old disk.old bodies →
             Goes D.Disk disk.old disk.new (InFile (file_of self.old) (HasBodies bodies)) }
         ensures counted { put_so_far self.new ≡ put_so_far self.old }
@@ -234,6 +237,7 @@ impl Log {
         requires { (bodies : List (List ℕ)) × IsAtEnd D.Disk self.old disk.old bodies }
         ensures begun { (bodies : List (List ℕ)) → IsAtEnd D.Disk self.old disk.old bodies →
             OnOk result (IsPutting D.Disk self.new disk.new bodies []) }
+        ensures no_more { HasNoMore D.Disk self.old disk.old → OnOk result (HasNoMore D.Disk self.new disk.new) }
         ensures images { (bodies : List (List ℕ)) → IsAtEnd D.Disk self.old disk.old bodies →
             Goes D.Disk disk.old disk.new (InFile (file_of self.old) (HasBodies bodies)) }
         ensures counted { put_so_far self.new ≡ put_so_far self.old }
@@ -252,6 +256,7 @@ impl Log {
         requires { IsUsable D.Disk self.old disk.old }
         ensures begun { (bodies : List (List ℕ)) (body : List ℕ) → IsReady D.Disk self.old disk.old bodies body →
             OnOk result (IsPutting D.Disk self.new disk.new bodies body) }
+        ensures no_more { HasNoMore D.Disk self.old disk.old → OnOk result (HasNoMore D.Disk self.new disk.new) }
         ensures images { (bodies : List (List ℕ)) (body : List ℕ) → IsReady D.Disk self.old disk.old bodies body →
             Goes D.Disk disk.old disk.new (InFile (file_of self.old) (HasBodies bodies)) }
         ensures counted { put_so_far self.new ≡ put_so_far self.old }
@@ -276,6 +281,8 @@ impl Log {
         ensures counted { OnOk result (put_so_far self.new ≡ put_so_far self.old + length bytes.now) }
         ensures put { (bodies : List (List ℕ)) (body : List ℕ) → IsReady D.Disk self.old disk.old bodies body →
             OnOk result (IsPutting D.Disk self.new disk.new bodies (body ++ bytes.now)) }
+        // Where nothing stood behind what was put, nothing does.
+        ensures no_more { HasNoMore D.Disk self.old disk.old → OnOk result (HasNoMore D.Disk self.new disk.new) }
         // Every image since the start of the call has the bodies from before, and all other files.
         ensures images { (bodies : List (List ℕ)) (body : List ℕ) → IsReady D.Disk self.old disk.old bodies body →
             Goes D.Disk disk.old disk.new (InFile (file_of self.old) (HasBodies bodies)) }
@@ -295,6 +302,7 @@ impl Log {
         requires { (bodies : List (List ℕ)) × (body : List ℕ) × IsPutting D.Disk self.now disk.old bodies body }
         ensures whole { (bodies : List (List ℕ)) (body : List ℕ) → IsPutting D.Disk self.now disk.old bodies body →
             OnOk result (IsWhole D.Disk self.now disk.new bodies body) }
+        ensures no_more { HasNoMore D.Disk self.now disk.old → OnOk result (EndsAt D.Disk self.now disk.new (self.now.at + 6 + self.now.len)) }
         ensures images { (bodies : List (List ℕ)) (body : List ℕ) → IsPutting D.Disk self.now disk.old bodies body →
             Goes D.Disk disk.old disk.new (InFile self.now.file (Gated bodies)) }
         ensures bounded { OnOk result (self.now.at + 5 + self.now.len < 2 ^ 63) }
@@ -314,6 +322,7 @@ impl Log {
         requires { (bodies : List (List ℕ)) × (body : List ℕ) × IsWhole D.Disk self.now disk.old bodies body }
         ensures opened { (bodies : List (List ℕ)) (body : List ℕ) → IsWhole D.Disk self.now disk.old bodies body →
             OnOk result (Holds D.Disk disk.new self.now.file (Gated (bodies ++ body ∷ []))) }
+        ensures no_more { (end : ℕ) → self.now.at < end → EndsAt D.Disk self.now disk.old end → OnOk result (EndsAt D.Disk self.now disk.new end) }
         ensures images { (bodies : List (List ℕ)) (body : List ℕ) → IsWhole D.Disk self.now disk.old bodies body →
             Goes D.Disk disk.old disk.new (InFile self.now.file (WithOrWithout bodies body)) }
         ensures seen { Told (Apart (file_of self.now)) (D.Disk.seen disk.old) (D.Disk.seen disk.new) }
@@ -332,6 +341,8 @@ impl Log {
         ensures counted { OnOk result (put_so_far self.new ≡ 0) }
         ensures finished { (bodies : List (List ℕ)) (body : List ℕ) → IsPutting D.Disk self.old disk.old bodies body →
             OnOk result (IsAtEnd D.Disk self.new disk.new (bodies ++ body ∷ [])) }
+        // Where nothing stood behind what was put, nothing stands behind the gate that follows.
+        ensures no_more { HasNoMore D.Disk self.old disk.old → OnOk result (HasNoMore D.Disk self.new disk.new) }
         // Every image since the start of the call has the bodies from before, with this one or without, and all other files.
         ensures images { (bodies : List (List ℕ)) (body : List ℕ) → IsPutting D.Disk self.old disk.old bodies body →
             Goes D.Disk disk.old disk.new (InFile (file_of self.old) (WithOrWithout bodies body)) }

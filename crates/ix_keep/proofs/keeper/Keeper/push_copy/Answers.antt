@@ -4,10 +4,10 @@ use Rattle.ix_keep.proofs.Steps.{stages_copy}
 use Rattle.ix_keep.proofs.keeper.Keeper.push_copy.Goals as goal
 
 pub returns-in_err-push-clause-grew : goal.returns-in_err-push-clause-grew
-returns-in_err-push-clause-grew c = grew_as _ _ (record { root = refl; log = refl; number = refl; closed = refl }) refl c.in_err-push.ensures.err refl
+returns-in_err-push-clause-grew c = grew_as _ _ (record { root = refl; log = refl; number = refl; first = refl; closed = refl }) refl refl c.in_err-push.ensures.err refl
 
 pub returns-clause-staged : goal.returns-clause-staged
 returns-clause-staged c = λ old new stages fit. stages_copy c.args.self.now _ old new c.args.copied fit refl c.in_ok-push.ensures.ok refl stages
 
 pub returns-clause-grew : goal.returns-clause-grew
-returns-clause-grew c = grew_copies _ _ _ (record { root = refl; log = refl; number = refl; closed = refl }) refl c.in_ok-push.ensures.ok refl
+returns-clause-grew c = grew_copies _ _ _ (record { root = refl; log = refl; number = refl; first = refl; closed = refl }) refl refl c.in_ok-push.ensures.ok refl

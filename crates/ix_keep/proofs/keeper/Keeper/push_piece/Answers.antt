@@ -34,20 +34,20 @@ returns-clause-staged c = λ old new stages fit.
     stages_push c.args.self.now _ old new piece fit stages _ refl refl c.in_ok-push.ensures.ok none refl refl (c.in_ok-staged.ensures ∙ c.as_slice-2.ensures)
 
 pub returns-in_err-extend_part-clause-grew : goal.returns-in_err-extend_part-clause-grew
-returns-in_err-extend_part-clause-grew c = grew_as _ _ (record { root = refl; log = refl; number = refl; closed = refl }) c.in_err-extend_part.ensures.err refl refl
+returns-in_err-extend_part-clause-grew c = grew_as _ _ (record { root = refl; log = refl; number = refl; first = refl; closed = refl }) refl c.in_err-extend_part.ensures.err refl refl
 
 pub returns-then-place-len-clause-grew : goal.returns-then-place-len-clause-grew
 returns-then-place-len-clause-grew c =
     let parts = c.args.self.now.parts in
     let place = c.part_of-place.result in
     let within : place < length parts = omega (arith, c.if-place-len.true, c.len.ensures) in
-    grew_parts c.args.self.now _ (record { root = refl; log = refl; number = refl; closed = refl }) (grown parts place within _ _ c.in_ok-extend_part.ensures.ok) refl refl
+    grew_parts c.args.self.now _ (record { root = refl; log = refl; number = refl; first = refl; closed = refl }) refl (grown parts place within _ _ c.in_ok-extend_part.ensures.ok) refl refl
 
 pub returns-in_err-staged-clause-grew : goal.returns-in_err-staged-clause-grew
-returns-in_err-staged-clause-grew c = grew_as _ _ (record { root = refl; log = refl; number = refl; closed = refl }) refl refl refl
+returns-in_err-staged-clause-grew c = grew_as _ _ (record { root = refl; log = refl; number = refl; first = refl; closed = refl }) refl refl refl refl
 
 pub returns-in_err-push-clause-grew : goal.returns-in_err-push-clause-grew
-returns-in_err-push-clause-grew c = grew_as _ _ (record { root = refl; log = refl; number = refl; closed = refl }) c.in_err-push.ensures.err refl refl
+returns-in_err-push-clause-grew c = grew_as _ _ (record { root = refl; log = refl; number = refl; first = refl; closed = refl }) refl c.in_err-push.ensures.err refl refl
 
 pub returns-clause-grew : goal.returns-clause-grew
-returns-clause-grew c = grew_parts c.args.self.now _ (record { root = refl; log = refl; number = refl; closed = refl }) (subst (λ (qs : List Part). Grew c.args.self.now.parts qs) (sym c.in_ok-push.ensures.ok) (grew_push c.args.self.now.parts _)) refl refl
+returns-clause-grew c = grew_parts c.args.self.now _ (record { root = refl; log = refl; number = refl; first = refl; closed = refl }) refl (subst (λ (qs : List Part). Grew c.args.self.now.parts qs) (sym c.in_ok-push.ensures.ok) (grew_push c.args.self.now.parts _)) refl refl

@@ -11,7 +11,8 @@ cut_parts-requires c =
 
 pub returns : goal.returns
 returns c = λ keeper is grew. record {
-  logs = record { root = grew.logs.root; log = grew.logs.log; number = grew.logs.number; closed = grew.logs.closed };
+  logs = record { root = grew.logs.root; log = grew.logs.log; number = grew.logs.number; first = grew.logs.first; closed = grew.logs.closed };
+  bytes = grew.bytes;
   parts = c.cut_parts.ensures ∙ ap (λ (ls : List ℕ). cut_first (length ls) ls (take (length ls) c.args.self.now.parts)) c.as_slice.ensures.value ∙ cut_parts_back c.args.mark.now keeper c.args.self.now is grew;
   copies = c.truncate.ensures ∙ cut_copies_back c.args.mark.now keeper c.args.self.now is grew;
   slots = c.truncate-2.ensures ∙ cut_slots_back c.args.mark.now keeper c.args.self.now is grew;

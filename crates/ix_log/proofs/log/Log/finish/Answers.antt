@@ -1,4 +1,4 @@
-use Rattle.std.proofs.Common.{◌++◌, [], ◌∷◌, Bool, inl, subst, sym, refl, arith}
+use Rattle.std.proofs.Common.{◌++◌, ◌+◌, [], ◌∷◌, Bool, inl, subst, sym, refl, arith}
 use Rattle.ix_disk.specs.Moments.{Holds}
 use Rattle.ix_disk.proofs.Runs.{weaker, run_on}
 use Rattle.ix_log.specs.Log.{Gated, AtEnd, WithOrWithout}
@@ -35,3 +35,8 @@ returns-clause-usable g c = record {
   body = [];
   ready = inl (returns-clause-finished g c c.requires.bodies c.requires.body c.requires.putting, refl);
 }
+
+pub returns-clause-no_more : goal.returns-clause-no_more
+returns-clause-no_more g c = λ had image told.
+    let log = c.args.self.now in
+    omega (arith, c.in_ok-open.ensures.no_more (log.at + 6 + log.len) (omega arith) (c.in_ok-close.ensures.no_more had) image told)

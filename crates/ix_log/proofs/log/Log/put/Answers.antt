@@ -1,5 +1,6 @@
 use Rattle.std.proofs.Common.{arith, length-append, inr, ◌++◌}
 use Rattle.ix_log.proofs.Bytes.{staged_long}
+use Rattle.ix_log.proofs.Ends.{put_ends}
 use Rattle.ix_log.proofs.Put.{put_run, put_holds, put_reads}
 use Rattle.ix_log.proofs.log.Log.put.Goals as goal
 
@@ -38,3 +39,9 @@ pub returns-clause-usable_still : goal.returns-clause-usable_still
 returns-clause-usable_still g c =
     let u = c.requires.usable in
     record { bodies = u.bodies; body = u.body ++ c.args.bytes.now; ready = inr (returns-clause-put g c u.bodies u.body u.ready) }
+
+pub returns-clause-no_more : goal.returns-clause-no_more
+returns-clause-no_more g c = λ had.
+    let u = c.requires.usable in
+    let putting = c.in_ok-ready.ensures.begun u.bodies u.body u.ready in
+    put_ends g.D.Disk _ _ c.ready.new.self c.args.bytes.now putting.begun c.in_ok-write_at.ensures.written (c.in_ok-ready.ensures.no_more had)

@@ -1,0 +1,165 @@
+use Rattle.std.proofs.Common.{◌≡◌, ℕ, ◌<◌, List, [], ◌∷◌, ◌++◌, length, refl, subst, sym, ◌∙◌, inl}
+use Rattle.std.specs.Prelude.{All}
+use Rattle.ix_base.specs.declared.files.File.{File}
+use Rattle.ix_disk.specs.Moments.{Goes, InFile}
+use Rattle.ix_log.specs.Log.{IsAtEnd, file_of}
+use Rattle.ix_book.specs.Root.{log_file}
+use Rattle.ix_book.specs.Slots.{bytes_of, WithBody, AreRemovals}
+use Rattle.ix_book.specs.declared.slot.Slot.{Slot}
+use Rattle.ix_keep.specs.Contents.{Spares, KeepsLogs, IsFree, HoldsFilling, filling}
+use Rattle.ix_keep.specs.Parts.{AreParts}
+use Rattle.ix_keep.specs.Snapshot.{AreOver}
+use Rattle.ix_keep.specs.Copies.{AreCopies, after_copies}
+use Rattle.ix_keep.specs.declared.copied.Copied.{Copied}
+use Rattle.ix_keep.proofs.Settling.{loosely, loosely_on, anyhow_on}
+use Rattle.ix_keep.proofs.Holding.{meta, commit_first, commit_end, commit_put, commit_images, commit_done, removals_free, over_end, over_after}
+use Rattle.ix_keep.proofs.committing.commit_staged.Goals as goal
+
+pub returns-in_err-fill-clause-images : goal.returns-in_err-fill-clause-images
+returns-in_err-fill-clause-images g c = λ old new held.
+    let keeper = c.args.keeper.now in
+    let first = c.args.disk.now in
+    let m = meta g.D.Disk g.B.Replay.fits keeper first old new held in
+    let parts = subst (AreParts (filling old.contents) held.stages.grown) (sym c.as_slice.ensures) held.stages.parts in
+    let copies = subst (AreCopies (filling old.contents) held.stages.grown) (sym c.as_slice-2.ensures) held.stages.copies in
+    let run = c.fill.ensures.images (file_of keeper.log) (filling old.contents) held.stages.grown m parts copies in
+    commit_first g.D.Disk g.B.Replay.fits keeper first old new held c.fill.new.disk run
+
+pub returns-in_err-fill-clause-comes : goal.returns-in_err-fill-clause-comes
+returns-in_err-fill-clause-comes g c = loosely g.D.Disk c.args.disk.now c.fill.new.disk _ (c.fill.ensures.logs (log_file 0) refl)
+
+pub put_body-requires-clause-usable : goal.put_body-requires-clause-usable
+put_body-requires-clause-usable g c = record { bodies = c.requires.bodies; body = []; ready = inl (over_end g.D.Disk c.args.keeper.now c.args.disk.now c.fill.new.disk c.requires c.fill.ensures.logs, refl) }
+
+pub returns-in_err-put_body-clause-images : goal.returns-in_err-put_body-clause-images
+returns-in_err-put_body-clause-images g c = λ old new held.
+    let keeper = c.args.keeper.now in
+    let first = c.args.disk.now in
+    let mid = c.fill.new.disk in
+    let last = c.put_body.new.disk in
+    let m = meta g.D.Disk g.B.Replay.fits keeper first old new held in
+    let parts = subst (AreParts (filling old.contents) held.stages.grown) (sym c.as_slice.ensures) held.stages.parts in
+    let copies = subst (AreCopies (filling old.contents) held.stages.grown) (sym c.as_slice-2.ensures) held.stages.copies in
+    let run = c.fill.ensures.images (file_of keeper.log) (filling old.contents) held.stages.grown m parts copies in
+    let filled = subst (λ (xs : List Copied). HoldsFilling g.D.Disk mid (after_copies xs held.stages.grown)) c.as_slice-2.ensures
+    (c.in_ok-fill.ensures.filled (file_of keeper.log) (filling old.contents) held.stages.grown m parts copies held.committed.contents) in
+    let end = commit_end g.D.Disk g.B.Replay.fits keeper first old new held mid run in
+    let put = subst (λ (s : List Slot). Goes g.D.Disk mid last (InFile (file_of keeper.log) (WithBody held.committed.bodies s))) c.as_slice-3.ensures (c.put_body.ensures.images held.committed.bodies end) in
+    commit_put g.D.Disk g.B.Replay.fits keeper first old new held mid run last filled put
+
+pub returns-in_err-put_body-clause-comes : goal.returns-in_err-put_body-clause-comes
+returns-in_err-put_body-clause-comes g c =
+    let keeper = c.args.keeper.now in
+    let first = c.args.disk.now in
+    let mid = c.fill.new.disk in
+    let last = c.put_body.new.disk in
+    let over = c.requires in
+    let end = over_end g.D.Disk keeper first mid over c.fill.ensures.logs in
+    loosely_on g.D.Disk first mid last _ _ (c.fill.ensures.logs (log_file 0) refl) (c.put_body.ensures.images over.bodies end)
+
+pub returns-in_err-remove_all-clause-images : goal.returns-in_err-remove_all-clause-images
+returns-in_err-remove_all-clause-images g c = λ old new held.
+    let keeper = c.args.keeper.now in
+    let first = c.args.disk.now in
+    let mid = c.fill.new.disk in
+    let last = c.put_body.new.disk in
+    let m = meta g.D.Disk g.B.Replay.fits keeper first old new held in
+    let parts = subst (AreParts (filling old.contents) held.stages.grown) (sym c.as_slice.ensures) held.stages.parts in
+    let copies = subst (AreCopies (filling old.contents) held.stages.grown) (sym c.as_slice-2.ensures) held.stages.copies in
+    let run = c.fill.ensures.images (file_of keeper.log) (filling old.contents) held.stages.grown m parts copies in
+    let filled = subst (λ (xs : List Copied). HoldsFilling g.D.Disk mid (after_copies xs held.stages.grown)) c.as_slice-2.ensures
+    (c.in_ok-fill.ensures.filled (file_of keeper.log) (filling old.contents) held.stages.grown m parts copies held.committed.contents) in
+    let end = commit_end g.D.Disk g.B.Replay.fits keeper first old new held mid run in
+    let put = subst (λ (s : List Slot). Goes g.D.Disk mid last (InFile (file_of keeper.log) (WithBody held.committed.bodies s))) c.as_slice-3.ensures (c.put_body.ensures.images held.committed.bodies end) in
+    let gone = c.remove_all.new.disk in
+    let some = subst (λ (s : List Slot). 0 < length s → IsAtEnd g.D.Disk c.put_body.new.log last (held.committed.bodies ++ bytes_of s ∷ [])) c.as_slice-3.ensures (c.in_ok-put_body.ensures.finished held.committed.bodies end) in
+    let none = subst (λ (s : List Slot). length s ≡ 0 → IsAtEnd g.D.Disk c.put_body.new.log last held.committed.bodies) c.as_slice-3.ensures (c.in_ok-put_body.ensures.none held.committed.bodies end) in
+    let are = subst (λ (s : List Slot). AreRemovals s c.last_removals.result.now) c.as_slice-4.ensures c.last_removals.ensures in
+    let free = removals_free (file_of keeper.log) keeper new old.book c.last_removals.result.now are held.stages.items held.free in
+    let named : c.log_file.result ≡ file_of keeper.log = c.log_file.ensures ∙ sym c.requires.file in
+    let removed = subst (λ (f : File). Goes g.D.Disk last gone (Spares f (filling new.contents))) named
+    (c.remove_all.ensures.images new.contents (subst (λ (f : File). All (IsFree f new.contents) c.last_removals.result.now) (sym named) free)) in
+    commit_images g.D.Disk g.B.Replay.fits keeper first old new held mid run last filled put c.put_body.new.log c.put_body.ensures.file some none gone removed
+
+pub returns-in_err-remove_all-clause-comes : goal.returns-in_err-remove_all-clause-comes
+returns-in_err-remove_all-clause-comes g c =
+    let keeper = c.args.keeper.now in
+    let first = c.args.disk.now in
+    let mid = c.fill.new.disk in
+    let last = c.put_body.new.disk in
+    let over = c.requires in
+    let end = over_end g.D.Disk keeper first mid over c.fill.ensures.logs in
+    anyhow_on g.D.Disk first last c.remove_all.new.disk (loosely_on g.D.Disk first mid last _ _ (c.fill.ensures.logs (log_file 0) refl) (c.put_body.ensures.images over.bodies end)) (loosely g.D.Disk last c.remove_all.new.disk _ c.remove_all.ensures.logs)
+
+pub returns-clause-images : goal.returns-clause-images
+returns-clause-images g c = λ old new held.
+    let keeper = c.args.keeper.now in
+    let first = c.args.disk.now in
+    let mid = c.fill.new.disk in
+    let last = c.put_body.new.disk in
+    let m = meta g.D.Disk g.B.Replay.fits keeper first old new held in
+    let parts = subst (AreParts (filling old.contents) held.stages.grown) (sym c.as_slice.ensures) held.stages.parts in
+    let copies = subst (AreCopies (filling old.contents) held.stages.grown) (sym c.as_slice-2.ensures) held.stages.copies in
+    let run = c.fill.ensures.images (file_of keeper.log) (filling old.contents) held.stages.grown m parts copies in
+    let filled = subst (λ (xs : List Copied). HoldsFilling g.D.Disk mid (after_copies xs held.stages.grown)) c.as_slice-2.ensures
+    (c.in_ok-fill.ensures.filled (file_of keeper.log) (filling old.contents) held.stages.grown m parts copies held.committed.contents) in
+    let end = commit_end g.D.Disk g.B.Replay.fits keeper first old new held mid run in
+    let put = subst (λ (s : List Slot). Goes g.D.Disk mid last (InFile (file_of keeper.log) (WithBody held.committed.bodies s))) c.as_slice-3.ensures (c.put_body.ensures.images held.committed.bodies end) in
+    let gone = c.remove_all.new.disk in
+    let some = subst (λ (s : List Slot). 0 < length s → IsAtEnd g.D.Disk c.put_body.new.log last (held.committed.bodies ++ bytes_of s ∷ [])) c.as_slice-3.ensures (c.in_ok-put_body.ensures.finished held.committed.bodies end) in
+    let none = subst (λ (s : List Slot). length s ≡ 0 → IsAtEnd g.D.Disk c.put_body.new.log last held.committed.bodies) c.as_slice-3.ensures (c.in_ok-put_body.ensures.none held.committed.bodies end) in
+    let are = subst (λ (s : List Slot). AreRemovals s c.last_removals.result.now) c.as_slice-4.ensures c.last_removals.ensures in
+    let free = removals_free (file_of keeper.log) keeper new old.book c.last_removals.result.now are held.stages.items held.free in
+    let named : c.log_file.result ≡ file_of keeper.log = c.log_file.ensures ∙ sym c.requires.file in
+    let removed = subst (λ (f : File). Goes g.D.Disk last gone (Spares f (filling new.contents))) named
+    (c.remove_all.ensures.images new.contents (subst (λ (f : File). All (IsFree f new.contents) c.last_removals.result.now) (sym named) free)) in
+    commit_images g.D.Disk g.B.Replay.fits keeper first old new held mid run last filled put c.put_body.new.log c.put_body.ensures.file some none gone removed
+
+pub returns-clause-comes : goal.returns-clause-comes
+returns-clause-comes g c =
+    let keeper = c.args.keeper.now in
+    let first = c.args.disk.now in
+    let mid = c.fill.new.disk in
+    let last = c.put_body.new.disk in
+    let over = c.requires in
+    let end = over_end g.D.Disk keeper first mid over c.fill.ensures.logs in
+    anyhow_on g.D.Disk first last c.remove_all.new.disk (loosely_on g.D.Disk first mid last _ _ (c.fill.ensures.logs (log_file 0) refl) (c.put_body.ensures.images over.bodies end)) (loosely g.D.Disk last c.remove_all.new.disk _ c.remove_all.ensures.logs)
+
+pub returns-clause-done : goal.returns-clause-done
+returns-clause-done g c = λ old new held.
+    let keeper = c.args.keeper.now in
+    let first = c.args.disk.now in
+    let mid = c.fill.new.disk in
+    let last = c.put_body.new.disk in
+    let m = meta g.D.Disk g.B.Replay.fits keeper first old new held in
+    let parts = subst (AreParts (filling old.contents) held.stages.grown) (sym c.as_slice.ensures) held.stages.parts in
+    let copies = subst (AreCopies (filling old.contents) held.stages.grown) (sym c.as_slice-2.ensures) held.stages.copies in
+    let run = c.fill.ensures.images (file_of keeper.log) (filling old.contents) held.stages.grown m parts copies in
+    let filled = subst (λ (xs : List Copied). HoldsFilling g.D.Disk mid (after_copies xs held.stages.grown)) c.as_slice-2.ensures
+    (c.in_ok-fill.ensures.filled (file_of keeper.log) (filling old.contents) held.stages.grown m parts copies held.committed.contents) in
+    let end = commit_end g.D.Disk g.B.Replay.fits keeper first old new held mid run in
+    let put = subst (λ (s : List Slot). Goes g.D.Disk mid last (InFile (file_of keeper.log) (WithBody held.committed.bodies s))) c.as_slice-3.ensures (c.put_body.ensures.images held.committed.bodies end) in
+    let gone = c.remove_all.new.disk in
+    let some = subst (λ (s : List Slot). 0 < length s → IsAtEnd g.D.Disk c.put_body.new.log last (held.committed.bodies ++ bytes_of s ∷ [])) c.as_slice-3.ensures (c.in_ok-put_body.ensures.finished held.committed.bodies end) in
+    let none = subst (λ (s : List Slot). length s ≡ 0 → IsAtEnd g.D.Disk c.put_body.new.log last held.committed.bodies) c.as_slice-3.ensures (c.in_ok-put_body.ensures.none held.committed.bodies end) in
+    let are = subst (λ (s : List Slot). AreRemovals s c.last_removals.result.now) c.as_slice-4.ensures c.last_removals.ensures in
+    let free = removals_free (file_of keeper.log) keeper new old.book c.last_removals.result.now are held.stages.items held.free in
+    let named : c.log_file.result ≡ file_of keeper.log = c.log_file.ensures ∙ sym c.requires.file in
+    let removed = subst (λ (f : File). Goes g.D.Disk last gone (Spares f (filling new.contents))) named
+    (c.remove_all.ensures.images new.contents (subst (λ (f : File). All (IsFree f new.contents) c.last_removals.result.now) (sym named) free)) in
+    commit_done g.D.Disk g.B.Replay.fits keeper first old new held mid run last filled put c.put_body.new.log c.put_body.ensures.file some none gone removed _ refl refl refl refl c.clear.ensures c.clear-2.ensures c.clear-3.ensures
+
+pub returns-clause-over : goal.returns-clause-over
+returns-clause-over g c =
+    let keeper = c.args.keeper.now in
+    let first = c.args.disk.now in
+    let mid = c.fill.new.disk in
+    let last = c.put_body.new.disk in
+    let over = c.requires in
+    let end = over_end g.D.Disk keeper first mid over c.fill.ensures.logs in
+    let put = subst (λ (s : List Slot). Goes g.D.Disk mid last (InFile (file_of keeper.log) (WithBody over.bodies s))) c.as_slice-3.ensures (c.put_body.ensures.images over.bodies end) in
+    let some = subst (λ (s : List Slot). 0 < length s → IsAtEnd g.D.Disk c.put_body.new.log last (over.bodies ++ bytes_of s ∷ [])) c.as_slice-3.ensures (c.in_ok-put_body.ensures.finished over.bodies end) in
+    let none = subst (λ (s : List Slot). length s ≡ 0 → IsAtEnd g.D.Disk c.put_body.new.log last over.bodies) c.as_slice-3.ensures (c.in_ok-put_body.ensures.none over.bodies end) in
+    let removed = subst (λ (f : File). Goes g.D.Disk last c.remove_all.new.disk (KeepsLogs f)) c.log_file.ensures c.remove_all.ensures.logs in
+    subst (λ (n : ℕ). AreOver g.D.Disk keeper.root c.put_body.new.log keeper.number n c.remove_all.new.disk) (sym c.first_of-keeper.ensures)
+    (over_after g.D.Disk keeper first mid over c.fill.ensures.logs last c.remove_all.new.disk put c.put_body.new.log c.put_body.ensures.file some none removed)

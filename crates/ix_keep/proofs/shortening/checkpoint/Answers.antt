@@ -1,0 +1,215 @@
+use Rattle.std.proofs.Common.{rules, ◌≡◌, ◌≢◌, ◌+◌, ◌<◌, ◌^◌, ℕ, List, [], ◌∷◌, length, refl, ap, subst, sym, ◌∙◌, inl, arith}
+use Rattle.ix_base.specs.Told.{Told}
+use Rattle.ix_base.specs.declared.files.File.{File}
+use Rattle.ix_disk.specs.Image.{Apart, MayRemove, bytes_in}
+use Rattle.ix_disk.proofs.Others.{apart_removed}
+use Rattle.ix_disk.specs.Moments.{Goes}
+use Rattle.ix_log.specs.Log.{IsAtEnd, file_of}
+use Rattle.ix_book.specs.Book.{IsBody}
+use Rattle.ix_book.specs.Root.{log_file, roots}
+use Rattle.ix_checkpoint.specs.Whole.{whole, whole_body}
+use Rattle.ix_keep.specs.Snapshot.{log_of}
+use Rattle.ix_keep.specs.Shortening.{HasOneBody}
+use Rattle.ix_keep.proofs.Settling.{anyhow_on, loosely}
+use Rattle.ix_keep.proofs.Shorter.{number_room, apart_comes, over_still, over_root, measured_still, end_gone, root_gone, over_new, root_mid, written_images, numbered_images, removed_images, shortened_held, place_one, new_file, new_file_other}
+use Rattle.ix_keep.proofs.shortening.checkpoint.Goals as goal
+
+pub returns-in-Err-clause-images : goal.returns-in-Err-clause-images
+returns-in-Err-clause-images g c = λ s held tells fit.
+    let fits = g.B.Replay.fits in
+    let keeper = c.args.keeper.now in
+    let first = c.args.disk.now in
+    let mid = c.write_log.new.disk in
+    let next = c.log_file.ensures ∙ ap (λ (m : ℕ). log_file (m + 1)) held.committed.number in
+    let written = subst (λ (f : File). Goes g.D.Disk first mid (Apart f)) next c.write_log.ensures.images in
+    written_images g.D.Disk fits keeper first s held mid written
+
+pub returns-in_err-put_number-clause-images : goal.returns-in_err-put_number-clause-images
+returns-in_err-put_number-clause-images g c = λ s held tells fit.
+    let fits = g.B.Replay.fits in
+    let keeper = c.args.keeper.now in
+    let first = c.args.disk.now in
+    let mid = c.write_log.new.disk in
+    let next = c.log_file.ensures ∙ ap (λ (m : ℕ). log_file (m + 1)) held.committed.number in
+    let written = subst (λ (f : File). Goes g.D.Disk first mid (Apart f)) next c.write_log.ensures.images in
+    let last = c.put_number.new.disk in
+    let told = g.W.Whole.left c.args.state.now in
+    let old : c.log_file-old.result ≡ log_of keeper = c.log_file-old.ensures ∙ sym c.requires.over.file in
+    let body = subst (λ (f : File). IsBody (whole told f) (whole_body told f)) old c.in-Ok.ensures.body in
+    let end = subst (λ (f : File). IsAtEnd g.D.Disk c.in-Ok.log mid (whole_body told f ∷ [])) old c.in-Ok.ensures.written in
+    let root_now = root_mid g.D.Disk fits keeper first s held mid written in
+    let k = held.committed.checkpoints in
+    let number : keeper.number + 1 ≡ k + 2 = omega (arith, held.committed.number) in
+    let numbered = c.put_number.ensures.images k number root_now in
+    numbered_images g.D.Disk fits keeper first s held mid written told tells fit body c.in-Ok.log (c.in-Ok.ensures.file ∙ next) end last numbered
+
+pub returns-in_err-remove-clause-images : goal.returns-in_err-remove-clause-images
+returns-in_err-remove-clause-images g c = λ s held tells fit.
+    let fits = g.B.Replay.fits in
+    let keeper = c.args.keeper.now in
+    let first = c.args.disk.now in
+    let mid = c.write_log.new.disk in
+    let next = c.log_file.ensures ∙ ap (λ (m : ℕ). log_file (m + 1)) held.committed.number in
+    let written = subst (λ (f : File). Goes g.D.Disk first mid (Apart f)) next c.write_log.ensures.images in
+    let last = c.put_number.new.disk in
+    let told = g.W.Whole.left c.args.state.now in
+    let old : c.log_file-old.result ≡ log_of keeper = c.log_file-old.ensures ∙ sym c.requires.over.file in
+    let body = subst (λ (f : File). IsBody (whole told f) (whole_body told f)) old c.in-Ok.ensures.body in
+    let end = subst (λ (f : File). IsAtEnd g.D.Disk c.in-Ok.log mid (whole_body told f ∷ [])) old c.in-Ok.ensures.written in
+    let root_now = root_mid g.D.Disk fits keeper first s held mid written in
+    let k = held.committed.checkpoints in
+    let number : keeper.number + 1 ≡ k + 2 = omega (arith, held.committed.number) in
+    let numbered = c.put_number.ensures.images k number root_now in
+    let root_end = c.in_ok-put_number.ensures.finished k number root_now in
+    let removed = subst (λ (f : File). Goes g.D.Disk last c.remove.new.self (MayRemove f)) old c.remove.ensures.images in
+    removed_images g.D.Disk fits keeper first s held mid written told tells fit body c.in-Ok.log (c.in-Ok.ensures.file ∙ next) end last numbered c.put_number.new.root c.put_number.ensures.file root_end c.remove.new.self removed
+
+pub returns-clause-images : goal.returns-clause-images
+returns-clause-images g c = λ s held tells fit.
+    let fits = g.B.Replay.fits in
+    let keeper = c.args.keeper.now in
+    let first = c.args.disk.now in
+    let mid = c.write_log.new.disk in
+    let next = c.log_file.ensures ∙ ap (λ (m : ℕ). log_file (m + 1)) held.committed.number in
+    let written = subst (λ (f : File). Goes g.D.Disk first mid (Apart f)) next c.write_log.ensures.images in
+    let last = c.put_number.new.disk in
+    let told = g.W.Whole.left c.args.state.now in
+    let old : c.log_file-old.result ≡ log_of keeper = c.log_file-old.ensures ∙ sym c.requires.over.file in
+    let body = subst (λ (f : File). IsBody (whole told f) (whole_body told f)) old c.in-Ok.ensures.body in
+    let end = subst (λ (f : File). IsAtEnd g.D.Disk c.in-Ok.log mid (whole_body told f ∷ [])) old c.in-Ok.ensures.written in
+    let root_now = root_mid g.D.Disk fits keeper first s held mid written in
+    let k = held.committed.checkpoints in
+    let number : keeper.number + 1 ≡ k + 2 = omega (arith, held.committed.number) in
+    let numbered = c.put_number.ensures.images k number root_now in
+    let root_end = c.in_ok-put_number.ensures.finished k number root_now in
+    let removed = subst (λ (f : File). Goes g.D.Disk last c.remove.new.self (MayRemove f)) old c.remove.ensures.images in
+    removed_images g.D.Disk fits keeper first s held mid written told tells fit body c.in-Ok.log (c.in-Ok.ensures.file ∙ next) end last numbered c.put_number.new.root c.put_number.ensures.file root_end c.remove.new.self removed
+
+pub returns-clause-over : goal.returns-clause-over
+returns-clause-over g c =
+    let keeper = c.args.keeper.now in
+    let first = c.args.disk.now in
+    let mid = c.write_log.new.disk in
+    let last = c.put_number.new.disk in
+    let gone = c.remove.new.self in
+    let over = c.requires.over in
+    let told = g.W.Whole.left c.args.state.now in
+    let body = whole_body told c.log_file-old.result in
+    let written = subst (λ (f : File). Goes g.D.Disk first mid (Apart f)) c.log_file.ensures c.write_log.ensures.images in
+    let file = c.in-Ok.ensures.file ∙ c.log_file.ensures in
+    let k = over.checkpoints in
+    let number : keeper.number + 1 ≡ k + 2 = omega (arith, over.counted) in
+    let root_over = over_root g.D.Disk keeper first mid over written in
+    let numbered = c.put_number.ensures.images k number root_over in
+    let removed = subst (λ (f : File). Goes g.D.Disk last gone (MayRemove f)) c.log_file-old.ensures c.remove.ensures.images in
+    let root_end = c.in_ok-put_number.ensures.finished k number root_over in
+    let place = c.in-Ok.ensures.written.place ∙ place_one body in
+    over_new g.D.Disk keeper first mid over written last gone c.in-Ok.log body file c.in-Ok.ensures.written numbered removed c.put_number.new.root c.put_number.ensures.file root_end c.go_over.new.keeper
+    c.go_over.ensures.root c.go_over.ensures.log c.go_over.ensures.number (omega (arith, c.go_over.ensures.first, place)) c.in-Ok.ensures.body.some
+
+pub returns-clause-done : goal.returns-clause-done
+returns-clause-done g c = λ s held tells fit.
+    let fits = g.B.Replay.fits in
+    let keeper = c.args.keeper.now in
+    let first = c.args.disk.now in
+    let mid = c.write_log.new.disk in
+    let next = c.log_file.ensures ∙ ap (λ (m : ℕ). log_file (m + 1)) held.committed.number in
+    let written = subst (λ (f : File). Goes g.D.Disk first mid (Apart f)) next c.write_log.ensures.images in
+    let last = c.put_number.new.disk in
+    let told = g.W.Whole.left c.args.state.now in
+    let old : c.log_file-old.result ≡ log_of keeper = c.log_file-old.ensures ∙ sym c.requires.over.file in
+    let body = subst (λ (f : File). IsBody (whole told f) (whole_body told f)) old c.in-Ok.ensures.body in
+    let end = subst (λ (f : File). IsAtEnd g.D.Disk c.in-Ok.log mid (whole_body told f ∷ [])) old c.in-Ok.ensures.written in
+    let root_now = root_mid g.D.Disk fits keeper first s held mid written in
+    let k = held.committed.checkpoints in
+    let number : keeper.number + 1 ≡ k + 2 = omega (arith, held.committed.number) in
+    let numbered = c.put_number.ensures.images k number root_now in
+    let root_end = c.in_ok-put_number.ensures.finished k number root_now in
+    let removed = subst (λ (f : File). Goes g.D.Disk last c.remove.new.self (MayRemove f)) old c.remove.ensures.images in
+    let over_written = subst (λ (f : File). Goes g.D.Disk first mid (Apart f)) c.log_file.ensures c.write_log.ensures.images in
+    let over = c.requires.over in
+    let file = c.in-Ok.ensures.file ∙ c.log_file.ensures in
+    let gone = c.remove.new.self in
+    let over_removed = subst (λ (f : File). Goes g.D.Disk last gone (MayRemove f)) c.log_file-old.ensures c.remove.ensures.images in
+    let over_number : keeper.number + 1 ≡ over.checkpoints + 2 = omega (arith, over.counted) in
+    let root_over = over_root g.D.Disk keeper first mid over over_written in
+    let over_numbered = c.put_number.ensures.images over.checkpoints over_number root_over in
+    let over_root_end = c.in_ok-put_number.ensures.finished over.checkpoints over_number root_over in
+    let same : over.checkpoints ≡ k = omega (arith, over.counted, held.committed.number) in
+    let root_last = subst (λ (n : ℕ). IsAtEnd g.D.Disk c.put_number.new.root gone (roots (n + 1))) same
+    (root_gone g.D.Disk keeper first mid over over_written last gone c.in-Ok.log (whole_body told c.log_file-old.result) file c.in-Ok.ensures.written over_numbered over_removed c.put_number.new.root c.put_number.ensures.file over_root_end) in
+    let now_last = subst (λ (f : File). IsAtEnd g.D.Disk c.in-Ok.log gone (whole_body told f ∷ [])) old
+    (end_gone g.D.Disk keeper first mid over over_written last gone c.in-Ok.log (whole_body told c.log_file-old.result) file c.in-Ok.ensures.written over_numbered over_removed c.put_number.new.root c.put_number.ensures.file over_root_end) in
+    shortened_held g.D.Disk fits keeper first s held mid written told tells fit body c.in-Ok.log (c.in-Ok.ensures.file ∙ next) end last numbered c.put_number.new.root c.put_number.ensures.file root_end gone removed
+    c.go_over.new.keeper c.go_over.ensures.root c.go_over.ensures.log c.go_over.ensures.number c.go_over.ensures.closed
+    (c.go_over.ensures.parts ∙ c.requires.idle.0) (c.go_over.ensures.copies ∙ c.requires.idle.1.0) (c.go_over.ensures.slots ∙ c.requires.idle.1.1) root_last now_last
+
+pub go_over-requires-clause-number : goal.go_over-requires-clause-number
+go_over-requires-clause-number g c = number_room g.D.Disk c.args.keeper.now c.args.disk.now c.requires.over
+
+pub overflow_add-keeper : goal.overflow_add-keeper
+overflow_add-keeper g c = omega (arith, number_room g.D.Disk c.args.keeper.now c.args.disk.now c.requires.over)
+
+pub returns-in_err-put_number-clause-comes : goal.returns-in_err-put_number-clause-comes
+returns-in_err-put_number-clause-comes g c =
+    let keeper = c.args.keeper.now in
+    let first = c.args.disk.now in
+    let mid = c.write_log.new.disk in
+    let last = c.put_number.new.disk in
+    let over = c.requires.over in
+    let written = subst (λ (f : File). Goes g.D.Disk first mid (Apart f)) c.log_file.ensures c.write_log.ensures.images in
+    let numbered = c.put_number.ensures.images over.checkpoints (omega (arith, over.counted)) (over_root g.D.Disk keeper first mid over written) in
+    let so_far = anyhow_on g.D.Disk first mid last (apart_comes g.D.Disk first mid _ c.write_log.ensures.images) (loosely g.D.Disk mid last _ numbered) in
+    so_far
+
+pub returns-in_err-remove-clause-comes : goal.returns-in_err-remove-clause-comes
+returns-in_err-remove-clause-comes g c =
+    let keeper = c.args.keeper.now in
+    let first = c.args.disk.now in
+    let mid = c.write_log.new.disk in
+    let last = c.put_number.new.disk in
+    let over = c.requires.over in
+    let written = subst (λ (f : File). Goes g.D.Disk first mid (Apart f)) c.log_file.ensures c.write_log.ensures.images in
+    let numbered = c.put_number.ensures.images over.checkpoints (omega (arith, over.counted)) (over_root g.D.Disk keeper first mid over written) in
+    let so_far = anyhow_on g.D.Disk first mid last (apart_comes g.D.Disk first mid _ c.write_log.ensures.images) (loosely g.D.Disk mid last _ numbered) in
+    anyhow_on g.D.Disk first last c.remove.new.self so_far (loosely g.D.Disk last c.remove.new.self _ c.remove.ensures.images)
+
+pub returns-clause-comes : goal.returns-clause-comes
+returns-clause-comes g c =
+    let keeper = c.args.keeper.now in
+    let first = c.args.disk.now in
+    let mid = c.write_log.new.disk in
+    let last = c.put_number.new.disk in
+    let over = c.requires.over in
+    let written = subst (λ (f : File). Goes g.D.Disk first mid (Apart f)) c.log_file.ensures c.write_log.ensures.images in
+    let numbered = c.put_number.ensures.images over.checkpoints (omega (arith, over.counted)) (over_root g.D.Disk keeper first mid over written) in
+    let so_far = anyhow_on g.D.Disk first mid last (apart_comes g.D.Disk first mid _ c.write_log.ensures.images) (loosely g.D.Disk mid last _ numbered) in
+    anyhow_on g.D.Disk first last c.remove.new.self so_far (loosely g.D.Disk last c.remove.new.self _ c.remove.ensures.images)
+
+pub returns-clause-shortest : goal.returns-clause-shortest
+returns-clause-shortest g c = λ image told.
+    let keeper = c.args.keeper.now in
+    let first = c.args.disk.now in
+    let mid = c.write_log.new.disk in
+    let last = c.put_number.new.disk in
+    let gone = c.remove.new.self in
+    let body = whole_body (g.W.Whole.left c.args.state.now) c.log_file-old.result in
+    let other = new_file_other g.D.Disk keeper first c.requires.over c.in-Ok.log (c.in-Ok.ensures.file ∙ c.log_file.ensures) in
+    let removed = apart_removed c.log_file-old.result (g.D.Disk.seen last) (g.D.Disk.seen gone) c.in_ok-remove.ensures.removed in
+    let found = new_file g.D.Disk (λ image disk told. g.met.D.Disk.seen_may_stay disk image told) mid last gone c.in-Ok.log body (file_of keeper.root) c.log_file-old.result other.0
+    (λ same. other.1 (same ∙ c.log_file-old.ensures)) c.put_number.ensures.seen removed c.in-Ok.ensures.written c.in-Ok.ensures.no_more image told in
+    subst (λ (f : File). HasOneBody (bytes_in image f)) (sym (ap file_of c.go_over.ensures.log)) found.0
+
+pub returns-clause-measured : goal.returns-clause-measured
+returns-clause-measured g c = λ image told.
+    let keeper = c.args.keeper.now in
+    let first = c.args.disk.now in
+    let mid = c.write_log.new.disk in
+    let last = c.put_number.new.disk in
+    let gone = c.remove.new.self in
+    let body = whole_body (g.W.Whole.left c.args.state.now) c.log_file-old.result in
+    let other = new_file_other g.D.Disk keeper first c.requires.over c.in-Ok.log (c.in-Ok.ensures.file ∙ c.log_file.ensures) in
+    let removed = apart_removed c.log_file-old.result (g.D.Disk.seen last) (g.D.Disk.seen gone) c.in_ok-remove.ensures.removed in
+    let found = new_file g.D.Disk (λ image disk told. g.met.D.Disk.seen_may_stay disk image told) mid last gone c.in-Ok.log body (file_of keeper.root) c.log_file-old.result other.0
+    (λ same. other.1 (same ∙ c.log_file-old.ensures)) c.put_number.ensures.seen removed c.in-Ok.ensures.written c.in-Ok.ensures.no_more image told in
+    c.go_over.ensures.bytes ∙ sym found.1 ∙ ap (λ (f : File). length (bytes_in image f)) (sym (ap file_of c.go_over.ensures.log))
