@@ -292,10 +292,12 @@ module _ {D : Type 0} (g : Ghosts D) (keeper : Keeper) (first mid : D) (over : I
             (over.bodies, none (ap length (sym is)), same ∙ over.measured, (λ zero. over.none (sym same ∙ zero)))
         by_count (slot ∷ slots) is =
             let there : 0 < length keeper.slots = subst (λ (s : List Slot). 0 < length s) is (omega arith) in
-            let some_bytes : 0 < length (bytes_of keeper.slots) = subst (λ (s : List Slot). 0 < length (bytes_of s)) is (slots_some slot slots) in
-            (over.bodies ++ bytes_of keeper.slots ∷ [], some there,
-            first_push keeper.first keeper.size over.bodies (bytes_of keeper.slots) over.measured over.none keeper.sized,
-            first_some keeper.first keeper.size over.bodies (bytes_of keeper.slots) (omega (arith, keeper.sized, some_bytes)))
+            let some_bytes : 0 < length (bytes_of keeper.slots) = subst (λ (s : List Slot). 0 < length (bytes_of s)) is (slots_some slot slots) in (
+              over.bodies ++ bytes_of keeper.slots ∷ [],
+              some there,
+              first_push keeper.first keeper.size over.bodies (bytes_of keeper.slots) over.measured over.none keeper.sized,
+              first_some keeper.first keeper.size over.bodies (bytes_of keeper.slots) (omega (arith, keeper.sized, some_bytes)),
+            )
 
     -- the logs stand at their ends again
     pub over_after : AreOver g keeper.root now keeper.number first_now gone

@@ -381,14 +381,17 @@ pub new_file : {D : Type 0} (g : Ghosts D) → ((image : Image) (disk : D) → g
     → (image : Image) → g.seen gone ≡ Some image → HasOneBody (bytes_in image (file_of now)) × (length (bytes_in image (file_of now)) ≡ place_of now + 1)
 new_file g may_stay mid last gone now body root old ne_root ne_old first second end no_more image is =
     let b = seen_on g mid last gone now root old ne_root ne_old first second image is in
-    let long : length (bytes_in image (file_of now)) ≡ place_of now + 1 = ap (λ (l : List ℕ). length l) b.2 ∙ no_more b.0 b.1 ∙ end_idle now end.idle in
-    (record {
-      body = body;
-      bodies = subst (HasBodies (body ∷ [])) (sym b.2) (end_bodies now.closed (body ∷ []) (bytes_in b.0 (file_of now)) (end.images b.0 (may_stay b.0 mid b.1)));
-      size = omega (arith, long, end.place, place_one body);
-    }, long)
+    let long : length (bytes_in image (file_of now)) ≡ place_of now + 1 = ap (λ (l : List ℕ). length l) b.2 ∙ no_more b.0 b.1 ∙ end_idle now end.idle in (
+      record {
+        body = body;
+        bodies = subst (HasBodies (body ∷ [])) (sym b.2) (end_bodies now.closed (body ∷ []) (bytes_in b.0 (file_of now)) (end.images b.0 (may_stay b.0 mid b.1)));
+        size = omega (arith, long, end.place, place_one body);
+      },
+      long,
+    )
 
 pub new_file_other : {D : Type 0} (g : Ghosts D) (keeper : Keeper) (disk : D) (over : IsOver g keeper disk) (now : Log) → file_of now ≡ log_file (keeper.number + 1) → (file_of now ≢ file_of keeper.root) × (file_of now ≢ log_file keeper.number)
 new_file_other g keeper disk over now is = (
-    (λ same. other_number 0 (keeper.number + 1) (omega arith) (sym over.root_file ∙ sym same ∙ is)),
-    (λ same. other_number keeper.number (keeper.number + 1) (omega arith) (sym same ∙ is)))
+  (λ same. other_number 0 (keeper.number + 1) (omega arith) (sym over.root_file ∙ sym same ∙ is)),
+  (λ same. other_number keeper.number (keeper.number + 1) (omega arith) (sym same ∙ is)),
+)
