@@ -56,7 +56,7 @@ module _ {D : Type 0} (g : Ghosts D) (fits : Book → Type 0) where
       none_staged = subst (AreParts (filling old.contents) held.stages.grown) idle.0 held.stages.parts
 
       grown_held : HoldsFilling g disk held.stages.grown
-      grown_held = settled_all g (filling old.contents) held.stages.grown disk [] 0 (omega arith) none_staged held.committed.contents (All-nil _)
+      grown_held = settled_all g (file_of keeper.log) (filling old.contents) held.stages.grown (ap (λ (f : File). f.area) held.committed.file) disk [] 0 (omega arith) none_staged held.committed.contents (All-nil _)
 
       grown_there : (image : Image) → g.may_leave disk image → HasFilling (after_copies keeper.copies held.stages.grown) image
       grown_there image left = subst (λ (copies : List Copied). HasFilling (after_copies copies held.stages.grown) image) (sym idle.1.0) (grown_held image left)
