@@ -1,0 +1,17 @@
+pub mod Named
+pub mod Sums
+pub mod Placing
+pub mod Sound
+pub mod Stepping
+pub mod Balanced
+pub mod Living
+pub mod Dealing
+pub mod Renewing
+pub mod Following
+pub mod Freezing
+pub mod Ledgers
+pub mod Viewing
+pub mod Ascending
+pub mod Singles
+pub mod Moments
+pub mod Rolling

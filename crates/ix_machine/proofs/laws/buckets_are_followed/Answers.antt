@@ -1,0 +1,12 @@
+use Rattle.std.proofs.Common.{subst, sym}
+use Rattle.ix_machine.specs.Followed.{AreFollowed}
+use Rattle.ix_machine.specs.State.{State, slots_in, empty}
+use Rattle.ix_machine.specs.Step.{after}
+use Rattle.ix_machine.proofs.Following.{after_more, followed_after}
+use Rattle.ix_machine.proofs.Stepping.{sound_after}
+use Rattle.ix_machine.proofs.laws.buckets_are_followed.Goals as goal
+
+pub returns : goal.returns
+returns c = λ choose before later name.
+    subst (λ (m : State). AreFollowed (slots_in (after choose before).catalog.indexes name) (slots_in m.catalog.indexes name)) (sym (after_more choose empty before later))
+    (followed_after choose (after choose before) later name (sound_after choose before))
