@@ -1,0 +1,75 @@
+-- What is seen of a text that goes on decides the tests before its last 255 bytes.
+use Rattle.std.proofs.Common.{◌≡◌, ℕ, zero, suc, ◌+◌, ◌<◌, ◌≤◌, inl, inr, take, ◌&&◌, if◌then◌else◌, Bool, true, false, List, [], ◌∷◌, ◌++◌, length, Option, Some, refl, sym, ◌∙◌, ap, arith, length-append}
+use Rattle.std.specs.Prelude.{slice_get, ◌==◌, nat_le}
+use Rattle.ix_pattern.specs.Ways.{Text, ends_at, byte_before, at_end, here, finish_ways, is_word, is_word_byte, differ, word_ways, sight}
+use Rattle.ix_pattern.specs.Laws.{Continues}
+use Rattle.ix_pattern.proofs.Refining.{sight-improves}
+use Rattle.ix_threads.specs.Leaf.{at}
+use Rattle.ix_threads.specs.Agrees.{Agrees}
+use Rattle.ix_threads.specs.Ran.{Sees}
+use Rattle.ix_threads.proofs.HistoryLemmas.{get-left}
+use Rattle.std.proofs.lemmas.Option.{slice_get-get_or}
+use Rattle.std.proofs.Math.ListN.{get_or}
+
+pub agrees-refl : (text : Text) (p : ℕ) → p ≤ length text.bytes → Agrees text text p
+agrees-refl text p h = record { within = h; starts = refl; ends = λ lines. refl; words = refl; sights = refl }
+
+before-same : (o : Option ℕ) (bytes more : List ℕ) (p : ℕ) → p ≤ length bytes → byte_before o bytes p ≡ byte_before o (bytes ++ more) p
+before-same o bytes more zero h = refl
+before-same o bytes more (suc n) h = sym (get-left bytes more n (omega arith))
+
+-- a place that is not before the last byte
+not-last : (n m : ℕ) → n < m → (n == m) ≡ false
+not-last n m h = grind (arith, h)
+
+finish-some : (lines : Bool) (text : Text) (p b : ℕ) → p + 1 < length text.bytes → finish_ways lines text (at p []) (Some b) ≡ (if lines then here (b == 10) (at p []) else [])
+finish-some true text p b h = refl
+finish-some false text p b h =
+    ap (λ t. if (b == 10) && t then at_end text (ends_at (at p []) ∷ []) else []) (not-last (p + 1) (length text.bytes) h) ∙ none (b == 10)
+  where
+    none : (t : Bool) → (if t && false then at_end text (ends_at (at p []) ∷ []) else []) ≡ []
+    none true = refl
+    none false = refl
+
+-- where there are so many bytes, sight ends there
+sight-stops : (n : ℕ) (text : Text) → n ≤ length text.bytes → (sight n text).unfinished ≡ false
+sight-stops n text h = by (nat_le n (length text.bytes)) refl
+  where
+    by : (b : Bool) → nat_le n (length text.bytes) ≡ b → (if b then record text { bytes = take n text.bytes; unfinished = false } else text).unfinished ≡ false
+    by true e = refl
+    by false e = absurd (grind (arith, e, h))
+
+sight-same : (n : ℕ) (seen text : Text) → Continues seen text → n ≤ length seen.bytes → sight n seen ≡ sight n text
+sight-same n seen text c h = elim (sight-improves n seen text c) [
+  | inl e ↦ e
+  | inr d ↦ absurd (let e : true ≡ false = sym d.unfinished ∙ sight-stops n seen h in grind (arith, e))
+]
+
+pub agrees-on : (seen text : Text) (p : ℕ) → Continues seen text → p + 255 ≤ length seen.bytes → Agrees seen text p
+agrees-on seen text p c h =
+    let longer : length text.bytes ≡ length seen.bytes + length c.more = ap length c.bytes ∙ length-append seen.bytes c.more in
+    let got : slice_get seen.bytes p ≡ Some (get_or seen.bytes p 0) = slice_get-get_or seen.bytes p 0 (omega (arith, h)) in
+    let same : slice_get text.bytes p ≡ Some (get_or seen.bytes p 0) = ap (λ l. slice_get l p) c.bytes ∙ get-left seen.bytes c.more p (omega (arith, h)) ∙ got in
+    let starts : byte_before seen.before seen.bytes p ≡ byte_before text.before text.bytes p =
+    before-same seen.before seen.bytes c.more p (omega (arith, h))
+    ∙ ap (λ l. byte_before seen.before l p) (sym c.bytes) ∙ ap (λ o. byte_before o text.bytes p) (sym c.before) in
+    record {
+      within = omega (arith, h, longer);
+      starts = starts;
+      ends = λ lines.
+          ap (finish_ways lines seen (at p [])) got ∙ finish-some lines seen p (get_or seen.bytes p 0) (omega (arith, h))
+          ∙ sym (ap (finish_ways lines text (at p [])) same ∙ finish-some lines text p (get_or seen.bytes p 0) (omega (arith, h, longer)));
+      words =
+          ap (word_ways seen (at p [])) got
+          ∙ ap (λ o. here (differ (is_word o) (is_word_byte (get_or seen.bytes p 0))) (at p [])) starts
+          ∙ sym (ap (word_ways text (at p [])) same);
+      sights = sight-same (p + 255) seen text c h;
+    }
+
+-- a text that goes on from what is seen of it has its tests and bytes up to the last byte
+pub sees-on : (seen text : Text) (to : ℕ) → Continues seen text → to + 254 ≤ length seen.bytes → Sees seen text to
+sees-on seen text to c h k lt =
+    (agrees-on seen text k c (omega (arith, h, lt)), ap (λ l. slice_get l k) c.bytes ∙ get-left seen.bytes c.more k (omega (arith, h, lt)))
+
+pub sees-refl : (text : Text) (to : ℕ) → to ≤ length text.bytes → Sees text text to
+sees-refl text to h k lt = (agrees-refl text k (omega (arith, h, lt)), refl)

@@ -1,0 +1,12 @@
+use Rattle.std.proofs.Common.{◌+◌, ◌≤◌}
+use Rattle.ix_threads.specs.Code.{sets_of}
+use Rattle.ix_threads.specs.Ran.{Row}
+use Rattle.ix_threads.proofs.table.push_answers.Given as goal
+
+abbrev pub invariant-loop-piece : goal.invariant-loop-piece
+invariant-loop-piece g l =
+    record {
+      row : Row l.fn.answers.items l.answers.items l.piece (sets_of l.p.rows) l.byte;
+      counted : l.steps ≤ l.fn.steps + l.piece;
+      later : l.fn.steps ≤ l.steps;
+    }

@@ -1,0 +1,11 @@
+use Rattle.std.proofs.Common.{sym, subst, []}
+use Rattle.ix_threads.specs.Settled.{HasHead}
+use Rattle.ix_threads.proofs.work.follow.Goals as goal
+
+pub returns-clause-rounds : goal.returns-clause-rounds
+returns-clause-rounds c = λ real ag rows blank mean rank m lk front first.
+    subst (λ b. HasHead mean blank c.args.place c.settle.new.cells.items c.settle.new.ready.items [] b front) (sym c.or_best.ensures)
+    (c.in_ok-found.ensures.settles real ag rows blank mean rank m lk c.args.best front first)
+
+pub returns-clause-grown : goal.returns-clause-grown
+returns-clause-grown c = record { added = c.in_ok-found.ensures.grown.0; is = c.in_ok-found.ensures.grown.1 }

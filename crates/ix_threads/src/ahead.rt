@@ -1,0 +1,87 @@
+//! What lookaheads come to at a place. The run over a text calls it once a place.
+
+ghost use Rattle.std.specs.Prelude.{◌≡◌, ℕ, ◌*◌, ◌≤◌, ◌<◌, List, [], length, Option, Some, IfOk, OnOk, slice_get};
+ghost use Rattle.ix_pattern.specs.Ways.{Reached, Way, look, ways};
+ghost use Rattle.ix_pattern.specs.Rows.{Rows, piece_at};
+ghost use Rattle.ix_threads.specs.Leaf.{leaf_ways, text_of, at};
+ghost use Rattle.ix_threads.specs.Code.{IsCode, HasSets, best_ways};
+ghost use Rattle.ix_threads.specs.Looks.{IsLook, HasNoLook};
+ghost use Rattle.ix_threads.specs.Ran.{IsTabled, AreMarks};
+ghost use Rattle.ix_threads.specs.Programs.{IsAsk, AreAsks, AsksFit, AllLooked};
+
+use crate::cells::{Best, Cell};
+use crate::code::{Ask, Instr, ask_at};
+use crate::input::{Input, in_sight};
+use crate::leaf::Leaf;
+use crate::plain::run;
+use crate::work::Work;
+use ix_base::NoMemory;
+
+/// What a lookahead comes to, by what its inside came to.
+fn leaf_of(best: Best, wanted: bool) -> Leaf
+    ensures { (r : Reached) (inside : List Way) (blank : List (Option (ℕ × ℕ))) (cells : List Cell) →
+        slice_get inside 0 ≡ slice_get (best_ways blank cells best) 0 → look wanted r inside ≡ leaf_ways result r }
+{
+    match best {
+        Best::End { .. } => { if wanted { Leaf::Here } else { Leaf::Never } }
+        Best::No => { if wanted { Leaf::Never } else { Leaf::Here } }
+        Best::More => Leaf::Edge,
+    }
+}
+
+/// What one lookahead comes to.
+fn look_one(
+    inner: &[Instr],
+    ask: Ask,
+    table: &[bool],
+    n: usize,
+    input: Input<'_>,
+    place: usize,
+    work: &mut Work,
+) -> Result<Leaf, NoMemory>
+    requires start { ask.start < length inner.now }
+    requires code { IsCode inner.now }
+    requires plain { HasNoLook inner.now }
+    requires sets { HasSets n inner.now }
+    requires table { length table.now ≡ 256 * n }
+    requires within { place ≤ length input.bytes.now }
+    requires marks { AreMarks work.old.marks.items (length inner.now) work.old.stamp }
+    ensures same { IfOk result (λ leaf. (rows : Rows) → IsAsk rows inner.now ask → IsTabled table.now n input.entry.bytes.now rows →
+        leaf_ways leaf (at place []) ≡ ways (piece_at rows ask.piece) (text_of input.entry) (at place [])) }
+    ensures marks { OnOk result (AreMarks work.new.marks.items (length inner.now) work.new.stamp) }
+{
+    let seen = in_sight(input, place);
+    let best = run(inner, ask.start, table, n, seen, place, work)?;
+    Ok(leaf_of(best, ask.wanted))
+}
+
+/// Puts down what each lookahead comes to at a place, by the number of its piece.
+pub fn look_all(
+    asks: &[Ask],
+    inner: &[Instr],
+    table: &[bool],
+    n: usize,
+    input: Input<'_>,
+    place: usize,
+    work: &mut Work,
+    looks: &mut Vec<Leaf>,
+) -> Result<(), NoMemory>
+    requires fit { AsksFit asks.now (length inner.now) (length looks.old.items) }
+    requires code { IsCode inner.now }
+    requires plain { HasNoLook inner.now }
+    requires sets { HasSets n inner.now }
+    requires table { length table.now ≡ 256 * n }
+    requires within { place ≤ length input.bytes.now }
+    requires marks { AreMarks work.old.marks.items (length inner.now) work.old.stamp }
+    ensures looks { OnOk result ((rows : Rows) → AreAsks rows inner.now asks.now → IsTabled table.now n input.entry.bytes.now rows →
+        AllLooked (length asks.now) asks.now looks.new.items rows (text_of input.entry) place) }
+    ensures all { OnOk result (length looks.new.items ≡ length looks.old.items) }
+    ensures marks { OnOk result (AreMarks work.new.marks.items (length inner.now) work.new.stamp) }
+{
+    for k in 0..asks.len() {
+        let ask = ask_at(asks, k);
+        let leaf = look_one(inner, ask, table, n, input, place, work)?;
+        looks[ask.piece] = leaf;
+    }
+    Ok(())
+}

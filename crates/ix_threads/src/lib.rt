@@ -1,0 +1,21 @@
+//! Searching a text for a pattern, by an ordered list of threads.
+#![tactic(auto)]
+
+mod acts;
+pub mod ahead;
+pub mod cells;
+mod chain;
+pub mod code;
+pub mod compile;
+pub mod finder;
+pub mod groups;
+pub mod input;
+pub mod leaf;
+pub mod plain;
+pub mod plan;
+pub mod program;
+pub mod run;
+mod settle;
+mod step;
+mod table;
+pub mod work;

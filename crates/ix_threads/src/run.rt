@@ -1,0 +1,182 @@
+//! All bytes of a text.
+
+ghost use Rattle.std.specs.Prelude.{◌≡◌, ℕ, ◌+◌, ◌<◌, ◌≤◌, ◌⊎◌, List, [], length, Option, IfOk, OnOk, slice_get, replicate, None};
+ghost use Rattle.ix_pattern.specs.Ways.{Text};
+ghost use Rattle.ix_threads.specs.Leaf.{text_of};
+ghost use Rattle.ix_threads.specs.Code.{best_ways};
+ghost use Rattle.ix_threads.specs.Agrees.{Agrees};
+ghost use Rattle.ix_threads.specs.Acts.{AllKnown};
+ghost use Rattle.ix_threads.specs.Settled.{AllBytes};
+ghost use Rattle.ix_threads.specs.Ran.{Rounds, Goes, Ends, Sees, Grown};
+ghost use Rattle.ix_threads.specs.Plans.{IsPlan, Knows, IsRoom};
+ghost use Rattle.ix_threads.specs.Outcomes.{head_of, Shows};
+
+use crate::ahead::look_all;
+use crate::cells::{Best, Cell, Thread};
+use crate::groups::groups_of;
+use crate::input::Input;
+use crate::plain::answers_of;
+use crate::plan::{Plan, Room};
+use crate::step::step;
+use crate::work::follow;
+use ix_base::NoMemory;
+use std::alloc::Global;
+
+/// Follows the threads of a place, behind its lookaheads.
+fn round(
+    plan: Plan<'_>,
+    input: Input<'_>,
+    place: usize,
+    best: Best,
+    room: &mut Room,
+) -> Result<Best, NoMemory>
+    requires plan { IsPlan plan }
+    requires room { IsRoom plan room.old }
+    requires known { AllKnown (length plan.code.now) (length room.old.main.cells.items) room.old.main.stack.items }
+    requires within { place ≤ length input.bytes.now }
+    ensures rounds { IfOk result (λ after. (real : Text) → Agrees (text_of input.entry) real place →
+        Rounds (Knows plan.entry input.entry.bytes.now) plan.entry.code.now real place room.old.main.cells.items room.old.main.stack.items room.new.main.cells.items room.new.main.ready.items best after) }
+    ensures bytes { OnOk result (AllBytes plan.entry.code.now room.new.main.ready.items) }
+    ensures known { OnOk result (AllKnown (length plan.entry.code.now) (length room.new.main.cells.items) room.new.main.ready.items) }
+    ensures empty { OnOk result (room.new.main.stack.items ≡ []) }
+    ensures room { OnOk result (IsRoom plan.entry room.new) }
+    ensures grown { OnOk result (Grown room.old.main.cells.items room.new.main.cells.items) }
+{
+    look_all(
+        plan.asks,
+        plan.inner,
+        plan.table,
+        plan.width,
+        input,
+        place,
+        &mut room.inner,
+        &mut room.looks,
+    )?;
+    let after = follow(plan.code, &room.looks, input, place, best, &mut room.main)?;
+    Ok(after)
+}
+
+/// Goes on from the threads of a place to the end of the text. The answer stands for the head of the ways.
+pub fn walk(
+    plan: Plan<'_>,
+    input: Input<'_>,
+    from: usize,
+    first: Best,
+    room: &mut Room,
+) -> Result<Best, NoMemory>
+    requires plan { IsPlan plan }
+    requires room { IsRoom plan room.old }
+    requires known { AllKnown (length plan.code.now) (length room.old.main.cells.items) room.old.main.stack.items }
+    requires within { from ≤ length input.bytes.now }
+    ensures head { IfOk result (λ best. (start place : ℕ) → Goes (Knows plan.entry input.entry.bytes.now) plan.entry.code.now (text_of input.entry) start place from room.old.main.cells.items room.old.main.stack.items first →
+        Ends (Knows plan.entry input.entry.bytes.now) plan.entry.code.now (text_of input.entry) start place room.new.main.cells.items best) }
+    ensures room { OnOk result (IsRoom plan.entry room.new) }
+    ensures grown { OnOk result (Grown room.old.main.cells.items room.new.main.cells.items) }
+{
+    let mut best = first;
+    for at in from..input.bytes.len() {
+        best = round(plan, input, at, best, room)?;
+        if room.main.ready.is_empty() {
+            return Ok(best);
+        }
+        step(
+            plan.code,
+            answers_of(plan.table, plan.width, input.bytes[at]),
+            &room.main.ready,
+            &mut room.main.stack,
+        )?;
+    }
+    best = round(plan, input, input.bytes.len(), best, room)?;
+    if input.unfinished && !room.main.ready.is_empty() {
+        return Ok(Best::More);
+    }
+    Ok(best)
+}
+
+/// Goes on from the threads of a place to those of a later one, behind which a lookahead sees all that it may see. That
+/// holds for each text that goes on from what is seen.
+pub fn move_on(
+    plan: Plan<'_>,
+    input: Input<'_>,
+    from: usize,
+    to: usize,
+    first: Best,
+    room: &mut Room,
+) -> Result<Best, NoMemory>
+    requires plan { IsPlan plan }
+    requires room { IsRoom plan room.old }
+    requires known { AllKnown (length plan.code.now) (length room.old.main.cells.items) room.old.main.stack.items }
+    requires order { from ≤ to }
+    requires within { to ≤ length input.bytes.now }
+    ensures moves { IfOk result (λ best. (real : Text) → Sees (text_of input.entry) real to → (start place : ℕ) →
+        Goes (Knows plan.entry input.entry.bytes.now) plan.entry.code.now real start place from room.old.main.cells.items room.old.main.stack.items first →
+        Goes (Knows plan.entry input.entry.bytes.now) plan.entry.code.now real start place to room.new.main.cells.items room.new.main.stack.items best) }
+    ensures known { OnOk result (AllKnown (length plan.entry.code.now) (length room.new.main.cells.items) room.new.main.stack.items) }
+    ensures room { OnOk result (IsRoom plan.entry room.new) }
+{
+    let mut best = first;
+    for at in from..to {
+        best = round(plan, input, at, best, room)?;
+        step(
+            plan.code,
+            answers_of(plan.table, plan.width, input.bytes[at]),
+            &room.main.ready,
+            &mut room.main.stack,
+        )?;
+    }
+    Ok(best)
+}
+
+/// The head of a list of ways: an end with its place and groups, nothing where the list is empty, or an edge.
+#[derive(Drop)]
+pub enum Outcome {
+    End {
+        place: usize,
+        groups: Vec<Option<(usize, usize)>>,
+    },
+    No,
+    More,
+}
+
+pub fn outcome_of(
+    alloc: Global,
+    best: Best,
+    cells: &[Cell],
+    count: usize,
+) -> Result<Outcome, NoMemory>
+    ensures { IfOk result (λ o. slice_get (best_ways (replicate count None) cells.now best) 0 ≡ head_of o) }
+{
+    match best {
+        Best::No => Ok(Outcome::No),
+        Best::More => Ok(Outcome::More),
+        Best::End { place, trail } => {
+            let groups = groups_of(alloc, cells, trail, count)?;
+            Ok(Outcome::End { place, groups })
+        }
+    }
+}
+
+/// The head of the ways of an instruction at a place of a text.
+pub fn run(
+    plan: Plan<'_>,
+    start: usize,
+    input: Input<'_>,
+    place: usize,
+    room: &mut Room,
+) -> Result<Best, NoMemory>
+    requires plan { IsPlan plan }
+    requires start { start < length plan.code.now }
+    requires room { IsRoom plan room.old }
+    requires within { place ≤ length input.bytes.now }
+    ensures head { IfOk result (λ best. Ends (Knows plan.entry input.entry.bytes.now) plan.entry.code.now (text_of input.entry) start place room.new.main.cells.items best) }
+    ensures room { OnOk result (IsRoom plan.entry room.new) }
+{
+    room.main.cells.clear();
+    room.main.stack.clear();
+    room.main.stack.push(Thread {
+        pc: start,
+        trail: 0,
+    })?;
+    let best = walk(plan, input, place, Best::No, room)?;
+    Ok(best)
+}
