@@ -108,6 +108,7 @@ pub fn group<D: Disk>(
 }
 
 /// Makes a checkpoint behind a group. It answers whether that was Ok.
+#[tactic(auto, unfolding(ix_items::specs::Spelling::item_bytes, ix_items::specs::Spelling::field_bytes, ix_items::specs::Spelling::settings_bytes, ix_items::specs::Spelling::files_bytes, ix_fields::specs::Spelling::byte, ix_fields::specs::Spelling::four, ix_fields::specs::Spelling::eight, ix_fields::specs::Spelling::signed))]
 pub fn shorten<D: Disk>(alloc: Global, keeper: &mut Keeper, disk: &mut D, group: i64) -> bool
     requires over { IsOver D.Disk keeper.old disk.old }
     requires idle { IsIdle keeper.old }

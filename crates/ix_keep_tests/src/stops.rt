@@ -49,7 +49,7 @@ fn found<D: Disk>(alloc: Global, disk: &mut D, torn: bool) -> i64 {
         return -2;
     }
     match checkpoints(disk, torn) {
-        Some(count) => groups.saturating_add(10 * count),
+        Some(count) => groups.saturating_add(count.saturating_mul(10)),
         None => -3,
     }
 }
