@@ -7,6 +7,8 @@ pub mod OneLemmas
 pub mod OrderLemmas
 pub mod PropLemmas
 pub mod RankLemmas
+pub mod RisingLemmas
+pub mod SameLemmas
 pub mod SettledLemmas
 pub mod UsableLemmas
 pub mod ZoneLemmas

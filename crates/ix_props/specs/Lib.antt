@@ -4,6 +4,7 @@ pub mod Lists
 pub mod Names
 pub mod Props
 pub mod Ranking
+pub mod Same
 pub mod Settings
 pub mod Sound
 pub mod Values

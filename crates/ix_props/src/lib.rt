@@ -8,6 +8,7 @@ mod faults;
 mod fields;
 mod holding;
 mod kinds;
+mod laws;
 mod lists;
 mod names;
 mod props;
@@ -22,6 +23,7 @@ pub use ix_values::{
     Directive, FormatFault, Key, Part, PartList, Sed, SedFault, SedList, TimeFormat, Transform,
     TransformFault, TransformList, Which,
 };
+pub use laws::settings_are_one;
 pub use props::{Props, PropsEntry};
 pub use settings::{MergeSettings, Settings, TimeSettings};
 pub use values::Value;
