@@ -37,10 +37,10 @@ use Rattle.ix_parse.specs.Settled.{channel_lines, events_of, latest_with, latest
 
 -- ---- a walk leaves members of its stream
 
-record Within (P : Dated → Type 0) (w : Walked) : Type 0 where
-  done : AllByRecursion (All P) w.done
-  rest : All P w.rest
-  pending : All P w.pending
+pub record Within (P : Dated → Type 0) (w : Walked) : Type 0 where
+  pub done : AllByRecursion (All P) w.done
+  pub rest : All P w.rest
+  pub pending : All P w.pending
 
 after-within : (P : Dated → Type 0) (before : Option ℕ) (rest stream : List Dated) (next : List Dated → ℕ → Walked) (l : Look) →
     ((since : List Dated) (within : ℕ) → All P since → Within P (next since within)) → All P rest → All P stream → Within P (after before rest stream next l)
@@ -50,7 +50,7 @@ after-within P before rest stream next (match from to n) ih r s =
     let w = ih (take (n - to) (drop to stream)) (n - 1) (All-take P (n - to) (drop to stream) (All-drop P to stream s)) in
     record { done = (All-append P rest (take from stream) r (All-take P from stream s), w.done); rest = w.rest; pending = w.pending }
 
-walk-within : (P : Dated → Type 0) (look : Looker) (u : Bool) (before : Option ℕ) (rest : List Dated) (within : ℕ) (stream : List Dated) →
+pub walk-within : (P : Dated → Type 0) (look : Looker) (u : Bool) (before : Option ℕ) (rest : List Dated) (within : ℕ) (stream : List Dated) →
     All P rest → All P stream → Within P (walk look u before rest within stream)
 walk-within P look u before rest zero [] r s = record { done = tt; rest = r; pending = All-nil P }
 walk-within P look u before rest (suc n) [] r s = record { done = tt; rest = r; pending = All-nil P }
@@ -112,11 +112,11 @@ unless-empty : (P : ℤ → Type 0) (bytes : List ℕ) (m : ℤ) → P m → All
 unless-empty P [] m h = tt
 unless-empty P (b ∷ bytes) m h = (h, tt)
 
-line-moments : (P : ℤ → Type 0) (t : ℕ) (stretch : List Dated) → All (λ d. P d.1) stretch → AllByRecursion (λ line. P line.moment) (line_of t stretch)
+pub line-moments : (P : ℤ → Type 0) (t : ℕ) (stretch : List Dated) → All (λ d. P d.1) stretch → AllByRecursion (λ line. P line.moment) (line_of t stretch)
 line-moments P t [] all = tt
 line-moments P t (d ∷ stretch) all = unless-empty P (cut t (bytes_of (d ∷ stretch))) d.1 (All-head (λ x. P x.1) d stretch all)
 
-both : {T : Type 0} (P : T → Type 0) (xs ys : List T) → AllByRecursion P xs → AllByRecursion P ys → AllByRecursion P (xs ++ ys)
+pub both : {T : Type 0} (P : T → Type 0) (xs ys : List T) → AllByRecursion P xs → AllByRecursion P ys → AllByRecursion P (xs ++ ys)
 both P [] ys h k = k
 both P (x ∷ xs) ys h k = (h.0, both P xs ys h.1 k)
 
@@ -128,14 +128,14 @@ behind : {T : Type 0} (P : T → Type 0) (xs ys : List T) → AllByRecursion P (
 behind P [] ys h = h
 behind P (x ∷ xs) ys h = behind P xs ys h.1
 
-lines-moments : (P : ℤ → Type 0) (t : ℕ) (done : List (List Dated)) → AllByRecursion (All (λ d. P d.1)) done →
+pub lines-moments : (P : ℤ → Type 0) (t : ℕ) (done : List (List Dated)) → AllByRecursion (All (λ d. P d.1)) done →
     AllByRecursion (λ line. P line.moment) (flat_map (line_of t) done)
 lines-moments P t [] all = tt
 lines-moments P t (stretch ∷ done) all =
     both (λ line. P line.moment) (line_of t stretch) (flat_map (line_of t) done) (line-moments P t stretch all.0) (lines-moments P t done all.1)
 
 -- the members of lists that were joined
-apart : {T : Type 0} (P : T → Type 0) (groups : List (List T)) → AllByRecursion P (flat_map (λ group. group) groups) → AllByRecursion (AllByRecursion P) groups
+pub apart : {T : Type 0} (P : T → Type 0) (groups : List (List T)) → AllByRecursion P (flat_map (λ group. group) groups) → AllByRecursion (AllByRecursion P) groups
 apart P [] all = tt
 apart P (group ∷ groups) all =
     (front P group (flat_map (λ g. g) groups) all, apart P groups (behind P group (flat_map (λ g. g) groups) all))
@@ -144,7 +144,7 @@ first-moment : (lines : List Line) → AllByRecursion (λ line. IsMoment line.mo
 first-moment [] all = (omega (arith, ints), omega (arith, ints))
 first-moment (line ∷ lines) all = all.0
 
-event-moments : (groups : List (List Line)) → AllByRecursion (AllByRecursion (λ line. IsMoment line.moment)) groups →
+pub event-moments : (groups : List (List Line)) → AllByRecursion (AllByRecursion (λ line. IsMoment line.moment)) groups →
     AllByRecursion (λ event. IsMoment event.moment) (map event_of groups)
 event-moments [] all = tt
 event-moments (group ∷ groups) all = (first-moment group all.0, event-moments groups all.1)
@@ -161,7 +161,7 @@ last-is : {T : Type 0} (P : T → Type 0) (xs : List T) → AllByRecursion P xs 
 last-is P xs all = found-first P (reverse xs) (reversed P xs all)
 
 -- the lines of marked lines are those that were marked
-unmarked : (s : Settings) (lines : List Line) → map (λ m. m.line) (marked s.merge s.time lines) ≡ lines
+pub unmarked : (s : Settings) (lines : List Line) → map (λ m. m.line) (marked s.merge s.time lines) ≡ lines
 unmarked s [] = refl
 unmarked s (line ∷ lines) = ap (λ (l : List Line). line ∷ l) (unmarked s lines)
 
@@ -176,10 +176,10 @@ open-moment true max lines keeps all =
 
 -- ---- the latest accepted time
 
-clamped-moment : (m : ℤ) → IsMoment (clamped m)
+pub clamped-moment : (m : ℤ) → IsMoment (clamped m)
 clamped-moment m = (grind (arith, ints), grind (arith, ints))
 
-accepted : (time arrival : ℤ) (ago hence : ℕ) → IsMoment arrival → ago ≤ 10951 → hence ≤ 10950 → is_accepted time arrival ago hence ≡ true → IsTime time
+pub accepted : (time arrival : ℤ) (ago hence : ℕ) → IsMoment arrival → ago ≤ 10951 → hence ≤ 10950 → is_accepted time arrival ago hence ≡ true → IsTime time
 accepted time arrival ago hence m a h e = (grind (arith, ints), grind (arith, ints))
 
 fallen-back : (arrival : ℤ) (last latest : Option ℤ) → IfSome latest IsTime → IfSome (latest_with (fall_back arrival last) latest) IsTime
@@ -196,7 +196,7 @@ settled-time (Some time) arrival ago hence last latest m a h is = by (is_accepte
     by true e = accepted time arrival ago hence m a h e
     by false e = fallen-back arrival last latest is
 
-next-time : (t : TimeSettings) (latest : Option ℤ) (event : Whole) → t.days_ago ≤ 10951 → t.days_hence ≤ 10950 → IfSome latest IsTime →
+pub next-time : (t : TimeSettings) (latest : Option ℤ) (event : Whole) → t.days_ago ≤ 10951 → t.days_hence ≤ 10950 → IfSome latest IsTime →
     IfSome (latest_behind t latest event) IsTime
 unfolding time
 next-time t latest event a h is = settled-time (read t event.raw event.moment) (clamped event.moment) t.days_ago t.days_hence latest latest (clamped-moment event.moment) a h is

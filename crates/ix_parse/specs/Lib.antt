@@ -4,3 +4,4 @@ pub mod Stage
 pub mod Limits
 pub mod Standing
 pub mod Carry
+pub mod Same

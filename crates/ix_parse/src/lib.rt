@@ -2,6 +2,7 @@
 #![tactic(auto)]
 
 mod channel;
+mod laws;
 mod marks;
 mod outcomes;
 
@@ -15,6 +16,7 @@ ghost use Rattle.ix_parse.specs.Settled.{SettledStays};
 pub use channel::Channel;
 pub use ix_base::{Routed, RoutedList};
 pub use ix_carry::ResumeFault;
+pub use laws::{events_keep_limits, same_settings_settle_the_same};
 
 /// A law about the definitions, and no code: what is settled of an open stream stays settled, whatever comes, under all settings
 /// that `Props::settings` may give.
