@@ -75,7 +75,7 @@ Known-look false r [] p = tt
 Known-look false r (ends_at e ∷ xs) p = tt
 Known-look false r (edge ∷ xs) p = absurd p
 
-sight-closed : (n : ℕ) (text : Text) → text.unfinished ≡ false → (sight n text).unfinished ≡ false
+pub sight-closed : (n : ℕ) (text : Text) → text.unfinished ≡ false → (sight n text).unfinished ≡ false
 sight-closed n text u = by (nat_le n (length text.bytes))
   where
     by : (b : Bool) → (if b then record text { bytes = take n text.bytes; unfinished = false } else text).unfinished ≡ false

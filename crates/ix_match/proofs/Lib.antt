@@ -1,9 +1,6 @@
 pub mod Walks
-pub mod StackLemmas
-pub mod Rules
-pub mod PieceRules
-pub mod SearchLemmas
 pub mod ClosedLemmas
+pub mod FrontLemmas
 pub mod FindLemmas
 pub mod ScanLemmas
 pub mod FewLemmas

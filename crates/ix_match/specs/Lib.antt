@@ -1,9 +1,7 @@
-pub mod Stack
-pub mod Verdict
-pub mod Costs
-pub mod Steps
 pub mod Attempt
 pub mod Starts
 pub mod Matches
+pub mod Fronts
+pub mod Searches
 pub mod Scans
 pub mod Few

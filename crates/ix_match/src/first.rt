@@ -1,12 +1,16 @@
 //! The first match in a text.
 
-ghost use Rattle.std.specs.Prelude.{◌≡◌, ◌≤◌, ◌<◌, length, IfOk, IfSome};
+ghost use Rattle.std.specs.Prelude.{◌≡◌, ◌≤◌, ◌<◌, length, IfOk, OnOk, IfSome};
 ghost use Rattle.ix_match.specs.Matches.{MatchesAt, IsFirst, LiesIn};
+ghost use Rattle.ix_match.specs.Fronts.{IsFront};
+ghost use Rattle.ix_match.specs.Searches.{IsSearch};
 
-use crate::input::Input;
-use crate::search::{Outcome, head};
+use crate::front::{Front, candidate, front_of};
+use crate::search::Search;
 use ix_base::{NoMemory, Sequence, Steps};
 use ix_pattern::Pattern;
+use ix_threads::input::Input;
+use ix_threads::run::Outcome;
 use std::alloc::Global;
 use std::marker::Brand;
 use std::sync::ledger::{Blank, Ledger};
@@ -25,23 +29,24 @@ pub struct Found {
 
 /// The preferred one of the matches that begin at a place, if there is one.
 fn find_at<L: Ledger>(
-    alloc: Global,
     p: &Pattern,
+    search: &mut Search,
     text: &[u8],
     place: usize,
     steps: &mut Steps<L>,
 ) -> Result<Option<Found>, NoMemory>
-    requires { place ≤ length text.now }
+    requires search { IsSearch p.now.rows search.old }
+    requires place { place ≤ length text.now }
     ensures preferred { IfOk result (λ found. MatchesAt p.now text.now place found) }
     ensures lies { IfOk result (λ found. IfSome found (λ f. LiesIn text.now place p.now.groups f)) }
+    ensures search { OnOk result (IsSearch p.now.rows search.new) }
 {
-    let groups = vec![in alloc; None; p.groups()]?;
     let input = Input {
         before: None,
         bytes: text,
         unfinished: false,
     };
-    match head(alloc, p, p.root(), input, place, groups, steps)? {
+    match search.head(p, input, place, steps)? {
         Outcome::End { place: end, groups } => Ok(Some(Found {
             start: place,
             end,
@@ -51,7 +56,37 @@ fn find_at<L: Ledger>(
     }
 }
 
-/// The first match. Its steps are counted in the ledger that the blank one opens, which nobody reads.
+/// The first match that begins at this place or later.
+fn find_from<L: Ledger>(
+    p: &Pattern,
+    front: &Front,
+    search: &mut Search,
+    text: &[u8],
+    from: usize,
+    steps: &mut Steps<L>,
+) -> Result<Option<Found>, NoMemory>
+    requires front { IsFront p.now front.now }
+    requires search { IsSearch p.now.rows search.old }
+    requires place { from ≤ length text.now }
+    ensures first { IfOk result (λ found. IsFirst p.now text.now from found) }
+    ensures lies { IfOk result (λ found. IfSome found (λ f. LiesIn text.now from p.now.groups f)) }
+    ensures search { OnOk result (IsSearch p.now.rows search.new) }
+{
+    let mut place = from;
+    while let Some(at) = candidate(p, front, text, place, steps) {
+        if let Some(found) = find_at(p, search, text, at, steps)? {
+            return Ok(Some(found));
+        }
+        if at == text.len() {
+            return Ok(None);
+        }
+        place = at + 1;
+    }
+    Ok(None)
+}
+
+/// The first match. The pattern is written out only where one may begin. Steps are counted in the ledger that the blank
+/// one opens, which nobody reads.
 fn find_uncounted<L: Ledger>(
     alloc: Global,
     p: &Pattern,
@@ -67,12 +102,13 @@ fn find_uncounted<L: Ledger>(
     ensures lies { IfOk result (λ found. IfSome found (λ f. LiesIn text.now from p.now.groups f)) }
 {
     let mut steps = Steps::<L>::new(blank);
-    for place in from..text.len() + 1 {
-        if let Some(found) = find_at(alloc, p, text, place, &mut steps)? {
-            return Ok(Some(found));
-        }
-    }
-    Ok(None)
+    let front = front_of(alloc, p)?;
+    let Some(place) = candidate(p, &front, text, from, &mut steps) else {
+        return Ok(None);
+    };
+    let mut search = Search::new(alloc, p)?;
+    let found = find_from(p, &front, &mut search, text, place, &mut steps)?;
+    Ok(found)
 }
 
 /// The first match of a pattern in a whole text that begins at the place `from` or later; of those that begin at the

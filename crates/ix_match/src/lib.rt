@@ -1,15 +1,13 @@
-//! Searching a text for a pattern, by going back and trying again.
+//! Searching a text for a pattern: the first match in a whole text, and attempts at a place of a stream. The search itself
+//! is `ix_threads`'.
 #![tactic(auto)]
 
-mod branches;
 mod few;
 mod first;
-mod input;
-mod leaf;
+mod front;
 mod scan;
 mod search;
 mod starts;
-mod steps;
 mod told;
 
 pub use first::{Found, GroupList, find};

@@ -1,23 +1,26 @@
 //! One attempt at a place of a stream, of which more bytes may come.
 
-ghost use Rattle.std.specs.Prelude.{◌≡◌, ℕ, ◌<◌, ◌≤◌, ◌∷◌, List, Bool, not, length, take_while, slice_get, IfOk, OnOk, OnErr};
+ghost use Rattle.std.specs.Prelude.{◌≡◌, ℕ, ◌<◌, ◌≤◌, ◌+◌, ◌-◌, ◌*◌, ◌∷◌, List, Bool, not, length, take_while, slice_get, IfSome, IfOk, OnOk, OnErr};
 ghost use Rattle.ix_pattern.specs.Piece.{in_set};
+ghost use Rattle.ix_pattern.specs.Rows.{byte_pieces};
 ghost use Rattle.ix_pattern.specs.Ways.{sight};
 ghost use Rattle.ix_match.specs.Attempt.{reach, attempt};
-ghost use Rattle.ix_match.specs.Verdict.{text_of};
-ghost use Rattle.ix_match.specs.Stack.{outcome_head};
+ghost use Rattle.ix_threads.specs.Leaf.{text_of};
+ghost use Rattle.ix_threads.specs.Outcomes.{head_of as outcome_head};
 ghost use Rattle.ix_match.specs.Starts.{AreStarts};
 ghost use Rattle.ix_match.specs.Scans.{GoesOn, emptied, head_of, BeginsAtOnce, LiesInReach};
+ghost use Rattle.ix_match.specs.Searches.{IsKept};
 
 use crate::few;
 use crate::few::{Few, few_of};
 use crate::first::{Found, GroupList};
-use crate::input::Input;
-use crate::search::{Outcome, head};
+use crate::search::Search;
 use crate::starts::starts_of;
 use crate::told::Told;
 use ix_base::{NoMemory, Steps};
 use ix_pattern::Pattern;
+use ix_threads::input::Input;
+use ix_threads::run::Outcome;
 use std::alloc::Global;
 use std::marker::Model;
 use std::sync::ledger::Ledger;
@@ -46,17 +49,21 @@ pub struct Scan {
     few: Few,
     before: Option<u8>,
     told: Told,
+    /// The search for the pattern, once an attempt was made. Its table has all tests.
+    search: Option<Search>,
 }
 
 impl Model for Scan {
+    ghost use Rattle.std.specs.Prelude.{IfSome};
     ghost use Rattle.ix_match.specs.Few.{Lists};
     ghost use Rattle.ix_match.specs.Scans.{Scanned};
+    ghost use Rattle.ix_match.specs.Searches.{IsKept};
 
     ghost Value = { Scanned };
 
     ghost view = { λ s. record { pattern = s.told.pattern; starts = s.starts; before = s.before; given = s.told.bytes } };
 
-    ghost invariant = { λ s. Lists s.few s.starts };
+    ghost invariant = { λ s. Lists s.few s.starts × IfSome s.search (λ f. IsKept s.told.pattern.rows f) };
 }
 
 /// What an attempt sees of the bytes that have come.
@@ -79,6 +86,27 @@ fn seen(before: Option<u8>, bytes: &[u8], closed: bool) -> Input<'_>
     }
 }
 
+/// The search that was kept, or else a new one.
+fn kept_or_new<L: Ledger>(
+    alloc: Global,
+    p: &Pattern,
+    kept: Option<Search>,
+    steps: &mut Steps<L>,
+) -> Result<Search, NoMemory>
+    requires { IfSome kept (λ search. IsKept p.now.rows search) }
+    ensures search { IfOk result (λ search. IsKept p.now.rows search) }
+    ensures counted { OnOk result (steps.new ≤ steps.old + 256 * byte_pieces p.now.rows) }
+    ensures later { steps.old ≤ steps.new }
+{
+    match kept {
+        Some(search) => Ok(search),
+        None => {
+            let search = Search::tabled(alloc, p, steps)?;
+            Ok(search)
+        }
+    }
+}
+
 impl Scan {
     /// An attempt that was given no byte yet.
     pub fn new(alloc: Global, p: &Pattern) -> Result<Scan, NoMemory>
@@ -93,13 +121,15 @@ impl Scan {
             starts,
             before: None,
             told: Told::of(p, &[]),
+            search: None,
         })
     }
 
     /// The attempt at the first of these bytes, by the pattern that the scan was made for. `before` is the byte before
     /// them; there is none at the start of the stream. The bytes go on from those of the last call since `new` or
     /// `reset`, behind the same byte. An attempt sees the first 16,384 of them; where there are so many, or the stream
-    /// is `closed`, its text ends there. Each test of a byte counts as a step.
+    /// is `closed`, its text ends there. Each test of a byte counts as a step; there are at most as many as the pattern's
+    /// weight times 512 and the bytes that no call since `new` or `reset` was given.
     ///
     /// It is `Found` with the preferred one of the matches that begin here, `No` exactly where none does, and `More`
     /// exactly where that depends on bytes that have not come. After `NoMemory` the scan is as after `reset`.
@@ -118,19 +148,14 @@ impl Scan {
         ensures lies { IfOk result (LiesInReach text.now p.now.groups) }
         ensures given { OnOk result (self.new ≡ record self.old { before = before; given = text.now }) }
         ensures reset { OnErr result (self.new ≡ emptied self.old) }
+        ensures counted { OnOk result (steps.new ≤ steps.old + p.now.weight * (length text.now - length self.old.given + 512)) }
         ensures later { steps.old ≤ steps.new }
     {
+        let _ = p.weight();
         self.reset();
-        let groups = vec![in self.alloc; None; p.groups()]?;
-        let outcome = head(
-            self.alloc,
-            p,
-            p.root(),
-            seen(before, text, closed),
-            0,
-            groups,
-            steps,
-        )?;
+        let mut search = kept_or_new(self.alloc, p, self.search.take(), steps)?;
+        let outcome = search.head(p, seen(before, text, closed), 0, steps)?;
+        self.search = Some(search);
         self.before = before;
         self.told = Told::of(p, text);
         Ok(look_of(outcome))
@@ -168,6 +193,7 @@ impl Scan {
             few: self.few,
             before: self.before,
             told: self.told.again(),
+            search: None,
         })
     }
 }

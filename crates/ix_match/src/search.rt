@@ -1,155 +1,88 @@
-//! The head of a list of ways.
+//! The search for a pattern, and what it works in. `find` makes one for each call, and `Scan` keeps one.
 
-ghost use Rattle.std.specs.Prelude.{◌≡◌, ℕ, ◌<◌, ◌≤◌, IfOk, OnOk, List, length, slice_get};
-ghost use Rattle.ix_pattern.specs.Ways.{Reached, Way, ways, look};
-ghost use Rattle.ix_pattern.specs.Rows.{piece_at};
-ghost use Rattle.ix_match.specs.Stack.{outcome_head};
-ghost use Rattle.ix_match.specs.Verdict.{verdict_ways, text_of, at};
-ghost use Rattle.ix_match.specs.Steps.{task_number, Steps, Fits, AllFit, EachFits};
+ghost use Rattle.std.specs.Prelude.{◌≡◌, ◌≤◌, ◌+◌, ◌*◌, None, IfOk, OnOk, length, replicate, slice_get};
+ghost use Rattle.ix_pattern.specs.Ways.{ways};
+ghost use Rattle.ix_pattern.specs.Rows.{tree, byte_pieces};
+ghost use Rattle.ix_threads.specs.Leaf.{text_of, at};
+ghost use Rattle.ix_threads.specs.Outcomes.{head_of};
+ghost use Rattle.ix_match.specs.Searches.{IsSearch};
 
-use crate::branches::{Branch, Task, closed};
-use crate::input::{Input, in_sight};
-use crate::leaf::Verdict;
-use crate::steps::{piece_step, turns, turns_to_try};
-use ix_base::{NoMemory, Steps as StepCount};
-use ix_pattern::{Node, Pattern};
+use ix_base::{NoMemory, Steps};
+use ix_pattern::Pattern;
+use ix_threads::finder::{Finder, finder_of, head, room_of, tabled_finder};
+use ix_threads::input::Input;
+use ix_threads::plan::Room;
+use ix_threads::run::Outcome;
 use std::alloc::Global;
 use std::sync::ledger::Ledger;
 
-/// The head of a list of ways: an end with its place and groups, nothing where the list is empty, or an edge.
+/// A pattern that was written out, and room for the threads. It is used again from place to place and from text to text.
 #[derive(Drop)]
-pub enum Outcome {
-    End {
+pub struct Search {
+    pub alloc: Global,
+    pub finder: Finder,
+    pub room: Room,
+}
+
+impl Search {
+    /// For a pattern, whose byte pieces are asked when a byte is met.
+    pub fn new(alloc: Global, p: &Pattern) -> Result<Search, NoMemory>
+        ensures { IfOk result (λ search. IsSearch p.now.rows search) }
+    {
+        let finder = finder_of(alloc, p)?;
+        let room = room_of(alloc, p, &finder)?;
+        Ok(Search {
+            alloc,
+            finder,
+            room,
+        })
+    }
+
+    /// For a pattern, each of whose byte pieces is tested now with each byte, and not again.
+    pub fn tabled<L: Ledger>(
+        alloc: Global,
+        p: &Pattern,
+        steps: &mut Steps<L>,
+    ) -> Result<Search, NoMemory>
+        ensures search { IfOk result (λ search. IsSearch p.now.rows search) }
+        ensures whole { IfOk result (λ search. search.finder.width ≡ length p.now.rows) }
+        ensures counted { OnOk result (steps.new ≤ steps.old + 256 * byte_pieces p.now.rows) }
+        ensures later { steps.old ≤ steps.new }
+    {
+        let finder = tabled_finder(alloc, p, steps)?;
+        let room = room_of(alloc, p, &finder)?;
+        Ok(Search {
+            alloc,
+            finder,
+            room,
+        })
+    }
+
+    /// The head of the ordered list of ways at a place of a text, where no group has taken part.
+    pub fn head<L: Ledger>(
+        &mut self,
+        p: &Pattern,
+        input: Input<'_>,
         place: usize,
-        groups: Vec<Option<(usize, usize)>>,
-    },
-    No,
-    More,
-}
-
-fn copy_of_groups(
-    alloc: Global,
-    groups: &[Option<(usize, usize)>],
-) -> Result<Vec<Option<(usize, usize)>>, NoMemory>
-    ensures { IfOk result (λ v. v.items ≡ groups.now) }
-{
-    let copy = groups.to_vec(alloc)?;
-    Ok(copy)
-}
-
-/// What a lookahead comes to, by what its inside came to.
-fn ahead_verdict(outcome: Outcome, wanted: bool) -> Verdict
-    ensures within { result ≡ Verdict.Next → ⊥ }
-    ensures ways { (r : Reached) (inside : List Way) → slice_get inside 0 ≡ outcome_head outcome → look wanted r inside ≡ verdict_ways result r }
-{
-    match outcome {
-        Outcome::End { .. } => {
-            if wanted {
-                Verdict::Here
-            } else {
-                Verdict::Never
-            }
-        }
-        Outcome::No => {
-            if wanted {
-                Verdict::Never
-            } else {
-                Verdict::Here
-            }
-        }
-        Outcome::More => Verdict::Edge,
+        steps: &mut Steps<L>,
+    ) -> Result<Outcome, NoMemory>
+        requires search { IsSearch p.now.rows self.old }
+        requires within { place ≤ length input.bytes.now }
+        ensures head { IfOk result (λ o. slice_get (ways (tree p.now.rows) (text_of input.entry) (at place (replicate p.now.groups None))) 0 ≡ head_of o) }
+        ensures search { OnOk result (IsSearch p.now.rows self.new) }
+        ensures finder { self.new.finder ≡ self.old.finder }
+        ensures later { steps.old ≤ steps.new }
+        ensures tabled { self.old.finder.width ≡ length p.now.rows → steps.new ≡ steps.old }
+    {
+        let outcome = head(
+            self.alloc,
+            p,
+            &self.finder,
+            input,
+            place,
+            &mut self.room,
+            steps,
+        )?;
+        Ok(outcome)
     }
-}
-
-/// Takes up one task. The answer is whether it is an edge.
-#[cycle(search)]
-fn step<L: Ledger>(
-    alloc: Global,
-    p: &Pattern,
-    task: Task,
-    input: Input<'_>,
-    branch: Branch,
-    stack: &mut Vec<Branch>,
-    steps: &mut StepCount<L>,
-) -> Result<bool, NoMemory>
-    requires { task_number task < length p.now.rows }
-    ensures steps { IfOk result (λ is_edge. Steps p.now.rows (text_of input.entry) branch task stack.old.items stack.new.items is_edge) }
-    ensures fits { OnOk result ((top : ℕ) → Fits top task → AllFit top branch.todo.items → EachFits top stack.old.items → EachFits top stack.new.items) }
-    ensures later { steps.old ≤ steps.new }
-{
-    match task {
-        Task::Turns {
-            inside,
-            least,
-            further,
-            lazy,
-        } => {
-            let tried = turns_to_try(p, inside, least, further, input, branch.place, steps);
-            turns(alloc, inside, least, tried, lazy, branch, stack)?;
-            Ok(false)
-        }
-        Task::Close { number, from } => {
-            let next = closed(branch, number, from);
-            stack.push(next)?;
-            Ok(false)
-        }
-        Task::Piece(piece) => {
-            if let Node::Ahead { inside, wanted } = p.node(piece) {
-                let groups = copy_of_groups(alloc, &branch.groups)?;
-                let outcome = head(
-                    alloc,
-                    p,
-                    inside,
-                    in_sight(input, branch.place),
-                    branch.place,
-                    groups,
-                    steps,
-                )?;
-                let seen = ahead_verdict(outcome, wanted);
-                let is_edge = piece_step(alloc, p, piece, input, seen, branch, stack, steps)?;
-                return Ok(is_edge);
-            }
-            let is_edge = piece_step(alloc, p, piece, input, Verdict::Never, branch, stack, steps)?;
-            Ok(is_edge)
-        }
-    }
-}
-
-/// The head of the ordered list of ways of the piece with this number, at a place of a text, with the groups as they
-/// stand there.
-#[cycle(search)]
-pub fn head<L: Ledger>(
-    alloc: Global,
-    p: &Pattern,
-    piece: usize,
-    input: Input<'_>,
-    place: usize,
-    groups: Vec<Option<(usize, usize)>>,
-    steps: &mut StepCount<L>,
-) -> Result<Outcome, NoMemory>
-    requires { piece < length p.now.rows }
-    ensures head { IfOk result (λ o. slice_get (ways (piece_at p.now.rows piece) (text_of input.entry) (at place groups.items)) 0 ≡ outcome_head o) }
-    ensures later { steps.old ≤ steps.new }
-{
-    let mut todo: Vec<Task> = Vec::new(alloc);
-    todo.push(Task::Piece(piece))?;
-    let mut stack = Vec::new(alloc);
-    stack.push(Branch {
-        place,
-        groups,
-        todo,
-    })?;
-    while let Some(mut branch) = stack.pop() {
-        let Some(task) = branch.todo.pop() else {
-            return Ok(Outcome::End {
-                place: branch.place,
-                groups: branch.groups,
-            });
-        };
-        let is_edge = step(alloc, p, task, input, branch, &mut stack, steps)?;
-        if is_edge {
-            return Ok(Outcome::More);
-        }
-    }
-    Ok(Outcome::No)
 }

@@ -17,4 +17,5 @@ pub mod PlainLemmas
 pub mod LookLemmas
 pub mod AskLemmas
 pub mod TableLemmas
+pub mod TestLemmas
 pub mod ChainLemmas

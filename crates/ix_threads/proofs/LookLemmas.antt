@@ -1,6 +1,6 @@
 -- Lookaheads at a place.
-use Rattle.std.proofs.Common.{◌≡◌, ℕ, zero, suc, ◌+◌, ◌<◌, Bool, true, false, List, [], ◌∷◌, length, Some, refl, sym, ◌∙◌, ap, subst, arith, set, eqb, take, if◌then◌else◌}
-use Rattle.std.specs.Prelude.{slice_get, nat_le}
+use Rattle.std.proofs.Common.{◌≡◌, ℕ, zero, suc, ◌+◌, ◌<◌, Bool, true, false, List, [], ◌∷◌, length, Some, refl, sym, ◌∙◌, ap, subst, arith, set, eqb}
+use Rattle.std.specs.Prelude.{slice_get}
 use Rattle.std.proofs.lemmas.Option.{slice_get_within}
 use Rattle.ix_pattern.specs.Piece.{Piece, ahead}
 use Rattle.ix_pattern.specs.Ways.{Text, sight, look, ways}
@@ -10,7 +10,6 @@ use Rattle.ix_threads.specs.declared.code.Ask.{Ask}
 use Rattle.ix_threads.specs.declared.leaf.Leaf.{Leaf}
 use Rattle.ix_threads.specs.Leaf.{leaf_ways, at}
 use Rattle.ix_threads.specs.Looks.{IsLook, AreLooks}
-use Rattle.ix_threads.specs.Ran.{Occurs}
 use Rattle.ix_threads.specs.Programs.{AreAsks, AllAsked, AllLooked}
 
 pub look-is : (piece inside : Piece) (wanted : Bool) (text seen : Text) (p : ℕ) → piece ≡ ahead inside wanted → seen ≡ sight (p + 255) text →
@@ -67,18 +66,3 @@ looks-real asks inner code looks rows seen real p asked are looked sees pc piece
     let i = are a.k a.ask a.at in
     subst (λ q. IsLook looks rows real p q) a.is
     (record { leaf = l.leaf; kept = l.kept; same = l.same ∙ look-sight (piece_at rows a.ask.piece) i.inside a.ask.wanted seen real p i.is sees })
-
-get-take : (n : ℕ) (xs : List ℕ) (i x : ℕ) → slice_get (take n xs) i ≡ Some x → slice_get xs i ≡ Some x
-get-take zero xs i x e = absurd (let h = slice_get_within [] i x e in omega (arith, h))
-get-take (suc n) [] i x e = absurd (let h = slice_get_within [] i x e in omega (arith, h))
-get-take (suc n) (y ∷ xs) zero x e = e
-get-take (suc n) (y ∷ xs) (suc i) x e = get-take n xs i x e
-
--- what occurs in sight occurs in the text
-pub occurs-sight : (n : ℕ) (text seen : Text) (byte : ℕ) → seen ≡ sight n text → Occurs seen.bytes byte → Occurs text.bytes byte
-occurs-sight n text seen byte is o =
-    record { place = o.place; at = by (nat_le n (length text.bytes)) (ap (λ (t : Text). slice_get t.bytes o.place) (sym is) ∙ o.at) }
-  where
-    by : (t : Bool) → slice_get (if t then record text { bytes = take n text.bytes; unfinished = false } else text).bytes o.place ≡ Some byte → slice_get text.bytes o.place ≡ Some byte
-    by true e = get-take n text.bytes o.place byte e
-    by false e = e

@@ -7,6 +7,7 @@ pub mod Acts
 pub mod Settled
 pub mod Stepped
 pub mod Ran
+pub mod Tests
 pub mod Alike
 pub mod Aims
 pub mod Chains

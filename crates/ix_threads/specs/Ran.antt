@@ -1,9 +1,9 @@
 -- All bytes of a text.
-use Rattle.std.specs.Prelude.{◌≡◌, ℕ, ◌+◌, ◌*◌, ◌<◌, ◌≤◌, List, [], ◌++◌, length, Bool, false, Option, Some, slice_get, slice_index_or}
+use Rattle.std.specs.Prelude.{◌≡◌, ℕ, ◌+◌, ◌<◌, ◌≤◌, List, [], ◌++◌, length, Bool, false, Option, slice_get, slice_index_or}
 use Rattle.ix_pattern.specs.Piece.{in_set}
 use Rattle.ix_pattern.specs.Ways.{Text, Way}
 use Rattle.ix_pattern.specs.Rows.{Rows}
-use Rattle.ix_threads.specs.Code.{Mean, Meaning, set_in, sets_of, best_ways}
+use Rattle.ix_threads.specs.Code.{Mean, Meaning, set_in, best_ways}
 use Rattle.ix_threads.specs.Agrees.{Agrees}
 use Rattle.ix_threads.specs.Looks.{AreLooks}
 use Rattle.ix_threads.specs.declared.leaf.Leaf.{Leaf}
@@ -13,19 +13,6 @@ use Rattle.ix_threads.specs.declared.cells.Cell.{Cell}
 use Rattle.ix_threads.specs.declared.cells.Thread.{Thread}
 use Rattle.ix_threads.specs.declared.cells.Best.{Best}
 
--- the byte stands among these
-pub record Occurs (bytes : List ℕ) (byte : ℕ) : Type 0 where
-  pub place : ℕ
-  pub at : slice_get bytes place ≡ Some byte
-
--- A row a byte, by its value: for each byte that occurs, what each of n sets answers.
-abbrev pub IsTable : List Bool → ℕ → List ℕ → List (List Bool) → Type 0
-IsTable table n bytes sets = (byte k : ℕ) → byte < 256 → Occurs bytes byte → k < n → slice_index_or table (byte * n + k) false ≡ in_set (set_in sets k) byte
-
--- so it is for the byte pieces of a pattern
-abbrev pub IsTabled : List Bool → ℕ → List ℕ → Rows → Type 0
-IsTabled table n bytes rows = IsTable table n bytes (sets_of rows)
-
 -- no mark is above the stamp, and there is one for each of n instructions
 abbrev pub AreMarks : List ℕ → ℕ → ℕ → Type 0
 AreMarks marks n stamp = (length marks ≡ n) × ((k : ℕ) → slice_index_or marks k 0 ≤ stamp)
@@ -33,6 +20,10 @@ AreMarks marks n stamp = (length marks ≡ n) × ((k : ℕ) → slice_index_or m
 -- what stands for each lookahead of the code is what it comes to in such a pattern
 abbrev pub Looked : List Instr → List Leaf → Text → ℕ → Rows → Type 0
 Looked code looks text p rows = AreLooks code looks rows text p
+
+-- it is this pattern
+abbrev pub IsOf : Rows → Rows → Type 0
+IsOf pattern rows = rows ≡ pattern
 
 -- What follows is said of each pattern of which this much is known.
 -- The threads of a place come to those that are ready there.
@@ -63,13 +54,6 @@ pub record Row (old new : List Bool) (n : ℕ) (sets : List (List Bool)) (byte :
   pub is : new ≡ old ++ row
   pub all : length row ≡ n
   pub answers : (k : ℕ) → k < n → slice_index_or row k false ≡ in_set (set_in sets k) byte
-
--- a row of n was added, which answers if that is asked
-pub record RowIf (asked : Type 0) (old new : List Bool) (n : ℕ) (sets : List (List Bool)) (byte : ℕ) : Type 0 where
-  pub row : List Bool
-  pub is : new ≡ old ++ row
-  pub all : length row ≡ n
-  pub answers : asked → (k : ℕ) → k < n → slice_index_or row k false ≡ in_set (set_in sets k) byte
 
 -- cells were added
 pub record Grown (old new : List Cell) : Type 0 where

@@ -1,6 +1,7 @@
 //! Searching by code without lookaheads.
 
-ghost use Rattle.std.specs.Prelude.{◌≡◌, ℕ, ◌+◌, ◌*◌, ◌<◌, ◌≤◌, List, [], length, Bool, IfOk, OnOk, slice_get, slice_index_or};
+ghost use Rattle.std.specs.Prelude.{◌≡◌, ℕ, ◌<◌, ◌≤◌, [], length, IfOk, OnOk};
+ghost use Rattle.ix_pattern.specs.Rows.{Rows};
 ghost use Rattle.ix_threads.specs.Leaf.{text_of};
 ghost use Rattle.ix_threads.specs.Code.{IsCode, HasSets};
 ghost use Rattle.ix_threads.specs.Looks.{HasNoLook};
@@ -8,24 +9,17 @@ ghost use Rattle.ix_threads.specs.Acts.{AllKnown};
 ghost use Rattle.ix_threads.specs.Agrees.{Agrees};
 ghost use Rattle.ix_threads.specs.Settled.{AllBytes};
 ghost use Rattle.ix_pattern.specs.Ways.{Text};
-ghost use Rattle.ix_threads.specs.Ran.{Occurs, IsTable, IsTabled, AreMarks, Rounds, Goes, Ends, Grown};
-ghost use Rattle.ix_threads.specs.Stepped.{AreAnswers};
+ghost use Rattle.ix_threads.specs.Ran.{IsOf, AreMarks, Rounds, Goes, Ends, Grown};
+ghost use Rattle.ix_threads.specs.Tests.{AreTests, Counts};
 
 use crate::cells::{Best, Thread};
 use crate::code::Instr;
 use crate::input::Input;
 use crate::step::step;
+use crate::table::Tests;
 use crate::work::{Work, follow};
-use ix_base::NoMemory;
-
-/// What each of n sets answers to a byte.
-pub fn answers_of(table: &[bool], n: usize, byte: u8) -> &[bool]
-    requires { length table.now ≡ 256 * n }
-    ensures all { length result.now ≡ n }
-    ensures answers { (bytes : List ℕ) (sets : List (List Bool)) → IsTable table.now n bytes sets → Occurs bytes byte → AreAnswers result.now sets byte }
-{
-    &table[byte as usize * n..byte as usize * n + n]
-}
+use ix_base::{NoMemory, Steps};
+use std::sync::ledger::Ledger;
 
 /// Follows the threads of a place.
 fn round(
@@ -40,8 +34,8 @@ fn round(
     requires plain { HasNoLook code.now }
     requires within { place ≤ length input.bytes.now }
     requires marks { AreMarks work.old.marks.items (length code.now) work.old.stamp }
-    ensures rounds { IfOk result (λ after. (real : Text) → Agrees (text_of input.entry) real place → (table : List Bool) (n : ℕ) (bytes : List ℕ) →
-        Rounds (IsTabled table n bytes) code.now real place work.old.cells.items work.old.stack.items work.new.cells.items work.new.ready.items best after) }
+    ensures rounds { IfOk result (λ after. (real : Text) → Agrees (text_of input.entry) real place → (pattern : Rows) →
+        Rounds (IsOf pattern) code.now real place work.old.cells.items work.old.stack.items work.new.cells.items work.new.ready.items best after) }
     ensures bytes { OnOk result (AllBytes code.now work.new.ready.items) }
     ensures known { OnOk result (AllKnown (length code.now) (length work.new.cells.items) work.new.ready.items) }
     ensures empty { OnOk result (work.new.stack.items ≡ []) }
@@ -53,26 +47,27 @@ fn round(
 }
 
 /// Goes on from the threads of a place to the end of the text. The answer stands for the head of the ways.
-pub fn walk(
+pub fn walk<L: Ledger>(
     code: &[Instr],
-    table: &[bool],
-    n: usize,
+    tests: Tests<'_>,
     input: Input<'_>,
     from: usize,
     first: Best,
     work: &mut Work,
+    steps: &mut Steps<L>,
 ) -> Result<Best, NoMemory>
     requires known { AllKnown (length code.now) (length work.old.cells.items) work.old.stack.items }
     requires code { IsCode code.now }
     requires plain { HasNoLook code.now }
-    requires sets { HasSets n code.now }
-    requires table { length table.now ≡ 256 * n }
+    requires sets { HasSets (length tests.pattern.now.rows) code.now }
+    requires tests { AreTests tests }
     requires within { from ≤ length input.bytes.now }
     requires marks { AreMarks work.old.marks.items (length code.now) work.old.stamp }
-    ensures head { IfOk result (λ best. (start place : ℕ) → Goes (IsTabled table.now n input.entry.bytes.now) code.now (text_of input.entry) start place from work.old.cells.items work.old.stack.items first →
-        Ends (IsTabled table.now n input.entry.bytes.now) code.now (text_of input.entry) start place work.new.cells.items best) }
+    ensures head { IfOk result (λ best. (start place : ℕ) → Goes (IsOf tests.entry.pattern.now.rows) code.now (text_of input.entry) start place from work.old.cells.items work.old.stack.items first →
+        Ends (IsOf tests.entry.pattern.now.rows) code.now (text_of input.entry) start place work.new.cells.items best) }
     ensures marks { OnOk result (AreMarks work.new.marks.items (length code.now) work.new.stamp) }
     ensures grown { OnOk result (Grown work.old.cells.items work.new.cells.items) }
+    ensures counts { Counts tests.entry steps.old steps.new }
 {
     let mut best = first;
     for at in from..input.bytes.len() {
@@ -82,9 +77,11 @@ pub fn walk(
         }
         step(
             code,
-            answers_of(table, n, input.bytes[at]),
+            tests,
+            input.bytes[at],
             &work.ready,
             &mut work.stack,
+            steps,
         )?;
     }
     best = round(code, input, input.bytes.len(), best, work)?;
@@ -95,24 +92,25 @@ pub fn walk(
 }
 
 /// The head of the ways of an instruction at a place of a text.
-pub fn run(
+pub fn run<L: Ledger>(
     code: &[Instr],
     start: usize,
-    table: &[bool],
-    n: usize,
+    tests: Tests<'_>,
     input: Input<'_>,
     place: usize,
     work: &mut Work,
+    steps: &mut Steps<L>,
 ) -> Result<Best, NoMemory>
     requires start { start < length code.now }
     requires code { IsCode code.now }
     requires plain { HasNoLook code.now }
-    requires sets { HasSets n code.now }
-    requires table { length table.now ≡ 256 * n }
+    requires sets { HasSets (length tests.pattern.now.rows) code.now }
+    requires tests { AreTests tests }
     requires within { place ≤ length input.bytes.now }
     requires marks { AreMarks work.old.marks.items (length code.now) work.old.stamp }
-    ensures head { IfOk result (λ best. Ends (IsTabled table.now n input.entry.bytes.now) code.now (text_of input.entry) start place work.new.cells.items best) }
+    ensures head { IfOk result (λ best. Ends (IsOf tests.entry.pattern.now.rows) code.now (text_of input.entry) start place work.new.cells.items best) }
     ensures marks { OnOk result (AreMarks work.new.marks.items (length code.now) work.new.stamp) }
+    ensures counts { Counts tests.entry steps.old steps.new }
 {
     work.cells.clear();
     work.stack.clear();
@@ -120,6 +118,6 @@ pub fn run(
         pc: start,
         trail: 0,
     })?;
-    let best = walk(code, table, n, input, place, Best::No, work)?;
+    let best = walk(code, tests, input, place, Best::No, work, steps)?;
     Ok(best)
 }

@@ -5,19 +5,18 @@ ghost use Rattle.ix_threads.specs.Ran.{AreMarks};
 
 use crate::code::{Ask, Instr};
 use crate::leaf::Leaf;
+use crate::table::Tests;
 use crate::work::Work;
 use ix_base::NoMemory;
 use std::alloc::Global;
 
-/// The code of a pattern, its lookaheads with the code of their insides, and for each byte in turn what each of `width`
-/// pieces answers to it.
+/// The code of a pattern, its lookaheads with the code of their insides, and how bytes are tested.
 #[derive(Clone, Copy)]
 pub struct Plan<'a> {
     pub code: &'a [Instr],
     pub asks: &'a [Ask],
     pub inner: &'a [Instr],
-    pub table: &'a [bool],
-    pub width: usize,
+    pub tests: Tests<'a>,
 }
 
 /// What a search works in: that of the pattern and that of the insides of its lookaheads, and what each lookahead comes
@@ -30,17 +29,22 @@ pub struct Room {
 }
 
 impl Room {
-    /// For so many instructions, so many of the insides, and so many pieces.
-    pub fn new(alloc: Global, count: usize, insides: usize, width: usize) -> Result<Room, NoMemory>
+    /// For so many instructions, and so many of the insides.
+    pub fn new(
+        alloc: Global,
+        count: usize,
+        insides: usize,
+        looks: Vec<Leaf>,
+    ) -> Result<Room, NoMemory>
         ensures main { IfOk result (λ r. AreMarks r.main.marks.items count r.main.stamp) }
         ensures inner { IfOk result (λ r. AreMarks r.inner.marks.items insides r.inner.stamp) }
-        ensures looks { IfOk result (λ r. length r.looks.items ≡ width) }
+        ensures looks { IfOk result (λ r. r.looks.items ≡ looks.items) }
         ensures empty { IfOk result (λ r. r.main.stack.items ≡ []) }
     {
         Ok(Room {
             main: Work::new(alloc, count)?,
             inner: Work::new(alloc, insides)?,
-            looks: vec![in alloc; Leaf::Never; width]?,
+            looks,
         })
     }
 }

@@ -1,6 +1,6 @@
 //! All bytes of a text.
 
-ghost use Rattle.std.specs.Prelude.{◌≡◌, ℕ, ◌+◌, ◌<◌, ◌≤◌, ◌⊎◌, List, [], length, Option, IfOk, OnOk, slice_get, replicate, None};
+ghost use Rattle.std.specs.Prelude.{◌≡◌, ℕ, ◌+◌, ◌<◌, ◌≤◌, List, [], length, Option, IfOk, OnOk, slice_get, replicate, None};
 ghost use Rattle.ix_pattern.specs.Ways.{Text};
 ghost use Rattle.ix_threads.specs.Leaf.{text_of};
 ghost use Rattle.ix_threads.specs.Code.{best_ways};
@@ -9,84 +9,91 @@ ghost use Rattle.ix_threads.specs.Acts.{AllKnown};
 ghost use Rattle.ix_threads.specs.Settled.{AllBytes};
 ghost use Rattle.ix_threads.specs.Ran.{Rounds, Goes, Ends, Sees, Grown};
 ghost use Rattle.ix_threads.specs.Plans.{IsPlan, Knows, IsRoom};
-ghost use Rattle.ix_threads.specs.Outcomes.{head_of, Shows};
+ghost use Rattle.ix_threads.specs.Outcomes.{head_of};
+ghost use Rattle.ix_threads.specs.Tests.{Counts};
 
 use crate::ahead::look_all;
 use crate::cells::{Best, Cell, Thread};
 use crate::groups::groups_of;
 use crate::input::Input;
-use crate::plain::answers_of;
 use crate::plan::{Plan, Room};
 use crate::step::step;
 use crate::work::follow;
-use ix_base::NoMemory;
+use ix_base::{NoMemory, Steps};
 use std::alloc::Global;
+use std::sync::ledger::Ledger;
 
 /// Follows the threads of a place, behind its lookaheads.
-fn round(
+fn round<L: Ledger>(
     plan: Plan<'_>,
     input: Input<'_>,
     place: usize,
     best: Best,
     room: &mut Room,
+    steps: &mut Steps<L>,
 ) -> Result<Best, NoMemory>
     requires plan { IsPlan plan }
     requires room { IsRoom plan room.old }
     requires known { AllKnown (length plan.code.now) (length room.old.main.cells.items) room.old.main.stack.items }
     requires within { place ≤ length input.bytes.now }
     ensures rounds { IfOk result (λ after. (real : Text) → Agrees (text_of input.entry) real place →
-        Rounds (Knows plan.entry input.entry.bytes.now) plan.entry.code.now real place room.old.main.cells.items room.old.main.stack.items room.new.main.cells.items room.new.main.ready.items best after) }
+        Rounds (Knows plan.entry) plan.entry.code.now real place room.old.main.cells.items room.old.main.stack.items room.new.main.cells.items room.new.main.ready.items best after) }
     ensures bytes { OnOk result (AllBytes plan.entry.code.now room.new.main.ready.items) }
     ensures known { OnOk result (AllKnown (length plan.entry.code.now) (length room.new.main.cells.items) room.new.main.ready.items) }
     ensures empty { OnOk result (room.new.main.stack.items ≡ []) }
     ensures room { OnOk result (IsRoom plan.entry room.new) }
+    ensures counts { Counts plan.entry.tests steps.old steps.new }
     ensures grown { OnOk result (Grown room.old.main.cells.items room.new.main.cells.items) }
 {
     look_all(
         plan.asks,
         plan.inner,
-        plan.table,
-        plan.width,
+        plan.tests,
         input,
         place,
         &mut room.inner,
         &mut room.looks,
+        steps,
     )?;
     let after = follow(plan.code, &room.looks, input, place, best, &mut room.main)?;
     Ok(after)
 }
 
 /// Goes on from the threads of a place to the end of the text. The answer stands for the head of the ways.
-pub fn walk(
+pub fn walk<L: Ledger>(
     plan: Plan<'_>,
     input: Input<'_>,
     from: usize,
     first: Best,
     room: &mut Room,
+    steps: &mut Steps<L>,
 ) -> Result<Best, NoMemory>
     requires plan { IsPlan plan }
     requires room { IsRoom plan room.old }
     requires known { AllKnown (length plan.code.now) (length room.old.main.cells.items) room.old.main.stack.items }
     requires within { from ≤ length input.bytes.now }
-    ensures head { IfOk result (λ best. (start place : ℕ) → Goes (Knows plan.entry input.entry.bytes.now) plan.entry.code.now (text_of input.entry) start place from room.old.main.cells.items room.old.main.stack.items first →
-        Ends (Knows plan.entry input.entry.bytes.now) plan.entry.code.now (text_of input.entry) start place room.new.main.cells.items best) }
+    ensures head { IfOk result (λ best. (start place : ℕ) → Goes (Knows plan.entry) plan.entry.code.now (text_of input.entry) start place from room.old.main.cells.items room.old.main.stack.items first →
+        Ends (Knows plan.entry) plan.entry.code.now (text_of input.entry) start place room.new.main.cells.items best) }
     ensures room { OnOk result (IsRoom plan.entry room.new) }
+    ensures counts { Counts plan.entry.tests steps.old steps.new }
     ensures grown { OnOk result (Grown room.old.main.cells.items room.new.main.cells.items) }
 {
     let mut best = first;
     for at in from..input.bytes.len() {
-        best = round(plan, input, at, best, room)?;
+        best = round(plan, input, at, best, room, steps)?;
         if room.main.ready.is_empty() {
             return Ok(best);
         }
         step(
             plan.code,
-            answers_of(plan.table, plan.width, input.bytes[at]),
+            plan.tests,
+            input.bytes[at],
             &room.main.ready,
             &mut room.main.stack,
+            steps,
         )?;
     }
-    best = round(plan, input, input.bytes.len(), best, room)?;
+    best = round(plan, input, input.bytes.len(), best, room, steps)?;
     if input.unfinished && !room.main.ready.is_empty() {
         return Ok(Best::More);
     }
@@ -95,13 +102,14 @@ pub fn walk(
 
 /// Goes on from the threads of a place to those of a later one, behind which a lookahead sees all that it may see. That
 /// holds for each text that goes on from what is seen.
-pub fn move_on(
+pub fn move_on<L: Ledger>(
     plan: Plan<'_>,
     input: Input<'_>,
     from: usize,
     to: usize,
     first: Best,
     room: &mut Room,
+    steps: &mut Steps<L>,
 ) -> Result<Best, NoMemory>
     requires plan { IsPlan plan }
     requires room { IsRoom plan room.old }
@@ -109,19 +117,22 @@ pub fn move_on(
     requires order { from ≤ to }
     requires within { to ≤ length input.bytes.now }
     ensures moves { IfOk result (λ best. (real : Text) → Sees (text_of input.entry) real to → (start place : ℕ) →
-        Goes (Knows plan.entry input.entry.bytes.now) plan.entry.code.now real start place from room.old.main.cells.items room.old.main.stack.items first →
-        Goes (Knows plan.entry input.entry.bytes.now) plan.entry.code.now real start place to room.new.main.cells.items room.new.main.stack.items best) }
+        Goes (Knows plan.entry) plan.entry.code.now real start place from room.old.main.cells.items room.old.main.stack.items first →
+        Goes (Knows plan.entry) plan.entry.code.now real start place to room.new.main.cells.items room.new.main.stack.items best) }
     ensures known { OnOk result (AllKnown (length plan.entry.code.now) (length room.new.main.cells.items) room.new.main.stack.items) }
     ensures room { OnOk result (IsRoom plan.entry room.new) }
+    ensures counts { Counts plan.entry.tests steps.old steps.new }
 {
     let mut best = first;
     for at in from..to {
-        best = round(plan, input, at, best, room)?;
+        best = round(plan, input, at, best, room, steps)?;
         step(
             plan.code,
-            answers_of(plan.table, plan.width, input.bytes[at]),
+            plan.tests,
+            input.bytes[at],
             &room.main.ready,
             &mut room.main.stack,
+            steps,
         )?;
     }
     Ok(best)
@@ -157,19 +168,21 @@ pub fn outcome_of(
 }
 
 /// The head of the ways of an instruction at a place of a text.
-pub fn run(
+pub fn run<L: Ledger>(
     plan: Plan<'_>,
     start: usize,
     input: Input<'_>,
     place: usize,
     room: &mut Room,
+    steps: &mut Steps<L>,
 ) -> Result<Best, NoMemory>
     requires plan { IsPlan plan }
     requires start { start < length plan.code.now }
     requires room { IsRoom plan room.old }
     requires within { place ≤ length input.bytes.now }
-    ensures head { IfOk result (λ best. Ends (Knows plan.entry input.entry.bytes.now) plan.entry.code.now (text_of input.entry) start place room.new.main.cells.items best) }
+    ensures head { IfOk result (λ best. Ends (Knows plan.entry) plan.entry.code.now (text_of input.entry) start place room.new.main.cells.items best) }
     ensures room { OnOk result (IsRoom plan.entry room.new) }
+    ensures counts { Counts plan.entry.tests steps.old steps.new }
 {
     room.main.cells.clear();
     room.main.stack.clear();
@@ -177,6 +190,6 @@ pub fn run(
         pc: start,
         trail: 0,
     })?;
-    let best = walk(plan, input, place, Best::No, room)?;
+    let best = walk(plan, input, place, Best::No, room, steps)?;
     Ok(best)
 }

@@ -1,20 +1,45 @@
-//! What the byte pieces of a pattern answer to each byte.
+//! What the byte pieces of a pattern answer to each byte. The steps of threads ask it.
 
-ghost use Rattle.std.specs.Prelude.{◌≡◌, ◌+◌, ◌*◌, ◌<◌, ◌≤◌, ℕ, List, length, Bool, true, false, IfOk, OnOk, slice_index_or};
+ghost use Rattle.std.specs.Prelude.{◌≡◌, ◌+◌, ◌*◌, ◌<◌, ◌≤◌, length, false, IfOk, OnOk, slice_index_or};
 ghost use Rattle.ix_pattern.specs.Piece.{in_set};
+ghost use Rattle.ix_pattern.specs.Rows.{node_at, byte_pieces};
 ghost use Rattle.ix_threads.specs.Code.{set_in, sets_of};
-ghost use Rattle.ix_threads.specs.Ran.{Occurs, IsTabled, RowIf, Row};
+ghost use Rattle.ix_threads.specs.Ran.{Row};
+ghost use Rattle.ix_threads.specs.Tests.{answers_to, asked_of, IsTable, AreTests, Counts};
 
 use ix_base::{NoMemory, Steps};
 use ix_pattern::{Node, Pattern};
 use std::alloc::Global;
 use std::sync::ledger::Ledger;
 
+/// How a byte is tested against a piece of a pattern: by a table of `width` pieces, a row a byte, or where that has no such
+/// piece by the pattern itself. A table costs all tests once; without one there is nothing to make.
+#[derive(Clone, Copy)]
+pub struct Tests<'a> {
+    pub pattern: &'a Pattern,
+    pub table: &'a [bool],
+    pub width: usize,
+}
+
+/// Whether a piece takes a byte. A test counts as a step where the table does not have it.
+pub fn answer<L: Ledger>(tests: Tests<'_>, piece: usize, byte: u8, steps: &mut Steps<L>) -> bool
+    requires piece { piece < length tests.pattern.now.rows }
+    requires tests { AreTests tests }
+    ensures is { result ≡ slice_index_or (answers_to tests.entry.pattern.now.rows byte) piece false }
+    ensures counts { Counts tests.entry steps.old steps.new }
+{
+    if piece < tests.width {
+        tests.table[byte as usize * tests.width + piece]
+    } else {
+        takes(tests.pattern, piece, byte, steps)
+    }
+}
+
 /// Whether a piece takes a byte. One that is no byte piece takes none.
 fn takes<L: Ledger>(p: &Pattern, piece: usize, byte: u8, steps: &mut Steps<L>) -> bool
     requires { piece < length p.now.rows }
     ensures taken { result ≡ in_set (set_in (sets_of p.now.rows) piece) byte }
-    ensures counted { steps.new ≤ steps.old + 1 }
+    ensures counted { steps.new ≤ steps.old + asked_of (node_at p.now.rows piece) }
     ensures later { steps.old ≤ steps.new }
 {
     match p.node(piece) {
@@ -23,7 +48,7 @@ fn takes<L: Ledger>(p: &Pattern, piece: usize, byte: u8, steps: &mut Steps<L>) -
     }
 }
 
-/// Adds what each piece answers to a byte. Each is tested once.
+/// Adds what each piece answers to a byte. Each byte piece is tested once.
 fn push_answers<L: Ledger>(
     p: &Pattern,
     byte: u8,
@@ -31,7 +56,7 @@ fn push_answers<L: Ledger>(
     steps: &mut Steps<L>,
 ) -> Result<(), NoMemory>
     ensures row { OnOk result (Row answers.old.items answers.new.items (length p.now.rows) (sets_of p.now.rows) byte) }
-    ensures counted { OnOk result (steps.new ≤ steps.old + length p.now.rows) }
+    ensures counted { OnOk result (steps.new ≤ steps.old + byte_pieces p.now.rows) }
     ensures later { steps.old ≤ steps.new }
 {
     let root = p.root();
@@ -44,73 +69,20 @@ fn push_answers<L: Ledger>(
     Ok(())
 }
 
-/// For each byte in turn, what each piece answers to it. Each is tested once a byte.
+/// For each byte in turn, what each piece answers to it. Each byte piece is tested once a byte.
 pub fn table_of<L: Ledger>(
     alloc: Global,
     p: &Pattern,
     steps: &mut Steps<L>,
 ) -> Result<Vec<bool>, NoMemory>
     ensures all { IfOk result (λ table. length table.items ≡ 256 * length p.now.rows) }
-    ensures table { IfOk result (λ table. (bytes : List ℕ) → IsTabled table.items (length p.now.rows) bytes p.now.rows) }
-    ensures counted { OnOk result (steps.new ≤ steps.old + 256 * length p.now.rows) }
+    ensures table { IfOk result (λ table. IsTable table.items (length p.now.rows) p.now.rows) }
+    ensures counted { OnOk result (steps.new ≤ steps.old + 256 * byte_pieces p.now.rows) }
     ensures later { steps.old ≤ steps.new }
 {
     let mut table = Vec::new(alloc);
     for byte in 0..256usize {
         push_answers(p, byte as u8, &mut table, steps)?;
-    }
-    Ok(table)
-}
-
-/// Which bytes occur in a text.
-fn bytes_of(text: &[u8]) -> [bool; 256]
-    ensures { (byte : ℕ) → Occurs text.now byte → slice_index_or result byte false ≡ true }
-{
-    let mut occurs = [false; 256];
-    for k in 0..text.len() {
-        occurs[text[k] as usize] = true;
-    }
-    occurs
-}
-
-/// Adds what each piece answers to a byte, or as much else where that is not asked.
-fn push_row<L: Ledger>(
-    p: &Pattern,
-    byte: u8,
-    asked: bool,
-    other: &[bool],
-    answers: &mut Vec<bool>,
-    steps: &mut Steps<L>,
-) -> Result<(), NoMemory>
-    requires { length other.now ≡ length p.now.rows }
-    ensures row { OnOk result (RowIf (asked ≡ true) answers.old.items answers.new.items (length p.now.rows) (sets_of p.now.rows) byte) }
-    ensures later { steps.old ≤ steps.new }
-{
-    if asked {
-        push_answers(p, byte, answers, steps)?;
-    } else {
-        answers.extend_from_slice(other)?;
-    }
-    Ok(())
-}
-
-/// For each byte in turn, what each piece answers to it, where it occurs in the text.
-pub fn table_for<L: Ledger>(
-    alloc: Global,
-    p: &Pattern,
-    text: &[u8],
-    steps: &mut Steps<L>,
-) -> Result<Vec<bool>, NoMemory>
-    ensures all { IfOk result (λ table. length table.items ≡ 256 * length p.now.rows) }
-    ensures table { IfOk result (λ table. IsTabled table.items (length p.now.rows) text.now p.now.rows) }
-    ensures later { steps.old ≤ steps.new }
-{
-    let occurs = bytes_of(text);
-    let mut other = Vec::new(alloc);
-    push_answers(p, 0, &mut other, steps)?;
-    let mut table = Vec::new(alloc);
-    for byte in 0..256usize {
-        push_row(p, byte as u8, occurs[byte], &other, &mut table, steps)?;
     }
     Ok(table)
 }

@@ -1,14 +1,16 @@
 use Rattle.std.proofs.Common.{◌≡◌, length}
 use Rattle.ix_pattern.specs.Rows.{Rows}
 use Rattle.ix_threads.specs.Leaf.{text_of}
-use Rattle.ix_threads.specs.Ran.{IsTabled, AreMarks}
+use Rattle.ix_threads.specs.Ran.{IsOf, AreMarks}
+use Rattle.ix_threads.specs.Tests.{Counts}
 use Rattle.ix_threads.specs.Programs.{AreAsks, AllLooked}
 use Rattle.ix_threads.proofs.ahead.look_all.Given as goal
 
 abbrev pub invariant-loop-k : goal.invariant-loop-k
-invariant-loop-k l =
+invariant-loop-k g l =
     record {
-      looks : (rows : Rows) → AreAsks rows l.inner l.asks → IsTabled l.table l.n l.input.bytes.now rows → AllLooked l.k l.asks l.looks.items rows (text_of l.input) l.place;
+      looks : (rows : Rows) → AreAsks rows l.inner l.asks → IsOf l.tests.pattern.now.rows rows → AllLooked l.k l.asks l.looks.items rows (text_of l.input) l.place;
       all : length l.looks.items ≡ length l.fn.looks.items;
+      counts : Counts l.tests l.fn.steps l.steps;
       marks : AreMarks l.work.marks.items (length l.inner) l.work.stamp;
     }

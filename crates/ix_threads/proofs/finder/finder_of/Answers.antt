@@ -1,17 +1,5 @@
-use Rattle.std.proofs.Common.{◌≡◌, ◌/◌, length, sym, subst, arith}
-use Rattle.ix_threads.specs.Ran.{IsTabled}
+use Rattle.std.proofs.Common.{length, ap, arith}
 use Rattle.ix_threads.proofs.finder.finder_of.Goals as goal
 
-pub returns-clause-finder : goal.returns-clause-finder
-returns-clause-finder g c =
-    let all = c.in_ok-table.ensures.all in
-    let len = c.len-width.ensures in
-    let w : c.len-width.result / 256 ≡ length c.args.p.now.rows = omega (arith, all, len) in
-    record { program = c.in_ok-program.ensures; width = w; all = c.in_ok-table.ensures.all }
-
-pub returns-clause-rows : goal.returns-clause-rows
-returns-clause-rows g c = λ bytes.
-    let all = c.in_ok-table.ensures.all in
-    let len = c.len-width.ensures in
-    let w : c.len-width.result / 256 ≡ length c.args.p.now.rows = omega (arith, all, len) in
-    subst (λ n. IsTabled c.in_ok-table.table.items n bytes c.args.p.now.rows) (sym w) (c.in_ok-table.ensures.table bytes)
+pub returns : goal.returns
+returns c = record { program = c.in_ok-program.ensures; all = ap length c.new.ensures.items; table = λ byte k h lt. absurd (omega (arith, lt)) }

@@ -1,71 +1,73 @@
-use Rattle.std.proofs.Common.{rules, ◌≡◌, length, refl, sym, ap, subst, arith}
+use Rattle.std.proofs.Common.{rules, ◌≡◌, length, refl, sym, ap, subst, arith, get_or}
 use Rattle.std.proofs.lemmas.List.{nil_from_length}
 use Rattle.std.proofs.lemmas.Option.{slice_get-get_or}
 use Rattle.ix_threads.specs.Leaf.{text_of}
-use Rattle.ix_threads.specs.Code.{sets_of}
 use Rattle.ix_threads.specs.Acts.{AllKnown}
 use Rattle.ix_threads.specs.Ran.{Goes}
 use Rattle.ix_threads.specs.Plans.{Knows}
 use Rattle.ix_threads.specs.Stepped.{Steps}
+use Rattle.ix_threads.specs.Tests.{answers_to}
+use Rattle.ix_threads.proofs.TestLemmas.{are-answers, counts-none, counts-more}
 use Rattle.ix_threads.proofs.AgreeLemmas.{agrees-refl}
 use Rattle.ix_threads.proofs.RunLemmas.{grown-none, grown-both, goes-on, ends-none, ends-closed, ends-open}
 use Rattle.ix_threads.proofs.run.walk.Goals.{else-input-via-then-input+else-not-is_empty, else-input-via-else-input}
 use Rattle.ix_threads.proofs.run.walk.Goals as goal
 
 pub returns-then-is_empty-clause-head : goal.returns-then-is_empty-clause-head
-returns-then-is_empty-clause-head c =
+returns-then-is_empty-clause-head g c =
     let none : length c.round.new.room.main.ready.items ≡ 0 = search rules in
-    λ start place g. ends-none (Knows c.args.plan c.args.input.bytes.now) c.args.plan.code.now (text_of c.args.input) start place c.loop-at.at c.loop-at.room.main.cells.items c.round.new.room.main.cells.items
+    λ start place g. ends-none (Knows c.args.plan) c.args.plan.code.now (text_of c.args.input) start place c.loop-at.at c.loop-at.room.main.cells.items c.round.new.room.main.cells.items
     c.loop-at.room.main.stack.items c.round.new.room.main.ready.items c.loop-at.best c.in_ok-best.best
     (c.in_ok-best.ensures.rounds (text_of c.args.input) (agrees-refl (text_of c.args.input) c.loop-at.at (omega arith))) (nil_from_length c.round.new.room.main.ready.items none) (c.loop-at.invariant.goes start place g)
 
 pub loop-at-preserved : goal.loop-at-preserved
-loop-at-preserved c =
+loop-at-preserved g c =
     record {
-      goes = λ start place g. goes-on (Knows c.args.plan c.args.input.bytes.now) c.args.plan.code.now (text_of c.args.input) start place c.loop-at.at _ c.loop-at.room.main.cells.items c.round.new.room.main.cells.items
-          c.loop-at.room.main.stack.items c.round.new.room.main.ready.items c.step.new.stack.items c.loop-at.best c.in_ok-best.best c.answers_of.result.now
+      goes = λ start place g. goes-on (Knows c.args.plan) c.args.plan.code.now (text_of c.args.input) start place c.loop-at.at _ c.loop-at.room.main.cells.items c.round.new.room.main.cells.items
+          c.loop-at.room.main.stack.items c.round.new.room.main.ready.items c.step.new.stack.items c.loop-at.best c.in_ok-best.best (answers_to c.args.plan.tests.pattern.now.rows (get_or c.args.input.bytes.now c.loop-at.at 0))
           (c.in_ok-best.ensures.rounds (text_of c.args.input) (agrees-refl (text_of c.args.input) c.loop-at.at (omega arith)))
-          (subst (λ r. Steps c.args.plan.code.now c.answers_of.result.now r c.step.new.stack.items) c.deref.ensures.value c.in_ok-step.ensures.steps)
-          (slice_get-get_or c.args.input.bytes.now c.loop-at.at 0 (omega arith)) (λ rows t. c.answers_of.ensures.answers c.args.input.bytes.now (sets_of rows) t.table (record { place = c.loop-at.at; at = slice_get-get_or c.args.input.bytes.now c.loop-at.at 0 (omega arith) }))
+          (subst (λ r. Steps c.args.plan.code.now (answers_to c.args.plan.tests.pattern.now.rows (get_or c.args.input.bytes.now c.loop-at.at 0)) r c.step.new.stack.items) c.deref.ensures.value c.in_ok-step.ensures.steps)
+          (slice_get-get_or c.args.input.bytes.now c.loop-at.at 0 (omega arith)) (λ rows t. are-answers c.args.plan.tests.pattern.now.rows rows (get_or c.args.input.bytes.now c.loop-at.at 0) t.same)
           (c.loop-at.invariant.goes start place g);
       grown = grown-both c.loop-at.invariant.grown c.in_ok-best.ensures.grown;
       known = c.in_ok-step.ensures.known (length c.round.new.room.main.cells.items) (subst (AllKnown (length c.args.plan.code.now) (length c.round.new.room.main.cells.items)) (sym c.deref.ensures.value) c.in_ok-best.ensures.known);
       room = c.in_ok-best.ensures.room;
+      counts = counts-more (counts-more c.loop-at.invariant.counts c.round.ensures.counts) c.step.ensures.counts;
     }
 
 pub returns-then-not-is_empty-clause-head : goal.returns-then-not-is_empty-clause-head
-returns-then-not-is_empty-clause-head c =
+returns-then-not-is_empty-clause-head g c =
     let last : c.loop-at.at ≡ length c.args.input.bytes.now = omega arith in
     let some : length c.round-2.new.room.main.ready.items ≡ 0 → ⊥ = search rules in
-    λ start place g. ends-open (Knows c.args.plan c.args.input.bytes.now) c.args.plan.code.now (text_of c.args.input) start place (length c.args.input.bytes.now) c.loop-at.room.main.cells.items c.round-2.new.room.main.cells.items
+    λ start place g. ends-open (Knows c.args.plan) c.args.plan.code.now (text_of c.args.input) start place (length c.args.input.bytes.now) c.loop-at.room.main.cells.items c.round-2.new.room.main.cells.items
     c.loop-at.room.main.stack.items c.round-2.new.room.main.ready.items c.loop-at.best c.in_ok-best-2.best
     (c.in_ok-best-2.ensures.rounds (text_of c.args.input) (agrees-refl (text_of c.args.input) (length c.args.input.bytes.now) (omega arith))) c.in_ok-best-2.ensures.bytes refl c.if-input.true (λ e. some (ap length e))
-    (subst (λ p. Goes (Knows c.args.plan c.args.input.bytes.now) c.args.plan.code.now (text_of c.args.input) start place p c.loop-at.room.main.cells.items c.loop-at.room.main.stack.items c.loop-at.best) last (c.loop-at.invariant.goes start place g))
+    (subst (λ p. Goes (Knows c.args.plan) c.args.plan.code.now (text_of c.args.input) start place p c.loop-at.room.main.cells.items c.loop-at.room.main.stack.items c.loop-at.best) last (c.loop-at.invariant.goes start place g))
 
 pub returns-clause-head : goal.returns-clause-head
-returns-clause-head c =
+returns-clause-head g c =
     let last : c.loop-at.at ≡ length c.args.input.bytes.now = omega arith in
-    λ start place g. (let goes = subst (λ p. Goes (Knows c.args.plan c.args.input.bytes.now) c.args.plan.code.now (text_of c.args.input) start place p c.loop-at.room.main.cells.items c.loop-at.room.main.stack.items c.loop-at.best) last (c.loop-at.invariant.goes start place g) in
+    λ start place g. (let goes = subst (λ p. Goes (Knows c.args.plan) c.args.plan.code.now (text_of c.args.input) start place p c.loop-at.room.main.cells.items c.loop-at.room.main.stack.items c.loop-at.best) last (c.loop-at.invariant.goes start place g) in
     elim c.else-input.branch [
       | else-input-via-then-input+else-not-is_empty w ↦
           (let none : length c.round-2.new.room.main.ready.items ≡ 0 = search rules in
-          ends-none (Knows c.args.plan c.args.input.bytes.now) c.args.plan.code.now (text_of c.args.input) start place (length c.args.input.bytes.now) c.loop-at.room.main.cells.items c.round-2.new.room.main.cells.items
+          ends-none (Knows c.args.plan) c.args.plan.code.now (text_of c.args.input) start place (length c.args.input.bytes.now) c.loop-at.room.main.cells.items c.round-2.new.room.main.cells.items
           c.loop-at.room.main.stack.items c.round-2.new.room.main.ready.items c.loop-at.best c.in_ok-best-2.best
           (c.in_ok-best-2.ensures.rounds (text_of c.args.input) (agrees-refl (text_of c.args.input) (length c.args.input.bytes.now) (omega arith))) (nil_from_length c.round-2.new.room.main.ready.items none) goes)
       | else-input-via-else-input w ↦
-          ends-closed (Knows c.args.plan c.args.input.bytes.now) c.args.plan.code.now (text_of c.args.input) start place (length c.args.input.bytes.now) c.loop-at.room.main.cells.items c.round-2.new.room.main.cells.items
+          ends-closed (Knows c.args.plan) c.args.plan.code.now (text_of c.args.input) start place (length c.args.input.bytes.now) c.loop-at.room.main.cells.items c.round-2.new.room.main.cells.items
           c.loop-at.room.main.stack.items c.round-2.new.room.main.ready.items c.loop-at.best c.in_ok-best-2.best
           (c.in_ok-best-2.ensures.rounds (text_of c.args.input) (agrees-refl (text_of c.args.input) (length c.args.input.bytes.now) (omega arith))) c.in_ok-best-2.ensures.bytes refl w.if-input.false goes
     ])
 
 pub loop-at-init : goal.loop-at-init
-loop-at-init c = record { goes = λ start place g. g; grown = grown-none c.args.room.now.main.cells.items; known = c.requires.known; room = c.requires.room }
+loop-at-init g c = record { goes = λ start place g. g; grown = grown-none c.args.room.now.main.cells.items; known = c.requires.known; room = c.requires.room; counts = counts-none }
 
 pub returns-then-is_empty-clause-grown : goal.returns-then-is_empty-clause-grown
-returns-then-is_empty-clause-grown c = grown-both c.loop-at.invariant.grown c.in_ok-best.ensures.grown
+returns-then-is_empty-clause-grown g c = grown-both c.loop-at.invariant.grown c.in_ok-best.ensures.grown
 
 pub returns-then-not-is_empty-clause-grown : goal.returns-then-not-is_empty-clause-grown
-returns-then-not-is_empty-clause-grown c = grown-both c.loop-at.invariant.grown c.in_ok-best-2.ensures.grown
+returns-then-not-is_empty-clause-grown g c = grown-both c.loop-at.invariant.grown c.in_ok-best-2.ensures.grown
 
 pub returns-clause-grown : goal.returns-clause-grown
-returns-clause-grown c = grown-both c.loop-at.invariant.grown c.in_ok-best-2.ensures.grown
+returns-clause-grown g c = grown-both c.loop-at.invariant.grown c.in_ok-best-2.ensures.grown

@@ -3,14 +3,16 @@ use Rattle.ix_threads.specs.Leaf.{text_of}
 use Rattle.ix_threads.specs.Acts.{AllKnown}
 use Rattle.ix_threads.specs.Plans.{Knows, IsRoom}
 use Rattle.ix_threads.specs.Ran.{Goes, Grown}
+use Rattle.ix_threads.specs.Tests.{Counts}
 use Rattle.ix_threads.proofs.run.walk.Given as goal
 
 abbrev pub invariant-loop-at : goal.invariant-loop-at
-invariant-loop-at l =
+invariant-loop-at g l =
     record {
-      goes : (start place : ℕ) → Goes (Knows l.plan l.input.bytes.now) l.plan.code.now (text_of l.input) start place l.from l.fn.room.main.cells.items l.fn.room.main.stack.items l.fn.first →
-          Goes (Knows l.plan l.input.bytes.now) l.plan.code.now (text_of l.input) start place l.at l.room.main.cells.items l.room.main.stack.items l.best;
+      goes : (start place : ℕ) → Goes (Knows l.plan) l.plan.code.now (text_of l.input) start place l.from l.fn.room.main.cells.items l.fn.room.main.stack.items l.fn.first →
+          Goes (Knows l.plan) l.plan.code.now (text_of l.input) start place l.at l.room.main.cells.items l.room.main.stack.items l.best;
       grown : Grown l.fn.room.main.cells.items l.room.main.cells.items;
       known : AllKnown (length l.plan.code.now) (length l.room.main.cells.items) l.room.main.stack.items;
       room : IsRoom l.plan l.room;
+      counts : Counts l.plan.tests l.fn.steps l.steps;
     }

@@ -1,7 +1,9 @@
-use Rattle.std.proofs.Common.{◌≡◌, ◌+◌, length, sym, ◌∙◌, ap, subst, arith}
+use Rattle.std.proofs.Common.{◌≡◌, suc, ◌+◌, ◌≤◌, length, take, sym, ◌∙◌, ap, subst, arith}
 use Rattle.ix_pattern.specs.Piece.{in_set}
 use Rattle.ix_threads.specs.Code.{set_in, sets_of}
 use Rattle.ix_threads.specs.Ran.{Row}
+use Rattle.ix_pattern.specs.Rows.{byte_pieces}
+use Rattle.ix_threads.proofs.TableLemmas.{bytes-take, bytes-first}
 use Rattle.ix_threads.proofs.RowLemmas.{row-none, row-more}
 use Rattle.ix_threads.proofs.table.push_answers.Goals as goal
 
@@ -13,7 +15,9 @@ loop-piece-preserved g c =
     record {
       row = row-more c.args.answers.now.items c.loop-piece.answers.items c.push.new.self.items c.loop-piece.piece (sets_of c.args.p.now.rows) c.args.byte c.takes-answer.result
           c.loop-piece.invariant.row c.in_ok-push.ensures.items c.takes-answer.ensures.taken;
-      counted = omega (arith, c.loop-piece.invariant.counted, c.takes-answer.ensures.counted);
+      counted = (let more = bytes-take c.args.p.now.rows c.loop-piece.piece in
+          let next : suc c.loop-piece.piece ≡ c.loop-piece.piece + 1 = omega arith in
+          subst (λ n. c.takes-answer.new.steps ≤ c.args.steps.now + byte_pieces (take n c.args.p.now.rows)) next (omega (arith, more, c.loop-piece.invariant.counted, c.takes-answer.ensures.counted)));
       later = omega (arith, c.loop-piece.invariant.later, c.takes-answer.ensures.later);
     }
 
@@ -25,6 +29,9 @@ returns g c =
       row = subst (λ k. Row c.args.answers.now.items c.push-2.new.self.items k (sets_of c.args.p.now.rows) c.args.byte) n
           (row-more c.args.answers.now.items c.loop-piece.answers.items c.push-2.new.self.items c.loop-piece.piece (sets_of c.args.p.now.rows) c.args.byte c.takes-answer-2.result
           c.loop-piece.invariant.row c.in_ok-push-2.ensures.items (c.takes-answer-2.ensures.taken ∙ ap (λ k. in_set (set_in (sets_of c.args.p.now.rows) k) c.args.byte) (sym r)));
-      counted = omega (arith, c.loop-piece.invariant.counted, c.takes-answer-2.ensures.counted, n);
+      counted = (let more = bytes-take c.args.p.now.rows c.root-root.result in
+          let all = bytes-first (suc c.root-root.result) c.args.p.now.rows in
+          let old = subst (λ k. c.loop-piece.steps ≤ c.args.steps.now + byte_pieces (take k c.args.p.now.rows)) r c.loop-piece.invariant.counted in
+          omega (arith, more, all, old, c.takes-answer-2.ensures.counted));
       later = omega (arith, c.loop-piece.invariant.later, c.takes-answer-2.ensures.later);
     }

@@ -1,4 +1,5 @@
-use Rattle.std.proofs.Common.{◌+◌, ◌≤◌}
+use Rattle.std.proofs.Common.{◌+◌, ◌≤◌, take}
+use Rattle.ix_pattern.specs.Rows.{byte_pieces}
 use Rattle.ix_threads.specs.Code.{sets_of}
 use Rattle.ix_threads.specs.Ran.{Row}
 use Rattle.ix_threads.proofs.table.push_answers.Given as goal
@@ -7,6 +8,6 @@ abbrev pub invariant-loop-piece : goal.invariant-loop-piece
 invariant-loop-piece g l =
     record {
       row : Row l.fn.answers.items l.answers.items l.piece (sets_of l.p.rows) l.byte;
-      counted : l.steps ≤ l.fn.steps + l.piece;
+      counted : l.steps ≤ l.fn.steps + byte_pieces (take l.piece l.p.rows);
       later : l.fn.steps ≤ l.steps;
     }

@@ -1,22 +1,23 @@
 use Rattle.std.proofs.Common.{◌≡◌, ◌+◌, ◌*◌, ◌≤◌, length, ap, sym, ◌∙◌, subst, arith}
+use Rattle.ix_pattern.specs.Rows.{byte_pieces}
 use Rattle.ix_threads.specs.Code.{sets_of}
-use Rattle.ix_threads.proofs.TableLemmas.{Rows, row-if, rows-more}
+use Rattle.ix_threads.proofs.TableLemmas.{Rows, rows-more}
 use Rattle.ix_threads.proofs.table.table_of.Goals as goal
 
 pub loop-byte-init : goal.loop-byte-init
 loop-byte-init g c =
     let z : 0 * length c.args.p.now.rows ≡ 0 = grind arith in
     record {
-      rows = record { all = ap length c.new-table.ensures.items ∙ sym z; answers = λ byte k h s lt. absurd (omega (arith, h)) };
+      rows = record { all = ap length c.new-table.ensures.items ∙ sym z; answers = λ byte k h lt. absurd (omega (arith, h)) };
       counted = omega arith;
       later = omega arith;
     }
 
 pub loop-byte-preserved : goal.loop-byte-preserved
 loop-byte-preserved g c =
-    let one : (c.loop-byte.byte + 1) * length c.args.p.now.rows ≡ c.loop-byte.byte * length c.args.p.now.rows + length c.args.p.now.rows = grind arith in
+    let one : (c.loop-byte.byte + 1) * byte_pieces c.args.p.now.rows ≡ c.loop-byte.byte * byte_pieces c.args.p.now.rows + byte_pieces c.args.p.now.rows = grind arith in
     record {
-      rows = rows-more (λ byte. Unit {0}) c.loop-byte.table.items c.push_answers.new.answers.items (length c.args.p.now.rows) c.loop-byte.byte (sets_of c.args.p.now.rows) (row-if (Unit {0}) c.loop-byte.table.items c.push_answers.new.answers.items (length c.args.p.now.rows) (sets_of c.args.p.now.rows) c.loop-byte.byte c.in_ok-push_answers.ensures.row) c.loop-byte.invariant.rows;
+      rows = rows-more c.loop-byte.table.items c.push_answers.new.answers.items (length c.args.p.now.rows) c.loop-byte.byte (sets_of c.args.p.now.rows) c.in_ok-push_answers.ensures.row c.loop-byte.invariant.rows;
       counted = omega (arith, one, c.loop-byte.invariant.counted, c.in_ok-push_answers.ensures.counted);
       later = omega (arith, c.loop-byte.invariant.later, c.push_answers.ensures.later);
     }
@@ -24,10 +25,10 @@ loop-byte-preserved g c =
 pub returns : goal.returns
 returns g c =
     let e : c.loop-byte.byte ≡ 256 = omega arith in
-    let r : Rows (λ byte. Unit {0}) c.loop-byte.table.items (length c.args.p.now.rows) 256 (sets_of c.args.p.now.rows) = subst (λ n. Rows (λ byte. Unit {0}) c.loop-byte.table.items (length c.args.p.now.rows) n (sets_of c.args.p.now.rows)) e c.loop-byte.invariant.rows in
+    let r : Rows c.loop-byte.table.items (length c.args.p.now.rows) 256 (sets_of c.args.p.now.rows) = subst (λ n. Rows c.loop-byte.table.items (length c.args.p.now.rows) n (sets_of c.args.p.now.rows)) e c.loop-byte.invariant.rows in
     record {
       all = r.all;
-      table = λ bytes byte k h o lt. r.answers byte k h tt lt;
-      counted = subst (λ n. c.loop-byte.steps ≤ c.args.steps.now + n * length c.args.p.now.rows) e c.loop-byte.invariant.counted;
+      table = λ byte k h lt. r.answers byte k h lt;
+      counted = subst (λ n. c.loop-byte.steps ≤ c.args.steps.now + n * byte_pieces c.args.p.now.rows) e c.loop-byte.invariant.counted;
       later = c.loop-byte.invariant.later;
     }
