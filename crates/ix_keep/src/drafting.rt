@@ -45,6 +45,7 @@ fn stage_items(keeper: &mut Keeper, alloc: Global, items: Vec<Item>) -> Result<(
     ensures staged { (old new : Snapshot) → Stages keeper.old old new →
         OnOk result (Stages keeper.new old (record { book = replay items.items new.book; contents = new.contents })) }
     ensures grew { GrewTo keeper.old keeper.new }
+    ensures size { OnOk result (keeper.new.size ≡ keeper.old.size + length (body_bytes items.items)) }
     ensures full { IsErrOf result StageFault.Full → 2 ^ 32 ≤ keeper.old.size + length (body_bytes items.items) }
 {
     for item in items {
@@ -57,6 +58,7 @@ fn stage_all(keeper: &mut Keeper, alloc: Global, draft: Draft) -> Result<(), Sta
     requires { AllByRecursion HasSpelling draft.items }
     ensures staged { (old new to : Snapshot) → Stages keeper.old old new → Leads draft old new to → OnOk result (Stages keeper.new old to) }
     ensures grew { GrewTo keeper.old keeper.new }
+    ensures size { OnOk result (keeper.new.size ≡ keeper.old.size + length (body_bytes draft.items)) }
     ensures full { IsErrOf result StageFault.Full → 2 ^ 32 ≤ keeper.old.size + length (body_bytes draft.items) }
 {
     stage_pieces(keeper, alloc, draft.pieces.as_slice())?;
@@ -90,6 +92,60 @@ pub fn stage(keeper: &mut Keeper, alloc: Global, draft: Draft) -> Result<(), Sta
         }
         Err(fault) => {
             keeper.restore(&mark);
+            Err(fault)
+        }
+    }
+}
+
+fn stage_pair(
+    keeper: &mut Keeper,
+    alloc: Global,
+    first: Draft,
+    second: Draft,
+) -> Result<(), StageFault>
+    requires first { AllByRecursion HasSpelling first.items }
+    requires second { AllByRecursion HasSpelling second.items }
+    ensures staged { (old new mid to : Snapshot) → Stages keeper.old old new → Leads first old new mid → Leads second old mid to → OnOk result (Stages keeper.new old to) }
+    ensures grew { GrewTo keeper.old keeper.new }
+    ensures full { IsErrOf result StageFault.Full → 2 ^ 32 ≤ keeper.old.size + length (body_bytes first.items) + length (body_bytes second.items) }
+{
+    stage_all(keeper, alloc, first)?;
+    stage_all(keeper, alloc, second)?;
+    Ok(())
+}
+
+/// Stages what two commands add, one behind the other, or nothing of either: a command may be preceded by another that comes
+/// with it. Each name is staged once, the last item under it.
+pub fn stage_both(
+    keeper: &mut Keeper,
+    alloc: Global,
+    first: Draft,
+    second: Draft,
+) -> Result<(), StageFault>
+    requires first { AllByRecursion HasSpelling first.items }
+    requires second { AllByRecursion HasSpelling second.items }
+    // What is staged then leads on to the snapshot that the second draft leads to.
+    ensures staged { (old new mid to : Snapshot) → Stages keeper.old old new → Leads first old new mid → Leads second old mid to → OnOk result (Stages keeper.new old to) }
+    // At a fault the same is staged as before.
+    ensures err { OnErr result (IsSame keeper.old keeper.new) }
+    // The logs are left alone.
+    ensures root { keeper.new.root ≡ keeper.old.root }
+    ensures log { keeper.new.log ≡ keeper.old.log }
+    ensures number { keeper.new.number ≡ keeper.old.number }
+    ensures first { keeper.new.first ≡ keeper.old.first }
+    ensures bytes { keeper.new.bytes ≡ keeper.old.bytes }
+    ensures closed { keeper.new.closed ≡ keeper.old.closed }
+    ensures once { AreOnce (items_of keeper.old.slots) → AreOnce (items_of keeper.new.slots) }
+    ensures full { IsErrOf result StageFault.Full → 2 ^ 32 ≤ length (bytes_of keeper.old.slots) + length (body_bytes first.items) + length (body_bytes second.items) }
+{
+    let before = keeper.mark(alloc)?;
+    match stage_pair(keeper, alloc, first, second) {
+        Ok(()) => {
+            keeper.drop_older(&before);
+            Ok(())
+        }
+        Err(fault) => {
+            keeper.restore(&before);
             Err(fault)
         }
     }

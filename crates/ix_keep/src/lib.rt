@@ -17,7 +17,7 @@ mod shortening;
 
 pub use committing::commit;
 pub use copied::{Copied, Place};
-pub use drafting::stage;
+pub use drafting::{stage, stage_both};
 pub use fault::CommitFault;
 pub use keeper::{Keeper, StageFault};
 pub use lawful::{empty_disk_keeps, forgets, same_stages, wants_for_a_long_log};

@@ -56,3 +56,12 @@ returns-in_err-push_item-clause-full c = λ is.
     let full = c.push_item.ensures.full was in
     let most = more_than c.args.items.items xs c.in-Some.item _ all in
     omega (arith, full, most, c.loop-item.invariant.size)
+
+pub returns-clause-size : goal.returns-clause-size
+returns-clause-size c =
+    let it = c.into_iter-item-iterator in
+    let last = c.loop-item.item-iterator in
+    let xs = c.loop-item.yielded in
+    let none = no_items last.rest.items (omega (arith, last.rest.ok, c.in-None.ensures.steps.0)) in
+    let all = sym it.ensures.into_iter_gives.0 ∙ taken_front it.result xs last c.loop-item.yielded_by ∙ ap (λ (ys : List Item). xs ++ ys) none ∙ append-nil xs in
+    c.loop-item.invariant.size ∙ ap (λ (ys : List Item). c.args.keeper.now.size + length (body_bytes ys)) (sym all)
