@@ -17,9 +17,10 @@ use Rattle.ix_life.specs.Order as order
 use Rattle.ix_machine.specs.Buckets.{Index}
 use Rattle.ix_machine.specs.Given.{Chooser, home}
 use Rattle.ix_machine.specs.Laws.{AreInOrder, AreSaid}
-use Rattle.ix_machine.specs.Lists.{find, without, change, stands_before, insert, change_or_insert, AreAscending}
+use Rattle.ix_shelves.specs.Lists.{find, without, change, stands_before, insert, change_or_insert, AreAscending}
 use Rattle.ix_machine.specs.State.{State, Catalog, Life, index_name, life_name, spot_path, fresh_index, life_in, empty}
-use Rattle.ix_machine.specs.Step.{named, filled, deal_to, deal, end_adds, files_taken, all_turned, closed_index, thawed_index, begun, longer, channels, with_spot, spots, effective, step, after_from, after}
+use Rattle.ix_machine.specs.Step.{filled, deal_to, deal, end_adds, files_taken, all_turned, closed_index, thawed_index, begun, longer, channels, with_spot, spots, effective, step, after_from, after}
+use Rattle.ix_shelves.specs.Buckets.{named}
 use Rattle.ix_machine.specs.declared.commands.Command.{Command}
 use Rattle.ix_machine.specs.declared.commands.Command.TheVariants.{Begin, Block, End, Tick, Roll, Thaw, Configure, Direct}
 use Rattle.ix_machine.specs.declared.commands.Order.{Order}
@@ -79,7 +80,7 @@ ascending_put name_of x (y ∷ ys) h e =
         same : bytes_eq (name_of x) (name_of y) ≡ true → name_of x ≡ name_of y
         same u = same_bytes (name_of x) (name_of y) u
 
-ascending_change : {X : Type 0} (name_of : X → List ℕ) (name : List ℕ) (f : X → X) → ((x : X) → name_of (f x) ≡ name_of x) → (xs : List X) → AreAscending name_of xs →
+pub ascending_change : {X : Type 0} (name_of : X → List ℕ) (name : List ℕ) (f : X → X) → ((x : X) → name_of (f x) ≡ name_of x) → (xs : List X) → AreAscending name_of xs →
     AreAscending name_of (change name_of name f xs)
 ascending_change name_of name f k [] h = tt
 ascending_change name_of name f k (x ∷ xs) h =
@@ -92,7 +93,7 @@ ascending_by : {X : Type 0} (name_of : X → List ℕ) (name : List ℕ) (f : X 
 ascending_by {X = X} name_of name f fresh k is xs h None e = ascending_put name_of (f fresh) xs h (ap (λ (n : List ℕ). find name_of n xs) (k fresh ∙ is) ∙ e)
 ascending_by name_of name f fresh k is xs h (Some y) e = ascending_change name_of name f k xs h
 
-ascending_change_or_insert : {X : Type 0} (name_of : X → List ℕ) (name : List ℕ) (f : X → X) (fresh : X) → ((x : X) → name_of (f x) ≡ name_of x) → name_of fresh ≡ name → (xs : List X) →
+pub ascending_change_or_insert : {X : Type 0} (name_of : X → List ℕ) (name : List ℕ) (f : X → X) (fresh : X) → ((x : X) → name_of (f x) ≡ name_of x) → name_of fresh ≡ name → (xs : List X) →
     AreAscending name_of xs → AreAscending name_of (change_or_insert name_of name f fresh xs)
 ascending_change_or_insert name_of name f fresh k is xs h = ascending_by name_of name f fresh k is xs h (find name_of name xs) refl
 
@@ -166,7 +167,7 @@ turned_ascend force moment file [] h = tt
 turned_ascend force moment file (i ∷ is) h =
     (all_turned_behind force moment (file + files_taken force moment i) i is h.0, turned_ascend force moment (file + files_taken force moment i) is h.1)
 
-abbrev Ascend : Catalog → Type 0
+abbrev pub Ascend : Catalog → Type 0
 Ascend s = AreAscending index_name s.indexes
 
 ascend_to : (force : List Kept) (moment : ℤ) (s : Catalog) (event : Event) (o : Option (List ℕ)) → Ascend s → Ascend (deal_to force moment s event o)
@@ -178,7 +179,7 @@ ascend_deal : (force : List Kept) (moment : ℤ) (s : Catalog) (o : Routed) → 
 ascend_deal force moment s (To event) h = ascend_to force moment s event (home force event.index) h
 ascend_deal force moment s Null h = h
 
-keeps_ascending : Keeps Ascend
+pub keeps_ascending : Keeps Ascend
 keeps_ascending = record {
   deals = ascend_deal;
   ticks = λ force moment s h. turned_ascend force moment s.next_file s.indexes h;

@@ -15,12 +15,14 @@ use Rattle.ix_machine.specs.Balance.{stored, IsBalanced}
 use Rattle.ix_machine.specs.Balance as balance
 use Rattle.ix_machine.specs.Buckets.{Standing, live, frozen, Slot, Index, live_bucket, entered, live_buckets, ledger}
 use Rattle.ix_machine.specs.Given.{Chooser, home, limits}
-use Rattle.ix_machine.specs.Keeping.{Turn, turned, file_behind, closed_slot, thawed_slot}
+use Rattle.ix_machine.specs.Keeping.{turned, file_behind, closed_slot, thawed_slot}
+use Rattle.ix_shelves.specs.Buckets.{Turn}
 use Rattle.ix_machine.specs.Keeping as kept
-use Rattle.ix_machine.specs.Lists.{find, update, change}
+use Rattle.ix_shelves.specs.Lists.{find, update, change}
 use Rattle.ix_machine.specs.Placed.{rolled_slot, filled_slot, made_slot, roll, placed}
 use Rattle.ix_machine.specs.State.{Catalog, index_name, fresh_index, empty}
-use Rattle.ix_machine.specs.Step.{named, filled, deal_to, deal, turn_in, files_taken, all_turned, tick, closed_index, thaw, thawed_index, after}
+use Rattle.ix_machine.specs.Step.{filled, deal_to, deal, turn_in, files_taken, all_turned, tick, closed_index, thaw, thawed_index, after}
+use Rattle.ix_shelves.specs.Buckets.{named}
 use Rattle.ix_machine.specs.Step as steps
 use Rattle.ix_machine.specs.Sums.{IsStandingOf, AreSoundFrom, IsSound}
 use Rattle.ix_machine.specs.declared.commands.Order.{Order}

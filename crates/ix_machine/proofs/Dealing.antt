@@ -13,12 +13,14 @@ use Rattle.ix_life.specs.declared.limits.Limits.{Limits}
 use Rattle.ix_machine.specs.Buckets.{Slot, Index}
 use Rattle.ix_machine.specs.Dealt.{stored_at, dealt_by, all_dealt, dealt_from, dealt, contents, part, picked, AreSplit}
 use Rattle.ix_machine.specs.Given.{Chooser, home, limits}
-use Rattle.ix_machine.specs.Keeping.{Turn, turned, file_behind, closed_slot, thawed_slot}
+use Rattle.ix_machine.specs.Keeping.{turned, file_behind, closed_slot, thawed_slot}
+use Rattle.ix_shelves.specs.Buckets.{Turn}
 use Rattle.ix_machine.specs.Keeping as kept
-use Rattle.ix_machine.specs.Lists.{find, update, change}
+use Rattle.ix_shelves.specs.Lists.{find, update, change}
 use Rattle.ix_machine.specs.Placed.{rolled_slot, filled_slot, made_slot, roll, placed}
 use Rattle.ix_machine.specs.State.{State, Catalog, index_name, fresh_index, slots_in, empty}
-use Rattle.ix_machine.specs.Step.{named, filled, put_event, deal_to, deal, deal_all, outcomes, turn_in, files_taken, all_turned, tick, closed_index, thaw, thawed_index, moves, effective, step, after_from, after}
+use Rattle.ix_machine.specs.Step.{filled, put_event, deal_to, deal, deal_all, outcomes, turn_in, files_taken, all_turned, tick, closed_index, thaw, thawed_index, moves, effective, step, after_from, after}
+use Rattle.ix_shelves.specs.Buckets.{named}
 use Rattle.ix_machine.specs.Step as steps
 use Rattle.ix_machine.specs.Sums.{AreSoundFrom, IsSound}
 use Rattle.ix_machine.specs.declared.commands.Command.{Command}
@@ -90,7 +92,7 @@ contents_roll (Some k) slots = contents_update k rolled_slot (λ s. refl) slots
 length_contents : (slots : List Slot) → length (contents slots) ≡ length slots
 length_contents slots = length-map slots (λ (s : Slot). s.events)
 
-length_update : (k : ℕ) (f : Slot → Slot) (slots : List Slot) → length (update k f slots) ≡ length slots
+pub length_update : (k : ℕ) (f : Slot → Slot) (slots : List Slot) → length (update k f slots) ≡ length slots
 length_update k f [] = refl
 length_update zero f (s ∷ slots) = omega arith
 length_update (suc k) f (s ∷ slots) = let r = length_update k f slots in omega (arith, r)

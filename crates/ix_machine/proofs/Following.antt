@@ -13,12 +13,14 @@ use Rattle.ix_life.specs.declared.limits.Limits.{Limits}
 use Rattle.ix_machine.specs.Buckets.{Standing, live, frozen, Slot, Index, entered}
 use Rattle.ix_machine.specs.Followed.{AreFirst, StaysFrozen, Follows, AreFollowed}
 use Rattle.ix_machine.specs.Given.{Chooser, home, limits}
-use Rattle.ix_machine.specs.Keeping.{Turn, turned, file_behind, closed_slot, thawing, thawed_by, thawed_slot}
+use Rattle.ix_machine.specs.Keeping.{turned, file_behind, closed_slot, thawing, thawed_by, thawed_slot}
+use Rattle.ix_shelves.specs.Buckets.{Turn}
 use Rattle.ix_machine.specs.Keeping as kept
-use Rattle.ix_machine.specs.Lists.{find, update, change}
+use Rattle.ix_shelves.specs.Lists.{find, update, change}
 use Rattle.ix_machine.specs.Placed.{change_live, rolled_slot, filled_slot, roll, placed}
 use Rattle.ix_machine.specs.State.{State, Catalog, index_name, fresh_index, slots_in}
-use Rattle.ix_machine.specs.Step.{named, filled, put_event, deal_to, deal, turn_in, files_taken, all_turned, tick, closed_index, thaw, thawed_index, step, after_from, after}
+use Rattle.ix_machine.specs.Step.{filled, put_event, deal_to, deal, turn_in, files_taken, all_turned, tick, closed_index, thaw, thawed_index, step, after_from, after}
+use Rattle.ix_shelves.specs.Buckets.{named}
 use Rattle.ix_machine.specs.Step as steps
 use Rattle.ix_machine.specs.Sums.{AreSoundFrom, IsSound}
 use Rattle.ix_machine.specs.declared.commands.Order.{Order}

@@ -19,7 +19,8 @@ use Rattle.ix_life.specs.Placing.{takes_events}
 use Rattle.ix_life.specs.declared.picks.Policy.{Policy}
 use Rattle.ix_machine.specs.Balance.{stored_by}
 use Rattle.ix_machine.specs.Buckets.{Standing, live, frozen, Slot, listed, entered, buckets}
-use Rattle.ix_machine.specs.Keeping.{Turn, turned, turned_by, rule_of, file_behind, all_turned, entered_at, entries_of}
+use Rattle.ix_machine.specs.Keeping.{turned, turned_by, file_behind, all_turned, entered_at, entries_of}
+use Rattle.ix_shelves.specs.Buckets.{Turn, rule_of}
 use Rattle.ix_machine.specs.Sums.{IsStandingOf, AreSoundFrom}
 use Rattle.ix_machine.proofs.Named.{by_test, sum_put}
 

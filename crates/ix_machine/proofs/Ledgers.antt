@@ -16,11 +16,12 @@ use Rattle.ix_machine.specs.Given.{Chooser, home, limits}
 use Rattle.ix_machine.specs.Keeping.{closed_slot, thawing, thawed_by, thawed_slot}
 use Rattle.ix_machine.specs.Keeping as kept
 use Rattle.ix_machine.specs.Ledger.{AreSame, all_frozen, AreBefore}
-use Rattle.ix_machine.specs.Lists.{find}
+use Rattle.ix_shelves.specs.Lists.{find}
 use Rattle.ix_machine.specs.Placed.{change_live, rolled_slot, filled_slot, made_slot, roll, placed}
 use Rattle.ix_machine.specs.Shown.{whole_ledger}
 use Rattle.ix_machine.specs.State.{State, Catalog, index_name, fresh_index, empty}
-use Rattle.ix_machine.specs.Step.{named, filled, deal_to, deal, deal_all, outcomes, files_taken, all_turned, entries_in, all_entries, tick, closed_index, thaw, thawed_index, moves, stepped, after_from, after}
+use Rattle.ix_machine.specs.Step.{filled, deal_to, deal, deal_all, outcomes, files_taken, all_turned, entries_in, all_entries, tick, closed_index, thaw, thawed_index, moves, stepped, after_from, after}
+use Rattle.ix_shelves.specs.Buckets.{named}
 use Rattle.ix_machine.specs.Step as steps
 use Rattle.ix_machine.specs.Sums.{AreSoundFrom, IsSound}
 use Rattle.ix_machine.specs.declared.commands.Command.{Command}
@@ -94,7 +95,7 @@ pub record HasAll (s : Catalog) : Type 0 where
   pub sound : AllSound s
   pub entries : (g : Entry → ℕ) → sum_by g s.ledger ≡ sum_by (gains g) s.indexes
 
-sound_or_fresh : (name : List ℕ) (is : List Index) (o : Option Index) → AllByRecursion IsSound is → find index_name name is ≡ o →
+pub sound_or_fresh : (name : List ℕ) (is : List Index) (o : Option Index) → AllByRecursion IsSound is → find index_name name is ≡ o →
     AreSoundFrom (unwrap_or o (fresh_index name)).name 0 (unwrap_or o (fresh_index name)).slots
 sound_or_fresh name is None h e = tt
 sound_or_fresh name is (Some i) h e = all_found IsSound index_name name i is h e
@@ -169,7 +170,7 @@ to_grows : (force : List Kept) (moment : ℤ) (s : Catalog) (event : Event) (o :
 to_grows force moment s event None = refl
 to_grows force moment s event (Some name) = refl
 
-deal_grows : (force : List Kept) (moment : ℤ) (s : Catalog) (o : Routed) → (deal force moment s o).ledger ≡ s.ledger
+pub deal_grows : (force : List Kept) (moment : ℤ) (s : Catalog) (o : Routed) → (deal force moment s o).ledger ≡ s.ledger
 deal_grows force moment s (To event) = to_grows force moment s event (home force event.index)
 deal_grows force moment s Null = refl
 

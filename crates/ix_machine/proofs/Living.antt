@@ -11,7 +11,7 @@ use Rattle.ix_base.specs.declared.events.Routed.{Routed}
 use Rattle.ix_parse.specs.Settled.{settled, SettledStays}
 use Rattle.ix_props.specs.declared.settings.Settings.{Settings}
 use Rattle.ix_machine.specs.Given.{Chooser}
-use Rattle.ix_machine.specs.Lists.{find, change, insert, stands_before}
+use Rattle.ix_shelves.specs.Lists.{find, change, insert, stands_before}
 use Rattle.ix_machine.specs.Lives.{said, said_by, brought, streamed, ends, Spares, Joins}
 use Rattle.ix_machine.specs.State.{State, Life, life_name, life_in}
 use Rattle.ix_machine.specs.Step.{past, longer, block_adds, end_adds, begun, channels, effective, step, after_from}

@@ -6,7 +6,7 @@ use Rattle.std.specs.Option.{option_map}
 use Rattle.std.proofs.lemmas.List.Sums.{sum_by-cons}
 use Rattle.std.proofs.lemmas.Slice.Eq.{bytes_eq-Decides}
 use Rattle.ix_life.specs.Order as order
-use Rattle.ix_machine.specs.Lists.{find, without, change, stands_before, insert, change_or_insert}
+use Rattle.ix_shelves.specs.Lists.{find, without, change, stands_before, insert, change_or_insert}
 
 pub by_test : {R : Type 0} (b : Bool) → (b ≡ true → R) → (b ≡ false → R) → R
 by_test true on_true on_false = on_true refl

@@ -9,7 +9,7 @@ use Rattle.ix_items.specs.declared.items.State.TheVariants as states
 use Rattle.ix_life.specs.Placing.{lesser, least, takes_events, takes_as, takes, spans, is_out, Numbered, numbered, into, rolls, id_of}
 use Rattle.ix_life.specs.declared.limits.Limits.{Limits}
 use Rattle.ix_machine.specs.Buckets.{Standing, live, frozen, Slot, listed, buckets}
-use Rattle.ix_machine.specs.Lists.{update}
+use Rattle.ix_shelves.specs.Lists.{update}
 use Rattle.ix_machine.specs.Placed.{filled_slot, made_slot, roll, put_into, target_of, placed}
 use Rattle.ix_machine.specs.Sums.{IsStandingOf, AreSoundFrom}
 use Rattle.ix_machine.proofs.Named.{by_test}
@@ -31,7 +31,7 @@ some_same x y e = cc
 none_some : {A : Type 0} {x : A} → None ≡ Some x → ⊥
 none_some e = cc
 
-least_found : {A : Type 0} (test : A → Bool) (key : A → ℕ) (xs : List A) (x : A) → least test key xs ≡ Some x → (test x ≡ true) × In x xs
+pub least_found : {A : Type 0} (test : A → Bool) (key : A → ℕ) (xs : List A) (x : A) → least test key xs ≡ Some x → (test x ≡ true) × In x xs
 least_found test key [] x e = absurd (none_some e)
 least_found {A = A} test key (y ∷ ys) x e = by (lesser_is key (if test y then Some y else None) (least test key ys) x e) (least_found test key ys x)
   where
@@ -44,19 +44,19 @@ least_found {A = A} test key (y ∷ ys) x e = by (lesser_is key (if test y then 
     by (inl h) behind = first (test y) refl h
     by (inr h) behind = let r = behind h in (r.0, inr r.1)
 
-numbered_found : (n : ℕ) (x : Numbered) (bs : List Bucket) → In x (enumerate_from n bs) → In x.1 bs
+pub numbered_found : (n : ℕ) (x : Numbered) (bs : List Bucket) → In x (enumerate_from n bs) → In x.1 bs
 numbered_found n x [] h = absurd h
 numbered_found n x (b ∷ bs) (inl e) = inl (ap (λ (p : Numbered). p.1) e)
 numbered_found n x (b ∷ bs) (inr h) = inr (numbered_found (n + 1) x bs h)
 
 -- ---- a bucket that is listed and takes events is live, at the place of its number
 
-record IsAt (id : ℕ) (slots : List Slot) (b : Bucket) : Type 0 where
-  place : ℕ
-  slot : Slot
-  number : b.id ≡ id + place
-  found : slice_get slots place ≡ Some slot
-  stands : slot.standing ≡ live b
+pub record IsAt (id : ℕ) (slots : List Slot) (b : Bucket) : Type 0 where
+  pub place : ℕ
+  pub slot : Slot
+  pub number : b.id ≡ id + place
+  pub found : slice_get slots place ≡ Some slot
+  pub stands : slot.standing ≡ live b
 
 thawed_takes_none : (state : State) → state ≡ states.Thawed → takes_events state ≡ true → ⊥
 thawed_takes_none state e t = true-false (sym (ap takes_events e) ∙ t)
@@ -90,7 +90,7 @@ listed_at index id events (frozen e (Some c)) slots b h t rest behind (inl k) =
     absurd (thawed_takes_none b.state (ap (λ (x : Bucket). x.state) (sym k) ∙ h.1.state_is) t)
 listed_at index id events (frozen e (Some c)) slots b h t rest behind (inr m) = rest (behind m)
 
-bucket_at : (index : List ℕ) (id : ℕ) (slots : List Slot) (b : Bucket) → AreSoundFrom index id slots → takes_events b.state ≡ true →
+pub bucket_at : (index : List ℕ) (id : ℕ) (slots : List Slot) (b : Bucket) → AreSoundFrom index id slots → takes_events b.state ≡ true →
     In b (buckets slots) → IsAt id slots b
 bucket_at index id [] b h t m = absurd m
 bucket_at index id (s ∷ slots) b h t m =
@@ -98,7 +98,7 @@ bucket_at index id (s ∷ slots) b h t m =
 
 -- ---- what placing comes to
 
-takes_open : (state : State) (out span : Bool) → takes_as state out span ≡ true → takes_events state ≡ true
+pub takes_open : (state : State) (out span : Bool) → takes_as state out span ≡ true → takes_events state ≡ true
 takes_open states.Hot out span e = refl
 takes_open states.Quarantine out span e = refl
 takes_open states.Warm out span e = e

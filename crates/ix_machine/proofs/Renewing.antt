@@ -15,15 +15,19 @@ use Rattle.ix_items.specs.declared.items.Rule.{Rule}
 use Rattle.ix_life.specs.Housekeeping.{megabytes}
 use Rattle.ix_life.specs.Placing.{is_open}
 use Rattle.ix_life.specs.declared.limits.Limits.{Limits}
-use Rattle.ix_machine.specs.Buckets.{Standing, live, frozen, Slot, Index, rolled, with_event}
+use Rattle.ix_machine.specs.Buckets.{Standing, live, frozen, Slot, Index}
+use Rattle.ix_shelves.specs.Buckets.{rolled, with_event}
 use Rattle.ix_machine.specs.Files.{once_if, archive_uses, bucket_uses, standing_uses, slot_uses, index_uses, uses, Renews, AreApart}
 use Rattle.ix_machine.specs.Given.{Chooser, home, limits}
-use Rattle.ix_machine.specs.Keeping.{Turn, turned, turned_by, takes_by, takes_file, staying, rule_of, is_among, file_behind, closed_slot, thawing, thawed_by, can_thaw_by, thawed_slot}
+use Rattle.ix_machine.specs.Keeping.{turned, turned_by, takes_by, takes_file, file_behind, closed_slot, thawing, thawed_by, can_thaw_by, thawed_slot}
+use Rattle.ix_shelves.specs.Buckets.{Turn, staying, rule_of, is_among}
 use Rattle.ix_machine.specs.Keeping as kept
-use Rattle.ix_machine.specs.Lists.{find, update, change, insert, stands_before}
-use Rattle.ix_machine.specs.Placed.{closed, change_live, rolled_slot, filled_slot, made_slot, roll, placed, target_of}
+use Rattle.ix_shelves.specs.Lists.{find, update, change, insert, stands_before}
+use Rattle.ix_machine.specs.Placed.{change_live, rolled_slot, filled_slot, made_slot, roll, placed, target_of}
+use Rattle.ix_shelves.specs.Buckets.{closed}
 use Rattle.ix_machine.specs.State.{State, Catalog, Counts, index_name, fresh_index, empty}
-use Rattle.ix_machine.specs.Step.{named, filled, is_fresh, index_at, put_event, deal_to, deal, turn_in, files_taken, all_turned, tick, closed_index, can_thaw, thaws, thaw, thawed_index, after_from, after}
+use Rattle.ix_machine.specs.Step.{filled, is_fresh, index_at, put_event, deal_to, deal, turn_in, files_taken, all_turned, tick, closed_index, can_thaw, thaws, thaw, thawed_index, after_from, after}
+use Rattle.ix_shelves.specs.Buckets.{named}
 use Rattle.ix_machine.specs.Step as steps
 use Rattle.ix_machine.specs.Sums.{AreSoundFrom, IsSound}
 use Rattle.ix_machine.specs.declared.commands.Order.{Order}
@@ -291,11 +295,11 @@ spans_thaw index id s = record {
 
 -- ---- histories
 
-record IsBehind (base s : Catalog) : Type 0 where
-  sound : AllSound s
-  spans : Spans base s
+pub record IsBehind (base s : Catalog) : Type 0 where
+  pub sound : AllSound s
+  pub spans : Spans base s
 
-keeps_spans : (base : Catalog) → Keeps (IsBehind base)
+pub keeps_spans : (base : Catalog) → Keeps (IsBehind base)
 keeps_spans base = record {
   deals = λ force moment s o h. record {
     sound = keeps_sound.deals force moment s o h.sound;
@@ -315,10 +319,13 @@ keeps_spans base = record {
   };
 }
 
+pub behind_after : (choose : Chooser) (m : State) (history : List Order) → AllSound m.catalog → IsBehind m.catalog (after_from choose m history).catalog
+behind_after choose m history sound =
+    keeps_after (IsBehind m.catalog) (keeps_spans m.catalog) choose m history
+    (record { sound = sound; spans = spans_none m.catalog m.catalog.indexes (λ n. omega arith) m.catalog.ledger m.catalog.counts })
+
 spans_after : (choose : Chooser) (m : State) (history : List Order) → AllSound m.catalog → Spans m.catalog (after_from choose m history).catalog
-spans_after choose m history sound =
-    (keeps_after (IsBehind m.catalog) (keeps_spans m.catalog) choose m history
-    (record { sound = sound; spans = spans_none m.catalog m.catalog.indexes (λ n. omega arith) m.catalog.ledger m.catalog.counts })).spans
+spans_after choose m history sound = (behind_after choose m history sound).spans
 
 pub renews_after : (choose : Chooser) (m : State) (history : List Order) → AllSound m.catalog → Renews m.catalog (after_from choose m history).catalog
 renews_after choose m history sound =
@@ -332,12 +339,15 @@ renews_after choose m history sound =
       none_beyond = λ n l. (let a = g.gains n in let b = span_beyond from to n l in omega (arith, a, b));
     }
 
-pub apart_after : (choose : Chooser) (history : List Order) → AreApart (after choose history).catalog
-apart_after choose history =
-    let g = spans_after choose empty history tt in
-    let to = (after choose history).catalog.next_file in
+pub apart_behind : (s : Catalog) → IsBehind empty.catalog s → AreApart s
+apart_behind s h =
+    let g = h.spans in
+    let to = s.next_file in
     record {
       one_each = λ n. (let a = g.gains n in let b = span_most 1 to n in omega (arith, a, b));
       from_one = (let a = g.gains 0 in let b = span_below 1 to 0 (omega arith) in omega (arith, a, b));
       below = λ n l. (let a = g.gains n in let b = span_beyond 1 to n l in omega (arith, a, b));
     }
+
+pub apart_after : (choose : Chooser) (history : List Order) → AreApart (after choose history).catalog
+apart_after choose history = apart_behind (after choose history).catalog (behind_after choose empty history tt)

@@ -11,7 +11,7 @@ use Rattle.ix_machine.specs.Buckets.{Standing, live, frozen, Slot, Index, listed
 use Rattle.ix_machine.specs.Given.{Chooser}
 use Rattle.ix_machine.specs.Keeping as kept
 use Rattle.ix_machine.specs.Keeping.{closed_slot}
-use Rattle.ix_machine.specs.Lists.{find}
+use Rattle.ix_shelves.specs.Lists.{find}
 use Rattle.ix_machine.specs.Placed.{change_live}
 use Rattle.ix_machine.specs.State.{index_name, fresh_index, slots_in}
 use Rattle.ix_machine.specs.Step.{closed_index, stepped, after}

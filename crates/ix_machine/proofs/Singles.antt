@@ -16,10 +16,11 @@ use Rattle.ix_life.specs.Housekeeping as house
 use Rattle.ix_life.specs.declared.picks.Policy.{Policy}
 use Rattle.ix_machine.specs.Buckets.{Standing, live, frozen, Slot, Index, entered, buckets}
 use Rattle.ix_machine.specs.Given.{Chooser, limits}
-use Rattle.ix_machine.specs.Keeping.{Turn, turned_by, entry_of, rule_of, file_behind, entered_at, entries_of}
+use Rattle.ix_machine.specs.Keeping.{turned_by, file_behind, entered_at, entries_of}
+use Rattle.ix_shelves.specs.Buckets.{Turn, entry_of, rule_of}
 use Rattle.ix_machine.specs.Keeping as kept
 use Rattle.ix_machine.specs.Ledger.{is_of, IsWhole, Freeze, freeze_of, freezes_in, GrowsInOrder}
-use Rattle.ix_machine.specs.Lists.{find, AreAscending}
+use Rattle.ix_shelves.specs.Lists.{find, AreAscending}
 use Rattle.ix_machine.specs.State.{State, index_name, fresh_index, slots_in}
 use Rattle.ix_machine.specs.Step.{files_taken, entries_in, all_entries, stepped, after}
 use Rattle.ix_machine.specs.Sums.{IsStandingOf, AreSoundFrom, IsSound}
@@ -140,7 +141,7 @@ whole_after choose history =
 
 -- ---- a turn's entries
 
-in_hits : (x : ℕ × Rule) (xs : List (ℕ × Rule)) → In x xs → 1 ≤ hits 1 x.0 xs
+pub in_hits : (x : ℕ × Rule) (xs : List (ℕ × Rule)) → In x xs → 1 ≤ hits 1 x.0 xs
 in_hits x [] i = absurd i
 in_hits x (y ∷ xs) i =
     let a = sum_by-cons (λ (z : ℕ × Rule). if z.0 == x.0 then 1 else 0) y xs in
@@ -151,7 +152,7 @@ in_hits x (y ∷ xs) i =
     by (inl e) rest = rw ((Decides-eqb y.0 x.0).1 (ap (λ (z : ℕ × Rule). z.0) e)) (omega arith)
     by (inr i) rest = let q = rest i in omega (arith, q)
 
-found_rule : (x : ℕ × Rule) (xs : List (ℕ × Rule)) → In x xs → hits 1 x.0 xs ≤ 1 → rule_of xs x.0 ≡ Some x.1
+pub found_rule : (x : ℕ × Rule) (xs : List (ℕ × Rule)) → In x xs → hits 1 x.0 xs ≤ 1 → rule_of xs x.0 ≡ Some x.1
 found_rule x [] i h = absurd i
 found_rule x (y ∷ xs) i h =
     by (y.0 == x.0) refl i (found_rule x xs) (subst (λ (n : ℕ). n ≤ 1) (sum_by-cons (λ (z : ℕ × Rule). if z.0 == x.0 then 1 else 0) y xs) h)
@@ -200,7 +201,7 @@ in_order moment index f (x ∷ xs) k =
     subst (λ (o : Option Entry). map freeze_of (option_to_list o ++ rest) ≡ freeze moment index x ∷ map (freeze moment index) xs) (sym p.1.0)
     (ap (λ (y : Freeze). y ∷ map freeze_of rest) p.1.1 ∙ ap (λ (l : List Freeze). freeze moment index x ∷ l) (in_order moment index f xs (λ y i. k y (inr i))))
 
-live_le : (o : Option Slot) → live_at o ≤ 1
+pub live_le : (o : Option Slot) → live_at o ≤ 1
 live_le None = omega arith
 live_le (Some s) = by s.standing
   where

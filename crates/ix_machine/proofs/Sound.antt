@@ -10,11 +10,14 @@ use Rattle.ix_items.specs.declared.items.State.TheVariants as states
 use Rattle.ix_life.specs.Housekeeping.{megabytes}
 use Rattle.ix_life.specs.Placing.{is_open}
 use Rattle.ix_life.specs.declared.limits.Limits.{Limits}
-use Rattle.ix_machine.specs.Buckets.{Standing, live, frozen, Slot, rolled, cooled, with_event, made}
+use Rattle.ix_machine.specs.Buckets.{Standing, live, frozen, Slot}
+use Rattle.ix_shelves.specs.Buckets.{rolled, cooled, with_event, made}
 use Rattle.ix_machine.specs.Keeping as kept
-use Rattle.ix_machine.specs.Keeping.{Turn, turned, turned_by, staying, rule_of, is_among, file_behind, all_turned, closed_slot, thawing, thawed_by, thawed_slot}
-use Rattle.ix_machine.specs.Lists.{update}
-use Rattle.ix_machine.specs.Placed.{closed, change_live, rolled_slot, filled_slot, made_slot, state_for, roll, placed}
+use Rattle.ix_machine.specs.Keeping.{turned, turned_by, file_behind, all_turned, closed_slot, thawing, thawed_by, thawed_slot}
+use Rattle.ix_shelves.specs.Buckets.{Turn, staying, rule_of, is_among}
+use Rattle.ix_shelves.specs.Lists.{update}
+use Rattle.ix_machine.specs.Placed.{change_live, rolled_slot, filled_slot, made_slot, roll, placed}
+use Rattle.ix_shelves.specs.Buckets.{closed, state_for}
 use Rattle.ix_machine.specs.Sums.{IsIn, IsLiveOf, MayBeThawed, IsEntryOf, IsStandingOf, AreSoundFrom}
 use Rattle.ix_machine.proofs.Named.{by_test}
 use Rattle.ix_machine.proofs.Placing.{GoesInto, GoesBehind, goes}

@@ -9,7 +9,8 @@ use Rattle.ix_items.specs.declared.items.Kept.{Kept}
 use Rattle.ix_machine.specs.Buckets.{Index}
 use Rattle.ix_machine.specs.Given.{Chooser, home, limits}
 use Rattle.ix_machine.specs.State.{State, Catalog, index_name, fresh_index, empty}
-use Rattle.ix_machine.specs.Step.{named, filled, deal_to, deal, deal_all, outcomes, turn_in, files_taken, all_turned, tick, roll, closed_index, thaw, thawed_index, moves, step, effective, after_from, after}
+use Rattle.ix_machine.specs.Step.{filled, deal_to, deal, deal_all, outcomes, turn_in, files_taken, all_turned, tick, roll, closed_index, thaw, thawed_index, moves, step, effective, after_from, after}
+use Rattle.ix_shelves.specs.Buckets.{named}
 use Rattle.ix_machine.specs.Sums.{IsSound}
 use Rattle.ix_machine.specs.declared.commands.Command.{Command}
 use Rattle.ix_machine.specs.declared.commands.Command.TheVariants.{Begin, Block, End, Tick, Roll, Thaw, Configure, Direct}

@@ -5,7 +5,7 @@ use Rattle.std.proofs.lemmas.List.{append-nil, length_push}
 use Rattle.std.proofs.lemmas.Grind.{flat_map-append}
 use Rattle.ix_base.specs.declared.events.Event.{Event}
 use Rattle.ix_bucket.specs.Record.{event_bytes, records}
-use Rattle.ix_machine.specs.Buckets.{size}
+use Rattle.ix_shelves.specs.Buckets.{size}
 use Rattle.ix_machine.specs.Sums.{latest, earliest, AreSums}
 
 latest_push : (t : ℤ) (es : List Event) (e : Event) → latest t (es ++ e ∷ []) ≡ int_max (latest t es) e.time

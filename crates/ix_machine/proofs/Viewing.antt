@@ -14,10 +14,11 @@ use Rattle.ix_machine.specs.Balance as balance
 use Rattle.ix_machine.specs.Buckets.{Standing, live, frozen, Slot, Index, live_bucket, listed, entered, live_buckets, buckets, ledger}
 use Rattle.ix_machine.specs.Given.{Chooser}
 use Rattle.ix_machine.specs.Judged.{moved}
-use Rattle.ix_machine.specs.Keeping.{Turn, turned, turned_by, freezes, rule_of, file_behind, many_freeze}
+use Rattle.ix_machine.specs.Keeping.{turned, turned_by, freezes, file_behind, many_freeze}
+use Rattle.ix_shelves.specs.Buckets.{Turn, rule_of}
 use Rattle.ix_machine.specs.Keeping as kept
 use Rattle.ix_machine.specs.Ledger.{all_frozen}
-use Rattle.ix_machine.specs.Lists.{find}
+use Rattle.ix_shelves.specs.Lists.{find}
 use Rattle.ix_machine.specs.Shown.{configured, with_fresh, all_indexes, index_view, whole_ledger, view}
 use Rattle.ix_machine.specs.State.{State, index_name, fresh_index}
 use Rattle.ix_machine.specs.Step.{turn_in, turned_index, files_taken, all_turned, tick, stepped, after}

@@ -8,7 +8,8 @@ use Rattle.ix_items.specs.declared.items.Kept.{Kept}
 use Rattle.ix_machine.specs.Buckets.{Slot}
 use Rattle.ix_machine.specs.Given.{Chooser, home}
 use Rattle.ix_machine.specs.State.{State, empty}
-use Rattle.ix_machine.specs.Step.{named, outcomes, effective, step}
+use Rattle.ix_machine.specs.Step.{outcomes, effective, step}
+use Rattle.ix_shelves.specs.Buckets.{named}
 use Rattle.ix_machine.specs.declared.commands.Order.{Order}
 
 -- ---- what is dealt to an index

@@ -5,7 +5,7 @@ use Rattle.ix_life.specs.Placing.{is_open}
 use Rattle.ix_machine.specs.Buckets.{Standing, live, frozen, Slot, Index, buckets}
 use Rattle.ix_machine.specs.Given.{is_configured, default_index, rotation}
 use Rattle.ix_machine.specs.Keeping as kept
-use Rattle.ix_machine.specs.Lists.{find}
+use Rattle.ix_shelves.specs.Lists.{find}
 use Rattle.ix_machine.specs.State.{State, index_name, life_in, slots_in}
 use Rattle.ix_machine.specs.Step.{effective, turn_in}
 use Rattle.ix_machine.specs.declared.answers.Refusal.{Refusal}

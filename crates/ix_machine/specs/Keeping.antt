@@ -1,5 +1,5 @@
 -- Turns of housekeeping, rolls and thaws: what they do to the buckets of an index.
-use Rattle.std.specs.Prelude.{◌+◌, ◌==◌, ◌||◌, ℕ, ℤ, Bool, true, false, if◌then◌else◌, List, [], ◌∷◌, Option, Some, None, is_some, option_to_list, slice_get}
+use Rattle.std.specs.Prelude.{◌+◌, ℕ, ℤ, Bool, true, false, if◌then◌else◌, List, [], ◌∷◌, Option, Some, None, is_some, option_to_list, slice_get}
 use Rattle.std.specs.List.{count_by, flat_map}
 use Rattle.ix_items.specs.declared.items.Bucket.{Bucket}
 use Rattle.ix_items.specs.declared.items.Entry.{Entry}
@@ -7,27 +7,11 @@ use Rattle.ix_items.specs.declared.items.Rule.{Rule}
 use Rattle.ix_life.specs.Housekeeping.{house}
 use Rattle.ix_life.specs.Placing.{is_open}
 use Rattle.ix_life.specs.declared.limits.Limits.{Limits}
-use Rattle.ix_life.specs.declared.moves.Moves.{Moves}
-use Rattle.ix_machine.specs.Buckets.{Standing, live, frozen, Slot, entered, buckets, rolled, cooled, thawed}
+use Rattle.ix_machine.specs.Buckets.{Standing, live, frozen, Slot, entered, buckets}
+use Rattle.ix_shelves.specs.Buckets.{Turn, rolled, thawed, is_among, rule_of, entry_of, staying}
 use Rattle.ix_machine.specs.Placed.{change_live}
 
 -- ---- a turn of housekeeping
-
-abbrev pub is_among : List ℕ → ℕ → Bool
-is_among [] id = false
-is_among (other ∷ ids) id = (other == id) || is_among ids id
-
--- the rule by which a bucket freezes
-abbrev pub rule_of : List (ℕ × Rule) → ℕ → Option Rule
-rule_of [] id = None
-rule_of (x ∷ xs) id = if x.0 == id then Some x.1 else rule_of xs id
-
--- what is done, in which index, at which moment
-pub record Turn : Type 0 where
-  pub index : List ℕ
-  pub archive : Bool
-  pub moment : ℤ
-  pub moves : Moves
 
 abbrev pub turn_of : List ℕ → Limits → ℤ → List Slot → Turn
 turn_of index limits moment slots = record {
@@ -36,24 +20,6 @@ turn_of index limits moment slots = record {
   moment = moment;
   moves = house (buckets slots) limits moment;
 }
-
--- the entry of a bucket that freezes; an archive has this file
-abbrev pub entry_of : Turn → ℕ → Rule → Bucket → Entry
-entry_of t file rule b = record {
-  index = t.index;
-  id = b.id;
-  rule = rule;
-  moment = t.moment;
-  count = b.count;
-  newest = b.newest;
-  oldest = b.oldest;
-  bytes = b.bytes;
-  archive = if t.archive then Some file else None;
-}
-
--- a bucket that stays, in this file where it moves to cold
-abbrev pub staying : Turn → ℕ → Bucket → Bucket
-staying t file b = if is_among t.moves.cooled b.id then cooled file b else if is_among t.moves.warmed b.id then rolled b else b
 
 abbrev pub turned_by : Turn → ℕ → Bucket → Option Rule → Standing
 turned_by t file b None = live (staying t file b)

@@ -16,7 +16,7 @@ use Rattle.ix_machine.specs.Followed.{AreFollowed}
 use Rattle.ix_machine.specs.Given.{Chooser}
 use Rattle.ix_machine.specs.Judged.{moved}
 use Rattle.ix_machine.specs.Ledger.{IsWhole, AreBefore, GrowsInOrder}
-use Rattle.ix_machine.specs.Lists.{AreAscending}
+use Rattle.ix_shelves.specs.Lists.{AreAscending}
 use Rattle.ix_machine.specs.Lives.{said, Spares, Joins}
 use Rattle.ix_machine.specs.Shown.{view, whole_ledger}
 use Rattle.ix_machine.specs.State.{State, Life, index_name, life_name, spot_path, life_in, slots_in}

@@ -1,4 +1,3 @@
-pub mod Lists
 pub mod Given
 pub mod Buckets
 pub mod Placed

@@ -1,19 +1,13 @@
 -- The rules of placing: what an event does to the buckets of its index.
-use Rattle.std.specs.Prelude.{ℕ, ℤ, Bool, if◌then◌else◌, nat_le, List, [], ◌∷◌, ◌++◌, length, Option, Some, None}
+use Rattle.std.specs.Prelude.{ℕ, ℤ, Bool, List, [], ◌∷◌, ◌++◌, length, Option, Some, None}
 use Rattle.ix_base.specs.declared.events.Event.{Event}
 use Rattle.ix_items.specs.declared.items.Bucket.{Bucket}
-use Rattle.ix_items.specs.declared.items.State.{State}
-use Rattle.ix_items.specs.declared.items.State.TheVariants.{Hot, Quarantine}
-use Rattle.ix_life.specs.Housekeeping.{megabytes}
 use Rattle.ix_life.specs.Placing.{target}
 use Rattle.ix_life.specs.declared.limits.Limits.{Limits}
 use Rattle.ix_life.specs.declared.placing.Target.{Target}
-use Rattle.ix_machine.specs.Buckets.{Standing, live, frozen, Slot, buckets, rolled, with_event, made}
-use Rattle.ix_machine.specs.Lists.{update}
-
--- a bucket that has at least the bytes of the limit rolls to warm
-abbrev pub closed : Limits → Bucket → Bucket
-closed limits b = if nat_le (megabytes limits.max_data_mb) b.bytes then rolled b else b
+use Rattle.ix_machine.specs.Buckets.{Standing, live, frozen, Slot, buckets}
+use Rattle.ix_shelves.specs.Buckets.{rolled, with_event, made, closed, state_for}
+use Rattle.ix_shelves.specs.Lists.{update}
 
 -- a live bucket changes
 abbrev pub change_live : (Bucket → Bucket) → Standing → Standing
@@ -28,9 +22,6 @@ filled_slot limits event used moment s = record {
   events = s.events ++ event ∷ [];
   standing = change_live (λ (b : Bucket). closed limits (with_event event used moment b)) s.standing;
 }
-
-abbrev pub state_for : Bool → State
-state_for quarantine = if quarantine then Quarantine else Hot
 
 abbrev pub made_slot : Limits → ℕ → Bool → ℕ → Event → ℕ → ℤ → Slot
 made_slot limits id quarantine file event used moment = record {

@@ -8,7 +8,7 @@ use Rattle.ix_life.specs.declared.views.IndexView.{IndexView}
 use Rattle.ix_life.specs.declared.views.View.{View}
 use Rattle.ix_machine.specs.Buckets.{Index, buckets}
 use Rattle.ix_machine.specs.Given.{entries, limits}
-use Rattle.ix_machine.specs.Lists.{change_or_insert}
+use Rattle.ix_shelves.specs.Lists.{change_or_insert}
 use Rattle.ix_machine.specs.State.{State, index_name, fresh_index}
 
 -- the indexes that are configured

@@ -7,7 +7,7 @@ use Rattle.ix_items.specs.declared.items.Entry.{Entry}
 use Rattle.ix_items.specs.declared.items.Kept.{Kept}
 use Rattle.ix_props.specs.declared.settings.Settings.{Settings}
 use Rattle.ix_machine.specs.Buckets.{Index, Slot}
-use Rattle.ix_machine.specs.Lists.{find}
+use Rattle.ix_shelves.specs.Lists.{find}
 
 -- an open channel: its metadata with the index that holds, the settings that it was begun under, and the bytes that came since
 pub record Life : Type 0 where

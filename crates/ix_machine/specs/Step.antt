@@ -17,7 +17,8 @@ use Rattle.ix_transforms.specs.Changes.{changed}
 use Rattle.ix_machine.specs.Buckets.{Index, Slot}
 use Rattle.ix_machine.specs.Given.{Chooser, home, limits, resolved}
 use Rattle.ix_machine.specs.Keeping as kept
-use Rattle.ix_machine.specs.Lists.{find, without, update, change, insert, change_or_insert}
+use Rattle.ix_shelves.specs.Buckets.{Turn, named}
+use Rattle.ix_shelves.specs.Lists.{find, without, update, change, insert, change_or_insert}
 use Rattle.ix_machine.specs.Placed.{placed, target_of}
 use Rattle.ix_machine.specs.State.{State, Catalog, Counts, Life, index_name, life_name, spot_path, fresh_index, slots_in, life_in, empty}
 use Rattle.ix_machine.specs.declared.commands.Command.{Command}
@@ -26,19 +27,6 @@ use Rattle.ix_machine.specs.declared.commands.Direct.{Direct as DirectEvent}
 use Rattle.ix_machine.specs.declared.commands.Order.{Order}
 
 -- ---- what an outcome does to the catalog
-
--- an event has the name of the index that it is stored in
-abbrev pub named : List ℕ → Event → Event
-named name event = record {
-  time = event.time;
-  arrival = event.arrival;
-  index = name;
-  host = event.host;
-  source = event.source;
-  sourcetype = event.sourcetype;
-  meta = event.meta;
-  raw = event.raw;
-}
 
 abbrev pub one_nulled : Counts → Counts
 one_nulled c = record { settled = c.settled + 1; nulled = c.nulled + 1; dropped = c.dropped; placed = c.placed }
@@ -140,7 +128,7 @@ outcomes choose m (Direct events) moment = map (direct_adds choose m.force momen
 -- ---- what a command does to the buckets beside
 
 -- a turn of housekeeping, index by index
-abbrev pub turn_in : List Kept → ℤ → Index → kept.Turn
+abbrev pub turn_in : List Kept → ℤ → Index → Turn
 turn_in force moment i = kept.turn_of i.name (limits force i.name) moment i.slots
 
 abbrev pub turned_index : List Kept → ℤ → ℕ → Index → Index

@@ -1,0 +1,17 @@
+pub mod Updates
+pub mod Joins
+pub mod Finds
+pub mod Keeps
+pub mod Placings
+pub mod Dealt
+pub mod RecordSizes
+pub mod PlaceLemmas
+pub mod TurningLemmas
+pub mod Same
+pub mod Merging
+pub mod Putting
+pub mod Sizes
+pub mod Leading
+pub mod Finding
+pub mod LeadingAll
+pub mod LeadingShelves

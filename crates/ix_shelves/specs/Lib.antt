@@ -1,0 +1,11 @@
+pub mod Lists
+pub mod Buckets
+pub mod Shelves
+pub mod Dealing
+pub mod Numbers
+pub mod Filling
+pub mod Turning
+pub mod Changes
+pub mod Measures
+pub mod Carried
+pub mod Places

@@ -1,0 +1,25 @@
+//! The indexes of a store in memory, without the events of their buckets: what placing, housekeeping, rolls and thaws do to them,
+//! and what these add to the files of buckets. The store works a command out on copies of them before it takes it.
+#![tactic(auto)]
+
+mod buckets;
+mod changes;
+mod dealing;
+mod index_turn;
+mod laws;
+mod measures;
+mod pieces;
+mod rolling;
+mod shelves;
+mod thawing;
+mod turning;
+mod viewing;
+
+pub use changes::{ascending_differ, changed_leads, changes_lead, put_changes, shelves_lead};
+pub use dealing::{DealFault, Dealing, Work};
+pub use laws::small_has_record;
+pub use measures::{all_bytes, all_events, next_number, shelf_size};
+pub use rolling::roll;
+pub use shelves::Shelves;
+pub use thawing::{thaw, thaw_copy};
+pub use turning::{Turned, turn_all};
