@@ -1,0 +1,5 @@
+pub mod Counting
+pub mod Lengths
+pub mod ListSteps
+pub mod OneList
+pub mod Unnamed

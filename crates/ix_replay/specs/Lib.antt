@@ -1,0 +1,4 @@
+pub mod Amounts
+pub mod Bounds
+pub mod Fits
+pub mod Lists

@@ -1,0 +1,54 @@
+//! Whether a list of items keeps the bounds of what a store can keep. The replayed state asks it behind each body.
+
+ghost use Rattle.std.specs.Prelude.{◌↔◌, ◌<◌, ◌≤◌, ◌^◌, IsTrue, IfOk, All};
+ghost use Rattle.std.specs.List.{sum_by};
+ghost use Rattle.ix_book.specs.Book.{empty, replay, removals_in};
+ghost use Rattle.ix_replay.specs.Amounts.{bytes_in, events_in, channels_in, size_in};
+ghost use Rattle.ix_replay.specs.Bounds.{IsWithin, IsSpared, KeepsBounds};
+ghost use Rattle.ix_replay.specs.Lists.{AreListed};
+
+use crate::amounts::Amount;
+use crate::files::are_apart;
+use crate::ranges::are_within;
+use crate::removed::are_spared;
+use crate::standing::{next_file, removals};
+use ix_base::NoMemory;
+use ix_items::Item;
+use std::alloc::Global;
+
+/// Whether each item is in its range, and the last removals name no file of one.
+fn are_sound(alloc: Global, items: &[Item]) -> Result<bool, NoMemory>
+    requires { AreListed items.now }
+    ensures { IfOk result (λ sound. IsTrue sound ↔ (All IsWithin items.now × All (IsSpared (removals_in (replay items.now empty))) items.now)) }
+{
+    if !are_within(items) {
+        return Ok(false);
+    }
+    let spared = are_spared(alloc, removals(items), items)?;
+    Ok(spared)
+}
+
+/// Whether all that they add up to stays within its bounds.
+fn add_up(items: &[Item]) -> bool
+    ensures { IsTrue result ↔ ((sum_by bytes_in items.now < 2 ^ 63) × (sum_by events_in items.now < 2 ^ 63)
+        × (sum_by channels_in items.now ≤ 256) × (sum_by size_in items.now < 2 ^ 29)) }
+{
+    Amount::Bytes.is_within(items)
+        && Amount::Events.is_within(items)
+        && Amount::Channels.is_within(items)
+        && Amount::Size.is_within(items)
+}
+
+/// Whether the items keep the bounds. It takes memory for the numbers of their files and of
+/// those that are removed, and time for a sort of these.
+pub fn keeps_bounds(alloc: Global, items: &[Item]) -> Result<bool, NoMemory>
+    requires { AreListed items.now }
+    ensures { IfOk result (λ keeps. IsTrue keeps ↔ KeepsBounds items.now) }
+{
+    let sound = are_sound(alloc, items)?;
+    if !sound || !add_up(items) {
+        return Ok(false);
+    }
+    let apart = are_apart(alloc, items, next_file(items))?;
+    Ok(apart)
+}
