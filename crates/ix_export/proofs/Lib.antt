@@ -1,0 +1,4 @@
+pub mod RecordLists
+pub mod LineLemmas
+pub mod BucketLists
+pub mod Progress

@@ -1,0 +1,5 @@
+pub mod Lines
+pub mod Stored
+pub mod Faults
+pub mod Stops
+pub mod Steps
