@@ -1,0 +1,265 @@
+-- A store that is committed, and one that is mounted.
+use Rattle.std.proofs.Common.{◌≡◌, ◌≢◌, ◌≤◌, ◌<◌, ◌^◌, ℕ, Bool, true, false, List, [], ◌∷◌, length, take, drop, refl, sym, ap, ◌∙◌, subst, arith, inl, inr}
+use Rattle.std.specs.Prelude.{Option, Some, None, ◌⊎◌, ◌==◌, if◌then◌else◌, nat_lt}
+use Rattle.std.proofs.lemmas.Bool.Decides.{nat_tests}
+use Rattle.ix_base.specs.declared.files.File.{File}
+use Rattle.ix_disk.specs.Image.{Image}
+use Rattle.ix_disk.specs.declared.disk.Disk.{Ghosts}
+use Rattle.ix_items.specs.declared.items.Item.{Item}
+use Rattle.ix_items.specs.declared.items.Item.TheVariants as items
+use Rattle.ix_book.specs.Book.{Name, Book, NoneUnder, named, name_of, is_same, run_of, run_in, replay, empty, Replays}
+use Rattle.ix_book.specs.Root.{Taken}
+use Rattle.ix_book.proofs.InPlace.{none_under}
+use Rattle.ix_book.proofs.Renaming.{same_name}
+use Rattle.ix_keep.specs.Mounting.{IsFamily, IsMountedAt}
+use Rattle.ix_keep.specs.Snapshot.{Snapshot, KeepsEither, Held, IsIdle, IsLike, log_of}
+use Rattle.ix_keep.specs.declared.keeper.Keeper.{Keeper}
+use Rattle.ix_machine.specs.Given.{Chooser}
+use Rattle.ix_machine.specs.Step.{after}
+use Rattle.ix_machine.specs.declared.commands.Order.{Order}
+use Rattle.ix_machine.proofs.Named.{by_test}
+use Rattle.ix_snapshot.specs.Snap.{left, leaves}
+use Rattle.ix_snapshot.proofs.Family.{family}
+use Rattle.ix_store.specs.Counting.{numbers, weights, has_turn, capped}
+use Rattle.ix_store.specs.Written.{over, IsOf, Stands, AreDone}
+use Rattle.ix_store.specs.Holding.{AreCounted, IsReady, Holds, IsMounted}
+use Rattle.ix_store.specs.declared.group.Group.{Group}
+use Rattle.ix_store.specs.declared.store.Store.{Store}
+use Rattle.ix_store.proofs.Counted.{drop_taken, drop_whole, take_whole, take_taken, length_taken, not_below}
+
+-- ---- a commit
+
+pub held_of : {D : Type 0} (g : Ghosts D) {M : Type 0} (fits : Book → Type 0) (holds : Chooser → List Order → M → Type 0) (choose : Chooser) (h : List Order) (base k : ℕ) (store : Store M) (disk : D) →
+    (hold : Holds g fits holds choose h base k store disk) → Held g fits store.keeper disk hold.old hold.staged.new
+held_of g fits holds choose h base k store disk hold =
+    let r = hold.staged.ready in
+    record { usable = r.usable; committed = hold.committed; stages = r.stages; fit = r.fit; free = r.free }
+
+pub stands_either : {D : Type 0} (g : Ghosts D) {M : Type 0} (fits : Book → Type 0) (holds : Chooser → List Order → M → Type 0) (choose : Chooser) (h : List Order) (base k : ℕ) (store : Store M) (disk : D) →
+    (hold : Holds g fits holds choose h base k store disk) (image : Image) → KeepsEither fits hold.old hold.staged.new image →
+    Stands fits store.run choose (take k h) image ⊎ Stands fits store.run choose h image
+stands_either g fits holds choose h base k store disk hold image (inl keeps) = inl (record { snapshot = hold.old; written = hold.staged.old_is; keeps = keeps })
+stands_either g fits holds choose h base k store disk hold image (inr keeps) = inr (record { snapshot = hold.staged.new; written = hold.staged.new_is; keeps = keeps })
+
+ready_of : {D : Type 0} (g : Ghosts D) (fits : Book → Type 0) (keeper : Keeper) (disk : D) (s : Snapshot) → Held g fits keeper disk s s → IsReady fits keeper s s
+ready_of g fits keeper disk s held = record {
+  usable = held.usable;
+  logged = ap (λ (f : File). f.area) held.committed.file;
+  stages = held.stages;
+  fit = held.fit;
+  free = held.free;
+}
+
+-- all is committed
+counted_all : (drawn : ℕ) (group next : Group) (h : List Order) (base k : ℕ) (committed new_drawn : ℕ) → AreCounted drawn committed group h base k → new_drawn ≡ drawn →
+    next.weight ≡ 0 → next.turned ≡ false → next.waiting ≡ false → AreCounted new_drawn drawn next h base (length h)
+counted_all drawn group next h base k committed new_drawn counted same weight turned waiting = record {
+  drawn_are = same ∙ counted.drawn_are;
+  committed_are = counted.drawn_are ∙ ap (λ (l : List Order). numbers (drop base l)) (sym (take_whole h));
+  weight = weight ∙ ap (λ (l : List Order). capped (weights l)) (sym (drop_whole h));
+  turned = turned ∙ ap has_turn (sym (drop_whole h));
+  waiting = waiting ∙ sym (not_below (length h));
+}
+
+pub holds_all : {D : Type 0} (g : Ghosts D) {M : Type 0} (fits : Book → Type 0) (holds : Chooser → List Order → M → Type 0) (choose : Chooser) (h : List Order) (base k : ℕ) (before store : Store M) (was disk : D) →
+    (hold : Holds g fits holds choose h base k before was) → Held g fits store.keeper disk hold.staged.new hold.staged.new → IsIdle store.keeper →
+    store.memory ≡ before.memory → store.run ≡ before.run → store.drawn ≡ before.drawn → store.committed ≡ before.drawn →
+    store.group.done_with ≡ [] → store.group.weight ≡ 0 → store.group.turned ≡ false → store.group.waiting ≡ false →
+    Holds g fits holds choose h base (length h) store disk
+holds_all g fits holds choose h base k before store was disk hold held idle memory run drawn committed done weight turned waiting =
+    let st = hold.staged in
+    let whole : left choose h ≡ leaves choose h (length h) = ap (left choose) (sym (take_whole h)) in
+    let is : IsOf store.run st.new (left choose h) = subst (λ (r : ℕ). IsOf r st.new (left choose h)) (sym run) st.new_is in
+    record {
+      old = st.new;
+      committed = held.committed;
+      staged = record {
+        from_base = (let a = st.from_base in let b = st.within in omega (arith, a, b));
+        within = omega arith;
+        memory = subst (holds choose h) (sym memory) st.memory;
+        old_is = subst (IsOf store.run st.new) whole is;
+        new = st.new;
+        new_is = is;
+        run = subst (λ (r : ℕ). r < 2 ^ 63) (sym run) st.run;
+        ready = ready_of g fits store.keeper disk st.new held;
+        idle = λ whole. idle;
+        done = subst (AreDone (after choose h).catalog) (sym done) tt;
+        counted = subst (λ (n : ℕ). AreCounted store.drawn n store.group h base (length h)) (sym committed)
+            (counted_all before.drawn before.group store.group h base k before.committed store.drawn st.counted drawn weight turned waiting);
+      };
+    }
+
+-- ---- what a log leads to
+
+pub unlike : (n name : Name) → n.kind ≢ name.kind → is_same n name ≡ false
+unlike n name ne = by_test (is_same n name) (λ t. absurd (ne (ap (λ (m : Name). m.kind) (same_name n name t)))) (λ t. t)
+
+-- no other name of the kinds of the run and of last removals is an item's
+beside_run : (item : Item) (name : Name) → name.kind ≡ 2 → is_same (named 2 [] 0) name ≡ false → is_same (name_of item) name ≡ false
+beside_run (items.Settings kept) name kind t = unlike (named 1 [] 0) name (λ e. absurd (omega (arith, e, kind)))
+beside_run (items.Run run) name kind t = t
+beside_run (items.Moments last tick) name kind t = unlike (named 3 [] 0) name (λ e. absurd (omega (arith, e, kind)))
+beside_run (items.Channel text meta carry) name kind t = unlike (named 4 text 0) name (λ e. absurd (omega (arith, e, kind)))
+beside_run (items.Ended text) name kind t = unlike (named 4 text 0) name (λ e. absurd (omega (arith, e, kind)))
+beside_run (items.Bucket index bucket) name kind t = unlike (named 6 index bucket.id) name (λ e. absurd (omega (arith, e, kind)))
+beside_run (items.Gone index id) name kind t = unlike (named 6 index id) name (λ e. absurd (omega (arith, e, kind)))
+beside_run (items.Ledger entry) name kind t = unlike (named 8 entry.index entry.id) name (λ e. absurd (omega (arith, e, kind)))
+beside_run (items.Counts settled nulled dropped placed) name kind t = unlike (named 9 [] 0) name (λ e. absurd (omega (arith, e, kind)))
+beside_run (items.Spot spot) name kind t = unlike (named 10 spot.path 0) name (λ e. absurd (omega (arith, e, kind)))
+beside_run (items.NextFile number) name kind t = unlike (named 11 [] 0) name (λ e. absurd (omega (arith, e, kind)))
+beside_run (items.Removals files) name kind t = unlike (named 12 [] 0) name (λ e. absurd (omega (arith, e, kind)))
+beside_run (items.NextId index id) name kind t = unlike (named 13 index 0) name (λ e. absurd (omega (arith, e, kind)))
+
+beside_removals : (item : Item) (name : Name) → name.kind ≡ 12 → is_same (named 12 [] 0) name ≡ false → is_same (name_of item) name ≡ false
+beside_removals (items.Settings kept) name kind t = unlike (named 1 [] 0) name (λ e. absurd (omega (arith, e, kind)))
+beside_removals (items.Run run) name kind t = unlike (named 2 [] 0) name (λ e. absurd (omega (arith, e, kind)))
+beside_removals (items.Moments last tick) name kind t = unlike (named 3 [] 0) name (λ e. absurd (omega (arith, e, kind)))
+beside_removals (items.Channel text meta carry) name kind t = unlike (named 4 text 0) name (λ e. absurd (omega (arith, e, kind)))
+beside_removals (items.Ended text) name kind t = unlike (named 4 text 0) name (λ e. absurd (omega (arith, e, kind)))
+beside_removals (items.Bucket index bucket) name kind t = unlike (named 6 index bucket.id) name (λ e. absurd (omega (arith, e, kind)))
+beside_removals (items.Gone index id) name kind t = unlike (named 6 index id) name (λ e. absurd (omega (arith, e, kind)))
+beside_removals (items.Ledger entry) name kind t = unlike (named 8 entry.index entry.id) name (λ e. absurd (omega (arith, e, kind)))
+beside_removals (items.Counts settled nulled dropped placed) name kind t = unlike (named 9 [] 0) name (λ e. absurd (omega (arith, e, kind)))
+beside_removals (items.Spot spot) name kind t = unlike (named 10 spot.path 0) name (λ e. absurd (omega (arith, e, kind)))
+beside_removals (items.NextFile number) name kind t = unlike (named 11 [] 0) name (λ e. absurd (omega (arith, e, kind)))
+beside_removals (items.Removals files) name kind t = t
+beside_removals (items.NextId index id) name kind t = unlike (named 13 index 0) name (λ e. absurd (omega (arith, e, kind)))
+
+none_of : (name : Name) → ((item : Item) → is_same (name_of item) name ≡ false) → (xs : List Item) → NoneUnder name xs
+none_of name each [] = tt
+none_of name each (x ∷ xs) = (each x, none_of name each xs)
+
+-- under a name that no item has nothing stands
+none_stands : (fits : Book → Type 0) (name : Name) → ((item : Item) → is_same (name_of item) name ≡ false) → (bodies : List (List ℕ)) (from to : Book) → from name ≡ None → Replays fits bodies from to → to name ≡ None
+none_stands fits name each [] from to none is = ap (λ (b : Book). b name) is ∙ none
+none_stands fits name each (body ∷ bodies) from to none is =
+    none_stands fits name each bodies (replay is.0 from) to (none_under is.0 name from (none_of name each is.0) ∙ none) is.3
+
+run_none : (choose : Chooser) (h : List Order) (text : List ℕ) (number : ℕ) → (left choose h).book (named 2 text number) ≡ None
+run_none choose [] text number = refl
+run_none choose (o ∷ h) text number = refl
+
+removals_none : (choose : Chooser) (h : List Order) (text : List ℕ) (number : ℕ) → (left choose h).book (named 12 text number) ≡ None
+removals_none choose [] text number = refl
+removals_none choose (o ∷ h) text number = refl
+
+left_none : (choose : Chooser) (h : List Order) (name : Name) (kind : ℕ) → ((text : List ℕ) (number : ℕ) → (left choose h).book (named kind text number) ≡ None) → name.kind ≡ kind → (left choose h).book name ≡ None
+left_none choose h name kind none is = ap (left choose h).book path ∙ none name.text name.number
+  where
+    path : name ≡ named kind name.text name.number
+    path = λ i. record { kind = is i; text = name.text; number = name.number }
+
+some_run : (o : Option Item) (n : ℕ) → run_of o ≡ n → 1 ≤ n → o ≡ Some (items.Run n)
+some_run None n is l = absurd (omega (arith, is, l))
+some_run (Some (items.Settings kept)) n is l = absurd (omega (arith, is, l))
+some_run (Some (items.Run run)) n is l = ap (λ (r : ℕ). Some (items.Run r)) is
+some_run (Some (items.Moments last tick)) n is l = absurd (omega (arith, is, l))
+some_run (Some (items.Channel name meta carry)) n is l = absurd (omega (arith, is, l))
+some_run (Some (items.Ended name)) n is l = absurd (omega (arith, is, l))
+some_run (Some (items.Bucket index bucket)) n is l = absurd (omega (arith, is, l))
+some_run (Some (items.Gone index id)) n is l = absurd (omega (arith, is, l))
+some_run (Some (items.Ledger entry)) n is l = absurd (omega (arith, is, l))
+some_run (Some (items.Counts settled nulled dropped placed)) n is l = absurd (omega (arith, is, l))
+some_run (Some (items.Spot spot)) n is l = absurd (omega (arith, is, l))
+some_run (Some (items.NextFile number)) n is l = absurd (omega (arith, is, l))
+some_run (Some (items.Removals files)) n is l = absurd (omega (arith, is, l))
+some_run (Some (items.NextId index id)) n is l = absurd (omega (arith, is, l))
+
+chosen : {T : Type 0} (test : Bool) (x y : T) → test ≡ false → (if test then x else y) ≡ y
+chosen true x y is = absurd cc
+chosen false x y is = refl
+
+is_kind : (a b : ℕ) → (a == b) ≡ true → a ≡ b
+is_kind a b t = grind (arith, nat_tests)
+
+not_kind : (a b : ℕ) → (a == b) ≡ false → a ≢ b
+not_kind a b t = λ e. grind (arith, nat_tests)
+
+-- a snapshot that a log leads to, in a run
+module _ (fits : Book → Type 0) (choose : Chooser) (h : List Order) (bodies : List (List ℕ)) (now : Snapshot) (run : ℕ) (replayed : Replays fits bodies empty now.book) (like : IsLike now (left choose h)) (is : run_in now.book ≡ run) (some : 1 ≤ run) where
+  abbrev removed : Option Item
+  removed = now.book (named 12 [] 0)
+
+  other_same : (name : Name) → is_same (named 2 [] 0) name ≡ false → is_same (named 12 [] 0) name ≡ false → now.book name ≡ (left choose h).book name
+  other_same name t u = by_test (name.kind == 2)
+      (λ a. let kind = is_kind name.kind 2 a in none_stands fits name (λ x. beside_run x name kind t) bodies empty now.book refl replayed ∙ sym (left_none choose h name 2 (run_none choose h) kind))
+      (λ a. by_test (name.kind == 12)
+      (λ b. let kind = is_kind name.kind 12 b in none_stands fits name (λ x. beside_removals x name kind u) bodies empty now.book refl replayed ∙ sym (left_none choose h name 12 (removals_none choose h) kind))
+      (λ b. like.books name (not_kind name.kind 2 a) (not_kind name.kind 12 b)))
+
+  at_name : (name : Name) → now.book name ≡ over run removed (left choose h).book name
+  at_name name = by_test (is_same (named 2 [] 0) name)
+      (λ t. subst (λ (n : Name). now.book n ≡ over run removed (left choose h).book n) (same_name (named 2 [] 0) name t) (some_run (now.book (named 2 [] 0)) run is some))
+      (λ t. by_test (is_same (named 12 [] 0) name)
+      (λ u. subst (λ (n : Name). now.book n ≡ over run removed (left choose h).book n) (same_name (named 12 [] 0) name u) refl)
+      (λ u. other_same name t u ∙ sym (chosen (is_same (named 2 [] 0) name) (Some (items.Run run)) (if is_same (named 12 [] 0) name then removed else (left choose h).book name) t
+      ∙ chosen (is_same (named 12 [] 0) name) removed ((left choose h).book name) u)))
+
+  pub written_is : IsOf run now (left choose h)
+  written_is = record { removed = removed; book = λ i name. at_name name i; contents = like.contents }
+
+-- ---- a mount
+
+pub family_from : (choose : Chooser) (h : List Order) (k : ℕ) → IsFamily (leaves choose h) k (length h)
+family_from choose h k =
+    let f = family choose h in
+    record {
+      told = λ i j a b c d near. f.told i j (omega arith) b (omega arith) d near;
+      apart = λ i a b. f.apart i (omega arith) b;
+      settled = λ i a b. f.settled i (omega arith) b;
+    }
+
+counted_none : (group : Group) (h : List Order) (n : ℕ) → n ≤ length h → group.weight ≡ 0 → group.turned ≡ false → group.waiting ≡ false → AreCounted 0 0 group (take n h) n n
+counted_none group h n le weight turned waiting =
+    let none = drop_taken n h in
+    record {
+      drawn_are = ap numbers (sym none);
+      committed_are = ap numbers (sym none) ∙ ap (λ (l : List Order). numbers (drop n l)) (sym (take_taken n h));
+      weight = weight ∙ ap (λ (l : List Order). capped (weights l)) (sym none);
+      turned = turned ∙ ap has_turn (sym none);
+      waiting = waiting ∙ sym (ap (nat_lt n) (length_taken n h le) ∙ not_below n);
+    }
+
+pub holds_mounted : {D : Type 0} (g : Ghosts D) {M : Type 0} (fits : Book → Type 0) (holds : Chooser → List Order → M → Type 0) (is_chooser : Chooser → Type 0) (choose : Chooser) (h : List Order) (k : ℕ) (image : Image) (store : Store M) (disk : D) (book : Book) →
+    is_chooser choose → (at : IsMountedAt g fits store.keeper disk book (leaves choose h) k (length h) image) →
+    ((choose : Chooser) (history : List Order) (run : ℕ) (removed : Option Item) → is_chooser choose → book ≡ over run removed (left choose history).book → holds choose history store.memory) →
+    store.run ≡ run_in book → run_in book < 2 ^ 63 → IsIdle store.keeper → store.drawn ≡ 0 → store.committed ≡ 0 →
+    store.group.done_with ≡ [] → store.group.weight ≡ 0 → store.group.turned ≡ false → store.group.waiting ≡ false →
+    IsMounted g fits holds choose h k image store disk
+holds_mounted g fits holds is_chooser choose h k image store disk book chooser at memory run small idle drawn committed done weight turned waiting =
+    let n = at.which in
+    let prefix = take n h in
+    let made = ap run_in at.made in
+    let found = at.run in
+    let same : run_in at.now.book ≡ store.run = sym made ∙ sym run in
+    let is : IsOf store.run at.now (left choose prefix) = written_is (Taken fits (log_of store.keeper)) choose prefix at.held.committed.bodies at.now store.run replayed at.like same (omega (arith, found, same)) in
+    record {
+      count = n;
+      least = at.least;
+      most = at.most;
+      found = at.kept;
+      keeps = at.keeps;
+      stands = at.stands;
+      run = sym same ∙ found;
+      hold = record {
+        old = at.now;
+        committed = at.held.committed;
+        staged = record {
+          from_base = omega arith;
+          within = (let l = length_taken n h at.most in omega (arith, l));
+          memory = memory choose prefix store.run is.removed chooser (at.made ∙ is.book);
+          old_is = subst (λ (l : List Order). IsOf store.run at.now (left choose l)) (sym (take_taken n h)) is;
+          new = at.now;
+          new_is = is;
+          run = (omega (arith, small, run));
+          ready = ready_of g fits store.keeper disk at.now at.held;
+          idle = λ whole. idle;
+          done = subst (AreDone (after choose prefix).catalog) (sym done) tt;
+          counted = subst (λ (a : ℕ). AreCounted a store.committed store.group prefix n n) (sym drawn)
+              (subst (λ (a : ℕ). AreCounted 0 a store.group prefix n n) (sym committed) (counted_none store.group h n at.most weight turned waiting));
+        };
+      };
+    }
+  where
+    replayed : Replays (Taken fits (log_of store.keeper)) at.held.committed.bodies empty at.now.book
+    replayed = subst (λ (f : File). Replays (Taken fits f) at.held.committed.bodies empty at.now.book) (sym at.held.committed.file) at.held.committed.replayed

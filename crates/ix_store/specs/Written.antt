@@ -1,0 +1,42 @@
+-- What stands in the log of a store: the book of a history, with a run and last removals.
+use Rattle.std.specs.Prelude.{◌≡◌, ℕ, if◌then◌else◌, List, [], length, Option, Some}
+use Rattle.std.specs.List.{AllByRecursion}
+use Rattle.ix_base.specs.declared.files.File.{File}
+use Rattle.ix_items.specs.declared.items.Item.{Item}
+use Rattle.ix_items.specs.declared.items.Item.TheVariants as items
+use Rattle.ix_disk.specs.Image.{Image}
+use Rattle.ix_book.specs.Book.{Book, named, is_same}
+use Rattle.ix_keep.specs.Mounting.{KeepsOneOf}
+use Rattle.ix_keep.specs.Snapshot.{Snapshot, Keeps}
+use Rattle.ix_machine.specs.Given.{Chooser}
+use Rattle.ix_machine.specs.State.{Catalog}
+use Rattle.ix_machine.specs.declared.commands.Order.{Order}
+use Rattle.ix_snapshot.specs.Done.{IsDone}
+use Rattle.ix_snapshot.specs.Snap.{left, leaves}
+
+-- the book, under which a run and perhaps last removals stand too
+abbrev pub over : ℕ → Option Item → Book → Book
+over run removed book name =
+    if is_same (named 2 [] 0) name then Some (items.Run run)
+    else if is_same (named 12 [] 0) name then removed
+    else book name
+
+-- a snapshot that a run has written, of what a history leaves
+pub record IsOf (run : ℕ) (snapshot history : Snapshot) : Type 0 where
+  pub removed : Option Item
+  pub book : snapshot.book ≡ over run removed history.book
+  pub contents : snapshot.contents ≡ history.contents
+
+-- An image stands for a run and a history.
+pub record Stands (fits : Book → Type 0) (run : ℕ) (choose : Chooser) (history : List Order) (image : Image) : Type 0 where
+  pub snapshot : Snapshot
+  pub written : IsOf run snapshot (left choose history)
+  pub keeps : Keeps fits snapshot image
+
+-- An image stands for a prefix with at least so many commands, and for some run; a disk on which nothing was written yet for none.
+abbrev pub StandsFrom : (Book → Type 0) → Chooser → List Order → ℕ → Image → Type 0
+StandsFrom fits choose history k image = KeepsOneOf fits (leaves choose history) k (length history) image
+
+-- files that are done with
+abbrev pub AreDone : Catalog → List File → Type 0
+AreDone catalog files = AllByRecursion (IsDone catalog) files

@@ -1,0 +1,84 @@
+//! A store is committed, and mounted again behind a stop. The program calls both.
+
+ghost use Rattle.std.specs.Prelude.{◌≡◌, ◌≤◌, ◌⊎◌, ℕ, List, length, take, true, false, Some, Ok, Err, IfOk, OnOk, OnErr, IsErrOf};
+ghost use Rattle.ix_base.specs.Faults.{Rose};
+ghost use Rattle.ix_base.specs.declared.files.File.{File};
+ghost use Rattle.ix_disk.specs.Image.{Image, bytes_in};
+ghost use Rattle.ix_disk.specs.Moments.{Always};
+ghost use Rattle.ix_keep.specs.Committing.{IsShort};
+ghost use Rattle.ix_keep.specs.Mounting.{IsBadMount, IsBadLog};
+ghost use Rattle.ix_keep.specs.Snapshot.{IsOver, IsIdle};
+ghost use Rattle.ix_machine.specs.Given.{Chooser};
+ghost use Rattle.ix_machine.specs.declared.commands.Order.{Order};
+ghost use Rattle.ix_store.specs.Written.{Stands, StandsFrom};
+
+use crate::group::Group;
+use crate::memory::Memory;
+use crate::store::Store;
+use ix_book::Replay;
+use ix_disk::Disk;
+use ix_keep::{CommitFault, MountFault, commit, mount};
+use std::alloc::Global;
+
+impl<M: Memory + Drop> Store<M> {
+    ghost use Rattle.ix_store.specs.Holding.{Holds, IsMounted};
+
+    /// Makes all accepted commands durable. It takes no memory. After a fault the store accepts no command: it is to be mounted again.
+    pub fn commit<D: Disk>(&mut self, disk: &mut D) -> Result<(), CommitFault>
+        requires { IsOver D.Disk self.old.keeper disk.old }
+        // Every image since the start stands for the committed commands, or for all.
+        ensures images { (choose : Chooser) (history : List Order) (base k : ℕ) → Holds D.Disk M.Book.fits M.holds choose history base k self.old disk.old →
+            Always D.Disk disk.old disk.new (λ image. Stands M.Book.fits self.old.run choose (take k history) image ⊎ Stands M.Book.fits self.old.run choose history image) }
+        // After Ok all are committed.
+        ensures done { (choose : Chooser) (history : List Order) (base k : ℕ) → Holds D.Disk M.Book.fits M.holds choose history base k self.old disk.old →
+            OnOk result (Holds D.Disk M.Book.fits M.holds choose history base (length history) self.new disk.new) }
+        // Where nothing is staged, nothing is done.
+        ensures none { IsIdle self.old.keeper → (result ≡ Ok tt) × (disk.new ≡ disk.old) }
+        // What the next commit asks for.
+        ensures over { OnOk result (IsOver D.Disk self.new.keeper disk.new) }
+        ensures closed { OnErr result (self.new.keeper.closed ≡ true) }
+        // The named file, a bucket's or an archive's, has so many bytes, fewer than were committed.
+        ensures damaged { (file : File) (at : ℕ) → result ≡ Err (CommitFault.Damaged file at) → IsShort self.old.keeper.parts self.old.keeper.copies file at
+            × ((image : Image) → D.Disk.seen disk.new ≡ Some image → at ≡ length (bytes_in image file)) }
+        ensures later { D.Disk.faults disk.old ≤ D.Disk.faults disk.new }
+        ensures cause { IsErrOf result CommitFault.Disk → Rose (D.Disk.faults disk.old) (D.Disk.faults disk.new) }
+    {
+        commit::<D, M::Book>(&mut self.keeper, disk)?;
+        self.committed = self.drawn;
+        self.group = Group::none(self.alloc);
+        Ok(())
+    }
+
+    /// Mounts the store that a disk keeps, or begins a new one on an empty disk, and begins the next run.
+    pub fn mount<D: Disk>(alloc: Global, disk: &mut D) -> Result<Store<M>, MountFault>
+        // Where every image at the start stands for a prefix with at least k commands, every image since does.
+        ensures images { (choose : Chooser) (history : List Order) (k : ℕ) → ((image : Image) → D.Disk.may_leave disk.old image → StandsFrom M.Book.fits choose history k image) →
+            Always D.Disk disk.old disk.new (StandsFrom M.Book.fits choose history k) }
+        // At Ok store and disk hold the prefix for which the disk's own reading stands, in the run behind the one that was found.
+        ensures mounted { IfOk result (λ store. (choose : Chooser) (history : List Order) (k : ℕ) → M.is_chooser choose →
+            ((image : Image) → D.Disk.may_leave disk.old image → StandsFrom M.Book.fits choose history k image) → (image : Image) → D.Disk.seen disk.old ≡ Some image →
+            IsMounted D.Disk M.Book.fits M.holds choose history k image store disk.new) }
+        // What a commit asks for.
+        ensures over { IfOk result (λ store. IsOver D.Disk store.keeper disk.new) }
+        // It names the gate of the first bad body of the root log or the current one, as the disk reads.
+        ensures damaged { (named : File) (at : ℕ) → IsBadMount result named at → (image : Image) → D.Disk.seen disk.old ≡ Some image → IsBadLog M.Book.fits named at image }
+        ensures later { D.Disk.faults disk.old ≤ D.Disk.faults disk.new }
+        ensures cause { IsErrOf result MountFault.Disk → Rose (D.Disk.faults disk.old) (D.Disk.faults disk.new) }
+    {
+        let mut book = M::blank(alloc);
+        let keeper = mount(alloc, disk, &mut book)?;
+        let run = book.run();
+        match M::from_book(alloc, book) {
+            Ok(memory) => Ok(Store {
+                alloc,
+                memory,
+                keeper,
+                run,
+                drawn: 0,
+                committed: 0,
+                group: Group::none(alloc),
+            }),
+            Err(_) => Err(MountFault::NoMemory),
+        }
+    }
+}

@@ -1,0 +1,32 @@
+//! Laws of stores, without code: each is the contract of a function that does nothing. The program stands on them.
+
+ghost use Rattle.std.specs.Prelude.{◌≤◌, ℕ, List, length, take};
+ghost use Rattle.ix_disk.specs.Image.{Image};
+ghost use Rattle.ix_keep.specs.Undo.{HasSameLogs};
+ghost use Rattle.ix_machine.specs.Given.{Chooser};
+ghost use Rattle.ix_machine.specs.declared.commands.Order.{Order};
+ghost use Rattle.ix_store.specs.Holding.{Holds, Staged};
+ghost use Rattle.ix_store.specs.Written.{Stands, StandsFrom};
+ghost use Rattle.ix_store.specs.declared.store.Store.{Store};
+
+use crate::memory::Memory;
+use ix_disk::Disk;
+
+/// An image that stands for a prefix is one from which a mount reads a prefix with as many commands.
+pub fn prefixes_stand<M: Memory>()
+    ensures { (run : ℕ) (choose : Chooser) (history : List Order) (k count : ℕ) (image : Image) → k ≤ count → count ≤ length history →
+        Stands M.Book.fits run choose (take count history) image → StandsFrom M.Book.fits choose history k image }
+{}
+
+/// Every image of a disk that a store holds a history with stands for the commands that are committed.
+pub fn what_is_held_stands<D: Disk, M: Memory + Drop>()
+    ensures { (choose : Chooser) (history : List Order) (base k : ℕ) (store : Store M) (disk : D) → Holds D.Disk M.Book.fits M.holds choose history base k store disk →
+        (image : Image) → D.Disk.may_leave disk image → Stands M.Book.fits store.run choose (take k history) image }
+{}
+
+/// What a store holds with a disk behind an accepted command, of whose answer the disk is no part.
+pub fn accepted_is_held<D: Disk, M: Memory + Drop>()
+    ensures { (choose : Chooser) (before history : List Order) (base k : ℕ) (old store : Store M) (disk : D) →
+        (hold : Holds D.Disk M.Book.fits M.holds choose before base k old disk) → HasSameLogs old.keeper store.keeper →
+        Staged M.Book.fits M.holds choose history base k store hold.old → Holds D.Disk M.Book.fits M.holds choose history base k store disk }
+{}

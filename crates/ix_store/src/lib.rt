@@ -1,0 +1,14 @@
+//! A store: the state in memory and what keeps it on a disk, joined. It accepts commands, commits them, and is mounted again behind a
+//! stop. The state in memory is given by a trait.
+#![tactic(auto)]
+
+mod durable;
+mod group;
+mod laws;
+mod memory;
+mod numbers;
+mod store;
+
+pub use laws::{accepted_is_held, prefixes_stand, what_is_held_stands};
+pub use memory::{Made, Memory};
+pub use store::Store;

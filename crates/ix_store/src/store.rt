@@ -1,0 +1,185 @@
+//! The store. Whoever serves requests, or runs a command of the program, gives it commands and has it commit them.
+
+ghost use Rattle.std.specs.Prelude.{◌≡◌, ◌≤◌, ◌<◌, ◌+◌, ◌^◌, ◌++◌, ◌||◌, ◌&&◌, ◌⊎◌, ◌==◌, ◌↔◌, ℕ, List, [], ◌∷◌, length, take, true, false, Option, Some, None, Ok, Err, IfOk, IfErr, OnOk, OnErr, IsErrOf, IsTrue, if◌then◌else◌, is_some, nat_lt, nat_le};
+ghost use Rattle.ix_base.specs.Faults.{Rose};
+ghost use Rattle.ix_base.specs.declared.files.File.{File};
+ghost use Rattle.ix_disk.specs.Image.{Image, bytes_in};
+ghost use Rattle.ix_disk.specs.Moments.{Always};
+ghost use Rattle.ix_items.specs.Spelling.{HasSpelling};
+ghost use Rattle.ix_items.specs.declared.items.Item.TheVariants as items;
+ghost use Rattle.ix_keep.specs.Snapshot.{Snapshot, Stages, IsOver, IsIdle};
+ghost use Rattle.ix_keep.specs.Undo.{IsSame, HasSameLogs};
+ghost use Rattle.ix_machine.specs.Bounds.{IsRefused};
+ghost use Rattle.ix_machine.specs.Given.{Chooser};
+ghost use Rattle.ix_machine.specs.Judged.{draws};
+ghost use Rattle.ix_machine.specs.Step.{after};
+ghost use Rattle.ix_machine.specs.declared.commands.Order.{Order};
+ghost use Rattle.ix_store.specs.Counting.{is_turn, capped};
+ghost use Rattle.ix_store.specs.Making.{AreProper, IsProper, LeadsThrough, with_last};
+
+use crate::group::Group;
+use crate::memory::{Made, Memory};
+use ix_base::NoMemory;
+use ix_items::Item;
+use ix_keep::{Draft, Keeper, StageFault, stage, stage_both};
+use ix_machine::{Accepted, Command, Order, Refusal};
+use std::alloc::Global;
+
+/// A store: the state in memory, what keeps it on a disk, and the numbers of the run.
+#[derive(Drop)]
+pub struct Store<M> {
+    pub(crate) alloc: Global,
+    pub(crate) memory: M,
+    pub(crate) keeper: Keeper,
+    /// The number of the run, which no other run of the disk has.
+    pub(crate) run: u64,
+    /// How many numbers the run has drawn.
+    pub(crate) drawn: u64,
+    /// How many of them are committed.
+    pub(crate) committed: u64,
+    /// What the commands since the last commit come to.
+    pub(crate) group: Group,
+}
+
+/// Whether a command draws a number of the run.
+fn draws(command: &Command) -> bool
+    ensures { result ≡ draws command.now }
+{
+    match command {
+        Command::Block { .. } | Command::End { .. } | Command::Direct { .. } => true,
+        Command::Begin { .. } | Command::Tick | Command::Roll { .. } => false,
+        Command::Thaw { .. } | Command::Configure { .. } => false,
+    }
+}
+
+/// Whether a command is to be committed at once.
+fn is_turn(command: &Command) -> bool
+    ensures { result ≡ is_turn command.now }
+{
+    match command {
+        Command::Tick | Command::Configure { .. } => true,
+        Command::Block { .. } | Command::End { .. } | Command::Direct { .. } => false,
+        Command::Begin { .. } | Command::Roll { .. } | Command::Thaw { .. } => false,
+    }
+}
+
+/// The draft with one item more.
+fn with_last(draft: Draft, item: Item) -> Result<Draft, NoMemory>
+    requires draft { IsProper draft }
+    requires item { HasSpelling item }
+    ensures made { IfOk result (λ made. made ≡ with_last item draft) }
+    ensures proper { IfOk result (λ made. IsProper made) }
+{
+    let mut items = draft.items;
+    items.push(item)?;
+    Ok(Draft {
+        pieces: draft.pieces,
+        copies: draft.copies,
+        items,
+    })
+}
+
+/// Stages a draft, and one before it where there is one, or nothing.
+fn stage_drafts(
+    keeper: &mut Keeper,
+    alloc: Global,
+    first: Option<Draft>,
+    second: Draft,
+) -> Result<(), StageFault>
+    requires { AreProper first second }
+    ensures staged { (old new mid to : Snapshot) → Stages keeper.old old new → LeadsThrough first second old new mid to → OnOk result (Stages keeper.new old to) }
+    ensures err { OnErr result (IsSame keeper.old keeper.new) }
+    ensures logs { HasSameLogs keeper.old keeper.new }
+{
+    match first {
+        None => stage(keeper, alloc, second),
+        Some(first) => stage_both(keeper, alloc, first, second),
+    }
+}
+
+impl<M: Memory + Drop> Store<M> {
+    ghost use Rattle.ix_store.specs.Holding.{Staged, IsAccepted, IsUnchanged, HasSameRun};
+
+    /// Stages what was worked out, and takes it, or does nothing.
+    fn take(&mut self, made: Made<M::Next>, turned: bool) -> Result<(), NoMemory>
+        requires { AreProper made.first made.second }
+        ensures memory { OnOk result ((choose : Chooser) (history : List Order) → M.ready choose history made.next → M.holds choose history self.new.memory) }
+        ensures staged { (old new mid to : Snapshot) → Stages self.old.keeper old new →
+            LeadsThrough made.first (with_last (items.Removals (self.old.group.done_with ++ made.done_with)) made.second) old new mid to →
+            OnOk result (Stages self.new.keeper old to) }
+        ensures done { OnOk result (self.new.group.done_with ≡ self.old.group.done_with ++ made.done_with) }
+        ensures weight { OnOk result (self.new.group.weight ≡ capped (self.old.group.weight + made.weight)) }
+        ensures turned { OnOk result (self.new.group.turned ≡ (self.old.group.turned || (turned || is_some made.first))) }
+        ensures waiting { OnOk result (self.new.group.waiting ≡ true) }
+        ensures same { HasSameRun self.old self.new }
+        ensures err { OnErr result (IsUnchanged self.old self.new) }
+    {
+        let turned = turned || made.first.is_some();
+        let files = made.done_with.as_slice();
+        let group = self.group.with(self.alloc, files, made.weight, turned)?;
+        let last = group.removals(self.alloc)?;
+        let second = with_last(made.second, last)?;
+        match stage_drafts(&mut self.keeper, self.alloc, made.first, second) {
+            Ok(()) => {}
+            Err(_) => return Err(NoMemory),
+        }
+        self.memory.install(made.next);
+        self.group = group;
+        Ok(())
+    }
+
+    /// Draws the next number, where one is drawn.
+    fn draw(&mut self, draws: bool) -> Option<u64>
+        ensures number { result ≡ (if draws then Some self.old.drawn else None) }
+        ensures drawn { self.new.drawn ≡ (if draws then capped (self.old.drawn + 1) else self.old.drawn) }
+        ensures memory { self.new.memory ≡ self.old.memory }
+        ensures keeper { self.new.keeper ≡ self.old.keeper }
+        ensures run { self.new.run ≡ self.old.run }
+        ensures committed { self.new.committed ≡ self.old.committed }
+        ensures group { self.new.group ≡ self.old.group }
+    {
+        if !draws {
+            return None;
+        }
+        let number = self.drawn;
+        self.drawn = number.saturating_add(1);
+        Some(number)
+    }
+
+    /// Accepts a command, or leaves all as it was. It makes no call of a disk: the command is staged for the next commit.
+    pub fn accept(&mut self, command: Command, moment: i64) -> Result<Accepted, Refusal>
+        // An accepted command is behind the others.
+        ensures accepted { IfOk result (λ answer. (choose : Chooser) (history : List Order) (base k : ℕ) (old : Snapshot) → M.is_chooser choose →
+            Staged M.Book.fits M.holds choose history base k self.old old →
+            IsAccepted M.Book.fits M.holds choose history base k (record { command = command; moment = moment }) self.old self.new old answer) }
+        // A refusal has its cause,
+        ensures refused { IfErr result (λ refusal. (choose : Chooser) (history : List Order) (base k : ℕ) (old : Snapshot) → M.is_chooser choose →
+            Staged M.Book.fits M.holds choose history base k self.old old →
+            IsRefused choose false self.old.drawn (after choose history) (record { command = command; moment = moment }) refusal) }
+        // and leaves all as it was.
+        ensures err { OnErr result (IsUnchanged self.old self.new) }
+        // After a fault of the disk no command is accepted.
+        ensures closed { self.old.keeper.closed ≡ true → result ≡ Err Refusal.Closed }
+        // The logs are left alone.
+        ensures logs { HasSameLogs self.old.keeper self.new.keeper }
+    {
+        if self.keeper.is_closed() {
+            return Err(Refusal::Closed);
+        }
+        let draws = draws(&command);
+        let turned = is_turn(&command);
+        let order = Order { command, moment };
+        let made = self.memory.prepare(self.alloc, order, self.drawn)?;
+        let moved = made.moved;
+        match self.take(made, turned) {
+            Ok(()) => {}
+            Err(_) => return Err(Refusal::NoMemory),
+        }
+        let number = self.draw(draws);
+        Ok(Accepted {
+            run: self.run,
+            number,
+            moved,
+        })
+    }
+}
