@@ -1,0 +1,36 @@
+//! What a store has in memory. The store keeps one of these; commands are judged by it and worked out from it.
+
+use ix_base::{Bytes, ChannelMeta, Spot};
+use ix_life::View;
+use ix_machine::Config;
+use ix_parse::Channel;
+
+/// An open channel.
+#[derive(Drop)]
+pub struct Open {
+    pub name: Bytes,
+    /// What it states of its events, with the index that holds.
+    pub meta: ChannelMeta,
+    pub channel: Channel,
+}
+
+/// The state of a store.
+#[derive(Drop)]
+pub struct Held {
+    /// The settings in force.
+    pub config: Config,
+    /// The open channels, in the order of the bytes of their names.
+    pub channels: Vec<Open>,
+    /// How far watched files were read, in the order of the bytes of their paths.
+    pub spots: Vec<Spot>,
+    /// What is seen of it.
+    pub view: View,
+    /// How many events were placed.
+    pub placed: u64,
+    /// The number that the next file has.
+    pub next_file: u64,
+    /// The moment of the last command, in microseconds since 1970-01-01T00:00:00Z.
+    pub last: i64,
+    /// The moment of the last Tick.
+    pub tick: i64,
+}
