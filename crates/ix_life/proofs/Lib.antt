@@ -3,3 +3,4 @@ mod OrderLemmas
 mod PrefixLemmas
 pub mod ItemLemmas
 mod LimitsLemmas
+pub mod RetiredLemmas

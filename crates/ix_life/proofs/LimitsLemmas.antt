@@ -89,7 +89,7 @@ given_none : (entries : List MergedEntry) (index : List ℕ) (b : Bool) → None
 given_none entries index true = refl
 given_none entries index false = refl
 
-same_name : (a b : List ℕ) → bytes_eq a b ≡ true → a ≡ b
+pub same_name : (a b : List ℕ) → bytes_eq a b ≡ true → a ≡ b
 same_name a b e = (bytes_eq-Decides a b).0 e
 
 own_step : (entries : List MergedEntry) (index : List ℕ) (e : MergedEntry) (more : List IndexLimits) (found : Option MergedEntry) (p b : Bool)

@@ -7,3 +7,4 @@ pub mod Kinds
 pub mod Stanzas
 pub mod Limits
 pub mod Listed
+pub mod Retired

@@ -105,11 +105,33 @@ limits_in index (x ∷ xs) = if bytes_eq index x.name then Some x.limits else li
 abbrev pub limits_of : LimitSet → List ℕ → Option Limits
 limits_of set index = limits_in index set.indexes
 
+-- ---- how a set lists its indexes
+
+abbrev pub named : List MergedEntry → List ℕ → IndexLimits
+named entries index = record { name = index; limits = limits entries index }
+
+-- the index of a stanza's own entry
+abbrev pub listed_with : List MergedEntry → MergedEntry → List ℕ → List IndexLimits
+listed_with entries e [] = if is_index_stanza e.stanza then named entries e.stanza ∷ [] else []
+listed_with entries e (b ∷ key) = []
+
+abbrev pub listed_at : List MergedEntry → MergedEntry → List IndexLimits
+listed_at entries e = listed_with entries e e.key
+
+-- `main`, where it has no stanza
+abbrev pub main_of : List MergedEntry → List IndexLimits
+main_of entries = if is_some (entry_at (codes "main") [] entries) then [] else named entries (codes "main") ∷ []
+
+abbrev pub listed : List MergedEntry → List IndexLimits
+listed entries = flat_map (listed_at entries) entries ++ main_of entries
+
 -- a set says what the entries say
 pub record AreLimits (entries : List MergedEntry) (set : LimitSet) : Type 0 where
   pub default_database : set.default_database ≡ unwrap_or (value_of entries (codes "default") (codes "defaultDatabase")) (codes "main")
   pub last_chance : set.last_chance ≡ value_of entries (codes "default") (codes "lastChanceIndex")
   pub rotate_secs : set.rotate_secs ≡ number entries (codes "default") (codes "rotatePeriodInSecs") kinds.FromOne 60
+  pub retired : set.retired ≡ limits entries (codes "default")
+  pub listed : set.indexes ≡ listed entries
   pub limits : (index : List ℕ) → limits_of set index ≡ index_limits entries index
 
 abbrev pub route : LimitSet → List ℕ → Route

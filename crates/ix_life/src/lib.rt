@@ -22,6 +22,6 @@ pub use housekeeping::housekeep;
 pub use limits::Limits;
 pub use moves::{FreezeList, IdList, Moves};
 pub use placing::{Places, Target, place, place_at};
-pub use sets::{LimitSet, Route};
+pub use sets::{IndexLimits, LimitSet, Route, retired_limits};
 pub use stanzas::contains;
 pub use views::{BucketList, EntryList, IndexView, IndexViewList, View};

@@ -7,6 +7,7 @@ ghost use Rattle.ix_conf.specs.Lent.{item_entry};
 ghost use Rattle.ix_values.specs.Values.{value_of};
 ghost use Rattle.ix_life.specs.Limits as defs;
 ghost use Rattle.ix_life.specs.Listed.{listed_at, main_of, listed, named};
+ghost use Rattle.ix_life.specs.Retired.{HaveRetiredLimits};
 
 use crate::faults::{LimitFault, judge};
 use crate::kinds::{Kind, is_text, read};
@@ -37,6 +38,7 @@ pub struct LimitSet {
     /// `rotatePeriodInSecs`: the seconds between two turns of housekeeping.
     pub rotate_secs: u64,
     indexes: IndexLimitsList,
+    retired: Limits,
 }
 
 /// Where an event of an index goes.
@@ -208,7 +210,23 @@ impl LimitSet {
             last_chance: copy_value(alloc, value_of(indexes, DEFAULT, b"lastChanceIndex"))?,
             rotate_secs: number(indexes, DEFAULT, b"rotatePeriodInSecs", Kind::FromOne, 60),
             indexes: list_indexes(alloc, indexes)?,
+            retired: limits_of(indexes, DEFAULT),
         })
+    }
+
+    /// The indexes that are configured, each with its limits. It takes no memory.
+    pub fn indexes(&self) -> &[IndexLimits]
+        ensures { result.now ≡ self.now.indexes }
+    {
+        self.indexes.as_slice()
+    }
+
+    /// The limits of an index that is not configured and still has buckets: what `default` and the built-in values give. It takes
+    /// no memory.
+    pub fn retired(&self) -> &Limits
+        ensures { result.now ≡ self.now.retired }
+    {
+        &self.retired
     }
 
     /// The limits of an index; `None` exactly where it is not configured. It takes no memory.
@@ -231,3 +249,8 @@ impl LimitSet {
         }
     }
 }
+
+/// A law: the limits that a set has for retired indexes are those of each index that is not configured.
+pub fn retired_limits()
+    ensures { HaveRetiredLimits }
+{}

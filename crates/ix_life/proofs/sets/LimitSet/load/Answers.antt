@@ -9,5 +9,7 @@ returns-clause-ok c = record {
   default_database = c.in_ok-copy_or.ensures ∙ ap (λ o. unwrap_or o (codes "main")) c.value_of.ensures;
   last_chance = c.in_ok-copy_value.ensures ∙ c.value_of-2.ensures;
   rotate_secs = c.number.ensures;
+  retired = c.limits_of.ensures;
+  listed = c.in_ok-list_indexes.ensures;
   limits = λ index. ap (limits_in index) c.in_ok-list_indexes.ensures ∙ listed_limits c.args.indexes.now index;
 }
