@@ -1,8 +1,8 @@
 -- Books and files behind a further command.
-use Rattle.std.proofs.Common.{◌≡◌, ◌≢◌, ◌≤◌, ℕ, zero, suc, Bool, true, false, List, [], ◌∷◌, ◌++◌, take, drop, refl, sym, ap, ◌∙◌, subst, arith}
-use Rattle.std.specs.Prelude.{All, Option, Some, None, if◌then◌else◌, nat_le}
+use Rattle.std.proofs.Common.{◌≡◌, ◌≢◌, ℕ, Bool, true, false, List, [], ◌∷◌, ◌++◌, take, drop, refl, sym, ap, ◌∙◌, subst}
+use Rattle.std.specs.Prelude.{All, Option, Some, None, if◌then◌else◌}
 use Rattle.std.specs.List.{AllByRecursion}
-use Rattle.std.proofs.lemmas.Bool.Decides.{nat_tests}
+use Rattle.std.proofs.lemmas.List.{take-append-drop}
 use Rattle.std.proofs.lemmas.List.Elements.{All-from_recursion}
 use Rattle.ix_base.specs.declared.files.Area.TheVariants as areas
 use Rattle.ix_base.specs.declared.files.File.{File}
@@ -19,17 +19,15 @@ use Rattle.ix_keep.specs.Drafts.{Leads, AreFit, AreFitCopies, with_pieces, with_
 use Rattle.ix_keep.specs.Snapshot.{Snapshot, Forgets}
 use Rattle.ix_keep.specs.declared.piece.Draft.{Draft}
 use Rattle.ix_machine.specs.Given.{Chooser}
-use Rattle.ix_machine.specs.State.{State, Catalog, empty}
+use Rattle.ix_machine.specs.State.{Catalog}
 use Rattle.ix_machine.specs.Step.{after}
 use Rattle.ix_machine.specs.declared.commands.Order.{Order}
-use Rattle.ix_machine.proofs.Following.{after_more}
 use Rattle.ix_machine.proofs.Named.{by_test}
-use Rattle.ix_machine.proofs.Renewing.{renews_after}
-use Rattle.ix_machine.proofs.Stepping.{sound_after}
-use Rattle.ix_snapshot.specs.Contents.{contents_of, is_meta_area}
+use Rattle.ix_snapshot.specs.Contents.{contents_of}
 use Rattle.ix_snapshot.specs.Laws.{HasNoneFrom}
 use Rattle.ix_snapshot.specs.Snap.{left, leaves}
 use Rattle.ix_snapshot.proofs.Done.{done_has_none, done_stays}
+use Rattle.ix_snapshot.proofs.EarlierFiles.{earlier_none}
 use Rattle.ix_store.specs.Written.{over, IsOf, AreDone}
 use Rattle.ix_store.specs.Making.{LeadsOn, LeadsBy, LeadsThrough, with_last}
 
@@ -145,32 +143,12 @@ pub left_contents : (choose : Chooser) (h : List Order) → (left choose h).cont
 left_contents choose [] = refl
 left_contents choose (o ∷ h) = refl
 
--- files that are still to come have nothing in what an earlier catalog says
-none_yet : (s : Catalog) (next : ℕ) → s.next_file ≤ next → HasNoneFrom next (contents_of s)
-none_yet s next le = λ file from. by_test (is_meta_area file.area)
-    (λ t. rw t refl)
-    (λ t. let u = later file from in rw (t, u) refl)
-  where
-    later : (file : File) → next ≤ file.number → nat_le s.next_file file.number ≡ true
-    later file from = grind (arith, nat_tests)
-
-pub next_later : (choose : Chooser) (before later : List Order) → (after choose before).catalog.next_file ≤ (after choose (before ++ later)).catalog.next_file
-next_later choose before later =
-    subst (λ (m : State). (after choose before).catalog.next_file ≤ m.catalog.next_file) (sym (after_more choose empty before later))
-    (renews_after choose (after choose before) later (sound_after choose before)).later
-
-split_at : {X : Type 0} (n : ℕ) (xs : List X) → take n xs ++ drop n xs ≡ xs
-split_at zero xs = refl
-split_at (suc n) [] = refl
-split_at (suc n) (x ∷ xs) = ap (λ (l : List _). x ∷ l) (split_at n xs)
-
--- what the first commands left has nothing in them
+-- what the first commands left has nothing in files that are still to come
 pub none_before : (choose : Chooser) (h : List Order) (k : ℕ) (old : Snapshot) → old.contents ≡ (leaves choose h k).contents → HasNoneFrom (after choose h).catalog.next_file old.contents
 none_before choose h k old is =
-    let next = next_later choose (take k h) (drop k h) in
     subst (HasNoneFrom (after choose h).catalog.next_file) (sym (is ∙ left_contents choose (take k h)))
-    (none_yet (after choose (take k h)).catalog (after choose h).catalog.next_file
-    (subst (λ (l : List Order). (after choose (take k h)).catalog.next_file ≤ (after choose l).catalog.next_file) (split_at k h) next))
+    (subst (λ (l : List Order). HasNoneFrom (after choose l).catalog.next_file (contents_of (after choose (take k h)).catalog)) (take-append-drop k h)
+    (earlier_none choose (take k h) (drop k h)))
 
 -- ---- files that are done with
 

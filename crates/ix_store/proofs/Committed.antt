@@ -1,6 +1,7 @@
 -- A store that is committed, and one that is mounted.
-use Rattle.std.proofs.Common.{◌≡◌, ◌≢◌, ◌≤◌, ◌<◌, ◌^◌, ℕ, Bool, true, false, List, [], ◌∷◌, length, take, drop, refl, sym, ap, ◌∙◌, subst, arith, inl, inr}
-use Rattle.std.specs.Prelude.{Option, Some, None, ◌⊎◌, ◌==◌, if◌then◌else◌, nat_lt}
+use Rattle.std.proofs.Common.{◌≡◌, ◌≢◌, ◌≤◌, ◌<◌, ◌^◌, ℕ, zero, suc, Bool, true, false, List, [], ◌∷◌, length, take, drop, refl, sym, ap, ◌∙◌, subst, arith, inl, inr}
+use Rattle.std.specs.Prelude.{Option, Some, None, Result, Err, ◌⊎◌, ◌==◌, if◌then◌else◌, nat_lt}
+use Rattle.std.specs.List.{AllByRecursion}
 use Rattle.std.proofs.lemmas.Bool.Decides.{nat_tests}
 use Rattle.ix_base.specs.declared.files.File.{File}
 use Rattle.ix_disk.specs.Image.{Image}
@@ -14,6 +15,8 @@ use Rattle.ix_book.proofs.Renaming.{same_name}
 use Rattle.ix_keep.specs.Mounting.{IsFamily, IsMountedAt}
 use Rattle.ix_keep.specs.Snapshot.{Snapshot, KeepsEither, Held, IsIdle, IsLike, log_of}
 use Rattle.ix_keep.specs.declared.keeper.Keeper.{Keeper}
+use Rattle.ix_keep.specs.declared.mounting.MountFault.{MountFault as KeptFault}
+use Rattle.ix_keep.specs.declared.mounting.MountFault.TheVariants as kept
 use Rattle.ix_machine.specs.Given.{Chooser}
 use Rattle.ix_machine.specs.Step.{after}
 use Rattle.ix_machine.specs.declared.commands.Order.{Order}
@@ -21,8 +24,11 @@ use Rattle.ix_machine.proofs.Named.{by_test}
 use Rattle.ix_snapshot.specs.Snap.{left, leaves}
 use Rattle.ix_snapshot.proofs.Family.{family}
 use Rattle.ix_store.specs.Counting.{numbers, weights, has_turn, capped}
+use Rattle.ix_store.specs.Faults.{fault_of}
 use Rattle.ix_store.specs.Written.{over, IsOf, Stands, AreDone}
 use Rattle.ix_store.specs.Holding.{AreCounted, IsReady, Holds, IsMounted}
+use Rattle.ix_store.specs.declared.fault.MountFault.{MountFault}
+use Rattle.ix_store.specs.declared.fault.MountFault.TheVariants as faults
 use Rattle.ix_store.specs.declared.group.Group.{Group}
 use Rattle.ix_store.specs.declared.store.Store.{Store}
 use Rattle.ix_store.proofs.Counted.{drop_taken, drop_whole, take_whole, take_taken, length_taken, not_below}
@@ -63,10 +69,10 @@ counted_all drawn group next h base k committed new_drawn counted same weight tu
 
 pub holds_all : {D : Type 0} (g : Ghosts D) {M : Type 0} (fits : Book → Type 0) (holds : Chooser → List Order → M → Type 0) (choose : Chooser) (h : List Order) (base k : ℕ) (before store : Store M) (was disk : D) →
     (hold : Holds g fits holds choose h base k before was) → Held g fits store.keeper disk hold.staged.new hold.staged.new → IsIdle store.keeper →
-    store.memory ≡ before.memory → store.run ≡ before.run → store.drawn ≡ before.drawn → store.committed ≡ before.drawn →
+    store.memory ≡ before.memory → store.run ≡ before.run → store.drawn ≡ before.drawn → store.committed ≡ before.drawn → store.closed ≡ before.closed →
     store.group.done_with ≡ [] → store.group.weight ≡ 0 → store.group.turned ≡ false → store.group.waiting ≡ false →
     Holds g fits holds choose h base (length h) store disk
-holds_all g fits holds choose h base k before store was disk hold held idle memory run drawn committed done weight turned waiting =
+holds_all g fits holds choose h base k before store was disk hold held idle memory run drawn committed closed done weight turned waiting =
     let st = hold.staged in
     let whole : left choose h ≡ leaves choose h (length h) = ap (left choose) (sym (take_whole h)) in
     let is : IsOf store.run st.new (left choose h) = subst (λ (r : ℕ). IsOf r st.new (left choose h)) (sym run) st.new_is in
@@ -81,6 +87,7 @@ holds_all g fits holds choose h base k before store was disk hold held idle memo
         new = st.new;
         new_is = is;
         run = subst (λ (r : ℕ). r < 2 ^ 63) (sym run) st.run;
+        is_open = closed ∙ st.is_open;
         ready = ready_of g fits store.keeper disk st.new held;
         idle = λ whole. idle;
         done = subst (AreDone (after choose h).catalog) (sym done) tt;
@@ -200,6 +207,12 @@ module _ (fits : Book → Type 0) (choose : Chooser) (h : List Order) (bodies : 
 
 -- ---- a mount
 
+pub kept_damaged : {T : Type 0} (fault : KeptFault) (file : File) (at : ℕ) (shown : MountFault) → shown ≡ fault_of fault → ◌≡◌ {A = Result T MountFault} (Err shown) (Err (faults.Damaged file at)) → fault ≡ kept.Damaged file at
+kept_damaged kept.Disk file at shown is e = absurd cc
+kept_damaged (kept.Damaged f a) file at shown is e = cc
+kept_damaged kept.Full file at shown is e = absurd cc
+kept_damaged kept.NoMemory file at shown is e = absurd cc
+
 pub family_from : (choose : Chooser) (h : List Order) (k : ℕ) → IsFamily (leaves choose h) k (length h)
 family_from choose h k =
     let f = family choose h in
@@ -220,19 +233,66 @@ counted_none group h n le weight turned waiting =
       waiting = waiting ∙ sym (ap (nat_lt n) (length_taken n h le) ∙ not_below n);
     }
 
-pub holds_mounted : {D : Type 0} (g : Ghosts D) {M : Type 0} (fits : Book → Type 0) (holds : Chooser → List Order → M → Type 0) (is_chooser : Chooser → Type 0) (choose : Chooser) (h : List Order) (k : ℕ) (image : Image) (store : Store M) (disk : D) (book : Book) →
-    is_chooser choose → (at : IsMountedAt g fits store.keeper disk book (leaves choose h) k (length h) image) →
-    ((choose : Chooser) (history : List Order) (run : ℕ) (removed : Option Item) → is_chooser choose → book ≡ over run removed (left choose history).book → holds choose history store.memory) →
-    store.run ≡ run_in book → run_in book < 2 ^ 63 → IsIdle store.keeper → store.drawn ≡ 0 → store.committed ≡ 0 →
+-- the book behind the last body was judged
+last_fits : (fits : Book → Type 0) (bodies : List (List ℕ)) (from to : Book) → Replays fits bodies from to → (to ≡ from) ⊎ fits to
+last_fits fits [] from to is = inl is
+last_fits fits (body ∷ bodies) from to is = by (last_fits fits bodies (replay is.0 from) to is.3)
+  where
+    by : (to ≡ replay is.0 from) ⊎ fits to → (to ≡ from) ⊎ fits to
+    by (inl e) = inr (subst fits (sym e) is.2)
+    by (inr fit) = inr fit
+
+all_taken : {X : Type 0} (P : X → Type 0) (n : ℕ) (xs : List X) → AllByRecursion P xs → AllByRecursion P (take n xs)
+all_taken P zero xs all = tt
+all_taken P (suc n) [] all = tt
+all_taken P (suc n) (x ∷ xs) all = (all.0, all_taken P n xs all.1)
+
+-- what a mount finds
+module _ {D : Type 0} (g : Ghosts D) (fits : Book → Type 0) (keeper : Keeper) (disk : D) (book : Book) (choose : Chooser) (h : List Order) (k : ℕ) (image : Image)
+    (at : IsMountedAt g fits keeper disk book (leaves choose h) k (length h) image) where
+  abbrev run : ℕ
+  run = run_in book
+
+  begun : 1 ≤ run_in at.now.book
+  begun = let found = at.run in omega (arith, found)
+
+  begun_too : 1 ≤ run
+  begun_too = let made = ap run_in at.made in omega (arith, begun, made)
+
+  replayed : Replays (Taken fits (log_of keeper)) at.held.committed.bodies empty at.now.book
+  replayed = subst (λ (f : File). Replays (Taken fits f) at.held.committed.bodies empty at.now.book) (sym at.held.committed.file) at.held.committed.replayed
+
+  pub found_is : IsOf run at.now (left choose (take at.which h))
+  found_is = written_is (Taken fits (log_of keeper)) choose (take at.which h) at.held.committed.bodies at.now run replayed at.like (sym (ap run_in at.made)) begun_too
+
+  pub found_fits : fits book
+  found_fits = by (last_fits (Taken fits (log_of keeper)) at.held.committed.bodies empty at.now.book replayed)
+    where
+      by : (at.now.book ≡ empty) ⊎ Taken fits (log_of keeper) at.now.book → fits book
+      by (inl e) = absurd (let none = ap run_in e in omega (arith, begun, none))
+      by (inr taken) = subst fits (sym at.made) taken.fit
+
+  pub found_book : book ≡ over run found_is.removed (left choose (take at.which h)).book
+  found_book = at.made ∙ found_is.book
+
+  -- a state that cannot be taken from the book
+  pub none_unsound : (is_chooser : Chooser → Type 0) (takes : Order → Type 0) → is_chooser choose → AllByRecursion takes h →
+      ((choose : Chooser) (history : List Order) (run : ℕ) (removed : Option Item) → is_chooser choose → AllByRecursion takes history → fits book → book ≡ over run removed (left choose history).book → ⊥) → ⊥
+  none_unsound is_chooser takes chooser given none = none choose (take at.which h) run found_is.removed chooser (all_taken takes at.which h given) found_fits found_book
+
+pub holds_mounted : {D : Type 0} (g : Ghosts D) {M : Type 0} (fits : Book → Type 0) (holds : Chooser → List Order → M → Type 0) (is_chooser : Chooser → Type 0) (takes : Order → Type 0) (choose : Chooser) (h : List Order) (k : ℕ) (image : Image) (store : Store M) (disk : D) (book : Book) →
+    is_chooser choose → AllByRecursion takes h → (at : IsMountedAt g fits store.keeper disk book (leaves choose h) k (length h) image) →
+    ((choose : Chooser) (history : List Order) (run : ℕ) (removed : Option Item) → is_chooser choose → AllByRecursion takes history → fits book → book ≡ over run removed (left choose history).book → holds choose history store.memory) →
+    store.run ≡ run_in book → run_in book < 2 ^ 63 → IsIdle store.keeper → store.drawn ≡ 0 → store.committed ≡ 0 → store.closed ≡ false →
     store.group.done_with ≡ [] → store.group.weight ≡ 0 → store.group.turned ≡ false → store.group.waiting ≡ false →
     IsMounted g fits holds choose h k image store disk
-holds_mounted g fits holds is_chooser choose h k image store disk book chooser at memory run small idle drawn committed done weight turned waiting =
+holds_mounted g fits holds is_chooser takes choose h k image store disk book chooser given at memory run small idle drawn committed closed done weight turned waiting =
     let n = at.which in
     let prefix = take n h in
     let made = ap run_in at.made in
     let found = at.run in
     let same : run_in at.now.book ≡ store.run = sym made ∙ sym run in
-    let is : IsOf store.run at.now (left choose prefix) = written_is (Taken fits (log_of store.keeper)) choose prefix at.held.committed.bodies at.now store.run replayed at.like same (omega (arith, found, same)) in
+    let is : IsOf store.run at.now (left choose prefix) = subst (λ (r : ℕ). IsOf r at.now (left choose prefix)) (sym run) (found_is g fits store.keeper disk book choose h k image at) in
     record {
       count = n;
       least = at.least;
@@ -247,11 +307,12 @@ holds_mounted g fits holds is_chooser choose h k image store disk book chooser a
         staged = record {
           from_base = omega arith;
           within = (let l = length_taken n h at.most in omega (arith, l));
-          memory = memory choose prefix store.run is.removed chooser (at.made ∙ is.book);
+          memory = memory choose prefix store.run is.removed chooser (all_taken takes n h given) (found_fits g fits store.keeper disk book choose h k image at) (at.made ∙ is.book);
           old_is = subst (λ (l : List Order). IsOf store.run at.now (left choose l)) (sym (take_taken n h)) is;
           new = at.now;
           new_is = is;
           run = (omega (arith, small, run));
+          is_open = closed;
           ready = ready_of g fits store.keeper disk at.now at.held;
           idle = λ whole. idle;
           done = subst (AreDone (after choose prefix).catalog) (sym done) tt;
@@ -260,6 +321,3 @@ holds_mounted g fits holds is_chooser choose h k image store disk book chooser a
         };
       };
     }
-  where
-    replayed : Replays (Taken fits (log_of store.keeper)) at.held.committed.bodies empty at.now.book
-    replayed = subst (λ (f : File). Replays (Taken fits f) at.held.committed.bodies empty at.now.book) (sym at.held.committed.file) at.held.committed.replayed

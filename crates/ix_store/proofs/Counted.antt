@@ -1,27 +1,22 @@
 -- What a store counts, behind a further command.
-use Rattle.std.proofs.Common.{◌≡◌, ◌≤◌, ◌<◌, ◌+◌, ℕ, zero, suc, Bool, true, false, List, [], ◌∷◌, ◌++◌, length, take, drop, refl, sym, ap, ◌∙◌, arith, append_assoc}
+use Rattle.std.proofs.Common.{◌≡◌, ◌≤◌, ◌<◌, ◌+◌, ℕ, zero, suc, true, false, List, [], ◌∷◌, ◌++◌, length, take, drop, refl, sym, ap, ◌∙◌, arith, append_assoc}
 use Rattle.std.specs.Prelude.{nat_lt, ◌||◌, get_or}
 use Rattle.std.specs.List.{AllByRecursion}
 use native.Mathlib.Numerals.{unary_clauses}
 use Rattle.std.proofs.lemmas.Bool.Decides.{nat_tests}
+use Rattle.std.proofs.lemmas.List.Folds.{list_any-append}
+use Rattle.std.proofs.lemmas.List.Sums.{sum_by-append}
 use Rattle.ix_machine.specs.declared.commands.Order.{Order}
-use Rattle.ix_store.specs.Counting.{is_turn, numbers, weights, has_turn, capped}
+use Rattle.ix_store.specs.Counting.{numbers, weights, has_turn, capped}
 
 pub numbers_more : (a b : List Order) → numbers (a ++ b) ≡ numbers a + numbers b
-numbers_more [] b = omega arith
-numbers_more (o ∷ a) b = let r = numbers_more a b in omega (arith, r)
+numbers_more a b = sum_by-append _ a b
 
 pub weights_more : (a b : List Order) → weights (a ++ b) ≡ weights a + weights b
-weights_more [] b = omega arith
-weights_more (o ∷ a) b = let r = weights_more a b in omega (arith, r)
-
-or_on : (a b c : Bool) → (a || (b || c)) ≡ ((a || b) || c)
-or_on true b c = refl
-or_on false b c = refl
+weights_more a b = sum_by-append _ a b
 
 pub has_turn_more : (a b : List Order) → has_turn (a ++ b) ≡ (has_turn a || has_turn b)
-has_turn_more [] b = refl
-has_turn_more (o ∷ a) b = ap (λ (t : Bool). is_turn o.command || t) (has_turn_more a b) ∙ or_on (is_turn o.command) (has_turn a) (has_turn b)
+has_turn_more a b = list_any-append _ a b
 
 -- ---- lists
 

@@ -1,6 +1,7 @@
 -- A store behind a further command, a commit and a mount.
-use Rattle.std.proofs.Common.{◌≡◌, ◌≤◌, ◌<◌, ◌+◌, ◌^◌, ℕ, Bool, true, false, List, ◌++◌, length, take, drop, refl, sym, ap, ◌∙◌, subst, arith, length-append}
+use Rattle.std.proofs.Common.{◌≡◌, ◌≤◌, ◌<◌, ◌+◌, ◌^◌, ℕ, ℤ, Bool, true, false, List, ◌++◌, length, take, drop, refl, sym, ap, ◌∙◌, subst, arith, length-append}
 use Rattle.std.specs.Prelude.{Some, None, if◌then◌else◌, is_some, ◌||◌}
+use Rattle.std.specs.List.{AllByRecursion}
 use Rattle.ix_base.specs.declared.files.Area.TheVariants.{Meta}
 use Rattle.ix_base.specs.declared.files.File.{File}
 use Rattle.ix_items.specs.declared.items.Item.TheVariants as items
@@ -19,6 +20,7 @@ use Rattle.ix_machine.specs.Judged.{adds, draws, needs_tick}
 use Rattle.ix_machine.specs.State.{State}
 use Rattle.ix_machine.specs.Step.{after}
 use Rattle.ix_machine.specs.declared.answers.Accepted.{Accepted}
+use Rattle.ix_machine.specs.declared.commands.Command.TheVariants.{Tick}
 use Rattle.ix_machine.specs.declared.commands.Order.{Order}
 use Rattle.ix_snapshot.specs.Snap.{left, leaves}
 use Rattle.ix_store.specs.Counting.{number_of, weight_of, is_turn, numbers, weights, has_turn, capped}
@@ -157,6 +159,7 @@ module _ {M : Type 0} (fits : Book → Type 0) (holds : Chooser → List Order �
     new = st.new;
     new_is = subst (λ (r : ℕ). IsOf r st.new (left choose h)) (sym same.run) st.new_is;
     run = subst (λ (r : ℕ). r < 2 ^ 63) (sym same.run) st.run;
+    is_open = same.closed ∙ st.is_open;
     ready = ready_same fits before.keeper store.keeper old st.new same.keeper st.ready;
     idle = λ whole. idle_same before.keeper store.keeper same.keeper (st.idle whole);
     done = subst (λ (g : Group). AreDone (after choose h).catalog g.done_with) (sym same.group) st.done;
@@ -166,7 +169,7 @@ module _ {M : Type 0} (fits : Book → Type 0) (holds : Chooser → List Order �
   }
 
   module _ {N : Type 0} (is_ready : Chooser → List Order → N → Type 0) (order : Order) (made : Made N) where
-    pub staged_more : IsMade is_ready fits choose h order before.drawn made → HasSameLogs before.keeper store.keeper → store.run ≡ before.run → store.committed ≡ before.committed →
+    pub staged_more : IsMade is_ready fits choose h order before.drawn made → HasSameLogs before.keeper store.keeper → store.run ≡ before.run → store.committed ≡ before.committed → store.closed ≡ before.closed →
         holds choose (with_order choose h order) store.memory →
         ((new mid to : Snapshot) → Stages before.keeper old new → LeadsThrough made.first (with_last (items.Removals (before.group.done_with ++ made.done_with)) made.second) old new mid to → Stages store.keeper old to) →
         store.group.done_with ≡ before.group.done_with ++ made.done_with →
@@ -174,7 +177,7 @@ module _ {M : Type 0} (fits : Book → Type 0) (holds : Chooser → List Order �
         store.group.weight ≡ capped (before.group.weight + weight_of order.command) →
         store.group.turned ≡ (before.group.turned || (is_turn order.command || is_some made.first)) → store.group.waiting ≡ true →
         Staged fits holds choose h base k before old → Staged fits holds choose (with_order choose h order) base k store old
-    staged_more is logs run committed memory stage done_is drawn weight turned waiting st =
+    staged_more is logs run committed closed memory stage done_is drawn weight turned waiting st =
         let m = after choose h in
         let next = with_order choose h order in
         let files = before.group.done_with ++ made.done_with in
@@ -191,6 +194,7 @@ module _ {M : Type 0} (fits : Book → Type 0) (holds : Chooser → List Order �
           new = led.last;
           new_is = subst (λ (r : ℕ). IsOf r led.last (left choose next)) (sym run) (record { removed = Some (items.Removals files); book = led.book; contents = led.contents });
           run = subst (λ (r : ℕ). r < 2 ^ 63) (sym run) st.run;
+          is_open = closed ∙ st.is_open;
           ready = ready_more fits before.keeper store.keeper choose next before.run files old st.new led.last logs st.ready stages led.book led.contents (is.fit before.run files st.run done) done;
           idle = λ whole. absurd (let w = st.within in let l = length-append h (adds m order) in let s = adds_some m order in omega (arith, w, l, s, whole));
           done = subst (AreDone (after choose next).catalog) (sym done_is) done;
@@ -207,11 +211,11 @@ module _ {M N : Type 0} (fits : Book → Type 0) (holds : Chooser → List Order
       took.group.done_with ≡ before.group.done_with ++ made.done_with → took.group.weight ≡ capped (before.group.weight + made.weight) →
       took.group.turned ≡ (before.group.turned || (turned_it || is_some made.first)) → took.group.waiting ≡ true →
       made.weight ≡ weight_of order.command → draws_it ≡ draws order.command → turned_it ≡ is_turn order.command →
-      final.memory ≡ took.memory → final.keeper ≡ took.keeper → final.run ≡ took.run → final.committed ≡ took.committed → final.group ≡ took.group →
+      final.memory ≡ took.memory → final.keeper ≡ took.keeper → final.run ≡ took.run → final.committed ≡ took.committed → final.group ≡ took.group → final.closed ≡ took.closed →
       final.drawn ≡ (if draws_it then capped (took.drawn + 1) else took.drawn) →
       answer.run ≡ final.run → answer.number ≡ (if draws_it then Some took.drawn else None) → answer.moved ≡ made.moved →
       Staged fits holds choose h base k before old → IsAccepted fits holds choose h base k order before final old answer
-  accepted is same memory stage done weight turned waiting heavy draw turn memory_is keeper_is run_is committed_is group_is drawn_is answer_run number moved st =
+  accepted is same memory stage done weight turned waiting heavy draw turn memory_is keeper_is run_is committed_is group_is closed_is drawn_is answer_run number moved st =
       record {
         allowed = is.allowed;
         answers = record {
@@ -220,7 +224,7 @@ module _ {M N : Type 0} (fits : Book → Type 0) (holds : Chooser → List Order
           moved_are = moved ∙ is.moved;
         };
         staged = staged_more fits holds choose h base k before final old is_ready order made is
-            (subst (HasSameLogs before.keeper) (sym keeper_is) same.logs) (run_is ∙ same.run) (committed_is ∙ same.committed)
+            (subst (HasSameLogs before.keeper) (sym keeper_is) same.logs) (run_is ∙ same.run) (committed_is ∙ same.committed) (closed_is ∙ same.closed)
             (subst (holds choose (with_order choose h order)) (sym memory_is) memory)
             (λ new mid to stages leads. subst (λ (kp : Keeper). Stages kp old to) (sym keeper_is) (stage new mid to stages leads))
             (ap (λ (g : Group). g.done_with) group_is ∙ done)
@@ -229,3 +233,13 @@ module _ {M N : Type 0} (fits : Book → Type 0) (holds : Chooser → List Order
             (ap (λ (g : Group). g.turned) group_is ∙ turned ∙ ap (λ (t : Bool). before.group.turned || (t || is_some made.first)) turn)
             (ap (λ (g : Group). g.waiting) group_is ∙ waiting) st;
       }
+
+-- ---- what is taken
+
+pub more_taken : (takes : Order → Type 0) → ((moment : ℤ) → takes (record { command = Tick; moment = moment })) → (choose : Chooser) (h : List Order) (order : Order) →
+    AllByRecursion takes h → takes order → AllByRecursion takes (with_order choose h order)
+more_taken takes ticks choose h order all one = all_more takes h (adds (after choose h) order) all (by (needs_tick (after choose h) order) refl)
+  where
+    by : (t : Bool) → needs_tick (after choose h) order ≡ t → AllByRecursion takes (adds (after choose h) order)
+    by true is = rw is (ticks order.moment, (one, tt))
+    by false is = rw is (one, tt)

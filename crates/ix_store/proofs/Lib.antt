@@ -5,3 +5,4 @@ pub mod Committed
 pub mod Unchanged
 pub mod Numbered
 pub mod Lawful
+pub mod Exported

@@ -2,6 +2,7 @@
 use Rattle.std.proofs.Common.{◌≡◌, ◌≤◌, ◌-◌, ℕ, zero, suc, Bool, true, false, List, [], ◌∷◌, ◌++◌, take, drop, refl, sym, ap, ◌∙◌, arith}
 use Rattle.std.specs.Prelude.{nat_le, ◌||◌}
 use Rattle.std.proofs.lemmas.Bool.Decides.{nat_tests}
+use Rattle.std.proofs.lemmas.List.{take-append-drop}
 use Rattle.ix_machine.specs.declared.commands.Order.{Order}
 use Rattle.ix_machine.proofs.Named.{by_test}
 use Rattle.ix_store.specs.Counting.{numbers, weights, capped, is_due}
@@ -9,14 +10,9 @@ use Rattle.ix_store.specs.Holding.{AreCounted}
 use Rattle.ix_store.specs.declared.group.Group.{Group}
 use Rattle.ix_store.proofs.Counted.{numbers_more}
 
-whole : {X : Type 0} (k : ℕ) (h : List X) → take k h ++ drop k h ≡ h
-whole zero h = refl
-whole (suc k) [] = refl
-whole (suc k) (x ∷ h) = ap (λ (l : List _). x ∷ l) (whole k h)
-
 -- behind the base stand the committed ones and the others
 dropped : {X : Type 0} (b k : ℕ) (h : List X) → b ≤ k → drop b h ≡ drop b (take k h) ++ drop k h
-dropped zero k h le = sym (whole k h)
+dropped zero k h le = sym (take-append-drop k h)
 dropped (suc b) zero h le = absurd (omega (arith, le))
 dropped (suc b) (suc k) [] le = refl
 dropped (suc b) (suc k) (x ∷ h) le = dropped b k h (omega (arith, le))

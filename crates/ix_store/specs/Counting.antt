@@ -1,6 +1,6 @@
 -- What a store counts of the commands that it accepted.
-use Rattle.std.specs.Prelude.{◌+◌, ◌-◌, ◌^◌, ◌||◌, ℕ, Bool, true, false, if◌then◌else◌, min, nat_le, List, [], ◌∷◌, length}
-use Rattle.std.specs.List.{sum_by}
+use Rattle.std.specs.Prelude.{◌-◌, ◌^◌, ◌||◌, ℕ, Bool, true, false, if◌then◌else◌, min, nat_le, List, length}
+use Rattle.std.specs.List.{sum_by, list_any}
 use Rattle.ix_machine.specs.Judged.{draws}
 use Rattle.ix_machine.specs.declared.commands.Command.{Command}
 use Rattle.ix_machine.specs.declared.commands.Command.TheVariants.{Begin, Block, End, Tick, Roll, Thaw, Configure, Direct}
@@ -41,16 +41,13 @@ is_turn (Direct events) = false
 
 -- how many numbers they draw
 abbrev pub numbers : List Order → ℕ
-numbers [] = 0
-numbers (order ∷ orders) = number_of order.command + numbers orders
+numbers orders = sum_by (λ (order : Order). number_of order.command) orders
 
 abbrev pub weights : List Order → ℕ
-weights [] = 0
-weights (order ∷ orders) = weight_of order.command + weights orders
+weights orders = sum_by (λ (order : Order). weight_of order.command) orders
 
 abbrev pub has_turn : List Order → Bool
-has_turn [] = false
-has_turn (order ∷ orders) = is_turn order.command || has_turn orders
+has_turn orders = list_any (λ (order : Order). is_turn order.command) orders
 
 -- a count of 64 bits stands still at its end
 abbrev pub capped : ℕ → ℕ

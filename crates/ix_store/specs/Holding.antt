@@ -1,5 +1,5 @@
 -- What a store holds.
-use Rattle.std.specs.Prelude.{◌≡◌, ◌≤◌, ◌<◌, ◌+◌, ◌^◌, ℕ, false, nat_lt, List, length, drop, take, Some, None, if◌then◌else◌}
+use Rattle.std.specs.Prelude.{◌≡◌, ◌≤◌, ◌<◌, ◌+◌, ◌^◌, ◌||◌, ℕ, Bool, false, nat_lt, List, length, drop, take, Some, None, if◌then◌else◌}
 use Rattle.ix_base.specs.declared.files.Area.TheVariants.{Meta}
 use Rattle.ix_disk.specs.Image.{Image}
 use Rattle.ix_disk.specs.declared.disk.Disk.{Ghosts}
@@ -21,6 +21,10 @@ use Rattle.ix_store.specs.Making.{with_order}
 use Rattle.ix_store.specs.Written.{IsOf, AreDone}
 use Rattle.ix_store.specs.declared.group.Group.{Group}
 use Rattle.ix_store.specs.declared.store.Store.{Store}
+
+-- whether an earlier call met a fault of the disk, or damage
+abbrev pub is_closed : {M : Type 0} → Store M → Bool
+is_closed store = store.keeper.closed || store.closed
 
 -- The numbers of a run that began behind the first `base` commands of a history, of which k are committed.
 pub record AreCounted (drawn committed : ℕ) (group : Group) (history : List Order) (base k : ℕ) : Type 0 where
@@ -48,6 +52,7 @@ pub record Staged {M : Type 0} (fits : Book → Type 0) (holds : Chooser → Lis
   pub new : Snapshot
   pub new_is : IsOf store.run new (left choose history)
   pub run : store.run < 2 ^ 63
+  pub is_open : store.closed ≡ false
   pub ready : IsReady fits store.keeper old new
   pub idle : k ≡ length history → IsIdle store.keeper
   pub done : AreDone (after choose history).catalog store.group.done_with
@@ -80,6 +85,7 @@ pub record IsUnchanged {M : Type 0} (before store : Store M) : Type 0 where
   pub drawn : store.drawn ≡ before.drawn
   pub committed : store.committed ≡ before.committed
   pub group : store.group ≡ before.group
+  pub closed : store.closed ≡ before.closed
 
 -- all but what is staged, and the state in memory, is the same
 pub record HasSameRun {M : Type 0} (before store : Store M) : Type 0 where
@@ -87,6 +93,7 @@ pub record HasSameRun {M : Type 0} (before store : Store M) : Type 0 where
   pub run : store.run ≡ before.run
   pub drawn : store.drawn ≡ before.drawn
   pub committed : store.committed ≡ before.committed
+  pub closed : store.closed ≡ before.closed
 
 -- A store was mounted: it holds the prefix for which the disk's own reading stands, all of it committed, and begins the run behind the
 -- one that was found.

@@ -1,23 +1,25 @@
 //! A store is committed, and mounted again behind a stop. The program calls both.
 
 ghost use Rattle.std.specs.Prelude.{◌≡◌, ◌≤◌, ◌⊎◌, ℕ, List, length, take, true, false, Some, Ok, Err, IfOk, OnOk, OnErr, IsErrOf};
+ghost use Rattle.std.specs.List.{AllByRecursion};
 ghost use Rattle.ix_base.specs.Faults.{Rose};
 ghost use Rattle.ix_base.specs.declared.files.File.{File};
 ghost use Rattle.ix_disk.specs.Image.{Image, bytes_in};
 ghost use Rattle.ix_disk.specs.Moments.{Always};
 ghost use Rattle.ix_keep.specs.Committing.{IsShort};
-ghost use Rattle.ix_keep.specs.Mounting.{IsBadMount, IsBadLog};
+ghost use Rattle.ix_keep.specs.Mounting.{IsBadLog};
 ghost use Rattle.ix_keep.specs.Snapshot.{IsOver, IsIdle};
 ghost use Rattle.ix_machine.specs.Given.{Chooser};
 ghost use Rattle.ix_machine.specs.declared.commands.Order.{Order};
 ghost use Rattle.ix_store.specs.Written.{Stands, StandsFrom};
 
+use crate::fault::{MountFault, fault_of};
 use crate::group::Group;
-use crate::memory::Memory;
+use crate::memory::{BookFault, Memory};
 use crate::store::Store;
 use ix_book::Replay;
 use ix_disk::Disk;
-use ix_keep::{CommitFault, MountFault, commit, mount};
+use ix_keep::{CommitFault, commit, mount};
 use std::alloc::Global;
 
 impl<M: Memory + Drop> Store<M> {
@@ -55,18 +57,24 @@ impl<M: Memory + Drop> Store<M> {
         ensures images { (choose : Chooser) (history : List Order) (k : ℕ) → ((image : Image) → D.Disk.may_leave disk.old image → StandsFrom M.Book.fits choose history k image) →
             Always D.Disk disk.old disk.new (StandsFrom M.Book.fits choose history k) }
         // At Ok store and disk hold the prefix for which the disk's own reading stands, in the run behind the one that was found.
-        ensures mounted { IfOk result (λ store. (choose : Chooser) (history : List Order) (k : ℕ) → M.is_chooser choose →
+        ensures mounted { IfOk result (λ store. (choose : Chooser) (history : List Order) (k : ℕ) → M.is_chooser choose → AllByRecursion M.takes history →
             ((image : Image) → D.Disk.may_leave disk.old image → StandsFrom M.Book.fits choose history k image) → (image : Image) → D.Disk.seen disk.old ≡ Some image →
             IsMounted D.Disk M.Book.fits M.holds choose history k image store disk.new) }
         // What a commit asks for.
         ensures over { IfOk result (λ store. IsOver D.Disk store.keeper disk.new) }
         // It names the gate of the first bad body of the root log or the current one, as the disk reads.
-        ensures damaged { (named : File) (at : ℕ) → IsBadMount result named at → (image : Image) → D.Disk.seen disk.old ≡ Some image → IsBadLog M.Book.fits named at image }
+        ensures damaged { (named : File) (at : ℕ) → result ≡ Err (MountFault.Damaged named at) → (image : Image) → D.Disk.seen disk.old ≡ Some image → IsBadLog M.Book.fits named at image }
+        // A disk of whose every image some commands may be read is sound.
+        ensures sound { IsErrOf result MountFault.Unsound → (choose : Chooser) (history : List Order) (k : ℕ) → M.is_chooser choose → AllByRecursion M.takes history →
+            ((image : Image) → D.Disk.may_leave disk.old image → StandsFrom M.Book.fits choose history k image) → (image : Image) → D.Disk.seen disk.old ≡ Some image → ⊥ }
         ensures later { D.Disk.faults disk.old ≤ D.Disk.faults disk.new }
         ensures cause { IsErrOf result MountFault.Disk → Rose (D.Disk.faults disk.old) (D.Disk.faults disk.new) }
     {
         let mut book = M::blank(alloc);
-        let keeper = mount(alloc, disk, &mut book)?;
+        let keeper = match mount(alloc, disk, &mut book) {
+            Ok(keeper) => keeper,
+            Err(fault) => return Err(fault_of(fault)),
+        };
         let run = book.run();
         match M::from_book(alloc, book) {
             Ok(memory) => Ok(Store {
@@ -77,8 +85,10 @@ impl<M: Memory + Drop> Store<M> {
                 drawn: 0,
                 committed: 0,
                 group: Group::none(alloc),
+                closed: false,
             }),
-            Err(_) => Err(MountFault::NoMemory),
+            Err(BookFault::Unsound) => Err(MountFault::Unsound),
+            Err(BookFault::NoMemory) => Err(MountFault::NoMemory),
         }
     }
 }

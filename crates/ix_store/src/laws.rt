@@ -1,11 +1,13 @@
 //! Laws of stores, without code: each is the contract of a function that does nothing. The program stands on them.
 
 ghost use Rattle.std.specs.Prelude.{◌≤◌, ℕ, List, length, take};
+ghost use Rattle.std.specs.List.{AllByRecursion};
 ghost use Rattle.ix_disk.specs.Image.{Image};
 ghost use Rattle.ix_keep.specs.Undo.{HasSameLogs};
 ghost use Rattle.ix_machine.specs.Given.{Chooser};
 ghost use Rattle.ix_machine.specs.declared.commands.Order.{Order};
 ghost use Rattle.ix_store.specs.Holding.{Holds, Staged};
+ghost use Rattle.ix_store.specs.Making.{with_order};
 ghost use Rattle.ix_store.specs.Written.{Stands, StandsFrom};
 ghost use Rattle.ix_store.specs.declared.store.Store.{Store};
 
@@ -29,4 +31,9 @@ pub fn accepted_is_held<D: Disk, M: Memory + Drop>()
     ensures { (choose : Chooser) (before history : List Order) (base k : ℕ) (old store : Store M) (disk : D) →
         (hold : Holds D.Disk M.Book.fits M.holds choose before base k old disk) → HasSameLogs old.keeper store.keeper →
         Staged M.Book.fits M.holds choose history base k store hold.old → Holds D.Disk M.Book.fits M.holds choose history base k store disk }
+{}
+
+/// A history stays one of commands that are taken, with what an accepted one adds.
+pub fn given_are_taken<M: Memory>()
+    ensures { (choose : Chooser) (history : List Order) (order : Order) → AllByRecursion M.takes history → M.takes order → AllByRecursion M.takes (with_order choose history order) }
 {}

@@ -3,12 +3,16 @@
 #![tactic(auto)]
 
 mod durable;
+mod exporting;
+mod fault;
 mod group;
 mod laws;
 mod memory;
 mod numbers;
+mod showing;
 mod store;
 
-pub use laws::{accepted_is_held, prefixes_stand, what_is_held_stands};
-pub use memory::{Made, Memory};
+pub use fault::{ExportFault, MountFault};
+pub use laws::{accepted_is_held, given_are_taken, prefixes_stand, what_is_held_stands};
+pub use memory::{BookFault, Made, Memory};
 pub use store::Store;

@@ -1,21 +1,29 @@
 //! The state in memory, as a store takes it: the store is generic over it, and the crate of the state implements it.
 
-ghost use Rattle.std.specs.Prelude.{◌≡◌, ℕ, List, IfOk, IfErr, Option, false};
+ghost use Rattle.std.specs.Prelude.{◌≡◌, ℕ, ℤ, List, IfOk, IfErr, IsErrOf, Option, is_some, false};
+ghost use Rattle.std.specs.List.{AllByRecursion};
+ghost use Rattle.std.specs.Option.{option_copied};
 ghost use Rattle.ix_items.specs.declared.items.Item.{Item};
 ghost use Rattle.ix_book.specs.Book.{empty};
 ghost use Rattle.ix_machine.specs.Bounds.{IsRefused};
 ghost use Rattle.ix_machine.specs.Given.{Chooser};
+ghost use Rattle.ix_machine.specs.State.{spot_path, life_in};
 ghost use Rattle.ix_machine.specs.Step.{after};
+ghost use Rattle.ix_machine.specs.declared.commands.Command.TheVariants.{Tick};
 ghost use Rattle.ix_machine.specs.declared.commands.Order.{Order};
+ghost use Rattle.ix_shelves.specs.Lists.{find};
+ghost use Rattle.ix_snapshot.specs.Shelved.{IsSet};
 ghost use Rattle.ix_snapshot.specs.Snap.{left};
 ghost use Rattle.ix_store.specs.Counting.{weight_of};
 ghost use Rattle.ix_store.specs.Written.{over};
 ghost use Rattle.ix_store.specs.Making.{AreProper, IsMade};
+ghost use Rattle.ix_store.specs.Showing.{IsViewOf};
 
-use ix_base::NoMemory;
+use ix_base::Spot;
 use ix_book::Replay;
-use ix_items::FileList;
+use ix_items::{FileList, KeptList};
 use ix_keep::Draft;
+use ix_life::{LimitSet, View};
 use ix_machine::{Order, Refusal};
 use std::alloc::Global;
 
@@ -36,6 +44,15 @@ pub struct Made<N> {
     pub weight: u64,
 }
 
+/// Why the items of a log give no state.
+#[derive(Clone, Copy, Debug, PartialEq, Eq)]
+pub enum BookFault {
+    /// No commands lead to them.
+    Unsound,
+    /// There was no room in memory.
+    NoMemory,
+}
+
 /// A state in memory that works a command out before it takes it.
 pub trait Memory: Sized {
     /// What a command leaves in memory.
@@ -47,31 +64,65 @@ pub trait Memory: Sized {
     /// Whether this is how the settings of a channel are chosen.
     ghost is_chooser: { Chooser → Type 0 };
 
+    /// What a command may bring.
+    ghost takes: { Order → Type 0 };
+
     /// Whether the state is that of a history.
     ghost holds: { Chooser → List Order → Self → Type 0 };
 
-    /// Whether it is once this is taken.
-    ghost ready: { Chooser → List Order → Self.Next → Type 0 };
+    /// Whether the state is that of a history once this is taken.
+    ghost ready: { Chooser → List Order → Self → Self.Next → Type 0 };
+
+    /// Whether this can be taken without memory.
+    ghost has_room: { Self → Self.Next → Type 0 };
 
     /// Works out what a command leads to in a run that has drawn so many numbers, or why it is refused. Nothing is changed.
     fn prepare(&self, alloc: Global, order: Order, drawn: u64) -> Result<Made<Self::Next>, Refusal>
-        ensures made { IfOk result (λ made. (choose : Chooser) (history : List Order) → is_chooser choose → holds choose history self.now →
-            IsMade ready Self.Book.fits choose history order drawn made) }
+        requires { takes order }
+        ensures made { IfOk result (λ made. (choose : Chooser) (history : List Order) → is_chooser choose → AllByRecursion takes history → holds choose history self.now →
+            IsMade (λ choose history next. ready choose history self.now next) Self.Book.fits choose history order drawn made) }
+        ensures room { IfOk result (λ made. has_room self.now made.next) }
         ensures proper { IfOk result (λ made. AreProper made.first made.second) }
         ensures weight { IfOk result (λ made. made.weight ≡ weight_of order.command) }
-        ensures refused { IfErr result (λ refusal. (choose : Chooser) (history : List Order) → is_chooser choose → holds choose history self.now →
+        ensures refused { IfErr result (λ refusal. (choose : Chooser) (history : List Order) → is_chooser choose → AllByRecursion takes history → holds choose history self.now →
             IsRefused choose false drawn (after choose history) order refusal) };
 
     /// Takes what was worked out. This cannot fail.
     fn install(&mut self, next: Self::Next)
-        ensures { (choose : Chooser) (history : List Order) → ready choose history next → holds choose history self.new };
+        requires { has_room self.old next }
+        ensures { (choose : Chooser) (history : List Order) → ready choose history self.old next → holds choose history self.new };
+
+    /// What is seen of the state. It takes no memory.
+    fn view(&self) -> &View
+        ensures { (choose : Chooser) (history : List Order) → holds choose history self.now → IsViewOf (after choose history) result.now };
+
+    /// How far the file of this path was read, where it is watched.
+    fn spot(&self, path: &[u8]) -> Option<&Spot>
+        ensures { (choose : Chooser) (history : List Order) → holds choose history self.now → option_copied result ≡ find spot_path path.now (after choose history).spots };
+
+    /// Whether a channel of this name is open.
+    fn has_channel(&self, channel: &[u8]) -> bool
+        ensures { (choose : Chooser) (history : List Order) → holds choose history self.now → result ≡ is_some (life_in (after choose history) channel.now) };
+
+    /// The settings in force, as they are kept.
+    fn kept(&self) -> &KeptList
+        ensures { (choose : Chooser) (history : List Order) → holds choose history self.now → result.now ≡ (after choose history).force };
+
+    /// The limits of indexes that these settings give.
+    fn limits(&self) -> &LimitSet
+        ensures { (choose : Chooser) (history : List Order) → holds choose history self.now → IsSet (after choose history).force result.now };
 
     /// What no items lead to.
     fn blank(alloc: Global) -> Self::Book
         ensures { Self.Book.stands result ≡ empty };
 
     /// The state of the history that the items of a log were written for.
-    fn from_book(alloc: Global, book: Self::Book) -> Result<Self, NoMemory>
-        ensures { IfOk result (λ memory. (choose : Chooser) (history : List Order) (run : ℕ) (removed : Option Item) → is_chooser choose →
-            Self.Book.stands book ≡ over run removed (left choose history).book → holds choose history memory) };
+    fn from_book(alloc: Global, book: Self::Book) -> Result<Self, BookFault>
+        ensures held { IfOk result (λ memory. (choose : Chooser) (history : List Order) (run : ℕ) (removed : Option Item) → is_chooser choose → AllByRecursion takes history →
+            Self.Book.fits (Self.Book.stands book) → Self.Book.stands book ≡ over run removed (left choose history).book → holds choose history memory) }
+        ensures sound { IsErrOf result BookFault.Unsound → (choose : Chooser) (history : List Order) (run : ℕ) (removed : Option Item) → is_chooser choose → AllByRecursion takes history →
+            Self.Book.fits (Self.Book.stands book) → Self.Book.stands book ≡ over run removed (left choose history).book → ⊥ };
+
+    /// An accepted command may bring a Tick, of any moment.
+    ghost ticks_are_taken: { (moment : ℤ) → takes (record { command = Tick; moment = moment }) };
 }

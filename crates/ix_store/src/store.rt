@@ -1,6 +1,7 @@
 //! The store. Whoever serves requests, or runs a command of the program, gives it commands and has it commit them.
 
 ghost use Rattle.std.specs.Prelude.{◌≡◌, ◌≤◌, ◌<◌, ◌+◌, ◌^◌, ◌++◌, ◌||◌, ◌&&◌, ◌⊎◌, ◌==◌, ◌↔◌, ℕ, List, [], ◌∷◌, length, take, true, false, Option, Some, None, Ok, Err, IfOk, IfErr, OnOk, OnErr, IsErrOf, IsTrue, if◌then◌else◌, is_some, nat_lt, nat_le};
+ghost use Rattle.std.specs.List.{AllByRecursion};
 ghost use Rattle.ix_base.specs.Faults.{Rose};
 ghost use Rattle.ix_base.specs.declared.files.File.{File};
 ghost use Rattle.ix_disk.specs.Image.{Image, bytes_in};
@@ -39,6 +40,8 @@ pub struct Store<M> {
     pub(crate) committed: u64,
     /// What the commands since the last commit come to.
     pub(crate) group: Group,
+    /// Whether an export met a fault of the disk, or damage. The keeper says so of a commit.
+    pub(crate) closed: bool,
 }
 
 /// Whether a command draws a number of the run.
@@ -98,12 +101,13 @@ fn stage_drafts(
 }
 
 impl<M: Memory + Drop> Store<M> {
-    ghost use Rattle.ix_store.specs.Holding.{Staged, IsAccepted, IsUnchanged, HasSameRun};
+    ghost use Rattle.ix_store.specs.Holding.{Staged, IsAccepted, IsUnchanged, HasSameRun, is_closed};
 
     /// Stages what was worked out, and takes it, or does nothing.
     fn take(&mut self, made: Made<M::Next>, turned: bool) -> Result<(), NoMemory>
-        requires { AreProper made.first made.second }
-        ensures memory { OnOk result ((choose : Chooser) (history : List Order) → M.ready choose history made.next → M.holds choose history self.new.memory) }
+        requires proper { AreProper made.first made.second }
+        requires room { M.has_room self.old.memory made.next }
+        ensures memory { OnOk result ((choose : Chooser) (history : List Order) → M.ready choose history self.old.memory made.next → M.holds choose history self.new.memory) }
         ensures staged { (old new mid to : Snapshot) → Stages self.old.keeper old new →
             LeadsThrough made.first (with_last (items.Removals (self.old.group.done_with ++ made.done_with)) made.second) old new mid to →
             OnOk result (Stages self.new.keeper old to) }
@@ -137,6 +141,7 @@ impl<M: Memory + Drop> Store<M> {
         ensures run { self.new.run ≡ self.old.run }
         ensures committed { self.new.committed ≡ self.old.committed }
         ensures group { self.new.group ≡ self.old.group }
+        ensures closed { self.new.closed ≡ self.old.closed }
     {
         if !draws {
             return None;
@@ -146,24 +151,32 @@ impl<M: Memory + Drop> Store<M> {
         Some(number)
     }
 
+    /// Whether an earlier call met a fault of the disk, or damage. A closed store accepts and exports nothing: it is to be mounted again.
+    pub fn is_closed(&self) -> bool
+        ensures { result ≡ is_closed self.now }
+    {
+        self.keeper.is_closed() || self.closed
+    }
+
     /// Accepts a command, or leaves all as it was. It makes no call of a disk: the command is staged for the next commit.
     pub fn accept(&mut self, command: Command, moment: i64) -> Result<Accepted, Refusal>
+        requires { M.takes (record { command = command; moment = moment }) }
         // An accepted command is behind the others.
-        ensures accepted { IfOk result (λ answer. (choose : Chooser) (history : List Order) (base k : ℕ) (old : Snapshot) → M.is_chooser choose →
+        ensures accepted { IfOk result (λ answer. (choose : Chooser) (history : List Order) (base k : ℕ) (old : Snapshot) → M.is_chooser choose → AllByRecursion M.takes history →
             Staged M.Book.fits M.holds choose history base k self.old old →
             IsAccepted M.Book.fits M.holds choose history base k (record { command = command; moment = moment }) self.old self.new old answer) }
         // A refusal has its cause,
-        ensures refused { IfErr result (λ refusal. (choose : Chooser) (history : List Order) (base k : ℕ) (old : Snapshot) → M.is_chooser choose →
+        ensures refused { IfErr result (λ refusal. (choose : Chooser) (history : List Order) (base k : ℕ) (old : Snapshot) → M.is_chooser choose → AllByRecursion M.takes history →
             Staged M.Book.fits M.holds choose history base k self.old old →
             IsRefused choose false self.old.drawn (after choose history) (record { command = command; moment = moment }) refusal) }
         // and leaves all as it was.
         ensures err { OnErr result (IsUnchanged self.old self.new) }
         // After a fault of the disk no command is accepted.
-        ensures closed { self.old.keeper.closed ≡ true → result ≡ Err Refusal.Closed }
+        ensures closed { is_closed self.old ≡ true → result ≡ Err Refusal.Closed }
         // The logs are left alone.
         ensures logs { HasSameLogs self.old.keeper self.new.keeper }
     {
-        if self.keeper.is_closed() {
+        if self.is_closed() {
             return Err(Refusal::Closed);
         }
         let draws = draws(&command);

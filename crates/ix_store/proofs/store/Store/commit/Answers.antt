@@ -17,4 +17,4 @@ pub returns-clause-done : goal.returns-clause-done
 returns-clause-done g c = λ choose h base k hold.
     holds_all g.D.Disk _ g.M.Memory.holds choose h base k c.args.self.now _ c.args.disk.now c.commit.new.disk hold
     (c.in_ok-commit.ensures.done hold.old hold.staged.new (held_of g.D.Disk _ g.M.Memory.holds choose h base k c.args.self.now c.args.disk.now hold)) c.in_ok-commit.ensures.idle
-    refl refl refl refl c.none.ensures.done c.none.ensures.weight c.none.ensures.turned c.none.ensures.waiting
+    refl refl refl refl refl c.none.ensures.done c.none.ensures.weight c.none.ensures.turned c.none.ensures.waiting
