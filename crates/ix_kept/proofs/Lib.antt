@@ -1,0 +1,10 @@
+pub mod OneMerge
+mod Refusals
+mod Lists
+mod CheckLemmas
+mod ConfigLemmas
+mod Alike
+mod Merges
+mod Moves
+mod KeptLemmas
+mod NameLemmas

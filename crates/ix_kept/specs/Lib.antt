@@ -1,0 +1,5 @@
+pub mod Configs
+pub mod Taken
+pub mod Checks
+pub mod Files
+pub mod Keeping

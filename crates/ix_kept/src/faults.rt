@@ -1,0 +1,23 @@
+//! Why kept settings are refused.
+
+use ix_base::NoMemory as OutOfMemory;
+
+/// Why kept settings give no values.
+#[derive(Clone, Copy, Debug, PartialEq, Eq)]
+pub enum ConfigFault {
+    /// They do not stand in order, or a value is none of its kind: no program has kept them.
+    Unsound,
+    /// There was no room in memory.
+    NoMemory,
+}
+
+impl From<OutOfMemory> for ConfigFault {
+    ghost use Rattle.std.specs.Prelude.{◌≡◌};
+    ghost use Rattle.ix_kept.specs.declared.faults.ConfigFault.TheVariants.{NoMemory as no_memory};
+
+    ghost from_gives = { λ _ fault. fault ≡ no_memory };
+
+    fn from(_: OutOfMemory) -> ConfigFault {
+        ConfigFault::NoMemory
+    }
+}
