@@ -1,0 +1,5 @@
+pub mod Volumes
+pub mod Limited
+pub mod Shelved
+pub mod Numbered
+pub mod Steps

@@ -1,0 +1,10 @@
+pub mod Members
+pub mod Booked
+pub mod Slots
+pub mod Listing
+pub mod Ranged
+pub mod Times
+pub mod Summing
+pub mod Within
+pub mod Fitting
+pub mod Telling

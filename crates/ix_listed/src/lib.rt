@@ -1,0 +1,6 @@
+//! A state as the items that stand in the log of its store. Definitions and laws alone; what keeps the state in memory stands on them.
+#![tactic(auto)]
+
+mod laws;
+
+pub use laws::{lists_tell, states_are_listed, within_fits};
