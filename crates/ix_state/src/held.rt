@@ -1,9 +1,10 @@
 //! What a store has in memory. The store keeps one of these; commands are judged by it and worked out from it.
 
 use ix_base::{Bytes, ChannelMeta, Spot};
-use ix_life::View;
+use ix_life::{EntryList, View};
 use ix_machine::Config;
 use ix_parse::Channel;
+use ix_shelves::Shelves;
 
 /// An open channel.
 #[derive(Drop)]
@@ -29,6 +30,19 @@ pub struct Held {
     pub placed: u64,
     /// The number that the next file has.
     pub next_file: u64,
+    /// The moment of the last command, in microseconds since 1970-01-01T00:00:00Z.
+    pub last: i64,
+    /// The moment of the last Tick.
+    pub tick: i64,
+}
+
+/// What a command leaves of a state beside its channels, spots and settings, worked out and not yet taken.
+#[derive(Drop)]
+pub struct Storage {
+    /// The indexes, the counts and the number of the next file.
+    pub shelves: Shelves,
+    /// The ledger, where entries come to it.
+    pub ledger: Option<EntryList>,
     /// The moment of the last command, in microseconds since 1970-01-01T00:00:00Z.
     pub last: i64,
     /// The moment of the last Tick.

@@ -12,7 +12,7 @@ ghost use Rattle.ix_machine.specs.Step.{after, effective};
 ghost use Rattle.ix_shelves.specs.Lists.{find};
 ghost use Rattle.ix_shelves.specs.Shelves.{view_name, by_id};
 ghost use Rattle.ix_state.specs.Causes as defs;
-ghost use Rattle.ix_state.specs.Held.{Holds};
+ghost use Rattle.ix_state.specs.Held.{SeesChannels, SeesStorage, shelves_of};
 
 use crate::held::Held;
 use ix_base::{Bytes, ChannelMeta, clamped};
@@ -224,7 +224,7 @@ impl Held {
     /// Why a command is refused in this state, bounds and memory aside: the first cause that holds, or `None` where none does. A
     /// store that is closed refuses all of them. It takes no memory.
     pub fn refusal(&self, command: &Command) -> Option<Refusal>
-        ensures { (choose : Chooser) (history : List Order) → Holds choose history self.now → result ≡ machine.judged (after choose history) command.now }
+        ensures { (choose : Chooser) (history : List Order) → SeesChannels (after choose history) self.now → SeesStorage (after choose history) (shelves_of self.now) self.now.view.ledger self.now.last self.now.tick → result ≡ machine.judged (after choose history) command.now }
     {
         self.cause(command)
     }
@@ -232,7 +232,8 @@ impl Held {
     /// The moment that a command has which is given at this one, in microseconds since 1970-01-01T00:00:00Z: it is in the range of
     /// moments, and not behind that of the last command.
     pub fn effective(&self, moment: i64) -> i64
-        ensures { result ≡ effective self.now.last moment }
+        ensures own { result ≡ effective self.now.last moment }
+        ensures seen { (choose : Chooser) (history : List Order) → SeesStorage (after choose history) (shelves_of self.now) self.now.view.ledger self.now.last self.now.tick → result ≡ effective (after choose history).last moment }
     {
         self.last.max(clamped(moment))
     }
@@ -251,7 +252,7 @@ impl Held {
     /// Whether a Tick comes before a command: one that adds to channels or puts events, a rotation or more past the last Tick. It
     /// takes no memory.
     pub fn needs_tick(&self, order: &Order) -> bool
-        ensures { (choose : Chooser) (history : List Order) → Holds choose history self.now → result ≡ machine.needs_tick (after choose history) order.now }
+        ensures { (choose : Chooser) (history : List Order) → SeesChannels (after choose history) self.now → SeesStorage (after choose history) (shelves_of self.now) self.now.view.ledger self.now.last self.now.tick → result ≡ machine.needs_tick (after choose history) order.now }
     {
         self.is_due(order)
     }

@@ -5,4 +5,4 @@
 mod held;
 mod judging;
 
-pub use held::{Held, Open};
+pub use held::{Held, Open, Storage};
