@@ -1,0 +1,8 @@
+use Rattle.std.proofs.Common.{w64, SFits}
+use Rattle.std.proofs.lemmas.Int.{to_z-of_z}
+use Rattle.ix_channels.proofs.feeding.counted_feed.Goals as goal
+
+pub returns-clause-takes : goal.returns-clause-takes
+returns-clause-takes g c = λ settings meta stream stands.
+    let f : SFits w64 c.args.moment = c.ranges.moment in
+    simp to_z-of_z at (c.in_ok-fed.ensures.settles settings meta stream stands)

@@ -1,0 +1,26 @@
+use Rattle.std.proofs.Common.{w64, SFits}
+use Rattle.std.proofs.lemmas.Int.{to_z-of_z}
+use Rattle.std.proofs.Common.{List, refl, sym, subst}
+use Rattle.std.specs.List.{All}
+use Rattle.ix_base.specs.declared.events.Routed.{Routed}
+use Rattle.ix_machine.specs.declared.commands.Command.TheVariants.{Direct}
+use Rattle.ix_parse.specs.Limits.{IsSmall}
+use Rattle.ix_channels.proofs.PutLemmas.{all_at, direct_small, direct_works}
+use Rattle.ix_channels.proofs.Within.{brief_chance}
+use Rattle.ix_channels.proofs.putting.direct.Goals as goal
+
+pub returns-then-have_records-clause-done : goal.returns-then-have_records-clause-done
+returns-then-have_records-clause-done c = λ choose history may.
+    let f : SFits w64 c.args.moment = c.ranges.moment in
+    let put = simp to_z-of_z at c.in_ok-outcomes.ensures in
+    direct_works choose history c.args.events c.args.moment c.args.held.now _ may put refl c.new.ensures
+
+pub returns-else-have_records-clause-full : goal.returns-else-have_records-clause-full
+returns-else-have_records-clause-full c = λ was choose history may within.
+    let held = c.args.held.now in
+    let outcomes = c.in_ok-outcomes.outcomes in
+    let f : SFits w64 c.args.moment = c.ranges.moment in
+    let put = simp to_z-of_z at c.in_ok-outcomes.ensures in
+    c.have_records.ensures.no c.if-have_records.false (brief_chance choose history (Direct c.args.events) c.args.moment held may)
+    (subst (λ (l : List Routed). All IsSmall l) (sym c.as_slice.ensures)
+    (all_at IsSmall outcomes (direct_small choose history c.args.events c.args.moment held outcomes may put)))

@@ -1,0 +1,9 @@
+pub mod Rooms
+pub mod Changes
+pub mod Sizes
+pub mod Places
+pub mod Begun
+pub mod Taken
+pub mod Ended
+pub mod Put
+pub mod Working

@@ -1,0 +1,51 @@
+//! What a command makes of the open channels, and why it is not said.
+
+ghost use Rattle.std.specs.Prelude.{◌≡◌, [], IsErrOf};
+ghost use Rattle.ix_channels.specs.declared.change.ChannelChange.TheVariants as changes;
+ghost use Rattle.ix_channels.specs.declared.working.WorkFault.TheVariants as faults;
+
+use crate::change::ChannelChange;
+use ix_base::{NoMemory as OutOfMemory, RoutedList, Sequence};
+use ix_items::Item;
+use std::alloc::Global;
+
+/// What a command makes of the open channels.
+#[derive(Drop)]
+pub struct Worked {
+    /// How they change.
+    pub change: ChannelChange,
+    /// What the events come to that it settles, in order.
+    pub outcomes: RoutedList,
+    /// What the log says of the change.
+    pub items: Sequence<Item>,
+}
+
+/// Why it is not said what a command makes of the open channels.
+#[derive(Clone, Copy, Debug, PartialEq, Eq)]
+pub enum WorkFault {
+    /// It would pass the bounds of what a store can keep.
+    Full,
+    /// There is no room in memory.
+    NoMemory,
+}
+
+impl From<OutOfMemory> for WorkFault {
+    ghost from_gives = { λ _ e. e ≡ faults.NoMemory };
+
+    fn from(_: OutOfMemory) -> WorkFault {
+        WorkFault::NoMemory
+    }
+}
+
+/// What makes nothing of them.
+pub(crate) fn nothing(alloc: Global) -> Worked
+    ensures change { result.change ≡ changes.Same }
+    ensures outcomes { result.outcomes ≡ [] }
+    ensures items { result.items ≡ [] }
+{
+    Worked {
+        change: ChannelChange::Same,
+        outcomes: RoutedList::new(alloc),
+        items: Sequence::new(alloc),
+    }
+}

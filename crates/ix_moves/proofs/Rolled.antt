@@ -1,0 +1,88 @@
+-- A roll leads from the state before it to that behind it.
+use Rattle.std.proofs.Common.{◌≡◌, ℕ, Bool, true, false, List, [], ◌∷◌, ◌++◌, refl, sym, ap, ◌∙◌}
+use Rattle.std.specs.Prelude.{Option, Some, None, unwrap_or}
+use Rattle.std.specs.List.{count_by}
+use Rattle.std.specs.Option.{option_map}
+use Rattle.ix_items.specs.declared.items.Kept.{Kept}
+use Rattle.ix_keep.specs.Contents.{Contents}
+use Rattle.ix_life.specs.Placing.{is_open}
+use Rattle.ix_machine.specs.Bounds.{KeepsBounds}
+use Rattle.ix_machine.specs.Buckets.{Index, buckets}
+use Rattle.ix_machine.specs.Given.{Chooser}
+use Rattle.ix_machine.specs.Judged as judging
+use Rattle.ix_machine.specs.Shown.{configured, index_view}
+use Rattle.ix_machine.specs.State.{State, index_name, fresh_index}
+use Rattle.ix_machine.specs.Step as machine
+use Rattle.ix_machine.specs.Step.{after, stepped}
+use Rattle.ix_machine.specs.declared.commands.Command.{Command}
+use Rattle.ix_machine.specs.declared.commands.Command.TheVariants.{Roll}
+use Rattle.ix_machine.specs.declared.commands.Order.{Order}
+use Rattle.ix_machine.proofs.Ascending.{in_order_after}
+use Rattle.ix_machine.proofs.Stepping.{sound_after}
+use Rattle.ix_moves.specs.Moving.{Precedes, IsMoved}
+use Rattle.ix_moves.specs.Working.{shelves_in, rolled, CanBeSaid}
+use Rattle.ix_moves.specs.declared.moved.Base.{Base}
+use Rattle.ix_moves.proofs.Saying.{can_be_said}
+use Rattle.ix_moves.proofs.Standing.{later_is, Stays, Fills, left_leads}
+use Rattle.ix_shelves.specs.Lists.{find}
+use Rattle.ix_shelves.specs.Shelves.{view_name}
+use Rattle.ix_shelves.specs.Turning.{roll, open_in}
+use Rattle.ix_shelves.specs.declared.shelves.Shelves.{Shelves}
+use Rattle.ix_snapshot.specs.Contents.{contents_of}
+use Rattle.ix_snapshot.specs.Shelved.{shelved}
+use Rattle.ix_snapshot.proofs.Listing.{among, or_fresh}
+use Rattle.ix_snapshot.proofs.Rising.{seen_by}
+use Rattle.ix_snapshot.proofs.RolledFiles.{rolls_filed}
+use Rattle.ix_snapshot.proofs.RolledShelves.{rolls_same}
+
+open_seen : (force : List Kept) (index : List ℕ) (b : Bool) (o : Option Index) →
+    open_in (option_map (index_view force) (or_fresh b index o)) ≡ count_by is_open (buckets (unwrap_or o (fresh_index index)).slots)
+open_seen force index b (Some i) = refl
+open_seen force index true None = refl
+open_seen force index false None = refl
+
+module _ (choose : Chooser) (history : List Order) (order : Order) (b : Base) (index : List ℕ) (p : Precedes choose history order b) (is : order.command ≡ Roll index) where
+  abbrev m : State
+  m = after choose history
+
+  abbrev later : State
+  later = after choose (history ++ order ∷ [])
+
+  is_later : later ≡ stepped choose m (Roll index) b.moment
+  is_later = later_is choose history order b p ∙ ap (λ (k : Command). stepped choose m k b.moment) is
+
+  catalog_is : later.catalog ≡ machine.roll index m.catalog
+  catalog_is = ap (λ (x : State). x.catalog) is_later
+
+  stays : Stays m later b.moment
+  stays = record {
+    ledger = ap (λ (x : State). x.catalog.ledger) is_later;
+    last = ap (λ (x : State). x.last) is_later;
+    tick = ap (λ (x : State). x.tick) is_later;
+  }
+
+  shelves_are : roll index (shelves_in b) ≡ shelved later.force later.catalog
+  shelves_are =
+      ap (roll index) p.sees.shelves_are
+      ∙ rolls_same m.force index m.catalog (sound_after choose history) (in_order_after choose history).indexes
+      ∙ ap (shelved m.force) (sym catalog_is)
+      ∙ ap (λ f. shelved f later.catalog) (sym (ap (λ (x : State). x.force) is_later))
+
+  contents_are : contents_of m.catalog ≡ contents_of later.catalog
+  contents_are = sym (rolls_filed index m.catalog) ∙ ap contents_of (sym catalog_is)
+
+  fills : Fills m later [] []
+  fills old none = (tt, tt, λ file bytes e. ap (λ (c : Contents). c file) contents_are ∙ e)
+
+  counted : open_in (find view_name index (shelves_in b).indexes) ≡ judging.moved m order.command b.moment
+  counted =
+      ap (λ (s : Shelves). open_in (find view_name index s.indexes)) p.sees.shelves_are
+      ∙ ap open_in (seen_by m.force m.catalog.indexes index)
+      ∙ open_seen m.force index (among (configured m.force) index) (find index_name index m.catalog.indexes)
+      ∙ ap (λ (k : Command). judging.moved m k b.moment) (sym is)
+
+  pub roll_moves : IsMoved choose history order b.ledger.now b.moment (rolled b index)
+  roll_moves = left_leads m later order.command b (roll index (shelves_in b)) [] [] (open_in (find view_name index (shelves_in b).indexes)) p.sees stays shelves_are fills counted
+
+  pub roll_full : KeepsBounds later → (CanBeSaid [] (shelves_in b) (roll index (shelves_in b)) → ⊥) → ⊥
+  roll_full k over = over (can_be_said choose history order b [] (roll index (shelves_in b)) p shelves_are tt k)

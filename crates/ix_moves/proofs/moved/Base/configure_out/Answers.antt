@@ -1,0 +1,21 @@
+use Rattle.std.proofs.Common.{subst, sym, ◌∙◌}
+use Rattle.std.specs.Prelude.{[]}
+use Rattle.std.proofs.lemmas.Result.{IfOk-weaker}
+use Rattle.ix_moves.specs.Working.{shelves_in, CanBeSaid}
+use Rattle.ix_moves.proofs.Configured.{shelves_together, put_together}
+use Rattle.ix_shelves.specs.declared.shelves.Shelves.{Shelves}
+use Rattle.ix_moves.proofs.moved.Base.configure_out.Goals as goal
+
+pub returns-clause-done : goal.returns-clause-done
+returns-clause-done c =
+    let b = c.args.self.now in
+    IfOk-weaker c.leave.result _ _ (λ moved e new r.
+    e ∙ put_together b c.args.outcomes c.args.next.now c.in_ok-work.work c.in_ok-indexes.indexes new c.new.result c.in_ok-work.ensures.done c.new.ensures c.in_ok-indexes.ensures r)
+    c.leave.ensures.done
+
+pub returns-clause-full : goal.returns-clause-full
+returns-clause-full c = λ is new r numbers balanced kept said.
+    (let b = c.args.self.now in
+    c.leave.ensures.full is
+    (subst (λ (s : Shelves). CanBeSaid [] (shelves_in b) s)
+    (sym (shelves_together b c.args.outcomes c.args.next.now c.in_ok-work.work c.in_ok-indexes.indexes new c.in_ok-work.ensures.done c.in_ok-indexes.ensures r)) said))

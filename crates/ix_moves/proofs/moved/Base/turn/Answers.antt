@@ -1,0 +1,15 @@
+use Rattle.std.proofs.Common.{subst, sym}
+use Rattle.std.proofs.lemmas.Result.{IfOk-weaker}
+use Rattle.ix_moves.specs.Moving.{IsMoved}
+use Rattle.ix_moves.specs.declared.moved.Moved.{Moved}
+use Rattle.ix_moves.proofs.Turned.{turn_moves, turn_full}
+use Rattle.ix_moves.proofs.moved.Base.turn.Goals as goal
+
+pub returns-clause-done : goal.returns-clause-done
+returns-clause-done c =
+    let b = c.args.self.now in
+    IfOk-weaker c.turn_out.result _ _ (λ moved e choose history order p is.
+    subst (λ (x : Moved). IsMoved choose history order b.ledger.now b.moment x) (sym e) (turn_moves choose history order b p is)) c.turn_out.ensures.done
+
+pub returns-clause-full : goal.returns-clause-full
+returns-clause-full c = λ is choose history order p t h k. turn_full choose history order c.args.self.now p t h k (c.turn_out.ensures.full is)
