@@ -1,0 +1,14 @@
+pub mod Takes
+pub mod Sorts
+pub mod Shuffles
+pub mod Turns
+pub mod Refusals
+pub mod Defaults
+pub mod SourceTypes
+pub mod Lives
+pub mod Said
+pub mod Gathers
+pub mod Ledgers
+pub mod CarryForms
+pub mod IndexBuckets
+pub mod Holding

@@ -1,0 +1,79 @@
+-- Two lists in order are one, where they have the same of all that tie.
+use Rattle.std.proofs.Common.{◌≡◌, ℕ, zero, suc, ◌<◌, ◌≤◌, Bool, true, false, not, ◌&&◌, List, [], ◌∷◌, length, get_or, filter, refl, sym, ap, ◌∙◌, inl, inr, suc-le-suc, zero-le}
+use Rattle.std.proofs.lemmas.Bool.{cond-true, cond-false, cases_Bool, and_parts, not-true, false≢true}
+use Rattle.std.specs.Cmp.{IsStrictWeakOrder}
+use Rattle.std.specs.List.Sorted.{ties}
+
+clash : {P : Type 0} (b : Bool) → b ≡ true → b ≡ false → P
+clash b e f = absurd (false≢true (sym f ∙ e))
+
+kept : {X : Type 0} (p : X → Bool) (y : X) (ys : List X) → p y ≡ true → filter p (y ∷ ys) ≡ y ∷ filter p ys
+kept p y ys h = cond-true _ _ _ h
+
+dropped : {X : Type 0} (p : X → Bool) (y : X) (ys : List X) → p y ≡ false → filter p (y ∷ ys) ≡ filter p ys
+dropped p y ys h = cond-false _ _ _ h
+
+-- two tests that failed
+both_fail : (a b : Bool) → a ≡ false → b ≡ false → not a && not b ≡ true
+both_fail a b e f = rw e (rw f refl)
+
+abbrev pub NoneBefore : {X : Type 0} → (X → X → Bool) → X → List X → Type 0
+NoneBefore lt x [] = Unit {0}
+NoneBefore lt x (y ∷ ys) = (lt y x ≡ false) × NoneBefore lt x ys
+
+abbrev pub Rises : {X : Type 0} → (X → X → Bool) → List X → Type 0
+Rises lt [] = Unit {0}
+Rises lt (y ∷ ys) = NoneBefore lt y ys × Rises lt ys
+
+NoneBefore-at : {X : Type 0} (lt : X → X → Bool) (x : X) (ys : List X) → ((j : ℕ) → j < length ys → lt (get_or ys j x) x ≡ false) → NoneBefore lt x ys
+NoneBefore-at lt x [] h = tt
+NoneBefore-at lt x (y ∷ ys) h = (h zero (suc-le-suc zero-le), NoneBefore-at lt x ys (λ j l. h (suc j) (suc-le-suc l)))
+
+pub rises_far : {X : Type 0} (lt : X → X → Bool) (ys : List X) → ((i j : ℕ) (d : X) → i ≤ j → j < length ys → lt (get_or ys j d) (get_or ys i d) ≡ false) → Rises lt ys
+rises_far lt [] h = tt
+rises_far lt (y ∷ ys) h = (
+  NoneBefore-at lt y ys (λ j l. h zero (suc j) y zero-le (suc-le-suc l)),
+  rises_far lt ys (λ i j d le l. h (suc i) (suc j) d (suc-le-suc le) (suc-le-suc l)),
+)
+
+module _ {X : Type 0} (lt : X → X → Bool) (o : IsStrictWeakOrder lt) where
+  same_place : (x : X) → lt x x ≡ false
+  same_place x = elim (cases_Bool (lt x x)) [ inl earlier ↦ o.one_way x x earlier | inr later ↦ later ]
+
+  tie : (x : X) → ties lt x x ≡ true
+  tie x = both_fail (lt x x) (lt x x) (same_place x) (same_place x)
+
+  tie_front : (x y : X) → ties lt x y ≡ true → lt x y ≡ false
+  tie_front x y h = not-true _ (and_parts (not (lt x y)) (not (lt y x)) h).0
+
+  tie_back : (x y : X) → ties lt x y ≡ true → lt y x ≡ false
+  tie_back x y h = not-true _ (and_parts (not (lt x y)) (not (lt y x)) h).1
+
+  -- one that ties with x stands among them
+  found : (n x : X) (ys : List X) (w : X) (ws : List X) → NoneBefore lt n ys → filter (ties lt x) ys ≡ w ∷ ws → lt x n ≡ false
+  found n x [] w ws h e = cc
+  found n x (y ∷ ys) w ws h e =
+      elim (cases_Bool (ties lt x y)) [
+        | inl with ↦ o.chain x y n (tie_front x y with) h.0
+        | inr without ↦ found n x ys w ws h.1 (sym (dropped (ties lt x) y ys without) ∙ e)
+      ]
+
+  pub same_list : (ys zs : List X) → Rises lt ys → Rises lt zs → ((x : X) → filter (ties lt x) ys ≡ filter (ties lt x) zs) → ys ≡ zs
+  same_list [] [] left right same = refl
+  same_list [] (z ∷ zs) left right same = let no = same z ∙ kept (ties lt z) z zs (tie z) in cc
+  same_list (y ∷ ys) [] left right same = let no = sym (same y) ∙ kept (ties lt y) y ys (tie y) in cc
+  same_list (y ∷ ys) (z ∷ zs) left right same =
+      let at_y = kept (ties lt y) y ys (tie y) in
+      let at_z = kept (ties lt z) z zs (tie z) in
+      let up = found z y (z ∷ zs) y _ (same_place z, right.0) (sym (same y) ∙ at_y) in
+      let down = found y z (y ∷ ys) z _ (same_place y, left.0) (same z ∙ at_z) in
+      let heads = sym at_y ∙ same y ∙ kept (ties lt y) z zs (both_fail (lt y z) (lt z y) up down) in
+      let head : y ≡ z = cc in
+      let tails : (x : X) → filter (ties lt x) ys ≡ filter (ties lt x) zs =
+      λ x. elim (cases_Bool (ties lt x y)) [
+        | inl with ↦
+            let both = sym (kept (ties lt x) y ys with) ∙ same x ∙ kept (ties lt x) z zs (ap (ties lt x) (sym head) ∙ with) in cc
+        | inr without ↦
+            sym (dropped (ties lt x) y ys without) ∙ same x ∙ dropped (ties lt x) z zs (ap (ties lt x) (sym head) ∙ without)
+      ] in
+      ap (λ w. w ∷ ys) head ∙ ap (λ l. z ∷ l) (same_list ys zs left.1 right.1 tails)

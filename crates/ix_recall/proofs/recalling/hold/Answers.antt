@@ -1,0 +1,52 @@
+use Rattle.std.proofs.Common.{◌≡◌, List, ℕ, rules, refl, sym, ap, subst, inl, inr}
+use Rattle.std.specs.Prelude.{Err}
+use Rattle.ix_base.specs.declared.events.Spot.{Spot}
+use Rattle.ix_machine.specs.State.{spot_path}
+use Rattle.ix_recall.specs.declared.faults.RecallFault.TheVariants as faults
+use Rattle.ix_recall.specs.declared.gathering.Carried.{Carried}
+use Rattle.ix_recall.specs.declared.gathering.Placed.{Placed}
+use Rattle.ix_recall.specs.Faults.{by_config}
+use Rattle.ix_recall.specs.Recalled.{AreSorted, AreResumed, AreShelved, HasNone}
+use Rattle.ix_recall.proofs.Refusals.{bad_config}
+use Rattle.ix_recall.proofs.recalling.hold.Goals as goal
+
+pub returns-clause-recalled : goal.returns-clause-recalled
+returns-clause-recalled c =
+    let limits = c.in_ok-config.config.limits in
+    record {
+      config = c.in_ok-config.ensures.ok.0;
+      kept = c.in_ok-config.ensures.ok.1;
+      channels = subst (λ (given : List Carried). AreResumed given c.in_ok-config.config.props c.in_ok-channels.channels.items) c.into_vec-2.ensures c.in_ok-channels.ensures.opened;
+      spots = subst (λ (given : List Spot). AreSorted spot_path given c.spots_by_path.result.items) c.into_vec-3.ensures c.spots_by_path.ensures;
+      indexes =
+          subst (λ (names : List (List ℕ)). AreShelved names c.args.gathered.buckets limits c.in_ok-indexes.indexes) c.into_vec.ensures
+          (subst (λ (placed : List Placed). AreShelved c.into_vec.result.items placed limits c.in_ok-indexes.indexes) c.as_slice.ensures c.in_ok-indexes.ensures);
+      ledger = refl;
+      settled = refl;
+      nulled = refl;
+      dropped = refl;
+      placed = refl;
+      next_file = refl;
+      last = search rules;
+      tick = search rules;
+    }
+
+pub returns-in_err-config-clause-unsound : goal.returns-in_err-config-clause-unsound
+returns-in_err-config-clause-unsound c = λ is.
+    let gives : faults.Unsound ≡ by_config c.in_err-config.field-0.0 = rw is at (c.from_residual.ensures).1 in
+    let fault = bad_config c.in_err-config.field-0.0 gives in
+    inl (record {
+      some = λ none. c.in_err-config.ensures.empty none (ap (λ f. Err f) fault);
+      none = λ config is_config kept. c.in_err-config.ensures.unsound (ap (λ f. Err f) fault) config is_config kept;
+    })
+
+pub returns-in_err-channels-clause-unsound : goal.returns-in_err-channels-clause-unsound
+returns-in_err-channels-clause-unsound c = λ is.
+    let gives : faults.Unsound ≡ c.in_err-channels.field-0.0 = rw is at (c.from_residual-in_err-channels.ensures).1 in
+    inr (record {
+      config = c.in_ok-config.config;
+      is_config = c.in_ok-config.ensures.ok.0;
+      kept = c.in_ok-config.ensures.ok.1;
+      has_none = subst (λ (given : List Carried). HasNone given c.in_ok-config.config.props) c.into_vec-2.ensures
+          (c.in_err-channels.ensures.unsound (ap (λ f. Err f) (sym gives)));
+    })

@@ -1,0 +1,5 @@
+pub mod Gathered
+pub mod Recalled
+pub mod Faults
+pub mod Standing
+pub mod Laws
