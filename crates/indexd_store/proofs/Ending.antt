@@ -1,0 +1,103 @@
+-- How a run over a store ends: what was given last.
+use Rattle.std.proofs.Common.{◌≡◌, ℕ, ℤ, Bool, true, false, List, [], ◌∷◌, ◌++◌, length, refl, sym, ap, ◌∙◌, subst, arith, inl, inr}
+use Rattle.ix_disk.specs.declared.disk.Disk.{Ghosts}
+use Rattle.ix_book.specs.Book.{Book}
+use Rattle.ix_keep.specs.declared.fault.CommitFault.{CommitFault}
+use Rattle.ix_keep.specs.declared.fault.CommitFault.TheVariants as commits
+use Rattle.ix_machine.specs.Bounds.{IsRefused}
+use Rattle.ix_machine.specs.Given.{Chooser}
+use Rattle.ix_machine.specs.Judged.{adds}
+use Rattle.ix_machine.specs.Step.{after}
+use Rattle.ix_machine.specs.declared.answers.Refusal.{Refusal}
+use Rattle.ix_machine.specs.declared.answers.Refusal.TheVariants as refusals
+use Rattle.ix_machine.specs.declared.answers.Accepted.{Accepted}
+use Rattle.ix_machine.specs.declared.commands.Config.{Config}
+use Rattle.ix_machine.specs.declared.commands.Order.{Order}
+use Rattle.ix_store.specs.Holding.{Holds}
+use Rattle.ix_store.specs.declared.fault.MountFault.{MountFault}
+use Rattle.ix_store.specs.declared.fault.MountFault.TheVariants as mounts
+use Rattle.ix_store.specs.declared.store.Store.{Store}
+use Rattle.ix_run.specs.Giving.{IsKept}
+use Rattle.ix_run.specs.Running.{HasStood, HasGone, IsNotGiven}
+use Rattle.ix_run.specs.declared.giving.GiveFault.{GiveFault}
+use Rattle.ix_run.specs.declared.giving.GiveFault.TheVariants.{Refused, Commit}
+use Rattle.indexd_store.specs.declared.stop.Stop.{Stop}
+use Rattle.indexd_store.specs.Ends.{IsLeft, HasLasted, Ends, Only, AtMost}
+use Rattle.indexd_store.specs.Opened.{configuring}
+use Rattle.indexd_store.specs.declared.stop.Stop.TheVariants as stops
+use Rattle.indexd_store.specs.Stops.{of_mount, of_refusal, of_commit, of_give, loses, Caused}
+
+none_more : (h : List Order) → h ++ [] ≡ h
+none_more [] = refl
+none_more (o ∷ h) = ap (λ (l : List Order). o ∷ l) (none_more h)
+
+module _ {D : Type 0} (g : Ghosts D) {M : Type 0} (fits : Book → Type 0) (holds : Chooser → List Order → M → Type 0) (choose : Chooser) (h : List Order) (base : ℕ) (order : Order) (store : Store M) (first last : D) where
+  -- nothing was given
+  none_left : HasGone g fits holds choose h [] base (length h) store first last → IsLeft g fits holds choose h base (AtMost order) store first last
+  none_left gone = record {
+    orders = [];
+    allowed = inl refl;
+    all = record {
+      hold = subst (λ (n : ℕ). Holds g fits holds choose h base n store last) same hold;
+      stood = subst (λ (some : List Order). HasStood g fits choose some (length h) first last) (none_more h) gone.stood;
+    };
+  } where
+    hold : Holds g fits holds choose h base gone.count store last
+    hold = subst (λ (some : List Order). Holds g fits holds choose some base gone.count store last) (none_more h) gone.hold
+
+    same : gone.count ≡ length h
+    same = omega (arith, gone.kept, hold.staged.within)
+
+  none_lasted : HasGone g fits holds choose h [] base (length h) store first last → HasLasted g fits choose h (AtMost order) first last
+  none_lasted gone = record { orders = []; allowed = inl refl; stood = subst (λ (some : List Order). HasStood g fits choose some (length h) first last) (none_more h) gone.stood }
+
+  by_loss : (lost : Bool) → HasGone g fits holds choose h [] base (length h) store first last → Ends lost g fits holds choose h base (AtMost order) store first last
+  by_loss true gone = none_lasted gone
+  by_loss false gone = none_left gone
+
+  one_lasted : (fault : CommitFault) → HasStood g fits choose (h ++ adds (after choose h) order) (length h) first last → Ends (loses (of_commit fault)) g fits holds choose h base (AtMost order) store first last
+  one_lasted commits.Disk stood = record { orders = order ∷ []; allowed = inr refl; stood = stood }
+  one_lasted (commits.Damaged file at) stood = record { orders = order ∷ []; allowed = inr refl; stood = stood }
+
+  by_fault : (old : Store M) (fault : GiveFault) → IsNotGiven g fits holds choose h base (length h) order old fault store first last → Ends (loses (of_give fault)) g fits holds choose h base (AtMost order) store first last
+  by_fault old (Refused refusal) not = by_loss (loses (of_refusal refusal)) not.1
+  by_fault old (Commit fault) stood = one_lasted fault stood
+
+  pub stopped : (old : Store M) (fault : GiveFault) (stop : Stop) → stop ≡ of_give fault → IsNotGiven g fits holds choose h base (length h) order old fault store first last →
+      Ends (loses stop) g fits holds choose h base (AtMost order) store first last
+  stopped old fault stop is not = subst (λ (s : Stop). Ends (loses s) g fits holds choose h base (AtMost order) store first last) (sym is) (by_fault old fault not)
+
+  pub left_by : (old : Store M) (answer : Accepted) → IsKept g fits holds choose h base (length h) order old answer store first last → IsLeft g fits holds choose h base (Only order) store first last
+  left_by old answer kept = record { orders = order ∷ []; allowed = refl; all = kept.all }
+
+  pub caused : (old : Store M) (fault : GiveFault) (stop : Stop) → stop ≡ of_give fault → IsNotGiven g fits holds choose h base (length h) order old fault store first last → Caused choose old.drawn h order stop
+  caused old (Refused refusal) stop is not = inl (refusal, is, not.0)
+  caused old (Commit fault) stop is stood = inr (fault, is)
+
+-- settings are refused for want of room alone
+refused_settings : (choose : Chooser) (drawn : ℕ) (h : List Order) (config : Config) (moment : ℤ) (refusal : Refusal) → stops.Unsound ≡ of_refusal refusal → IsRefused choose false drawn (after choose h) (configuring config moment) refusal → ⊥
+refused_settings choose drawn h config moment refusals.Closed is why = cc
+refused_settings choose drawn h config moment refusals.NoChannel is why = cc
+refused_settings choose drawn h config moment refusals.ChannelOpen is why = cc
+refused_settings choose drawn h config moment refusals.UnknownIndex is why = cc
+refused_settings choose drawn h config moment refusals.NoBucket is why = cc
+refused_settings choose drawn h config moment refusals.NotArchived is why = cc
+refused_settings choose drawn h config moment refusals.AlreadyThawed is why = cc
+refused_settings choose drawn h config moment refusals.TooManyChannels is why = cc
+refused_settings choose drawn h config moment refusals.Full is why = cc
+refused_settings choose drawn h config moment refusals.NoMemory is why = cc
+
+not_committed : (fault : CommitFault) → stops.Unsound ≡ of_commit fault → ⊥
+not_committed commits.Disk is = cc
+not_committed (commits.Damaged file at) is = cc
+
+pub sound_settings : (choose : Chooser) (drawn : ℕ) (h : List Order) (config : Config) (moment : ℤ) (stop : Stop) → stop ≡ stops.Unsound → Caused choose drawn h (configuring config moment) stop → ⊥
+sound_settings choose drawn h config moment stop unsound (inl why) = refused_settings choose drawn h config moment why.0 (sym unsound ∙ why.1) why.2
+sound_settings choose drawn h config moment stop unsound (inr why) = not_committed why.0 (sym unsound ∙ why.1)
+
+pub unsound_of_mount : (fault : MountFault) → of_mount fault ≡ stops.Unsound → fault ≡ mounts.Unsound
+unsound_of_mount mounts.Disk is = cc
+unsound_of_mount (mounts.Damaged file at) is = cc
+unsound_of_mount mounts.Unsound is = refl
+unsound_of_mount mounts.Full is = cc
+unsound_of_mount mounts.NoMemory is = cc

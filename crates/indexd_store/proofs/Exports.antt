@@ -1,0 +1,42 @@
+-- How an export ends: nothing is given, and nothing changes on the disk.
+use Rattle.std.proofs.Common.{◌≡◌, ℕ, false, List, [], length, refl, sym, subst, arith}
+use Rattle.ix_disk.proofs.Runs.{always}
+use Rattle.ix_disk.specs.Image.{Image, Stays}
+use Rattle.ix_disk.specs.Moments.{Goes}
+use Rattle.ix_disk.specs.declared.disk.Disk.{Ghosts}
+use Rattle.ix_book.specs.Book.{Book}
+use Rattle.ix_machine.specs.Given.{Chooser}
+use Rattle.ix_machine.specs.declared.commands.Order.{Order}
+use Rattle.ix_run.proofs.Gone.{stood_here}
+use Rattle.ix_run.specs.Running.{HasStood}
+use Rattle.ix_store.specs.Faults.{is_of_disk}
+use Rattle.ix_store.specs.Holding.{Holds}
+use Rattle.ix_store.specs.Written.{StandsFrom}
+use Rattle.ix_store.specs.declared.fault.ExportFault.{ExportFault}
+use Rattle.ix_store.specs.declared.fault.ExportFault.TheVariants as exports
+use Rattle.ix_store.specs.declared.store.Store.{Store}
+use Rattle.indexd_store.specs.Ends.{IsLeft, Ends}
+use Rattle.indexd_store.specs.Stops.{loses, of_export}
+use Rattle.indexd_store.specs.declared.stop.Stop.{Stop}
+
+module _ {D : Type 0} (g : Ghosts D) {M : Type 0} (fits : Book → Type 0) (holds : Chooser → List Order → M → Type 0) (choose : Chooser) (h : List Order) (base : ℕ) (old store : Store M) (first last : D) where
+  stayed : Holds g fits holds choose h base (length h) old first → Goes g first last Stays → HasStood g fits choose h (length h) first last
+  stayed hold goes = always g first last Stays (StandsFrom fits choose h (length h)) (StandsFrom fits choose h (length h)) goes
+      (λ image left. (stood_here g fits holds choose h base (length h) (length h) old first (omega arith) hold).now image left)
+      (λ before after stands same. subst (λ (image : Image). StandsFrom fits choose h (length h) image) (sym same) stands)
+
+  pub left_as_was : Holds g fits holds choose h base (length h) old first → Goes g first last Stays → Holds g fits holds choose h base (length h) store last → IsLeft g fits holds choose h base (λ (orders : List Order). orders ≡ []) store first last
+  left_as_was hold goes now = record { orders = []; allowed = refl; all = record { hold = now; stood = stayed hold goes } }
+
+  pub not_exported : (fault : ExportFault) → Holds g fits holds choose h base (length h) old first → Goes g first last Stays → (is_of_disk fault ≡ false → Holds g fits holds choose h base (length h) store last) →
+      Ends (loses (of_export fault)) g fits holds choose h base (λ (orders : List Order). orders ≡ []) store first last
+  not_exported exports.Closed hold goes now = left_as_was hold goes (now refl)
+  not_exported exports.UnknownIndex hold goes now = left_as_was hold goes (now refl)
+  not_exported exports.Disk hold goes now = record { orders = []; allowed = refl; stood = stayed hold goes }
+  not_exported (exports.Damaged file at) hold goes now = record { orders = []; allowed = refl; stood = stayed hold goes }
+  not_exported exports.Output hold goes now = left_as_was hold goes (now refl)
+  not_exported exports.NoMemory hold goes now = left_as_was hold goes (now refl)
+
+  pub stopped_as : (stop : Stop) (fault : ExportFault) → stop ≡ of_export fault → Holds g fits holds choose h base (length h) old first → Goes g first last Stays →
+      (is_of_disk fault ≡ false → Holds g fits holds choose h base (length h) store last) → Ends (loses stop) g fits holds choose h base (λ (orders : List Order). orders ≡ []) store first last
+  stopped_as stop fault is hold goes now = subst (λ (s : Stop). Ends (loses s) g fits holds choose h base (λ (orders : List Order). orders ≡ []) store first last) (sym is) (not_exported fault hold goes now)

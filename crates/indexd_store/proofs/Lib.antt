@@ -1,0 +1,6 @@
+pub mod Ending
+pub mod SameKept
+pub mod Joining
+pub mod Tasks
+pub mod Exports
+pub mod Feeding

@@ -1,0 +1,52 @@
+use Rattle.std.proofs.Common.{◌≡◌, true, false, take, w64, to_z, of_z}
+use Rattle.ix_store.specs.declared.fault.MountFault.TheVariants as mounts
+use Rattle.indexd_store.specs.Ends.{same_kept}
+use Rattle.indexd_store.specs.Stops.{of_mount, loses}
+use Rattle.indexd_store.specs.declared.stop.Stop.TheVariants as stops
+use Rattle.indexd_store.proofs.Ending.{sound_settings, unsound_of_mount}
+use Rattle.indexd_store.proofs.Joining.{front_has, committed, configured_as, opened_same, opened_by, stopped_by}
+use Rattle.indexd_store.proofs.opening.open.Goals as goal
+
+pub returns-then-same_kept-clause-opened : goal.returns-then-same_kept-clause-opened
+returns-then-same_kept-clause-opened g c = λ choose history k chooser taken begins image seen.
+    let is = c.in-Ok.ensures.mounted choose history k chooser taken begins image seen in
+    let same : c.same_kept.result ≡ same_kept c.kept.result.now c.args.config.kept = cc (c.same_kept.ensures, c.as_slice.ensures, c.as_slice-2.ensures) in
+    opened_same g.D.Disk _ g.M.Memory.holds choose history k c.args.config image c.in-Ok.store c.args.disk.now c.mount.new.disk is (c.in-Ok.ensures.images choose history k begins)
+    (configured_as g.D.Disk _ g.M.Memory.holds choose history k c.args.config image c.in-Ok.store c.mount.new.disk is c.kept.result.now c.kept.ensures c.same_kept.result true same c.if-same_kept.true)
+
+pub run_last-requires-clause-takes : goal.run_last-requires-clause-takes
+run_last-requires-clause-takes g c = c.requires (to_z w64 (of_z w64 c.now-moment.result))
+
+pub returns-in-Ok-run_last-clause-opened : goal.returns-in-Ok-run_last-clause-opened
+returns-in-Ok-run_last-clause-opened g c = λ choose history k chooser taken begins image seen.
+    let is = c.in-Ok.ensures.mounted choose history k chooser taken begins image seen in
+    let same : c.same_kept.result ≡ same_kept c.kept.result.now c.args.config.kept = cc (c.same_kept.ensures, c.as_slice.ensures, c.as_slice-2.ensures) in
+    opened_by g.D.Disk _ g.M.Memory.holds choose history k c.args.config image c.in-Ok.store c.run_last.new.store c.args.disk.now c.mount.new.disk c.run_last.new.disk is (c.in-Ok.ensures.images choose history k begins)
+    (configured_as g.D.Disk _ g.M.Memory.holds choose history k c.args.config image c.in-Ok.store c.mount.new.disk is c.kept.result.now c.kept.ensures c.same_kept.result false same c.if-same_kept.false)
+    (to_z w64 (of_z w64 c.now-moment.result))
+    (c.in-Ok-run_last.ensures.left choose (take is.count history) is.count chooser (front_has g.M.Memory.takes is.count history taken)
+    (committed g.D.Disk _ g.M.Memory.holds choose history k c.args.config image c.in-Ok.store c.mount.new.disk is))
+
+pub returns-in-Err-run_last-clause-stopped : goal.returns-in-Err-run_last-clause-stopped
+returns-in-Err-run_last-clause-stopped g c = λ choose history k chooser taken begins image seen.
+    let is = c.in-Ok.ensures.mounted choose history k chooser taken begins image seen in
+    let same : c.same_kept.result ≡ same_kept c.kept.result.now c.args.config.kept = cc (c.same_kept.ensures, c.as_slice.ensures, c.as_slice-2.ensures) in
+    stopped_by g.D.Disk _ g.M.Memory.holds choose history k c.args.config image c.in-Ok.store c.run_last.new.store c.args.disk.now c.mount.new.disk c.run_last.new.disk is (c.in-Ok.ensures.images choose history k begins)
+    (configured_as g.D.Disk _ g.M.Memory.holds choose history k c.args.config image c.in-Ok.store c.mount.new.disk is c.kept.result.now c.kept.ensures c.same_kept.result false same c.if-same_kept.false)
+    (to_z w64 (of_z w64 c.now-moment.result)) (loses c.in-Err-run_last.stop)
+    (c.in-Err-run_last.ensures.stopped choose (take is.count history) is.count chooser (front_has g.M.Memory.takes is.count history taken)
+    (committed g.D.Disk _ g.M.Memory.holds choose history k c.args.config image c.in-Ok.store c.mount.new.disk is))
+
+pub returns-in-Err-run_last-clause-sound : goal.returns-in-Err-run_last-clause-sound
+returns-in-Err-run_last-clause-sound g c = λ unsound choose history k chooser taken begins image seen.
+    let is = c.in-Ok.ensures.mounted choose history k chooser taken begins image seen in
+    let stop_is : c.in-Err-run_last.stop ≡ stops.Unsound = cc (unsound) in
+    sound_settings choose c.in-Ok.store.drawn (take is.count history) c.args.config (to_z w64 (of_z w64 c.now-moment.result)) c.in-Err-run_last.stop stop_is
+    (c.in-Err-run_last.ensures.caused choose (take is.count history) is.count chooser (front_has g.M.Memory.takes is.count history taken)
+    (committed g.D.Disk _ g.M.Memory.holds choose history k c.args.config image c.in-Ok.store c.mount.new.disk is))
+
+pub returns-in-Err-clause-sound : goal.returns-in-Err-clause-sound
+returns-in-Err-clause-sound g c = λ unsound choose history k chooser taken begins image seen.
+    let is : of_mount c.in-Err.fault ≡ stops.Unsound = cc (unsound, c.of_mount.ensures) in
+    let mount_is : c.in-Err.fault ≡ mounts.Unsound = unsound_of_mount c.in-Err.fault is in
+    c.in-Err.ensures.sound (cc (mount_is)) choose history k chooser taken begins image seen

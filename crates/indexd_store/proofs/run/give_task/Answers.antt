@@ -1,0 +1,46 @@
+use Rattle.std.proofs.Common.{rules, ◌≡◌, ℕ, Option, Some, None, Ok, Err, refl, ap, ◌∙◌, inl, w64}
+use Rattle.std.proofs.lemmas.Int.{to_z-of_z}
+use mir.Val.{SFits}
+use Rattle.ix_machine.specs.Step.{after}
+use Rattle.ix_machine.specs.declared.commands.Command.{Command}
+use Rattle.indexd_store.specs.Ends.{Only, AtMost}
+use Rattle.indexd_store.specs.Stops.{loses}
+use Rattle.indexd_store.specs.Tasks.{command_in, orders_by, orders_in, Gave, moved_by}
+use Rattle.indexd_store.specs.declared.stop.Stop.TheVariants as stops
+use Rattle.indexd_store.proofs.Tasks.{none_given, left_weaker, ends_weaker, partly}
+use Rattle.indexd_store.proofs.run.give_task.Goals as goal
+
+pub returns-in-Ok-None-clause-ends : goal.returns-in-Ok-None-clause-ends
+returns-in-Ok-None-clause-ends g c = λ choose h base chooser taken hold.
+    let is : ◌≡◌ {A = Option Command} None (command_in c.args.task) = cc (c.in-Ok-None.ensures, c.in-Ok-None.field-0-is) in
+    none_given g.D.Disk _ g.M.Memory.holds choose h base c.args.store.now c.args.disk.now (Gave {T = ℕ} (Ok 0) (orders_in c.args.task c.args.moment))
+    (ap (λ (o : Option Command). orders_by o c.args.moment) is) hold
+
+pub returns-in-Err-clause-ends : goal.returns-in-Err-clause-ends
+returns-in-Err-clause-ends g c = λ choose h base chooser taken hold.
+    none_given g.D.Disk _ g.M.Memory.holds choose h base c.args.store.now c.args.disk.now (Gave {T = ℕ} (Err stops.Memory) (orders_in c.args.task c.args.moment)) (inl refl) hold
+
+pub returns-in-Ok-clause-ends : goal.returns-in-Ok-clause-ends
+returns-in-Ok-clause-ends g c = λ choose h base chooser taken hold.
+    let fits : SFits w64 c.args.moment = search rules in
+    let is : ◌≡◌ {A = Option Command} (Some c.in-Ok-Some.command) (command_in c.args.task) = cc (c.in-Ok-Some.ensures, c.in-Ok-Some.field-0-is) in
+    let left = simp to_z-of_z at (c.in-Ok.ensures.left choose h base chooser taken hold) in
+    left_weaker g.D.Disk _ g.M.Memory.holds choose h base c.run_last.new.store c.args.disk.now c.run_last.new.disk
+    (Only (record { command = c.in-Ok-Some.command; moment = c.args.moment })) (Gave {T = ℕ} (Ok c.in-Ok.answer.moved) (orders_in c.args.task c.args.moment))
+    (λ orders one. one ∙ ap (λ (o : Option Command). orders_by o c.args.moment) is) left
+
+pub returns-in-Ok-clause-moved : goal.returns-in-Ok-clause-moved
+returns-in-Ok-clause-moved g c = λ choose h base chooser taken hold.
+    let fits : SFits w64 c.args.moment = search rules in
+    let is : ◌≡◌ {A = Option Command} (Some c.in-Ok-Some.command) (command_in c.args.task) = cc (c.in-Ok-Some.ensures, c.in-Ok-Some.field-0-is) in
+    let answers = simp to_z-of_z at (c.in-Ok.ensures.answers choose h base chooser taken hold) in
+    answers.moved_are ∙ ap (λ (o : Option Command). moved_by (after choose h) o c.args.moment) is
+
+pub returns-in-Err-run_last-clause-ends : goal.returns-in-Err-run_last-clause-ends
+returns-in-Err-run_last-clause-ends g c = λ choose h base chooser taken hold.
+    let fits : SFits w64 c.args.moment = search rules in
+    let is : ◌≡◌ {A = Option Command} (Some c.in-Ok-Some.command) (command_in c.args.task) = cc (c.in-Ok-Some.ensures, c.in-Ok-Some.field-0-is) in
+    let ends = simp to_z-of_z at (c.in-Err-run_last.ensures.stopped choose h base chooser taken hold) in
+    ends_weaker g.D.Disk _ g.M.Memory.holds choose h base c.run_last.new.store c.args.disk.now c.run_last.new.disk (loses c.in-Err-run_last.stop)
+    (AtMost (record { command = c.in-Ok-Some.command; moment = c.args.moment })) (Gave {T = ℕ} (Err c.in-Err-run_last.stop) (orders_in c.args.task c.args.moment))
+    (λ orders. partly (record { command = c.in-Ok-Some.command; moment = c.args.moment }) (orders_in c.args.task c.args.moment) orders (ap (λ (o : Option Command). orders_by o c.args.moment) is)) ends

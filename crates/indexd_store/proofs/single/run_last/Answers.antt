@@ -1,0 +1,30 @@
+use Rattle.std.proofs.Common.{rules, length}
+use Rattle.std.proofs.lemmas.Int.{to_z-of_z}
+use mir.Val.{SFits}
+use Rattle.std.specs.Int.{w64}
+use Rattle.indexd_store.proofs.Ending.{stopped, left_by, caused}
+use Rattle.indexd_store.proofs.single.run_last.Goals as goal
+
+pub returns-in-Ok-clause-left : goal.returns-in-Ok-clause-left
+returns-in-Ok-clause-left g c = λ choose h base chooser taken hold.
+    let fits : SFits w64 c.args.moment = search rules in
+    let kept = simp to_z-of_z at (c.in-Ok.ensures.kept choose h base (length h) chooser taken hold) in
+    left_by g.D.Disk _ g.M.Memory.holds choose h base _ c.give_last.new.store c.args.disk.now c.give_last.new.disk c.args.store.now c.in-Ok.answer kept
+
+pub returns-in-Ok-clause-answers : goal.returns-in-Ok-clause-answers
+returns-in-Ok-clause-answers g c = λ choose h base chooser taken hold.
+    let fits : SFits w64 c.args.moment = search rules in
+    let kept = simp to_z-of_z at (c.in-Ok.ensures.kept choose h base (length h) chooser taken hold) in
+    kept.answers
+
+pub returns-in-Err-clause-stopped : goal.returns-in-Err-clause-stopped
+returns-in-Err-clause-stopped g c = λ choose h base chooser taken hold.
+    let fits : SFits w64 c.args.moment = search rules in
+    let not = simp to_z-of_z at (c.in-Err.ensures.fault choose h base (length h) chooser taken hold) in
+    stopped g.D.Disk _ g.M.Memory.holds choose h base _ c.give_last.new.store c.args.disk.now c.give_last.new.disk c.args.store.now c.in-Err.fault _ c.of_give.ensures not
+
+pub returns-in-Err-clause-caused : goal.returns-in-Err-clause-caused
+returns-in-Err-clause-caused g c = λ choose h base chooser taken hold.
+    let fits : SFits w64 c.args.moment = search rules in
+    let not = simp to_z-of_z at (c.in-Err.ensures.fault choose h base (length h) chooser taken hold) in
+    caused g.D.Disk g.M.Book.Replay.fits g.M.Memory.holds choose h base (record { command = c.args.command; moment = c.args.moment }) c.give_last.new.store c.args.disk.now c.give_last.new.disk c.args.store.now c.in-Err.fault c.of_give.result c.of_give.ensures not

@@ -1,0 +1,5 @@
+pub mod Stops
+pub mod Ends
+pub mod Opened
+pub mod Tasks
+pub mod Previews

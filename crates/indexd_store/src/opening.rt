@@ -1,0 +1,59 @@
+//! A run begins: the store is mounted, and the settings of the files are put in force. Each run over a store calls it first.
+
+ghost use Rattle.std.specs.Prelude.{◌≡◌, ◌≤◌, ℕ, ℤ, List, Some, IfOk, IfErr, IsErrOf};
+ghost use Rattle.std.specs.List.{AllByRecursion};
+ghost use Rattle.ix_base.specs.Faults.{Rose};
+ghost use Rattle.ix_disk.specs.Image.{Image};
+ghost use Rattle.ix_keep.specs.Snapshot.{IsOver};
+ghost use Rattle.ix_machine.specs.Given.{Chooser};
+ghost use Rattle.ix_machine.specs.declared.commands.Order.{Order};
+ghost use Rattle.indexd_store.specs.Opened.{Begins, configuring, WhenShut, HasOpened, HasStopped};
+ghost use Rattle.indexd_store.specs.Stops.{loses};
+
+use crate::settings::same_kept;
+use crate::single::run_last;
+use crate::stop::{Stop, of_mount};
+use ix_base::Clock;
+use ix_disk::Disk;
+use ix_machine::{Command, Config};
+use ix_store::{Memory, Store};
+use std::alloc::Global;
+
+/// Mounts the store that a disk keeps, or begins a new one, and puts these settings in force where others are.
+pub fn open<M: Memory + Drop, D: Disk, C: Clock>(
+    alloc: Global,
+    disk: &mut D,
+    clock: &mut C,
+    config: Config,
+) -> Result<Store<M>, Stop>
+    requires { (moment : ℤ) → M.takes (configuring config moment) }
+    // Some prefix of what the images at the start stand for is there, with the settings; all is committed, and no image has lost any of it.
+    ensures opened { IfOk result (λ store. (choose : Chooser) (history : List Order) (k : ℕ) → M.is_chooser choose → AllByRecursion M.takes history →
+        Begins D.Disk M.Book.fits choose history k disk.old → (image : Image) → D.Disk.seen disk.old ≡ Some image →
+        HasOpened D.Disk M.Book.fits M.holds choose history k config store disk.old disk.new) }
+    // At a stop nothing of before is lost either.
+    ensures stopped { IfErr result (λ stop. (choose : Chooser) (history : List Order) (k : ℕ) → M.is_chooser choose → AllByRecursion M.takes history →
+        Begins D.Disk M.Book.fits choose history k disk.old → (image : Image) → D.Disk.seen disk.old ≡ Some image →
+        HasStopped (loses stop) D.Disk M.Book.fits choose history k (WhenShut choose config) disk.old disk.new) }
+    // What is on the disk is sound.
+    ensures sound { IsErrOf result Stop.Unsound → (choose : Chooser) (history : List Order) (k : ℕ) → M.is_chooser choose → AllByRecursion M.takes history →
+        Begins D.Disk M.Book.fits choose history k disk.old → (image : Image) → D.Disk.seen disk.old ≡ Some image → ⊥ }
+    ensures over { IfOk result (λ store. IsOver D.Disk store.keeper disk.new) }
+    ensures later { D.Disk.faults disk.old ≤ D.Disk.faults disk.new }
+    ensures cause { IsErrOf result Stop.Disk → Rose (D.Disk.faults disk.old) (D.Disk.faults disk.new) }
+    ensures quiet { IsErrOf result Stop.Output → ⊥ }
+    ensures unread { IsErrOf result Stop.Input → ⊥ }
+{
+    let mut store = match Store::<M>::mount(alloc, disk) {
+        Ok(store) => store,
+        Err(fault) => return Err(of_mount(fault)),
+    };
+    if same_kept(store.kept().as_slice(), config.kept.as_slice()) {
+        return Ok(store);
+    }
+    let moment = clock.now();
+    match run_last(&mut store, disk, Command::Configure { config }, moment) {
+        Ok(_) => Ok(store),
+        Err(stop) => Err(stop),
+    }
+}

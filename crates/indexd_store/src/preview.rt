@@ -1,0 +1,108 @@
+//! A preview whose events are stored: the input is given to the store as the stream of a channel. The program calls `run_preview`.
+
+ghost use Rattle.std.specs.Prelude.{◌≡◌, ◌≤◌, ℕ, ℤ, List, length, false, true, Some, Err, IfOk, IfErr, OnOk, IsErrOf, is_ok};
+ghost use Rattle.std.specs.List.{AllByRecursion};
+ghost use Rattle.ix_base.specs.Faults.{Rose};
+ghost use Rattle.ix_disk.specs.Image.{Image};
+ghost use Rattle.ix_keep.specs.Snapshot.{IsOver};
+ghost use Rattle.ix_machine.specs.Given.{Chooser};
+ghost use Rattle.ix_machine.specs.Judged.{is_begun};
+ghost use Rattle.ix_machine.specs.Step.{after};
+ghost use Rattle.ix_machine.specs.declared.commands.Order.{Order};
+ghost use Rattle.ix_run.specs.Storing.{tilde, begin_order, block_order, end_order, IsBlock};
+ghost use Rattle.ix_life.specs.declared.sets.LimitSet.{LimitSet};
+ghost use Rattle.ix_snapshot.specs.Shelved.{IsSet};
+ghost use Rattle.ix_store.specs.Holding.{Holds};
+ghost use Rattle.indexd_store.specs.Ends.{Ends};
+ghost use Rattle.indexd_store.specs.Opened.{Begins, configuring, WhenOpen, WhenEither, HasRun, HasStopped};
+ghost use Rattle.indexd_store.specs.Previews as defs;
+ghost use Rattle.indexd_store.specs.Previews.{Fed, HasFed};
+ghost use Rattle.indexd_store.specs.Stops.{loses, loses_in};
+
+use crate::opening::open;
+use crate::stop::{Stop, of_run};
+use ix_base::{ChannelMeta, Clock, Source};
+use ix_disk::Disk;
+use ix_life::LimitSet;
+use ix_machine::Config;
+use ix_run::{Arrival, store_input};
+use ix_store::{Memory, Store};
+use std::alloc::Global;
+
+/// Whether an index is stated that is not configured.
+fn is_missing(limits: &LimitSet, origin: &ChannelMeta) -> bool
+    ensures { result ≡ defs.is_missing limits.now origin.now }
+{
+    match &origin.index {
+        Some(index) => limits.limits(index.as_slice()).is_none(),
+        None => false,
+    }
+}
+
+/// Stores an input in an open store. An index that is stated and not configured is missed before anything is read.
+fn store_preview<M: Memory + Drop, D: Disk, S: Source>(
+    alloc: Global,
+    store: &mut Store<M>,
+    disk: &mut D,
+    input: &mut S,
+    arrival: Arrival,
+) -> Result<(), Stop>
+    requires over { IsOver D.Disk store.old.keeper disk.old }
+    requires ends { M.takes (end_order arrival.moment) }
+    requires begins { M.takes (begin_order arrival.origin arrival.moment) }
+    requires adds { (bytes : List ℕ) → IsBlock bytes → M.takes (block_order arrival.moment bytes) }
+    ensures ends { (choose : Chooser) (history : List Order) (base : ℕ) → M.is_chooser choose → AllByRecursion M.takes history →
+        Holds D.Disk M.Book.fits M.holds choose history base (length history) store.old disk.old →
+        Ends (loses_in result) D.Disk M.Book.fits M.holds choose history base
+        (Fed (is_ok result) (is_begun (after choose history) tilde) arrival.origin arrival.moment (S.left input.old) (S.left input.new)) store.new disk.old disk.new }
+    // By the limits of the settings in force.
+    ensures missed { (choose : Chooser) (history : List Order) (base : ℕ) → Holds D.Disk M.Book.fits M.holds choose history base (length history) store.old disk.old →
+        (limits : LimitSet) × IsSet (after choose history).force limits × (defs.is_missing limits arrival.origin ≡ true → (result ≡ Err Stop.NotFound) × (S.left input.new ≡ S.left input.old)) }
+    ensures later { D.Disk.faults disk.old ≤ D.Disk.faults disk.new }
+    ensures cause { IsErrOf result Stop.Disk → Rose (D.Disk.faults disk.old) (D.Disk.faults disk.new) }
+    ensures read_later { S.faults input.old ≤ S.faults input.new }
+    ensures input { IsErrOf result Stop.Input → Rose (S.faults input.old) (S.faults input.new) }
+{
+    if is_missing(store.limits(), &arrival.origin) {
+        return Err(Stop::NotFound);
+    }
+    match store_input(alloc, store, disk, input, arrival) {
+        Ok(()) => Ok(()),
+        Err(fault) => Err(of_run(fault)),
+    }
+}
+
+/// Opens the store of a disk with these settings, and stores an input in it, whose bytes all arrive at the moment that the clock shows before
+/// it is read.
+pub fn run_preview<M: Memory + Drop, D: Disk, C: Clock, S: Source>(
+    alloc: Global,
+    disk: &mut D,
+    clock: &mut C,
+    config: Config,
+    input: &mut S,
+    origin: ChannelMeta,
+) -> Result<(), Stop>
+    requires settings { (moment : ℤ) → M.takes (configuring config moment) }
+    requires ends { (moment : ℤ) → M.takes (end_order moment) }
+    requires begins { (moment : ℤ) → M.takes (begin_order origin moment) }
+    requires adds { (moment : ℤ) (bytes : List ℕ) → IsBlock bytes → M.takes (block_order moment bytes) }
+    // A run that is done has given all the commands that store the whole input, and every image at the exit has them.
+    ensures done { OnOk result ((choose : Chooser) (history : List Order) (k : ℕ) → M.is_chooser choose → AllByRecursion M.takes history →
+        Begins D.Disk M.Book.fits choose history k disk.old → (image : Image) → D.Disk.seen disk.old ≡ Some image →
+        HasRun false D.Disk M.Book.fits choose history k (WhenOpen choose config (HasFed true choose origin (S.left input.old) (S.left input.new))) disk.old disk.new) }
+    // One that stops has given a front of those that store what it has read.
+    ensures stopped { IfErr result (λ stop. (choose : Chooser) (history : List Order) (k : ℕ) → M.is_chooser choose → AllByRecursion M.takes history →
+        Begins D.Disk M.Book.fits choose history k disk.old → (image : Image) → D.Disk.seen disk.old ≡ Some image →
+        HasStopped (loses stop) D.Disk M.Book.fits choose history k (WhenEither choose config (HasFed false choose origin (S.left input.old) (S.left input.new))) disk.old disk.new) }
+    ensures later { D.Disk.faults disk.old ≤ D.Disk.faults disk.new }
+    ensures cause { IsErrOf result Stop.Disk → Rose (D.Disk.faults disk.old) (D.Disk.faults disk.new) }
+    ensures read_later { S.faults input.old ≤ S.faults input.new }
+    ensures input { IsErrOf result Stop.Input → Rose (S.faults input.old) (S.faults input.new) }
+{
+    let mut store = match open::<M, D, C>(alloc, disk, clock, config) {
+        Ok(store) => store,
+        Err(stop) => return Err(stop),
+    };
+    let moment = clock.now();
+    store_preview(alloc, &mut store, disk, input, Arrival { origin, moment })
+}

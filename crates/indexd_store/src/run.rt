@@ -1,0 +1,146 @@
+//! A run over a store: it is opened, its task is given to it and committed, and the text is written. The program calls it.
+
+ghost use Rattle.std.specs.Prelude.{◌≡◌, ◌≤◌, ℕ, ℤ, List, length, false, Some, IfOk, IfErr, OnOk, IsErrOf};
+ghost use Rattle.std.specs.List.{AllByRecursion};
+ghost use Rattle.ix_base.specs.Faults.{Rose};
+ghost use Rattle.ix_disk.specs.Image.{Image};
+ghost use Rattle.ix_keep.specs.Snapshot.{IsOver};
+ghost use Rattle.ix_machine.specs.Given.{Chooser};
+ghost use Rattle.ix_machine.specs.Step.{after};
+ghost use Rattle.ix_machine.specs.declared.commands.Order.{Order};
+ghost use Rattle.ix_store.specs.Holding.{Holds};
+ghost use Rattle.indexd_store.specs.Ends.{Ends};
+ghost use Rattle.indexd_store.specs.Opened.{Begins, configuring, WhenOpen, WhenEither, HasRun, HasStopped};
+ghost use Rattle.indexd_store.specs.Stops.{loses, loses_in};
+ghost use Rattle.indexd_store.specs.Tasks.{command_in, orders_in, Gave, Partly, moved_by, HasSaid, HasPrinted, HasDone};
+
+use crate::export::export;
+use crate::opening::open;
+use crate::single::run_last;
+use crate::stop::Stop;
+use crate::task::{Task, command_of};
+use crate::texts::say;
+use ix_base::{Clock, Sink};
+use ix_disk::Disk;
+use ix_machine::Config;
+use ix_store::{Memory, Store};
+use std::alloc::Global;
+
+/// Gives the store the command of a task, commits it, and answers how many buckets it moved.
+fn give_task<M: Memory + Drop, D: Disk>(
+    alloc: Global,
+    store: &mut Store<M>,
+    disk: &mut D,
+    task: Task<'_>,
+    moment: i64,
+) -> Result<u64, Stop>
+    requires over { IsOver D.Disk store.old.keeper disk.old }
+    requires takes { AllByRecursion M.takes (orders_in task moment) }
+    ensures ends { (choose : Chooser) (history : List Order) (base : ℕ) → M.is_chooser choose → AllByRecursion M.takes history →
+        Holds D.Disk M.Book.fits M.holds choose history base (length history) store.old disk.old →
+        Ends (loses_in result) D.Disk M.Book.fits M.holds choose history base (Gave result (orders_in task.entry moment)) store.new disk.old disk.new }
+    ensures moved { IfOk result (λ count. (choose : Chooser) (history : List Order) (base : ℕ) → M.is_chooser choose → AllByRecursion M.takes history →
+        Holds D.Disk M.Book.fits M.holds choose history base (length history) store.old disk.old →
+        count ≡ moved_by (after choose history) (command_in task.entry) moment) }
+    ensures later { D.Disk.faults disk.old ≤ D.Disk.faults disk.new }
+    ensures cause { IsErrOf result Stop.Disk → Rose (D.Disk.faults disk.old) (D.Disk.faults disk.new) }
+    ensures quiet { IsErrOf result Stop.Output → ⊥ }
+{
+    let command = match command_of(alloc, task) {
+        Ok(Some(command)) => command,
+        Ok(None) => return Ok(0),
+        Err(_) => return Err(Stop::Memory),
+    };
+    match run_last(store, disk, command, moment) {
+        Ok(answer) => Ok(answer.moved),
+        Err(stop) => Err(stop),
+    }
+}
+
+/// Gives the task to an open store, and writes its text.
+fn give_and_say<M: Memory + Drop, D: Disk, W: Sink>(
+    alloc: Global,
+    store: &mut Store<M>,
+    disk: &mut D,
+    task: Task<'_>,
+    moment: i64,
+    output: &mut W,
+) -> Result<(), Stop>
+    requires over { IsOver D.Disk store.old.keeper disk.old }
+    requires takes { AllByRecursion M.takes (orders_in task moment) }
+    ensures ends { (choose : Chooser) (history : List Order) (base : ℕ) → M.is_chooser choose → AllByRecursion M.takes history →
+        Holds D.Disk M.Book.fits M.holds choose history base (length history) store.old disk.old →
+        Ends (loses_in result) D.Disk M.Book.fits M.holds choose history base (Gave result (orders_in task.entry moment)) store.new disk.old disk.new }
+    ensures printed { OnOk result ((choose : Chooser) (history : List Order) (base : ℕ) → M.is_chooser choose → AllByRecursion M.takes history →
+        Holds D.Disk M.Book.fits M.holds choose history base (length history) store.old disk.old →
+        HasSaid choose history task.entry moment (W.given output.old) (W.given output.new)) }
+    ensures later { D.Disk.faults disk.old ≤ D.Disk.faults disk.new }
+    ensures cause { IsErrOf result Stop.Disk → Rose (D.Disk.faults disk.old) (D.Disk.faults disk.new) }
+    ensures grown { W.faults output.old ≤ W.faults output.new }
+    ensures output { IsErrOf result Stop.Output → Rose (W.faults output.old) (W.faults output.new) }
+{
+    match give_task(alloc, store, disk, task, moment) {
+        Ok(count) => say(alloc, store.view(), task, count, output),
+        Err(stop) => Err(stop),
+    }
+}
+
+/// Carries a task out over an open store.
+fn carry_out<M: Memory + Drop, D: Disk, W: Sink>(
+    alloc: Global,
+    store: &mut Store<M>,
+    disk: &mut D,
+    task: Task<'_>,
+    moment: i64,
+    output: &mut W,
+) -> Result<(), Stop>
+    requires over { IsOver D.Disk store.old.keeper disk.old }
+    requires takes { AllByRecursion M.takes (orders_in task moment) }
+    ensures ends { (choose : Chooser) (history : List Order) (base : ℕ) → M.is_chooser choose → AllByRecursion M.takes history →
+        Holds D.Disk M.Book.fits M.holds choose history base (length history) store.old disk.old →
+        Ends (loses_in result) D.Disk M.Book.fits M.holds choose history base (Gave result (orders_in task.entry moment)) store.new disk.old disk.new }
+    ensures printed { OnOk result ((choose : Chooser) (history : List Order) (base : ℕ) → M.is_chooser choose → AllByRecursion M.takes history →
+        Holds D.Disk M.Book.fits M.holds choose history base (length history) store.old disk.old →
+        HasPrinted D.Disk choose history task.entry moment disk.old (W.given output.old) (W.given output.new)) }
+    ensures later { D.Disk.faults disk.old ≤ D.Disk.faults disk.new }
+    ensures cause { IsErrOf result Stop.Disk → Rose (D.Disk.faults disk.old) (D.Disk.faults disk.new) }
+    ensures grown { W.faults output.old ≤ W.faults output.new }
+    ensures output { IsErrOf result Stop.Output → Rose (W.faults output.old) (W.faults output.new) }
+{
+    match task {
+        Task::Export { index, range } => export(store, disk, index, &range, output),
+        _ => give_and_say(alloc, store, disk, task, moment, output),
+    }
+}
+
+/// Opens the store of a disk with these settings, gives it the task, and writes the text.
+pub fn run_task<M: Memory + Drop, D: Disk, C: Clock, W: Sink>(
+    alloc: Global,
+    disk: &mut D,
+    clock: &mut C,
+    config: Config,
+    task: Task<'_>,
+    output: &mut W,
+) -> Result<(), Stop>
+    requires settings { (moment : ℤ) → M.takes (configuring config moment) }
+    requires takes { (moment : ℤ) → AllByRecursion M.takes (orders_in task moment) }
+    // A run that is done has given the task behind the settings and written its text, and every image at the exit has all.
+    ensures done { OnOk result ((choose : Chooser) (history : List Order) (k : ℕ) → M.is_chooser choose → AllByRecursion M.takes history →
+        Begins D.Disk M.Book.fits choose history k disk.old → (image : Image) → D.Disk.seen disk.old ≡ Some image →
+        HasRun false D.Disk M.Book.fits choose history k (WhenOpen choose config (HasDone D.Disk choose task.entry (W.given output.old) (W.given output.new))) disk.old disk.new) }
+    // One that stops has lost nothing of what was mounted, and where the disk is not at fault nothing that was accepted since.
+    ensures stopped { IfErr result (λ stop. (choose : Chooser) (history : List Order) (k : ℕ) → M.is_chooser choose → AllByRecursion M.takes history →
+        Begins D.Disk M.Book.fits choose history k disk.old → (image : Image) → D.Disk.seen disk.old ≡ Some image →
+        HasStopped (loses stop) D.Disk M.Book.fits choose history k (WhenEither choose config (Partly task.entry)) disk.old disk.new) }
+    ensures later { D.Disk.faults disk.old ≤ D.Disk.faults disk.new }
+    ensures cause { IsErrOf result Stop.Disk → Rose (D.Disk.faults disk.old) (D.Disk.faults disk.new) }
+    ensures grown { W.faults output.old ≤ W.faults output.new }
+    ensures output { IsErrOf result Stop.Output → Rose (W.faults output.old) (W.faults output.new) }
+{
+    let mut store = match open::<M, D, C>(alloc, disk, clock, config) {
+        Ok(store) => store,
+        Err(stop) => return Err(stop),
+    };
+    let moment = clock.now();
+    carry_out(alloc, &mut store, disk, task, moment, output)
+}

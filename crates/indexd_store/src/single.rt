@@ -1,0 +1,53 @@
+//! The last command of a run.
+
+ghost use Rattle.std.specs.Prelude.{◌≡◌, ◌≤◌, ◌+◌, ℕ, List, length, true, IfOk, IfErr, OnOk, IsErrOf};
+ghost use Rattle.std.specs.List.{AllByRecursion};
+ghost use Rattle.ix_base.specs.Faults.{Rose};
+ghost use Rattle.ix_keep.specs.Snapshot.{IsOver};
+ghost use Rattle.ix_machine.specs.Given.{Chooser};
+ghost use Rattle.ix_machine.specs.declared.commands.Order.{Order};
+ghost use Rattle.ix_store.specs.Holding.{Holds, IsAnswer};
+ghost use Rattle.indexd_store.specs.Ends.{IsLeft, Ends, Only, AtMost};
+ghost use Rattle.indexd_store.specs.Stops.{loses, Caused};
+
+use crate::stop::{Stop, of_give};
+use ix_disk::Disk;
+use ix_machine::{Accepted, Command};
+use ix_run::give_last;
+use ix_store::{Memory, Store};
+
+/// Gives a command to a store of which all is committed, and commits it.
+pub fn run_last<M: Memory + Drop, D: Disk>(
+    store: &mut Store<M>,
+    disk: &mut D,
+    command: Command,
+    moment: i64,
+) -> Result<Accepted, Stop>
+    requires over { IsOver D.Disk store.old.keeper disk.old }
+    requires takes { M.takes (record { command = command; moment = moment }) }
+    // The command is behind the others, and all are committed.
+    ensures left { OnOk result ((choose : Chooser) (history : List Order) (base : ℕ) → M.is_chooser choose → AllByRecursion M.takes history →
+        Holds D.Disk M.Book.fits M.holds choose history base (length history) store.old disk.old →
+        IsLeft D.Disk M.Book.fits M.holds choose history base (Only (record { command = command; moment = moment })) store.new disk.old disk.new) }
+    ensures answers { IfOk result (λ answer. (choose : Chooser) (history : List Order) (base : ℕ) → M.is_chooser choose → AllByRecursion M.takes history →
+        Holds D.Disk M.Book.fits M.holds choose history base (length history) store.old disk.old →
+        IsAnswer store.old.run store.old.drawn choose history (record { command = command; moment = moment }) answer) }
+    // A stop is the end of a run: what was accepted is committed, unless the disk is at fault. In no case is anything of before lost.
+    ensures stopped { IfErr result (λ stop. (choose : Chooser) (history : List Order) (base : ℕ) → M.is_chooser choose → AllByRecursion M.takes history →
+        Holds D.Disk M.Book.fits M.holds choose history base (length history) store.old disk.old →
+        Ends (loses stop) D.Disk M.Book.fits M.holds choose history base (AtMost (record { command = command; moment = moment })) store.new disk.old disk.new) }
+    // It has a cause.
+    ensures caused { IfErr result (λ stop. (choose : Chooser) (history : List Order) (base : ℕ) → M.is_chooser choose → AllByRecursion M.takes history →
+        Holds D.Disk M.Book.fits M.holds choose history base (length history) store.old disk.old →
+        Caused choose store.old.drawn history (record { command = command; moment = moment }) stop) }
+    ensures over { OnOk result (IsOver D.Disk store.new.keeper disk.new) }
+    ensures later { D.Disk.faults disk.old ≤ D.Disk.faults disk.new }
+    ensures cause { IsErrOf result Stop.Disk → Rose (D.Disk.faults disk.old) (D.Disk.faults disk.new) }
+    ensures quiet { IsErrOf result Stop.Output → ⊥ }
+    ensures unread { IsErrOf result Stop.Input → ⊥ }
+{
+    match give_last(store, disk, command, moment) {
+        Ok(answer) => Ok(answer),
+        Err(fault) => Err(of_give(fault)),
+    }
+}

@@ -1,0 +1,69 @@
+-- Commands given one after the other, and what a disk stood for meanwhile.
+use Rattle.std.proofs.Common.{◌≡◌, ◌≤◌, ℕ, List, [], ◌∷◌, ◌++◌, length, refl, sym, ap, ◌∙◌, subst, arith}
+use Rattle.ix_disk.specs.declared.disk.Disk.{Ghosts}
+use Rattle.ix_disk.proofs.Runs.{always_weaker}
+use Rattle.ix_disk.specs.Image.{Image}
+use Rattle.ix_book.specs.Book.{Book}
+use Rattle.ix_machine.specs.Given.{Chooser}
+use Rattle.ix_machine.specs.Judged.{adds}
+use Rattle.ix_machine.specs.Step.{after}
+use Rattle.ix_machine.specs.declared.answers.Accepted.{Accepted}
+use Rattle.ix_machine.specs.declared.commands.Order.{Order}
+use Rattle.ix_store.specs.Holding.{Holds}
+use Rattle.ix_store.specs.Making.{with_order}
+use Rattle.ix_store.specs.Written.{StandsFrom}
+use Rattle.ix_store.specs.declared.store.Store.{Store}
+use Rattle.ix_run.specs.Giving.{given_all, IsKept}
+use Rattle.ix_run.specs.Running.{HasStood, IsGiven}
+use Rattle.ix_run.proofs.Gone.{stood_longer, stood_on}
+
+-- more commands behind others
+pub given_join : (choose : Chooser) (h a b : List Order) → given_all choose h (a ++ b) ≡ given_all choose (given_all choose h a) b
+given_join choose h [] b = refl
+given_join choose h (o ∷ a) b = given_join choose (with_order choose h o) a b
+
+-- what they add stands behind the history
+abbrev pub more_of : Chooser → List Order → List Order → List Order
+more_of choose h [] = []
+more_of choose h (o ∷ os) = adds (after choose h) o ++ more_of choose (with_order choose h o) os
+
+more_join : (a b c : List Order) → a ++ (b ++ c) ≡ (a ++ b) ++ c
+more_join [] b c = refl
+more_join (o ∷ a) b c = ap (λ (l : List Order). o ∷ l) (more_join a b c)
+
+none_behind : (h : List Order) → h ≡ h ++ []
+none_behind [] = refl
+none_behind (o ∷ h) = ap (λ (l : List Order). o ∷ l) (none_behind h)
+
+pub given_more : (choose : Chooser) (h os : List Order) → given_all choose h os ≡ h ++ more_of choose h os
+given_more choose h [] = none_behind h
+given_more choose h (o ∷ os) = given_more choose (with_order choose h o) os ∙ sym (more_join h (adds (after choose h) o) (more_of choose (with_order choose h o) os))
+
+module _ {D : Type 0} (g : Ghosts D) {M : Type 0} (fits : Book → Type 0) (holds : Chooser → List Order → M → Type 0) (choose : Chooser) where
+  -- images that stood for a history have stood for it with further commands
+  pub stood_given : (h os : List Order) (k n : ℕ) (before disk : D) → n ≤ k → HasStood g fits choose h k before disk → HasStood g fits choose (given_all choose h os) n before disk
+  stood_given h os k n before disk fewer stood =
+      subst (λ (some : List Order). HasStood g fits choose some n before disk) (sym (given_more choose h os)) (stood_longer g fits holds choose h (more_of choose h os) k n before disk fewer stood)
+
+  pub fewer : (h : List Order) (k n : ℕ) (before disk : D) → n ≤ k → HasStood g fits choose h k before disk → HasStood g fits choose h n before disk
+  fewer h k n before disk less stood = always_weaker g before disk _ _ (λ image. one image) stood where
+    one : (image : Image) → StandsFrom fits choose h k image → StandsFrom fits choose h n image
+    one image stands = record { which = stands.which; least = omega (arith, less, stands.least); most = stands.most; kept = stands.kept; stands = stands.stands; keeps = stands.keeps }
+
+  pub stood_last : (h : List Order) (base k : ℕ) (order : Order) (before mid : Store M) (first half last : D) (answer : Accepted) → (one : IsGiven g fits holds choose h base k order before answer mid first half) →
+      HasStood g fits choose (with_order choose h order) one.gone.count half last → HasStood g fits choose (with_order choose h order) k first last
+  stood_last h base k order before mid first half last answer one stood =
+      stood_on g fits holds choose (with_order choose h order) k first half last one.gone.stood (fewer (with_order choose h order) one.gone.count k half last one.gone.kept stood)
+
+  -- a command, and then a commit of all
+  pub kept_last : (h : List Order) (base k : ℕ) (order : Order) (before mid store : Store M) (first half last : D) (answer : Accepted) → (one : IsGiven g fits holds choose h base k order before answer mid first half) →
+      Holds g fits holds choose (with_order choose h order) base (length (with_order choose h order)) store last → HasStood g fits choose (with_order choose h order) one.gone.count half last →
+      IsKept g fits holds choose h base k order before answer store first last
+  kept_last h base k order before mid store first half last answer one hold stood = record {
+    allowed = one.allowed;
+    answers = one.answers;
+    all = record {
+      hold = hold;
+      stood = stood_last h base k order before mid first half last answer one stood;
+    };
+  }

@@ -1,0 +1,4 @@
+pub mod Gone
+pub mod Given
+pub mod Stored
+pub mod Filled

@@ -1,0 +1,30 @@
+use Rattle.std.proofs.Common.{rules}
+use Rattle.std.proofs.lemmas.Int.{to_z-of_z}
+use mir.Val.{SFits}
+use Rattle.std.specs.Int.{w64}
+use Rattle.ix_store.proofs.Joining.{staged_same}
+use Rattle.ix_store.proofs.Lawful.{held_then}
+use Rattle.ix_run.proofs.Gone.{gone_none, given, given_stood}
+use Rattle.ix_run.proofs.giving.give.Goals as goal
+
+pub returns-in-Err-clause-fault : goal.returns-in-Err-clause-fault
+returns-in-Err-clause-fault g c = λ choose h base k chooser taken hold.
+    let fits : SFits w64 c.args.moment = search rules in
+    let staged = staged_same _ g.M.Memory.holds choose h base k c.args.store.now c.accept.new.self hold.old c.in-Err.ensures.err hold.staged in
+    let now = held_then g.D.Disk _ g.M.Memory.holds choose h h base k c.args.store.now c.accept.new.self c.args.disk.now hold c.accept.ensures.logs staged in
+    let refused = simp to_z-of_z at (c.in-Err.ensures.refused choose h base k hold.old chooser taken hold.staged) in
+    (refused, gone_none g.D.Disk _ g.M.Memory.holds choose h base k c.accept.new.self c.args.disk.now now)
+
+pub returns-in-Ok-commit_due-clause-given : goal.returns-in-Ok-commit_due-clause-given
+returns-in-Ok-commit_due-clause-given g c = λ choose h base k chooser taken hold.
+    let fits : SFits w64 c.args.moment = search rules in
+    let is = simp to_z-of_z at (c.in-Ok.ensures.accepted choose h base k hold.old chooser taken hold.staged) in
+    given g.D.Disk _ g.M.Memory.holds choose h base k (record { command = c.args.command; moment = c.args.moment }) c.args.store.now c.accept.new.self c.commit_due.new.store c.args.disk.now c.commit_due.new.disk c.in-Ok.answer hold c.accept.ensures.logs is
+    (c.in-Ok-commit_due.ensures.gone choose _ base k)
+
+pub returns-in-Err-commit_due-clause-fault : goal.returns-in-Err-commit_due-clause-fault
+returns-in-Err-commit_due-clause-fault g c = λ choose h base k chooser taken hold.
+    let fits : SFits w64 c.args.moment = search rules in
+    let is = simp to_z-of_z at (c.in-Ok.ensures.accepted choose h base k hold.old chooser taken hold.staged) in
+    given_stood g.D.Disk _ g.M.Memory.holds choose h base k (record { command = c.args.command; moment = c.args.moment }) c.args.store.now c.accept.new.self c.args.disk.now c.commit_due.new.disk c.in-Ok.answer hold c.accept.ensures.logs is
+    (c.commit_due.ensures.stood choose _ base k)

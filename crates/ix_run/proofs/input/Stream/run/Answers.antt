@@ -1,0 +1,89 @@
+use Rattle.std.proofs.Common.{[], ◌∷◌, ◌++◌, arith, map}
+use Rattle.std.specs.Prelude.{Ok, Err}
+use Rattle.ix_machine.specs.Judged.{is_begun}
+use Rattle.ix_machine.specs.Step.{after}
+use Rattle.ix_store.proofs.Booked.{all_more}
+use Rattle.ix_run.specs.Giving.{given_all}
+use Rattle.ix_run.specs.Storing.{tilde, opening, block_order, end_order}
+use Rattle.ix_run.proofs.Stored.{took_none, all_taken, blocks_taken, opening_taken, gives_on, halted_first, opened, feeds_on, feeds_more}
+use Rattle.ix_run.proofs.Filled.{filled_on}
+use Rattle.ix_run.proofs.input.Stream.run.Goals as goal
+
+pub returns-in-Err-clause-read : goal.returns-in-Err-clause-read
+returns-in-Err-clause-read g c = rw c.in-Err.ensures.refused record {
+  pieces = [];
+  sizes = tt;
+  took = took_none (g.S.Source.left c.args.input.now);
+  read = omega arith;
+  done = λ choose h base k chooser taken hold.
+      halted_first g.D.Disk g.M.Book.Replay.fits g.M.Memory.holds choose h base k c.args.store.now c.args.disk.now (is_begun (after choose h) tilde) c.args.origin c.args.self.moment hold;
+}
+
+pub returns-in-Err-open-clause-read : goal.returns-in-Err-open-clause-read
+returns-in-Err-open-clause-read g c = record {
+  pieces = [];
+  sizes = tt;
+  took = took_none (g.S.Source.left c.args.input.now);
+  read = omega arith;
+  done = λ choose h base k chooser taken hold.
+      opened g.D.Disk g.M.Book.Replay.fits g.M.Memory.holds choose h (opening (is_begun (after choose h) tilde) c.args.origin c.args.self.moment) base k c.open.new.store c.args.disk.now c.open.new.disk c.in-Err-open.fault
+      [] (end_order c.args.self.moment ∷ []) (c.in-Err-open.ensures.given choose h base k chooser taken hold);
+}
+
+pub returns-in-Err-fill-clause-read : goal.returns-in-Err-fill-clause-read
+returns-in-Err-fill-clause-read g c =
+    let read = c.in-Err-fill.ensures.read in record {
+      pieces = read.pieces;
+      sizes = read.sizes;
+      took = read.took;
+      read = read.read;
+      done = λ choose h base k chooser taken hold.
+          let a = opening (is_begun (after choose h) tilde) c.args.origin c.args.self.moment in
+          let one = c.in-Ok-open.ensures.given choose h base k chooser taken hold in
+          let all = all_taken g.M.Memory.takes g.met.M.Memory.ticks_are_taken choose h a taken (opening_taken g.M.Memory.takes c.args.origin c.args.self.moment c.requires.ends c.requires.begins (is_begun (after choose h) tilde)) in
+          feeds_more g.D.Disk g.M.Book.Replay.fits g.M.Memory.holds choose h (a ++ map (block_order c.args.self.moment) read.pieces) (end_order c.args.self.moment ∷ []) base k c.fill.new.store c.args.disk.now c.fill.new.disk c.in-Err-fill.fault
+          (feeds_on g.D.Disk g.M.Book.Replay.fits g.M.Memory.holds choose h a (map (block_order c.args.self.moment) read.pieces) [] base k c.open.new.store c.fill.new.store c.args.disk.now c.open.new.disk c.fill.new.disk one (Err c.in-Err-fill.fault)
+          (read.done choose (given_all choose h a) base one.count chooser all one.hold));
+    }
+
+pub returns-in-Ok-end-clause-read : goal.returns-in-Ok-end-clause-read
+returns-in-Ok-end-clause-read g c =
+    let read = c.in-Ok-fill.ensures.read in record {
+      pieces = read.pieces;
+      sizes = read.sizes;
+      took = read.took;
+      read = read.read;
+      done = λ choose h base k chooser taken hold.
+          let a = opening (is_begun (after choose h) tilde) c.args.origin c.args.self.moment in
+          let b = map (block_order c.args.self.moment) read.pieces in
+          let open_taken = opening_taken g.M.Memory.takes c.args.origin c.args.self.moment c.requires.ends c.requires.begins (is_begun (after choose h) tilde) in
+          let one = c.in-Ok-open.ensures.given choose h base k chooser taken hold in
+          let all = all_taken g.M.Memory.takes g.met.M.Memory.ticks_are_taken choose h a taken open_taken in
+          let both = filled_on g.D.Disk g.M.Book.Replay.fits g.M.Memory.holds choose h a b base k c.open.new.store c.fill.new.store c.args.disk.now c.open.new.disk c.fill.new.disk one
+          (read.done choose (given_all choose h a) base one.count chooser all one.hold) in
+          let more = all_taken g.M.Memory.takes g.met.M.Memory.ticks_are_taken choose h (a ++ b) taken
+          (all_more g.M.Memory.takes a b open_taken (blocks_taken g.M.Memory.takes c.args.self.moment c.requires.adds read.pieces read.sizes)) in
+          gives_on g.D.Disk g.M.Book.Replay.fits g.M.Memory.holds choose h (a ++ b) (end_order c.args.self.moment ∷ []) base k c.fill.new.store c.end.new.store c.args.disk.now c.fill.new.disk c.end.new.disk both (Ok tt)
+          (c.in-Ok-end.ensures.given choose (given_all choose h (a ++ b)) base both.count chooser more both.hold);
+    }
+
+pub returns-clause-read : goal.returns-clause-read
+returns-clause-read g c =
+    let read = c.in-Ok-fill.ensures.read in record {
+      pieces = read.pieces;
+      sizes = read.sizes;
+      took = read.took;
+      read = omega (arith, read.read.0);
+      done = λ choose h base k chooser taken hold.
+          let a = opening (is_begun (after choose h) tilde) c.args.origin c.args.self.moment in
+          let b = map (block_order c.args.self.moment) read.pieces in
+          let open_taken = opening_taken g.M.Memory.takes c.args.origin c.args.self.moment c.requires.ends c.requires.begins (is_begun (after choose h) tilde) in
+          let one = c.in-Ok-open.ensures.given choose h base k chooser taken hold in
+          let all = all_taken g.M.Memory.takes g.met.M.Memory.ticks_are_taken choose h a taken open_taken in
+          let both = filled_on g.D.Disk g.M.Book.Replay.fits g.M.Memory.holds choose h a b base k c.open.new.store c.fill.new.store c.args.disk.now c.open.new.disk c.fill.new.disk one
+          (read.done choose (given_all choose h a) base one.count chooser all one.hold) in
+          let more = all_taken g.M.Memory.takes g.met.M.Memory.ticks_are_taken choose h (a ++ b) taken
+          (all_more g.M.Memory.takes a b open_taken (blocks_taken g.M.Memory.takes c.args.self.moment c.requires.adds read.pieces read.sizes)) in
+          gives_on g.D.Disk g.M.Book.Replay.fits g.M.Memory.holds choose h (a ++ b) (end_order c.args.self.moment ∷ []) base k c.fill.new.store c.end.new.store c.args.disk.now c.fill.new.disk c.end.new.disk both (Err c.in-Err-end.fault)
+          (c.in-Err-end.ensures.given choose (given_all choose h (a ++ b)) base both.count chooser more both.hold);
+    }

@@ -1,0 +1,36 @@
+-- Commands that are given one after the other.
+use Rattle.std.specs.Prelude.{◌≤◌, ℕ, false, List, [], ◌∷◌, length}
+use Rattle.ix_disk.specs.declared.disk.Disk.{Ghosts}
+use Rattle.ix_book.specs.Book.{Book}
+use Rattle.ix_machine.specs.Bounds.{IsAllowed}
+use Rattle.ix_machine.specs.Given.{Chooser}
+use Rattle.ix_machine.specs.Step.{after}
+use Rattle.ix_machine.specs.declared.answers.Accepted.{Accepted}
+use Rattle.ix_machine.specs.declared.commands.Order.{Order}
+use Rattle.ix_store.specs.Holding.{Holds, IsAnswer}
+use Rattle.ix_store.specs.Making.{with_order}
+use Rattle.ix_store.specs.declared.store.Store.{Store}
+use Rattle.ix_run.specs.Running.{HasStood}
+
+-- the history with further commands, each with the Tick that it may bring
+abbrev pub given_all : Chooser → List Order → List Order → List Order
+given_all choose history [] = history
+given_all choose history (order ∷ orders) = given_all choose (with_order choose history order) orders
+
+-- Store and disk hold the history with these commands; no fewer are committed than before; and every image since stood for a prefix.
+pub record HasGivenAll {D : Type 0} (d : Ghosts D) {M : Type 0} (fits : Book → Type 0) (holds : Chooser → List Order → M → Type 0) (choose : Chooser) (history orders : List Order) (base k : ℕ) (store : Store M) (before disk : D) : Type 0 where
+  pub count : ℕ
+  pub kept : k ≤ count
+  pub hold : Holds d fits holds choose (given_all choose history orders) base count store disk
+  pub stood : HasStood d fits choose (given_all choose history orders) k before disk
+
+-- and all are committed
+pub record HasKeptAll {D : Type 0} (d : Ghosts D) {M : Type 0} (fits : Book → Type 0) (holds : Chooser → List Order → M → Type 0) (choose : Chooser) (history orders : List Order) (base k : ℕ) (store : Store M) (before disk : D) : Type 0 where
+  pub hold : Holds d fits holds choose (given_all choose history orders) base (length (given_all choose history orders)) store disk
+  pub stood : HasStood d fits choose (given_all choose history orders) k before disk
+
+-- A command was given: it was allowed, this is its answer, and all is committed.
+pub record IsKept {D : Type 0} (d : Ghosts D) {M : Type 0} (fits : Book → Type 0) (holds : Chooser → List Order → M → Type 0) (choose : Chooser) (history : List Order) (base k : ℕ) (order : Order) (old : Store M) (answer : Accepted) (store : Store M) (before disk : D) : Type 0 where
+  pub allowed : IsAllowed choose false old.drawn (after choose history) order
+  pub answers : IsAnswer old.run old.drawn choose history order answer
+  pub all : HasKeptAll d fits holds choose history (order ∷ []) base k store before disk

@@ -1,0 +1,3 @@
+pub mod Running
+pub mod Giving
+pub mod Storing

@@ -1,0 +1,40 @@
+-- What a store and its disk hold while commands are given.
+use Rattle.std.specs.Prelude.{◌≤◌, ℕ, false, List, [], ◌++◌}
+use Rattle.ix_disk.specs.Moments.{Always}
+use Rattle.ix_disk.specs.declared.disk.Disk.{Ghosts}
+use Rattle.ix_book.specs.Book.{Book}
+use Rattle.ix_machine.specs.Bounds.{IsAllowed, IsRefused}
+use Rattle.ix_machine.specs.Given.{Chooser}
+use Rattle.ix_machine.specs.Judged.{adds}
+use Rattle.ix_machine.specs.Step.{after}
+use Rattle.ix_machine.specs.declared.answers.Accepted.{Accepted}
+use Rattle.ix_machine.specs.declared.commands.Order.{Order}
+use Rattle.ix_store.specs.Holding.{Holds, IsAnswer}
+use Rattle.ix_store.specs.Written.{StandsFrom}
+use Rattle.ix_store.specs.declared.store.Store.{Store}
+use Rattle.ix_run.specs.declared.giving.GiveFault.{GiveFault}
+use Rattle.ix_run.specs.declared.giving.GiveFault.TheVariants as faults
+
+-- Since a moment of the disk every image has stood for a prefix of the history with these further commands, with at least k commands.
+abbrev pub HasStood : {D : Type 0} → Ghosts D → (Book → Type 0) → Chooser → List Order → ℕ → D → D → Type 0
+HasStood d fits choose history k before disk = Always d before disk (StandsFrom fits choose history k)
+
+-- Store and disk hold the history with further commands; no fewer are committed than before; and every image since stood for a prefix.
+pub record HasGone {D : Type 0} (d : Ghosts D) {M : Type 0} (fits : Book → Type 0) (holds : Chooser → List Order → M → Type 0) (choose : Chooser) (history more : List Order) (base k : ℕ) (store : Store M) (before disk : D) : Type 0 where
+  pub count : ℕ
+  pub kept : k ≤ count
+  pub hold : Holds d fits holds choose (history ++ more) base count store disk
+  pub stood : HasStood d fits choose (history ++ more) k before disk
+
+-- A command was given: it was allowed, and this is its answer.
+pub record IsGiven {D : Type 0} (d : Ghosts D) {M : Type 0} (fits : Book → Type 0) (holds : Chooser → List Order → M → Type 0) (choose : Chooser) (history : List Order) (base k : ℕ) (order : Order) (old : Store M) (answer : Accepted) (store : Store M) (before disk : D) : Type 0 where
+  pub allowed : IsAllowed choose false old.drawn (after choose history) order
+  pub answers : IsAnswer old.run old.drawn choose history order answer
+  pub gone : HasGone d fits holds choose history (adds (after choose history) order) base k store before disk
+
+-- A command was refused for its cause, and all is as it was; or it was accepted, and the disk failed.
+abbrev pub IsNotGiven : {D : Type 0} → Ghosts D → {M : Type 0} → (Book → Type 0) → (Chooser → List Order → M → Type 0) → Chooser → List Order → ℕ → ℕ → Order → Store M → GiveFault → Store M → D → D → Type 0
+IsNotGiven d fits holds choose history base k order old (faults.Refused refusal) store before disk =
+    IsRefused choose false old.drawn (after choose history) order refusal × HasGone d fits holds choose history [] base k store before disk
+IsNotGiven d fits holds choose history base k order old (faults.Commit fault) store before disk =
+    HasStood d fits choose (history ++ adds (after choose history) order) k before disk

@@ -1,0 +1,96 @@
+//! Commands are given to a store. Each command of the program gives its own so.
+
+ghost use Rattle.std.specs.Prelude.{◌≡◌, ◌≤◌, ℕ, List, [], length, true, IfOk, IfErr, OnOk, OnErr};
+ghost use Rattle.std.specs.List.{AllByRecursion};
+ghost use Rattle.ix_base.specs.Faults.{Rose};
+ghost use Rattle.ix_keep.specs.Snapshot.{IsOver};
+ghost use Rattle.ix_machine.specs.Given.{Chooser};
+ghost use Rattle.ix_machine.specs.declared.answers.Refusal.{Refusal as Refused};
+ghost use Rattle.ix_machine.specs.declared.commands.Order.{Order};
+ghost use Rattle.ix_run.specs.Running.{HasStood, HasGone, IsGiven, IsNotGiven};
+ghost use Rattle.ix_store.specs.Holding.{Holds};
+
+use ix_disk::Disk;
+use ix_keep::CommitFault;
+use ix_machine::{Accepted, Command, Refusal};
+use ix_store::{Memory, Store};
+
+/// Why a command was not given, or was not kept.
+#[derive(Clone, Copy, Debug, PartialEq, Eq)]
+pub enum GiveFault {
+    /// The store refused it; store and disk are as they were.
+    Refused(Refusal),
+    /// The store accepted it, and the disk failed at the commit. The store is closed.
+    Commit(CommitFault),
+}
+
+/// Commits what is accepted, where that is due.
+fn commit_due<M: Memory + Drop, D: Disk>(
+    store: &mut Store<M>,
+    disk: &mut D,
+) -> Result<(), CommitFault>
+    requires { IsOver D.Disk store.old.keeper disk.old }
+    ensures gone { OnOk result ((choose : Chooser) (history : List Order) (base k : ℕ) → Holds D.Disk M.Book.fits M.holds choose history base k store.old disk.old →
+        HasGone D.Disk M.Book.fits M.holds choose history [] base k store.new disk.old disk.new) }
+    ensures stood { (choose : Chooser) (history : List Order) (base k : ℕ) → Holds D.Disk M.Book.fits M.holds choose history base k store.old disk.old →
+        HasStood D.Disk M.Book.fits choose history k disk.old disk.new }
+    ensures over { OnOk result (IsOver D.Disk store.new.keeper disk.new) }
+    ensures closed { OnErr result (store.new.keeper.closed ≡ true) }
+    ensures later { D.Disk.faults disk.old ≤ D.Disk.faults disk.new }
+    ensures cause { IfErr result (λ fault. fault ≡ CommitFault.Disk → Rose (D.Disk.faults disk.old) (D.Disk.faults disk.new)) }
+{
+    if !store.due() {
+        return Ok(());
+    }
+    store.commit(disk)?;
+    Ok(())
+}
+
+/// Gives a command to the store, and commits all that is accepted where that is due.
+pub fn give<M: Memory + Drop, D: Disk>(
+    store: &mut Store<M>,
+    disk: &mut D,
+    command: Command,
+    moment: i64,
+) -> Result<Accepted, GiveFault>
+    requires over { IsOver D.Disk store.old.keeper disk.old }
+    requires takes { M.takes (record { command = command; moment = moment }) }
+    // An accepted command is behind the others, and what was committed still is.
+    ensures given { IfOk result (λ answer. (choose : Chooser) (history : List Order) (base k : ℕ) → M.is_chooser choose → AllByRecursion M.takes history →
+        Holds D.Disk M.Book.fits M.holds choose history base k store.old disk.old →
+        IsGiven D.Disk M.Book.fits M.holds choose history base k (record { command = command; moment = moment }) store.old answer store.new disk.old disk.new) }
+    // A refused one has its cause, and leaves all as it was. Where the disk fails every image stands for a prefix.
+    ensures fault { IfErr result (λ fault. (choose : Chooser) (history : List Order) (base k : ℕ) → M.is_chooser choose → AllByRecursion M.takes history →
+        Holds D.Disk M.Book.fits M.holds choose history base k store.old disk.old →
+        IsNotGiven D.Disk M.Book.fits M.holds choose history base k (record { command = command; moment = moment }) store.old fault store.new disk.old disk.new) }
+    ensures over { OnOk result (IsOver D.Disk store.new.keeper disk.new) }
+    ensures still { IfErr result (λ fault. (refusal : Refused) → fault ≡ GiveFault.Refused refusal → IsOver D.Disk store.new.keeper disk.new) }
+    ensures later { D.Disk.faults disk.old ≤ D.Disk.faults disk.new }
+    ensures cause { IfErr result (λ fault. fault ≡ GiveFault.Commit CommitFault.Disk → Rose (D.Disk.faults disk.old) (D.Disk.faults disk.new)) }
+{
+    let answer = match store.accept(command, moment) {
+        Ok(answer) => answer,
+        Err(refusal) => return Err(GiveFault::Refused(refusal)),
+    };
+    match commit_due(store, disk) {
+        Ok(()) => Ok(answer),
+        Err(fault) => Err(GiveFault::Commit(fault)),
+    }
+}
+
+/// Commits all that is accepted. A run that changes a store ends with it.
+pub fn commit_all<M: Memory + Drop, D: Disk>(
+    store: &mut Store<M>,
+    disk: &mut D,
+) -> Result<(), CommitFault>
+    requires { IsOver D.Disk store.old.keeper disk.old }
+    ensures done { OnOk result ((choose : Chooser) (history : List Order) (base k : ℕ) → Holds D.Disk M.Book.fits M.holds choose history base k store.old disk.old →
+        Holds D.Disk M.Book.fits M.holds choose history base (length history) store.new disk.new) }
+    ensures stood { (choose : Chooser) (history : List Order) (base k : ℕ) → Holds D.Disk M.Book.fits M.holds choose history base k store.old disk.old →
+        HasStood D.Disk M.Book.fits choose history k disk.old disk.new }
+    ensures over { OnOk result (IsOver D.Disk store.new.keeper disk.new) }
+    ensures later { D.Disk.faults disk.old ≤ D.Disk.faults disk.new }
+    ensures cause { IfErr result (λ fault. fault ≡ CommitFault.Disk → Rose (D.Disk.faults disk.old) (D.Disk.faults disk.new)) }
+{
+    store.commit(disk)
+}

@@ -1,0 +1,10 @@
+//! Runs of a store: commands are given to it one by one, and committed where that is due. The program makes each of its commands of these.
+#![tactic(auto)]
+
+mod giving;
+mod input;
+mod single;
+
+pub use giving::{GiveFault, commit_all, give};
+pub use input::{Arrival, RunFault, store_input};
+pub use single::give_last;

@@ -1,0 +1,44 @@
+//! A command that is the last of its run: `roll`, `tick`, `thaw` and a change of settings give theirs so.
+
+ghost use Rattle.std.specs.Prelude.{◌≡◌, ◌≤◌, ℕ, List, [], ◌∷◌, IfOk, IfErr, OnOk};
+ghost use Rattle.std.specs.List.{AllByRecursion};
+ghost use Rattle.ix_base.specs.Faults.{Rose};
+ghost use Rattle.ix_keep.specs.Snapshot.{IsOver};
+ghost use Rattle.ix_machine.specs.Given.{Chooser};
+ghost use Rattle.ix_machine.specs.declared.commands.Order.{Order};
+ghost use Rattle.ix_run.specs.Giving.{IsKept};
+ghost use Rattle.ix_run.specs.Running.{IsNotGiven};
+ghost use Rattle.ix_store.specs.Holding.{Holds};
+
+use crate::giving::{GiveFault, commit_all, give};
+use ix_disk::Disk;
+use ix_keep::CommitFault;
+use ix_machine::{Accepted, Command};
+use ix_store::{Memory, Store};
+
+/// Gives a command to the store, and commits all that is accepted then.
+pub fn give_last<M: Memory + Drop, D: Disk>(
+    store: &mut Store<M>,
+    disk: &mut D,
+    command: Command,
+    moment: i64,
+) -> Result<Accepted, GiveFault>
+    requires over { IsOver D.Disk store.old.keeper disk.old }
+    requires takes { M.takes (record { command = command; moment = moment }) }
+    // The command is behind the others, and all are committed.
+    ensures kept { IfOk result (λ answer. (choose : Chooser) (history : List Order) (base k : ℕ) → M.is_chooser choose → AllByRecursion M.takes history →
+        Holds D.Disk M.Book.fits M.holds choose history base k store.old disk.old →
+        IsKept D.Disk M.Book.fits M.holds choose history base k (record { command = command; moment = moment }) store.old answer store.new disk.old disk.new) }
+    ensures fault { IfErr result (λ fault. (choose : Chooser) (history : List Order) (base k : ℕ) → M.is_chooser choose → AllByRecursion M.takes history →
+        Holds D.Disk M.Book.fits M.holds choose history base k store.old disk.old →
+        IsNotGiven D.Disk M.Book.fits M.holds choose history base k (record { command = command; moment = moment }) store.old fault store.new disk.old disk.new) }
+    ensures over { OnOk result (IsOver D.Disk store.new.keeper disk.new) }
+    ensures later { D.Disk.faults disk.old ≤ D.Disk.faults disk.new }
+    ensures cause { IfErr result (λ fault. fault ≡ GiveFault.Commit CommitFault.Disk → Rose (D.Disk.faults disk.old) (D.Disk.faults disk.new)) }
+{
+    let answer = give(store, disk, command, moment)?;
+    match commit_all(store, disk) {
+        Ok(()) => Ok(answer),
+        Err(fault) => Err(GiveFault::Commit(fault)),
+    }
+}
