@@ -1,5 +1,6 @@
 -- Files that are read piece by piece, and layers one behind the other.
 use Rattle.std.proofs.Common.{◌≡◌, ◌≤◌, ◌+◌, ℕ, List, [], ◌∷◌, ◌++◌, length, take, drop, refl, sym, ◌∙◌, ap, subst, append_assoc, Option, Some, None, Result, Ok, Err, IfSome, IfOk, IfErr, ◌≢◌}
+use Rattle.std.specs.List.{AllByRecursion}
 use Rattle.std.proofs.lemmas.List.{take-append-drop, length-append, length-take-le}
 use Rattle.std.proofs.Math.Seq.{drop-append-add}
 use Rattle.ix_base.specs.Trees.{bytes_at, ReadsAt}
@@ -8,7 +9,7 @@ use Rattle.ix_conf.specs.Grammar.{pairs, Gives}
 use Rattle.ix_conf.specs.declared.entries.Entry.{Entry}
 use Rattle.ix_conf.specs.declared.entries.ConfFault.{ConfFault}
 use Rattle.ix_conf.specs.declared.layers.Layer.{Layer}
-use Rattle.indexd_settings.specs.Layers.{or_empty, text_at, path_in, in_layer, layer_read, IsTextOr, IsBegun, before, led_by, LayerRefused, Reads}
+use Rattle.indexd_settings.specs.Layers.{or_empty, text_at, path_in, in_layer, layer_read, IsTextOr, IsOfText, IsBegun, before, led_by, LayerRefused, Reads}
 use Rattle.indexd_settings.specs.declared.layers.Refusal.{Refusal}
 use Rattle.indexd_settings.specs.declared.layers.SettingsFile.{SettingsFile}
 use Rattle.indexd_settings.specs.declared.layers.LayerStop.{LayerStop}
@@ -42,6 +43,18 @@ pub led_by_one_more : (first : List Layer) (layer : Layer) (others : Result (Lis
     led_by first (before (Ok layer) others) ≡ led_by (first ++ layer ∷ []) others
 led_by_one_more first layer (Err refusal) = refl
 led_by_one_more first layer (Ok layers) = ap (λ (l : List Layer). Ok l) (sym (append_assoc first (layer ∷ []) layers))
+
+-- layers of texts with one more behind them
+pub texts_more : (layers : List Layer) (layer : Layer) → AllByRecursion IsOfText layers → IsOfText layer → AllByRecursion IsOfText (layers ++ layer ∷ [])
+texts_more [] layer texts text = (text, tt)
+texts_more (first ∷ layers) layer texts text = (texts.0, texts_more layers layer texts.1 text)
+
+-- a layer of entries that were read of a text is of that text
+pub layer_of_text : (result : Result Layer LayerStop) (entries : Result (List Entry) ConfFault) → IfOk result (λ layer. entries ≡ Ok layer.file) →
+    IfOk entries (λ file. (bytes : List ℕ) × (pairs bytes ≡ Ok file)) → IfOk result (λ layer. IsOfText layer)
+layer_of_text (Ok layer) entries file text =
+    subst (λ (e : Result (List Entry) ConfFault). IfOk e (λ file. (bytes : List ℕ) × (pairs bytes ≡ Ok file))) file text
+layer_of_text (Err stop) entries file text = tt
 
 -- what the text at a path says is what the layer is
 pub layer_reads : (result : Result Layer LayerStop) (faults faults' : ℕ) (files : Option (List TreeFile)) (file : SettingsFile)

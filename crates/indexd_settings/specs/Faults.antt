@@ -1,5 +1,5 @@
 -- The first fault in the settings of a run, and why there are none.
-use Rattle.std.specs.Prelude.{◌≡◌, ◌≢◌, ℕ, List, Option, Some, None, Ok, Err}
+use Rattle.std.specs.Prelude.{◌≡◌, ◌≢◌, ℕ, List, Option, Ok, Err}
 use Rattle.ix_base.specs.Faults.{Rose}
 use Rattle.ix_base.specs.declared.trees.TreeFile.{TreeFile}
 use Rattle.ix_base.specs.declared.trees.TreeFault.{TreeFault}
@@ -13,6 +13,8 @@ use Rattle.ix_life.specs.Limits.{first_fault, Refuses}
 use Rattle.ix_life.specs.declared.faults.LimitFault.TheVariants as limits
 use Rattle.indexd_settings.specs.Layers.{settings, ReadAs}
 use Rattle.indexd_settings.specs.Merged.{AreMergedFiles}
+use Rattle.indexd_settings.specs.declared.layers.LayerStop.{LayerStop}
+use Rattle.indexd_settings.specs.declared.layers.LayerStop.TheVariants as layers
 use Rattle.indexd_settings.specs.declared.layers.SettingsFile.{SettingsFile}
 use Rattle.indexd_settings.specs.declared.layers.SettingsFile.TheVariants.{Props, Transforms, Indexes, Inputs, Zones}
 use Rattle.indexd_settings.specs.declared.merged.MergedFiles.{MergedFiles}
@@ -70,6 +72,12 @@ abbrev pub StopsIn : SettingsFile → ConfigurationStop → ℕ → ℕ → Opti
 StopsIn file stops.Memory failed failed' files = Unit {0}
 StopsIn file stops.Input failed failed' files = Rose failed failed'
 StopsIn file (stops.Refused fault) failed failed' files = IsFaultIn file files fault
+
+-- a file whose layers were not read stops the reading
+abbrev pub stop_in : SettingsFile → LayerStop → ConfigurationStop
+stop_in file layers.Memory = stops.Memory
+stop_in file layers.Input = stops.Input
+stop_in file (layers.Refused refusal) = stops.Refused (faults.File file refusal)
 
 -- why values were refused; the tree is not asked for them
 abbrev pub StopsAt : MergedFiles → ConfigurationStop → Type 0

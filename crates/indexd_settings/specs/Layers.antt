@@ -79,6 +79,14 @@ abbrev pub layers_read : List TreeFile → SettingsFile → List (List ℕ) → 
 layers_read files file [] = Ok []
 layers_read files file (name ∷ names) = before (layer_read files file name) (layers_read files file names)
 
+-- those that the files of a tree alone have, highest first
+abbrev pub of_files : List TreeFile → SettingsFile → Result (List Layer) Refusal
+of_files files file = layers_read files file (folders_of files)
+
+-- a layer that the grammar makes of a text
+abbrev pub IsOfText : Layer → Type 0
+IsOfText layer = (text : List ℕ) × (pairs text ≡ Ok layer.file)
+
 -- what is known without any file: the zones
 abbrev pub built_in : SettingsFile → List Layer
 built_in Props = []
@@ -97,7 +105,7 @@ led_by first (Ok layers) = Ok (first ++ layers)
 
 -- The layers of a file, highest first, or the first fault in them.
 abbrev pub settings : List TreeFile → SettingsFile → Result (List Layer) Refusal
-settings files file = followed_by (built_in file) (layers_read files file (folders_of files))
+settings files file = followed_by (built_in file) (of_files files file)
 
 -- the text of a fault behind the path of its file
 abbrev pub fault_text : ConfFault → List ℕ

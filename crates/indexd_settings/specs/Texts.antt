@@ -1,12 +1,12 @@
 -- The lines that tell of a fault in the settings.
-use Rattle.std.specs.Prelude.{ℕ, Bool, ◌||◌, if◌then◌else◌, List, [], ◌∷◌, ◌++◌, codes, bytes_eq}
+use Rattle.std.specs.Prelude.{ℕ, Bool, ◌||◌, if◌then◌else◌, List, [], ◌++◌, codes, bytes_eq}
 use Rattle.ix_props.specs.declared.faults.SettingFault.{SettingFault}
 use Rattle.ix_props.specs.declared.faults.SettingFault.TheVariants as props
 use Rattle.ix_life.specs.declared.faults.LimitFault.{LimitFault}
 use Rattle.ix_life.specs.declared.faults.LimitFault.TheVariants as limits
 use Rattle.indexd_settings.specs.Layers.{file_name, refusal_text}
 use Rattle.indexd_settings.specs.declared.layers.SettingsFile.{SettingsFile}
-use Rattle.indexd_settings.specs.declared.layers.SettingsFile.TheVariants.{Props, Transforms, Indexes, Inputs, Zones}
+use Rattle.indexd_settings.specs.declared.layers.SettingsFile.TheVariants.{Props, Transforms, Indexes, Zones}
 use Rattle.indexd_settings.specs.declared.faults.ConfigurationFault.{ConfigurationFault}
 use Rattle.indexd_settings.specs.declared.faults.ConfigurationFault.TheVariants as configuration
 

@@ -1,10 +1,10 @@
 //! The settings of a run, read of the five files. Each command but `btool` begins with them.
 
-ghost use Rattle.std.specs.Prelude.{◌≡◌, ◌≢◌, ◌≤◌, IfOk, IfErr};
+ghost use Rattle.std.specs.Prelude.{◌≡◌, ◌≢◌, ◌≤◌, None, IfOk, IfErr, OnOk};
 ghost use Rattle.indexd_settings.specs.Faults.{StopsAt, StopsAtLimits, Stops};
 ghost use Rattle.indexd_settings.specs.Configuration.{IsReadOf, IsConfiguration};
 ghost use Rattle.ix_props.specs.Props.{AreRead};
-ghost use Rattle.ix_life.specs.Limits.{AreLimits};
+ghost use Rattle.ix_life.specs.Limits.{AreLimits, first_fault};
 
 use crate::faults::{ConfigurationFault, ConfigurationStop};
 use crate::merged::MergedFiles;
@@ -45,6 +45,7 @@ fn read_props(alloc: Global, found: &MergedFiles) -> Result<Props, Configuration
 
 fn read_limits(alloc: Global, found: &MergedFiles) -> Result<LimitSet, ConfigurationStop>
     ensures ok { IfOk result (λ limits. AreLimits found.now.indexes limits) }
+    ensures sound { OnOk result (first_fault found.now.indexes ≡ None) }
     ensures stopped { IfErr result (λ stop. StopsAtLimits found.now.indexes stop) }
 {
     match LimitSet::load(alloc, &found.indexes) {

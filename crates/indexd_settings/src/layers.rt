@@ -1,10 +1,11 @@
 //! Files of settings, read from the layers of a tree. `btool` reads one, the other commands read all five.
 
 ghost use Rattle.std.specs.Prelude.{◌≡◌, ◌≢◌, ◌≤◌, ◌<◌, ◌+◌, ◌++◌, ◌∷◌, [], ℕ, List, length, take, drop, map, codes, decimal, OnOk, OnErr, IfOk, IfErr, IfSome, IfNone, Some, None, Ok, Err, IsErrOf, vec_len};
+ghost use Rattle.std.specs.List.{AllByRecursion};
 ghost use Rattle.ix_base.specs.Faults.{Rose};
 ghost use Rattle.ix_base.specs.Trees.{bytes_at, names_in, HasSize};
 ghost use Rattle.ix_conf.specs.Grammar.{pairs, Gives};
-ghost use Rattle.indexd_settings.specs.Layers.{file_name, file_named, path_in, app_layer, layer_names, folders_of, text_at, in_layer, layer_read, layers_read, built_in, settings, fault_text, refusal_text, ReadAs, LayerStops, Reads, IsBegun, IsTextOr, LayerRefused};
+ghost use Rattle.indexd_settings.specs.Layers.{file_name, file_named, path_in, app_layer, layer_names, folders_of, text_at, in_layer, layer_read, layers_read, built_in, settings, fault_text, refusal_text, ReadAs, IsOfText, LayerStops, Reads, IsBegun, IsTextOr, LayerRefused};
 
 use itoa::Buffer;
 use ix_base::{Bytes, Names, NoMemory, Tree, TreeFault};
@@ -287,7 +288,8 @@ fn read_text<T: Tree>(alloc: Global, tree: &mut T, path: &[u8]) -> Result<Option
 
 /// The entries of a text that is not too long, as `parse` gives them.
 fn entries_of(alloc: Global, text: Option<Bytes>) -> Result<ConfFile, ConfFault>
-    ensures { (bytes : List ℕ) → IsTextOr text bytes → Gives result (pairs bytes) }
+    ensures gives { (bytes : List ℕ) → IsTextOr text bytes → Gives result (pairs bytes) }
+    ensures text { IfOk result (λ entries. (bytes : List ℕ) × (pairs bytes ≡ Ok entries)) }
 {
     match text {
         Some(text) => parse(alloc, text.as_slice()),
@@ -303,6 +305,7 @@ fn layer_of(
 ) -> Result<Layer, LayerStop>
     ensures ok { IfOk result (λ layer. (bytes : List ℕ) → Gives entries (pairs bytes) → in_layer name.now (pairs bytes) ≡ Ok layer) }
     ensures err { IfErr result (λ stop. (bytes : List ℕ) → Gives entries (pairs bytes) → LayerRefused stop (in_layer name.now (pairs bytes))) }
+    ensures file { IfOk result (λ layer. entries ≡ Ok layer.file) }
     ensures no_tree { result ≢ Err LayerStop.Input }
 {
     let name = Bytes::copy_of(alloc, name)?;
@@ -322,6 +325,7 @@ impl SettingsFile {
         name: &[u8],
     ) -> Result<Layer, LayerStop>
         ensures reads { Reads result (T.faults tree.old) (T.faults tree.new) (T.files tree.old) (λ all. layer_read all self name.now) }
+        ensures text { IfOk result (λ layer. IsOfText layer) }
         ensures same { T.files tree.new ≡ T.files tree.old }
         ensures later { T.faults tree.old ≤ T.faults tree.new }
         ensures later_missing { T.missing tree.old ≤ T.missing tree.new }
@@ -332,13 +336,14 @@ impl SettingsFile {
     }
 
     /// Reads the file in each of these layers.
-    fn read_layers<T: Tree>(
+    pub(crate) fn read_layers<T: Tree>(
         self,
         alloc: Global,
         tree: &mut T,
         names: &[Bytes],
     ) -> Result<Layers, LayerStop>
         ensures reads { Reads result (T.faults tree.old) (T.faults tree.new) (T.files tree.old) (λ all. layers_read all self names.now) }
+        ensures texts { IfOk result (λ layers. AllByRecursion IsOfText layers) }
         ensures same { T.files tree.new ≡ T.files tree.old }
         ensures later { T.faults tree.old ≤ T.faults tree.new }
         ensures later_missing { T.missing tree.old ≤ T.missing tree.new }
@@ -352,7 +357,7 @@ impl SettingsFile {
     }
 
     /// Adds what is known of it without any file.
-    fn push_built_in(self, alloc: Global, layers: &mut Layers) -> Result<(), NoMemory>
+    pub(crate) fn push_built_in(self, alloc: Global, layers: &mut Layers) -> Result<(), NoMemory>
         ensures { OnOk result (layers.new ≡ layers.old ++ built_in self) }
     {
         match self {

@@ -1,6 +1,8 @@
-use Rattle.std.proofs.Common.{◌≡◌, ◌<◌, ℕ, List, true, ltb, length, refl, arith, rules, Err, Option, None, Some}
+use Rattle.std.proofs.Common.{◌≡◌, ◌<◌, ℕ, List, true, ltb, length, refl, arith, rules, Result, Ok, Err, IfOk, Option, None, Some}
 use Rattle.std.proofs.lemmas.Bool.Decides.{nat_tests}
-use Rattle.ix_conf.specs.Grammar.{pairs}
+use Rattle.ix_conf.specs.Grammar.{pairs, Gives}
+use Rattle.ix_conf.specs.declared.entries.Entry.{Entry}
+use Rattle.ix_conf.specs.declared.entries.ConfFault.{ConfFault}
 use Rattle.ix_conf.specs.declared.entries.ConfFault.TheVariants.{TooLong}
 use Rattle.indexd_settings.specs.Layers.{IsTextOr, longest_file}
 use Rattle.indexd_settings.proofs.layers.entries_of.Goals as goal
@@ -13,5 +15,12 @@ longer : (bytes : List ℕ) (text : Option (List ℕ)) → text ≡ None → IsT
 longer bytes None is long = long
 longer bytes (Some text) is same = search rules
 
-pub returns-in-None : goal.returns-in-None
-returns-in-None c = λ bytes text. too_long bytes (longer bytes c.args.text c.in-None.is text)
+of_text : (result : Result (List Entry) ConfFault) (text : List ℕ) → Gives result (pairs text) → IfOk result (λ entries. (bytes : List ℕ) × (pairs bytes ≡ Ok entries))
+of_text (Ok entries) text gives = (text, gives)
+of_text (Err fault) text gives = tt
+
+pub returns-in-Some-clause-text : goal.returns-in-Some-clause-text
+returns-in-Some-clause-text c = of_text c.parse.result _ c.parse.ensures
+
+pub returns-in-None-clause-gives : goal.returns-in-None-clause-gives
+returns-in-None-clause-gives c = λ bytes text. too_long bytes (longer bytes c.args.text c.in-None.is text)

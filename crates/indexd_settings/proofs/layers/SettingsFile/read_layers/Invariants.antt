@@ -1,5 +1,6 @@
 use Rattle.std.proofs.Common.{◌≡◌, ◌≤◌, drop, IfSome}
-use Rattle.indexd_settings.specs.Layers.{layers_read, led_by}
+use Rattle.indexd_settings.specs.Layers.{layers_read, led_by, IsOfText}
+use Rattle.std.specs.List.{AllByRecursion}
 use Rattle.indexd_settings.proofs.layers.SettingsFile.read_layers.Given as goal
 
 abbrev pub invariant-loop-name : goal.invariant-loop-name
@@ -8,3 +9,4 @@ invariant-loop-name g l =
     × (g.T.Tree.files l.tree ≡ g.T.Tree.files l.initial.tree)
     × (g.T.Tree.faults l.initial.tree ≤ g.T.Tree.faults l.tree)
     × (g.T.Tree.missing l.initial.tree ≤ g.T.Tree.missing l.tree)
+    × AllByRecursion IsOfText l.layers

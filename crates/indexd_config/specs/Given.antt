@@ -1,0 +1,19 @@
+-- The settings that a store is to go by, as the files of a tree give them.
+use Rattle.std.specs.Prelude.{◌≡◌, List, Option}
+use Rattle.ix_base.specs.declared.trees.TreeFile.{TreeFile}
+use Rattle.ix_kept.specs.Keeping.{all_kept}
+use Rattle.ix_machine.specs.declared.commands.Config.{Config}
+use Rattle.indexd_settings.specs.Configuration.{IsReadOf}
+use Rattle.indexd_settings.specs.Merged.{AreMergedFiles}
+use Rattle.indexd_settings.specs.declared.merged.MergedFiles.{MergedFiles}
+
+-- The values are those of the merged files. All their entries are kept, but those of the zones that are built in.
+pub record IsGivenBy (found : MergedFiles) (config : Config) : Type 0 where
+  pub values : IsReadOf found (record { props = config.props; limits = config.limits })
+  pub kept : config.kept ≡ all_kept found.props found.transforms found.indexes found.own_zones
+
+-- the settings that the files of a tree give
+pub record IsConfigOf (files : Option (List TreeFile)) (config : Config) : Type 0 where
+  pub found : MergedFiles
+  pub merged : AreMergedFiles files found
+  pub given : IsGivenBy found config
