@@ -77,7 +77,7 @@ found book name (x ∷ said) start once left stand =
     by t (inl none) = inl (t, none)
     by t (inr e) = inr e
 
-same_names : (a : Name) → is_same a a ≡ true
+pub same_names : (a : Name) → is_same a a ≡ true
 same_names a =
     let kinds = (Decides-eqb a.kind a.kind).1 refl in
     let texts = (bytes_eq-Decides a.text a.text).1 refl in

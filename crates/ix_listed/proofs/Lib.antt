@@ -8,3 +8,7 @@ pub mod Summing
 pub mod Within
 pub mod Fitting
 pub mod Telling
+pub mod Permuted
+pub mod Shortened
+pub mod Sized
+pub mod Parted

@@ -328,7 +328,7 @@ module _ (m : State) (order : AreInOrder m) (sound : AllByRecursion IsSound m.ca
 first_in : (name : Name) (x : Item) → first_book name ≡ Some x → IsAmong x (items.Settings [] ∷ []) × (name_of x ≡ name)
 first_in name x e = let o = once_is (items.Settings []) name x e in (inl o.0, ap name_of (sym o.0) ∙ o.1)
 
-lists_first : Lists (items.Settings [] ∷ []) first_book
+pub lists_first : Lists (items.Settings [] ∷ []) first_book
 lists_first = lists_by (items.Settings [] ∷ []) first_book (record { once = (tt, tt); left = (refl, tt) }) (refl, tt) first_in
 
 pub states_are_listed : StatesAreListed

@@ -85,13 +85,13 @@ four_and_four g w x y z a b c d =
     let v = sum_by-append g c d in
     omega (arith, p, q, r, s, t, u, v)
 
-abbrev counts_item : State → Item
+abbrev pub counts_item : State → Item
 counts_item m = items.Counts m.catalog.counts.settled m.catalog.counts.nulled m.catalog.counts.dropped m.catalog.counts.placed
 
-abbrev singles_sum : (Item → ℕ) → State → ℕ
+abbrev pub singles_sum : (Item → ℕ) → State → ℕ
 singles_sum g m = g (items.Settings m.force) + (g (items.Moments m.last m.tick) + (g (counts_item m) + g (items.NextFile m.catalog.next_file)))
 
-state_sum : (g : Item → ℕ) (m : State) →
+pub state_sum : (g : Item → ℕ) (m : State) →
     sum_by g (state_items m)
     ≡ singles_sum g m + (sum_by (λ (l : Life). g (life_item l)) m.channels + (sum_by (λ (i : Index). sum_by g (index_items i)) m.catalog.indexes
     + (sum_by (λ (s : Spot). g (items.Spot s)) m.spots + sum_by (λ (i : Index). g (number_item i)) m.catalog.indexes)))
@@ -123,7 +123,7 @@ slots_sum g index (s ∷ slots) =
     let rest = slots_sum g index slots in
     omega (arith, a, b, c, d, e, f, rest)
 
-indexes_sum : (g : Item → ℕ) (is : List Index) →
+pub indexes_sum : (g : Item → ℕ) (is : List Index) →
     sum_by (λ (i : Index). sum_by g (index_items i)) is
     ≡ sum_by (λ (i : Index). sum_by (λ (b : Bucket). g (items.Bucket i.name b)) (buckets i.slots) + sum_by (λ (e : Entry). g (items.Ledger e)) (ledger i.slots)) is
 indexes_sum g is = sum_same _ _ is (λ i. slots_sum g i.name i.slots)
@@ -165,7 +165,7 @@ channels_are m =
 
 -- ---- the size
 
-abbrev long : Item → ℕ
+abbrev pub long : Item → ℕ
 long x = length (item_bytes x)
 
 pub body_sum : (xs : List Item) → length (body_bytes xs) ≡ sum_by long xs
@@ -191,7 +191,7 @@ buckets_sized is = sum_flat long bucket_items is ∙ sum_same _ _ is (λ i. sum_
 entries_sized : (is : List Index) → sum_by long (flat_map entry_items is) ≡ sum_by (λ (i : Index). sum_by (λ (e : Entry). long (items.Ledger e)) (ledger i.slots)) is
 entries_sized is = sum_flat long entry_items is ∙ sum_same _ _ is (λ i. sum_map long items.Ledger (ledger i.slots))
 
-numbers_sized : (is : List Index) → AllByRecursion HasSome is → sum_by (λ (i : Index). size_in (number_item i)) is ≡ sum_by (λ (i : Index). long (next_item i)) is
+pub numbers_sized : (is : List Index) → AllByRecursion HasSome is → sum_by (λ (i : Index). size_in (number_item i)) is ≡ sum_by (λ (i : Index). long (next_item i)) is
 numbers_sized is h = sum_each (λ (i : Index). size_in (number_item i)) (λ (i : Index). long (next_item i)) is (each is h)
   where
     one : (i : Index) → HasSome i → size_in (number_item i) ≡ long (next_item i)

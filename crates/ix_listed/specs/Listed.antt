@@ -5,8 +5,10 @@ use Rattle.std.specs.Option.{option_map}
 use Rattle.ix_base.specs.declared.files.File.{File}
 use Rattle.ix_items.specs.declared.items.Item.{Item}
 use Rattle.ix_items.specs.declared.items.Item.TheVariants as items
+use Rattle.ix_machine.specs.Bounds.{bucket_items}
 use Rattle.ix_machine.specs.Buckets.{Slot, Index, listed, entered}
 use Rattle.ix_machine.specs.Given.{Chooser}
+use Rattle.ix_machine.specs.Ledger.{all_frozen}
 use Rattle.ix_machine.specs.State.{State}
 use Rattle.ix_machine.specs.Step.{after}
 use Rattle.ix_machine.specs.declared.commands.Order.{Order}
@@ -35,6 +37,17 @@ state_items m =
     single_items m
     ++ (map life_item m.channels
     ++ (flat_map index_items m.catalog.indexes ++ (map items.Spot m.spots ++ map number_item m.catalog.indexes)))
+
+-- the open channels alone
+abbrev pub life_items : State → List Item
+life_items m = map life_item m.channels
+
+-- the same kind by kind, as they stand in memory: all buckets, and then all entries
+abbrev pub parted_items : State → List Item
+parted_items m =
+    single_items m
+    ++ (life_items m
+    ++ (flat_map bucket_items m.catalog.indexes ++ (map items.Ledger (all_frozen m.catalog.indexes) ++ (map items.Spot m.spots ++ map number_item m.catalog.indexes))))
 
 -- that of a store that has accepted nothing: no settings are set, and nothing else stands in it
 abbrev pub left_items : Chooser → List Order → List Item

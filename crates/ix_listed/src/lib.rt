@@ -3,4 +3,7 @@
 
 mod laws;
 
-pub use laws::{lists_tell, states_are_listed, within_fits};
+pub use laws::{
+    fits_with_log, items_have_room, items_lead, items_part, lists_tell, states_are_listed,
+    within_fits,
+};

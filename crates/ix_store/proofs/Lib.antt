@@ -6,3 +6,4 @@ pub mod Unchanged
 pub mod Numbered
 pub mod Lawful
 pub mod Exported
+pub mod Shortened

@@ -2,6 +2,7 @@ pub mod Faults
 pub mod Filing
 pub mod Counting
 pub mod Written
+pub mod Telling
 pub mod Making
 pub mod Showing
 pub mod Exporting

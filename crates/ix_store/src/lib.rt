@@ -9,10 +9,12 @@ mod group;
 mod laws;
 mod memory;
 mod numbers;
+mod shortening;
 mod showing;
 mod store;
 
 pub use fault::{ExportFault, MountFault};
 pub use laws::{accepted_is_held, given_are_taken, prefixes_stand, what_is_held_stands};
 pub use memory::{BookFault, Made, Memory};
+pub use shortening::{ListFault, Listing};
 pub use store::Store;

@@ -1,0 +1,151 @@
+//! A checkpoint of a store: its log grows with each commit, and a checkpoint makes it short. Whoever serves requests, or runs a command
+//! of the program, makes one where the log is long.
+
+ghost use Rattle.std.specs.Prelude.{◌≡◌, ◌≤◌, ◌<◌, ◌-◌, ◌+◌, ◌^◌, ◌↔◌, ◌++◌, ℕ, Bool, List, [], ◌∷◌, length, Option, Some, IfOk, OnOk, IsErrOf, IsTrue, true};
+ghost use Rattle.std.specs.List.{AllByRecursion};
+ghost use Rattle.ix_base.specs.Faults.{Rose};
+ghost use Rattle.ix_base.specs.declared.files.Area.TheVariants.{Meta};
+ghost use Rattle.ix_base.specs.declared.files.File.{File};
+ghost use Rattle.ix_disk.specs.Moments.{Always};
+ghost use Rattle.ix_items.specs.Spelling.{body_bytes};
+ghost use Rattle.ix_items.specs.declared.items.Item.{Item};
+ghost use Rattle.ix_items.specs.declared.items.Item.TheVariants as items;
+ghost use Rattle.ix_book.specs.Book.{empty, replay};
+ghost use Rattle.ix_checkpoint.specs.Whole.{HasTold};
+ghost use Rattle.ix_keep.specs.Shortening.{IsShortest};
+ghost use Rattle.ix_keep.specs.Snapshot.{IsOver, IsIdle, IsMeasured, IsLong};
+ghost use Rattle.ix_machine.specs.Given.{Chooser};
+ghost use Rattle.ix_machine.specs.declared.commands.Order.{Order};
+ghost use Rattle.ix_snapshot.specs.Snap.{left};
+ghost use Rattle.ix_store.specs.Written.{over, Stands};
+ghost use Rattle.ix_store.specs.Telling.{with_run};
+
+use crate::memory::Memory;
+use crate::store::Store;
+use ix_base::NoMemory;
+use ix_checkpoint::{CheckpointFault, Whole};
+use ix_disk::Disk;
+use ix_items::Item;
+use ix_keep::checkpoint;
+use std::alloc::Global;
+
+/// Why a walk over the items of a state does not begin.
+#[derive(Clone, Copy, Debug, PartialEq, Eq)]
+pub enum ListFault {
+    /// They have no room in one body of a log. Those of a state that commands lead to always have.
+    TooLong,
+    /// There was no room in memory.
+    NoMemory,
+}
+
+/// A state in memory that tells its items, one by one, for a checkpoint.
+pub trait Listing: Memory {
+    /// How far a walk over the items has come.
+    type Walk: Drop;
+
+    /// The items that are still to come.
+    ghost ahead: { Self → Self.Walk → List Item };
+
+    /// Whether a walk is one over this state, and each of its items can be written.
+    ghost is_sound: { Self → Self.Walk → Bool };
+
+    /// Begins a walk over the items of the state. Nothing is changed.
+    fn walk(&self, alloc: Global) -> Result<Self::Walk, ListFault>
+        // They lead to what the history has left in the log.
+        ensures listed { IfOk result (λ walk. (choose : Chooser) (history : List Order) → Self.is_chooser choose → AllByRecursion Self.takes history → Self.holds choose history self.now →
+            replay (ahead self.now walk) empty ≡ (left choose history).book) }
+        // They have room in one body, with the run and the last removals.
+        ensures walks { IfOk result (λ walk. is_sound self.now walk ≡ true) }
+        ensures short { IfOk result (λ walk. length (body_bytes (ahead self.now walk)) < 2 ^ 32 - 64) }
+        ensures sound { IsErrOf result ListFault.TooLong → (choose : Chooser) (history : List Order) → Self.is_chooser choose → AllByRecursion Self.takes history → Self.holds choose history self.now → ⊥ };
+
+    /// The next item, none behind the last one. After a fault the walk is not used again.
+    fn next(&self, alloc: Global, walk: &mut Self::Walk) -> Result<Option<Item>, NoMemory>
+        requires { is_sound self.now walk.old ≡ true }
+        ensures walks { is_sound self.now walk.new ≡ true }
+        ensures told { IfOk result (λ item. HasTold item (ahead self.now walk.old) (ahead self.now walk.new)) };
+
+    /// What fits still does where the one file that is done with is that of a log.
+    ghost fits_with_log: { (choose : Chooser) (history : List Order) (run : ℕ) (removed : Option Item) (log : File) → log.area ≡ Meta → log.number < 2 ^ 63 →
+        Self.Book.fits (over run removed (left choose history).book) → Self.Book.fits (over run (Some (items.Removals (log ∷ []))) (left choose history).book) };
+}
+
+/// A walk over the items of a state, and behind them the run that writes them.
+#[derive(Drop)]
+struct Telling<'a, M: Listing> {
+    memory: &'a M,
+    walk: M::Walk,
+    /// The run, as long as it was not told.
+    run: Option<u64>,
+    ghost sound: { M.is_sound memory.now walk ≡ true },
+}
+
+impl<M: Listing> Whole for Telling<'_, M> {
+    ghost left = { λ telling. with_run telling.run (M.ahead telling.memory.now telling.walk) };
+
+    fn next(&mut self, alloc: Global) -> Result<Option<Item>, NoMemory> {
+        if let Some(item) = self.memory.next(alloc, &mut self.walk)? {
+            return Ok(Some(item));
+        }
+        match self.run.take() {
+            Some(run) => Ok(Some(Item::Run { run })),
+            None => Ok(None),
+        }
+    }
+}
+
+impl<M: Listing + Drop> Store<M> {
+    ghost use Rattle.ix_store.specs.Holding.{Holds};
+
+    /// Whether the current log is long: it has at least 8,388,608 bytes, and at least twice those of its first body. Then a checkpoint
+    /// makes it shorter.
+    pub fn wants_checkpoint(&self) -> bool
+        ensures { IsTrue result ↔ IsLong self.now.keeper.bytes self.now.keeper.first }
+    {
+        self.keeper.wants_checkpoint()
+    }
+
+    /// Makes the current log short: writes the whole state as the one body of a further log, which is the current one from then on, and
+    /// removes the old one. All commands are committed before, and none is staged.
+    /// After `NoMemory` the store is as it was, and the old log is the current one. After `Disk` the store is closed.
+    pub fn checkpoint<D: Disk>(&mut self, disk: &mut D) -> Result<(), CheckpointFault>
+        requires over { IsOver D.Disk self.old.keeper disk.old }
+        requires idle { IsIdle self.old.keeper }
+        // Every image since the start stands for all commands.
+        ensures images { (choose : Chooser) (history : List Order) (base : ℕ) → M.is_chooser choose → AllByRecursion M.takes history →
+            Holds D.Disk M.Book.fits M.holds choose history base (length history) self.old disk.old →
+            Always D.Disk disk.old disk.new (Stands M.Book.fits self.old.run choose history) }
+        // After Ok store and disk hold them, in the new log.
+        ensures done { (choose : Chooser) (history : List Order) (base : ℕ) → M.is_chooser choose → AllByRecursion M.takes history →
+            Holds D.Disk M.Book.fits M.holds choose history base (length history) self.old disk.old →
+            OnOk result (Holds D.Disk M.Book.fits M.holds choose history base (length history) self.new disk.new) }
+        // It has one body, and 6 bytes more than that has.
+        ensures shortest { OnOk result (IsShortest D.Disk self.new.keeper disk.new) }
+        // What the next commit and the next checkpoint ask for.
+        ensures over { OnOk result (IsOver D.Disk self.new.keeper disk.new) }
+        ensures idle { OnOk result (IsIdle self.new.keeper) }
+        ensures measured { OnOk result (IsMeasured D.Disk self.new.keeper disk.new) }
+        // For want of memory all is as it was: the store holds what it held, and may go on.
+        ensures memory { IsErrOf result CheckpointFault.NoMemory → self.new ≡ self.old }
+        ensures held_still { IsErrOf result CheckpointFault.NoMemory → (choose : Chooser) (history : List Order) (base : ℕ) → M.is_chooser choose → AllByRecursion M.takes history →
+            Holds D.Disk M.Book.fits M.holds choose history base (length history) self.old disk.old →
+            Holds D.Disk M.Book.fits M.holds choose history base (length history) self.new disk.new }
+        ensures over_still { IsErrOf result CheckpointFault.NoMemory → IsOver D.Disk self.new.keeper disk.new }
+        ensures measured_still { IsErrOf result CheckpointFault.NoMemory → IsMeasured D.Disk self.old.keeper disk.old → IsMeasured D.Disk self.new.keeper disk.new }
+        ensures closed { IsErrOf result CheckpointFault.Disk → self.new.keeper.closed ≡ true }
+        ensures later { D.Disk.faults disk.old ≤ D.Disk.faults disk.new }
+        ensures cause { IsErrOf result CheckpointFault.Disk → Rose (D.Disk.faults disk.old) (D.Disk.faults disk.new) }
+    {
+        let walk = match self.memory.walk(self.alloc) {
+            Ok(walk) => walk,
+            Err(_) => return Err(CheckpointFault::NoMemory),
+        };
+        let mut telling = Telling {
+            memory: &self.memory,
+            walk,
+            run: Some(self.run),
+        };
+        checkpoint::<D, M::Book, Telling<'_, M>>(&mut self.keeper, self.alloc, disk, &mut telling)?;
+        Ok(())
+    }
+}
