@@ -1,0 +1,10 @@
+pub mod Merged
+pub mod Breaking
+pub mod Fitting
+pub mod Nearest
+pub mod Chosen
+pub mod Loaded
+pub mod Brief
+pub mod Lives
+pub mod Added
+pub mod Stored
