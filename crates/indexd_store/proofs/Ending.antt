@@ -1,12 +1,13 @@
 -- How a run over a store ends: what was given last.
-use Rattle.std.proofs.Common.{◌≡◌, ℕ, ℤ, Bool, true, false, List, [], ◌∷◌, ◌++◌, length, refl, sym, ap, ◌∙◌, subst, arith, inl, inr}
+use Rattle.std.proofs.Common.{◌≡◌, ℕ, ℤ, Bool, true, false, List, [], ◌∷◌, ◌++◌, length, refl, sym, ap, subst, arith, inl, inr}
 use Rattle.ix_disk.specs.declared.disk.Disk.{Ghosts}
 use Rattle.ix_book.specs.Book.{Book}
 use Rattle.ix_keep.specs.declared.fault.CommitFault.{CommitFault}
 use Rattle.ix_keep.specs.declared.fault.CommitFault.TheVariants as commits
-use Rattle.ix_machine.specs.Bounds.{IsRefused}
+use Rattle.ix_machine.specs.Bounds.{IsAllowed, IsRefused}
 use Rattle.ix_machine.specs.Given.{Chooser}
-use Rattle.ix_machine.specs.Judged.{adds}
+use Rattle.ix_machine.specs.Judged.{adds, draws}
+use Rattle.ix_machine.specs.State.{State}
 use Rattle.ix_machine.specs.Step.{after}
 use Rattle.ix_machine.specs.declared.answers.Refusal.{Refusal}
 use Rattle.ix_machine.specs.declared.answers.Refusal.TheVariants as refusals
@@ -23,7 +24,7 @@ use Rattle.ix_run.specs.declared.giving.GiveFault.{GiveFault}
 use Rattle.ix_run.specs.declared.giving.GiveFault.TheVariants.{Refused, Commit}
 use Rattle.indexd_store.specs.declared.stop.Stop.{Stop}
 use Rattle.indexd_store.specs.Ends.{IsLeft, HasLasted, Ends, Only, AtMost}
-use Rattle.indexd_store.specs.Opened.{configuring}
+use Rattle.indexd_store.specs.Opened.{configuring, IsUnset}
 use Rattle.indexd_store.specs.declared.stop.Stop.TheVariants as stops
 use Rattle.indexd_store.specs.Stops.{of_mount, of_refusal, of_commit, of_give, loses, Caused}
 
@@ -38,6 +39,7 @@ module _ {D : Type 0} (g : Ghosts D) {M : Type 0} (fits : Book → Type 0) (hold
     orders = [];
     allowed = inl refl;
     all = record {
+      allowed = tt;
       hold = subst (λ (n : ℕ). Holds g fits holds choose h base n store last) same hold;
       stood = subst (λ (some : List Order). HasStood g fits choose some (length h) first last) (none_more h) gone.stood;
     };
@@ -74,26 +76,55 @@ module _ {D : Type 0} (g : Ghosts D) {M : Type 0} (fits : Book → Type 0) (hold
   caused old (Refused refusal) stop is not = inl (refusal, is, not.0)
   caused old (Commit fault) stop is stood = inr (fault, is)
 
--- settings are refused for want of room alone
-refused_settings : (choose : Chooser) (drawn : ℕ) (h : List Order) (config : Config) (moment : ℤ) (refusal : Refusal) → stops.Unsound ≡ of_refusal refusal → IsRefused choose false drawn (after choose h) (configuring config moment) refusal → ⊥
-refused_settings choose drawn h config moment refusals.Closed is why = cc
-refused_settings choose drawn h config moment refusals.NoChannel is why = cc
-refused_settings choose drawn h config moment refusals.ChannelOpen is why = cc
-refused_settings choose drawn h config moment refusals.UnknownIndex is why = cc
-refused_settings choose drawn h config moment refusals.NoBucket is why = cc
-refused_settings choose drawn h config moment refusals.NotArchived is why = cc
-refused_settings choose drawn h config moment refusals.AlreadyThawed is why = cc
-refused_settings choose drawn h config moment refusals.TooManyChannels is why = cc
-refused_settings choose drawn h config moment refusals.Full is why = cc
-refused_settings choose drawn h config moment refusals.NoMemory is why = cc
+-- ---- commands that draw no number
 
-not_committed : (fault : CommitFault) → stops.Unsound ≡ of_commit fault → ⊥
-not_committed commits.Disk is = cc
-not_committed (commits.Damaged file at) is = cc
+pub undrawn : (choose : Chooser) (drawn : ℕ) (m : State) (order : Order) (refusal : Refusal) → draws order.command ≡ false → IsRefused choose false drawn m order refusal → IsRefused choose false 0 m order refusal
+undrawn choose drawn m order refusals.Closed free why = why
+undrawn choose drawn m order refusals.NoChannel free why = why
+undrawn choose drawn m order refusals.ChannelOpen free why = why
+undrawn choose drawn m order refusals.UnknownIndex free why = why
+undrawn choose drawn m order refusals.NoBucket free why = why
+undrawn choose drawn m order refusals.NotArchived free why = why
+undrawn choose drawn m order refusals.AlreadyThawed free why = why
+undrawn choose drawn m order refusals.TooManyChannels free why = why
+undrawn choose drawn m order refusals.NoMemory free why = tt
+undrawn choose drawn m order refusals.Full free why = record { no_cause = why.no_cause; over = λ both. why.over (both.0, λ is. absurd (not_both (draws order.command) is free)) } where
+  not_both : (b : Bool) → b ≡ true → b ≡ false → ⊥
+  not_both b one two = cc
 
-pub sound_settings : (choose : Chooser) (drawn : ℕ) (h : List Order) (config : Config) (moment : ℤ) (stop : Stop) → stop ≡ stops.Unsound → Caused choose drawn h (configuring config moment) stop → ⊥
-sound_settings choose drawn h config moment stop unsound (inl why) = refused_settings choose drawn h config moment why.0 (sym unsound ∙ why.1) why.2
-sound_settings choose drawn h config moment stop unsound (inr why) = not_committed why.0 (sym unsound ∙ why.1)
+pub undrawn_allowed : (choose : Chooser) (drawn : ℕ) (m : State) (order : Order) → draws order.command ≡ false → IsAllowed choose false drawn m order → IsAllowed choose false 0 m order
+undrawn_allowed choose drawn m order free is = record { no_cause = is.no_cause; bounds = is.bounds; number = λ some. absurd (not_both (draws order.command) some free) } where
+  not_both : (b : Bool) → b ≡ true → b ≡ false → ⊥
+  not_both b one two = cc
+
+-- ---- settings are refused for want of room alone
+
+settings_refused : (choose : Chooser) (h : List Order) (config : Config) (moment : ℤ) (refusal : Refusal) → IsRefused choose false 0 (after choose h) (configuring config moment) refusal →
+    IsUnset choose h (configuring config moment) (of_refusal refusal)
+settings_refused choose h config moment refusals.Closed why = cc
+settings_refused choose h config moment refusals.NoChannel why = cc
+settings_refused choose h config moment refusals.ChannelOpen why = cc
+settings_refused choose h config moment refusals.UnknownIndex why = cc
+settings_refused choose h config moment refusals.NoBucket why = cc
+settings_refused choose h config moment refusals.NotArchived why = cc
+settings_refused choose h config moment refusals.AlreadyThawed why = cc
+settings_refused choose h config moment refusals.TooManyChannels why = cc
+settings_refused choose h config moment refusals.Full why = why
+settings_refused choose h config moment refusals.NoMemory why = tt
+
+settings_uncommitted : (choose : Chooser) (h : List Order) (order : Order) (fault : CommitFault) → IsUnset choose h order (of_commit fault)
+settings_uncommitted choose h order commits.Disk = tt
+settings_uncommitted choose h order (commits.Damaged file at) = tt
+
+pub unset : (choose : Chooser) (drawn : ℕ) (h : List Order) (config : Config) (moment : ℤ) (stop : Stop) → Caused choose drawn h (configuring config moment) stop → IsUnset choose h (configuring config moment) stop
+unset choose drawn h config moment stop (inl why) =
+    subst (λ (s : Stop). IsUnset choose h (configuring config moment) s) (sym why.1)
+    (settings_refused choose h config moment why.0 (undrawn choose drawn (after choose h) (configuring config moment) why.0 refl why.2))
+unset choose drawn h config moment stop (inr why) =
+    subst (λ (s : Stop). IsUnset choose h (configuring config moment) s) (sym why.1) (settings_uncommitted choose h (configuring config moment) why.0)
+
+pub sound_settings : (choose : Chooser) (h : List Order) (order : Order) (stop : Stop) → stop ≡ stops.Unsound → IsUnset choose h order stop → ⊥
+sound_settings choose h order stop unsound why = subst (λ (s : Stop). IsUnset choose h order s) unsound why
 
 pub unsound_of_mount : (fault : MountFault) → of_mount fault ≡ stops.Unsound → fault ≡ mounts.Unsound
 unsound_of_mount mounts.Disk is = cc

@@ -1,5 +1,5 @@
 -- How an export ends: nothing is given, and nothing changes on the disk.
-use Rattle.std.proofs.Common.{◌≡◌, ℕ, false, List, [], length, refl, sym, subst, arith}
+use Rattle.std.proofs.Common.{◌≡◌, ◌||◌, ap, ◌∙◌, ℕ, Bool, true, false, List, [], length, refl, sym, subst, arith}
 use Rattle.ix_disk.proofs.Runs.{always}
 use Rattle.ix_disk.specs.Image.{Image, Stays}
 use Rattle.ix_disk.specs.Moments.{Goes}
@@ -10,13 +10,16 @@ use Rattle.ix_machine.specs.declared.commands.Order.{Order}
 use Rattle.ix_run.proofs.Gone.{stood_here}
 use Rattle.ix_run.specs.Running.{HasStood}
 use Rattle.ix_store.specs.Faults.{is_of_disk}
-use Rattle.ix_store.specs.Holding.{Holds}
+use Rattle.ix_machine.specs.Step.{after}
+use Rattle.ix_store.specs.Exporting.{is_seen}
+use Rattle.ix_store.specs.Holding.{Holds, is_closed}
 use Rattle.ix_store.specs.Written.{StandsFrom}
 use Rattle.ix_store.specs.declared.fault.ExportFault.{ExportFault}
 use Rattle.ix_store.specs.declared.fault.ExportFault.TheVariants as exports
 use Rattle.ix_store.specs.declared.store.Store.{Store}
 use Rattle.indexd_store.specs.Ends.{IsLeft, Ends}
 use Rattle.indexd_store.specs.Stops.{loses, of_export}
+use Rattle.indexd_store.specs.Tasks.{IsUnexported}
 use Rattle.indexd_store.specs.declared.stop.Stop.{Stop}
 
 module _ {D : Type 0} (g : Ghosts D) {M : Type 0} (fits : Book → Type 0) (holds : Chooser → List Order → M → Type 0) (choose : Chooser) (h : List Order) (base : ℕ) (old store : Store M) (first last : D) where
@@ -25,8 +28,11 @@ module _ {D : Type 0} (g : Ghosts D) {M : Type 0} (fits : Book → Type 0) (hold
       (λ image left. (stood_here g fits holds choose h base (length h) (length h) old first (omega arith) hold).now image left)
       (λ before after stands same. subst (λ (image : Image). StandsFrom fits choose h (length h) image) (sym same) stands)
 
+  open_still : Holds g fits holds choose h base (length h) old first → is_closed old ≡ true → ⊥
+  open_still hold closed = let e : is_closed old ≡ false = ap (λ (x : Bool). x || old.closed) hold.staged.ready.usable ∙ hold.staged.is_open in cc
+
   pub left_as_was : Holds g fits holds choose h base (length h) old first → Goes g first last Stays → Holds g fits holds choose h base (length h) store last → IsLeft g fits holds choose h base (λ (orders : List Order). orders ≡ []) store first last
-  left_as_was hold goes now = record { orders = []; allowed = refl; all = record { hold = now; stood = stayed hold goes } }
+  left_as_was hold goes now = record { orders = []; allowed = refl; all = record { allowed = tt; hold = now; stood = stayed hold goes } }
 
   pub not_exported : (fault : ExportFault) → Holds g fits holds choose h base (length h) old first → Goes g first last Stays → (is_of_disk fault ≡ false → Holds g fits holds choose h base (length h) store last) →
       Ends (loses (of_export fault)) g fits holds choose h base (λ (orders : List Order). orders ≡ []) store first last
@@ -40,3 +46,19 @@ module _ {D : Type 0} (g : Ghosts D) {M : Type 0} (fits : Book → Type 0) (hold
   pub stopped_as : (stop : Stop) (fault : ExportFault) → stop ≡ of_export fault → Holds g fits holds choose h base (length h) old first → Goes g first last Stays →
       (is_of_disk fault ≡ false → Holds g fits holds choose h base (length h) store last) → Ends (loses stop) g fits holds choose h base (λ (orders : List Order). orders ≡ []) store first last
   stopped_as stop fault is hold goes now = subst (λ (s : Stop). Ends (loses s) g fits holds choose h base (λ (orders : List Order). orders ≡ []) store first last) (sym is) (not_exported fault hold goes now)
+
+  -- an index is missed exactly where it is not seen, and a store that holds a history is not closed
+  pub unexported : (index : List ℕ) (stop : Stop) (fault : ExportFault) → stop ≡ of_export fault → Holds g fits holds choose h base (length h) old first → (fault ≡ exports.Closed → is_closed old ≡ true) →
+      (fault ≡ exports.UnknownIndex → is_seen (after choose h) index ≡ false) → IsUnexported choose h index stop
+  unexported index stop fault is hold closed unknown = subst (λ (s : Stop). IsUnexported choose h index s) (sym is) (by fault closed unknown) where
+    by : (fault : ExportFault) → (fault ≡ exports.Closed → is_closed old ≡ true) → (fault ≡ exports.UnknownIndex → is_seen (after choose h) index ≡ false) → IsUnexported choose h index (of_export fault)
+    by exports.Closed closed unknown = open_still hold (closed refl)
+    by exports.UnknownIndex closed unknown = unknown refl
+    by exports.Disk closed unknown = tt
+    by (exports.Damaged file at) closed unknown = tt
+    by exports.Output closed unknown = tt
+    by exports.NoMemory closed unknown = tt
+
+pub seen_by : (seen : Bool) → (seen ≡ false → ⊥) → seen ≡ true
+seen_by true not = refl
+seen_by false not = absurd (not refl)

@@ -1,7 +1,9 @@
 -- How the parts of a run of the program join: mounting, putting settings in force, and commands.
-use Rattle.std.proofs.Common.{◌≡◌, ◌≤◌, ℕ, zero, suc, ℤ, Bool, true, false, List, [], ◌∷◌, length, length-take, take, refl, sym, ap, ◌∙◌, subst, arith, ◌⊎◌, inl, inr}
+use Rattle.std.proofs.Common.{◌≡◌, ◌≤◌, ℕ, zero, suc, ℤ, Bool, true, false, List, [], ◌∷◌, length, length-take, take, refl, sym, ap, ◌∙◌, subst, arith, inl, inr}
 use Rattle.std.specs.List.{AllByRecursion}
-use Rattle.std.specs.Prelude.{Result, Ok, Err, Option, is_ok}
+use Rattle.std.specs.Prelude.{Result, Ok, Err, Option}
+use Rattle.ix_base.specs.Clocks.{Moments, Answered}
+use Rattle.ix_base.specs.Told.{Told, HasWritten, HasBegun}
 use Rattle.ix_base.specs.declared.events.ChannelMeta.{ChannelMeta}
 use Rattle.ix_disk.proofs.Runs.{always_on, always_weaker}
 use Rattle.ix_disk.specs.Image.{Image}
@@ -11,7 +13,6 @@ use Rattle.ix_book.specs.Book.{Book}
 use Rattle.ix_items.specs.declared.items.Kept.{Kept}
 use Rattle.ix_keep.specs.Snapshot.{Snapshot}
 use Rattle.ix_machine.specs.Given.{Chooser}
-use Rattle.ix_machine.specs.Judged.{is_begun}
 use Rattle.ix_machine.specs.Step.{after}
 use Rattle.ix_machine.specs.declared.commands.Command.TheVariants.{Tick}
 use Rattle.ix_machine.specs.declared.commands.Config.{Config}
@@ -20,19 +21,21 @@ use Rattle.ix_run.proofs.Given.{more_of, given_more, fewer}
 use Rattle.ix_run.proofs.Gone.{longer, stood_here}
 use Rattle.ix_run.specs.Giving.{given_all}
 use Rattle.ix_run.specs.Running.{HasStood}
-use Rattle.ix_run.specs.Storing.{tilde}
 use Rattle.ix_store.proofs.Joining.{more_taken}
 use Rattle.ix_store.specs.Holding.{Holds, Staged, IsMounted}
 use Rattle.ix_store.specs.Written.{StandsFrom}
 use Rattle.ix_store.specs.declared.store.Store.{Store}
+use Rattle.indexd_store.specs.Asked.{Asks}
 use Rattle.indexd_store.specs.Ends.{IsLeft, Ends, Only, AtMost, same_kept}
 use Rattle.indexd_store.specs.Previews.{Fed, HasFed}
-use Rattle.indexd_store.specs.Stops.{loses, loses_in}
+use Rattle.indexd_store.specs.Stops.{loses, loses_in, is_output}
+use Rattle.indexd_store.proofs.Ending.{sound_settings}
 use Rattle.indexd_store.specs.declared.stop.Stop.{Stop}
-use Rattle.indexd_store.specs.Tasks.{orders_in, Gave, Partly, HasPrinted, HasDone}
+use Rattle.indexd_store.specs.declared.stop.Stop.TheVariants as stops
+use Rattle.indexd_store.specs.Tasks.{orders_in, GaveAll, Gave, IsWhy, IsFine, says, HasPrinted, HasDone, HasHalted}
 use Rattle.indexd_store.specs.declared.task.Task.{Task}
 use Rattle.indexd_store.proofs.Tasks.{left_weaker, ends_weaker}
-use Rattle.indexd_store.specs.Opened.{configuring, is_configured, Configures, WhenOpen, WhenShut, WhenEither, StandsInRun, HasOpened, HasRun, HasStopped}
+use Rattle.indexd_store.specs.Opened.{configuring, is_configured, Configures, Doing, IsUnset, WhenOpen, WhenShut, StandsInRun, HasOpened, HasRun, HasShut}
 
 taken : (n : ℕ) (h : List Order) → n ≤ length h → length (take n h) ≡ n
 taken n h within = omega (arith, length-take n h)
@@ -49,9 +52,16 @@ pub begun_taken : (P : Order → Type 0) → ((moment : ℤ) → P (record { com
 begun_taken P ticks choose h config true orders has all none = subst (λ (os : List Order). AllByRecursion P (given_all choose h os)) (sym none) all
 begun_taken P ticks choose h config false orders has all one = subst (λ (os : List Order). AllByRecursion P (given_all choose h os)) (sym one.1) (more_taken P ticks choose h (configuring config one.0) all (has one.0))
 
-configures_when : (is_same : Bool) (config : Config) (moment : ℤ) (orders : List Order) → is_same ≡ false → AtMost (configuring config moment) orders → (orders ≡ []) ⊎ Configures is_same config orders
-configures_when is_same config moment orders other (inl none) = inl none
-configures_when is_same config moment orders other (inr one) = inr (subst (λ (b : Bool). Configures b config orders) (sym other) (moment, one))
+-- the clock was asked once
+pub asked_once : (order : Order) (orders : List Order) (ahead ahead' : Option Moments) → orders ≡ order ∷ [] → Told (Answered order.moment) ahead ahead' → Asks orders ahead ahead'
+asked_once order orders ahead ahead' is told = subst (λ (os : List Order). Asks os ahead ahead') (sym is) (ahead', told, refl)
+
+-- what stands on the disk is sound
+pub shut_sound : (stop : Stop) {D : Type 0} (g : Ghosts D) (fits : Book → Type 0) (choose : Chooser) (h : List Order) (k : ℕ) (config : Config) (ahead ahead' : Option Moments) (first last : D) →
+    stop ≡ stops.Unsound → HasShut stop g fits choose h k config ahead ahead' first last → ⊥
+shut_sound stop g fits choose h k config ahead ahead' first last unsound (inl not) = not.sound unsound
+shut_sound stop g fits choose h k config ahead ahead' first last unsound (inr run) =
+    sound_settings choose (take run.count h) (configuring config run.allowed.moment) stop unsound run.allowed.why
 
 module _ {D : Type 0} (g : Ghosts D) {M : Type 0} (fits : Book → Type 0) (holds : Chooser → List Order → M → Type 0) (choose : Chooser) where
   -- where all is committed every image has all
@@ -71,14 +81,15 @@ module _ {D : Type 0} (g : Ghosts D) {M : Type 0} (fits : Book → Type 0) (hold
     configured_as image store mid is kept said same answer same_is answers =
         sym (ap (λ (force : List Kept). same_kept force config.kept) (said choose (take is.count h) is.count is.count is.hold.old is.hold.staged)) ∙ (sym same_is ∙ answers)
 
-    pub opened_same : (image : Image) (store : Store M) (first mid : D) → (is : IsMounted g fits holds choose h k image store mid) → Always g first mid (StandsFrom fits choose h k) →
-        is_configured choose (take is.count h) config ≡ true → HasOpened g fits holds choose h k config store first mid
-    opened_same image store first mid is stood same = record {
+    pub opened_same : (image : Image) (store : Store M) (first mid : D) (ahead : Option Moments) → (is : IsMounted g fits holds choose h k image store mid) → Always g first mid (StandsFrom fits choose h k) →
+        is_configured choose (take is.count h) config ≡ true → HasOpened g fits holds choose h k config store ahead ahead first mid
+    opened_same image store first mid ahead is stood same = record {
       count = is.count;
       least = is.least;
       most = is.most;
       configured = [];
       configures = subst (λ (b : Bool). Configures b config []) (sym same) refl;
+      asked = refl;
       hold = committed image store mid is;
       stood = always_weaker g first mid _ _ (λ image stands. inl stands) stood;
     }
@@ -91,46 +102,61 @@ module _ {D : Type 0} (g : Ghosts D) {M : Type 0} (fits : Book → Type 0) (hold
         (always_weaker g first mid _ _ (λ image stands. inl stands) before)
         (always_weaker g mid last _ _ (λ image stands. inr stands) (fewer g fits holds choose now (length (take count h)) count mid last (omega (arith, taken count h most)) stood))
 
-    pub opened_by : (image : Image) (mounted store : Store M) (first mid last : D) → (is : IsMounted g fits holds choose h k image mounted mid) → Always g first mid (StandsFrom fits choose h k) →
-        is_configured choose (take is.count h) config ≡ false → (moment : ℤ) → IsLeft g fits holds choose (take is.count h) is.count (Only (configuring config moment)) store mid last →
-        HasOpened g fits holds choose h k config store first last
-    opened_by image mounted store first mid last is before other moment left = record {
+    pub opened_by : (image : Image) (mounted store : Store M) (first mid last : D) (ahead ahead' : Option Moments) → (is : IsMounted g fits holds choose h k image mounted mid) → Always g first mid (StandsFrom fits choose h k) →
+        is_configured choose (take is.count h) config ≡ false → (moment : ℤ) → Told (Answered moment) ahead ahead' →
+        IsLeft g fits holds choose (take is.count h) is.count (Only (configuring config moment)) store mid last → HasOpened g fits holds choose h k config store ahead ahead' first last
+    opened_by image mounted store first mid last ahead ahead' is before other moment told left = record {
       count = is.count;
       least = is.least;
       most = is.most;
       configured = left.orders;
       configures = subst (λ (b : Bool). Configures b config left.orders) (sym other) (moment, left.allowed);
+      asked = asked_once (configuring config moment) left.orders ahead ahead' left.allowed told;
       hold = left.all.hold;
       stood = over_mount is.count (given_all choose (take is.count h) left.orders) first mid last is.most before left.all.stood;
     }
 
-    pub stopped_by : (image : Image) (mounted store : Store M) (first mid last : D) → (is : IsMounted g fits holds choose h k image mounted mid) → Always g first mid (StandsFrom fits choose h k) →
-        is_configured choose (take is.count h) config ≡ false → (moment : ℤ) (lost : Bool) → Ends lost g fits holds choose (take is.count h) is.count (AtMost (configuring config moment)) store mid last →
-        HasStopped lost g fits choose h k (WhenShut choose config) first last
-    stopped_by image mounted store first mid last is before other moment true ends = inr (record {
-      count = is.count;
-      least = is.least;
-      most = is.most;
-      configured = ends.orders;
-      orders = [];
-      allowed = (configures_when (is_configured choose (take is.count h) config) config moment ends.orders other ends.allowed, refl);
-      stood = over_mount is.count (given_all choose (take is.count h) ends.orders) first mid last is.most before ends.stood;
-      exit = λ image left. (fewer g fits holds choose (given_all choose (take is.count h) ends.orders) (length (take is.count h)) is.count mid last (omega (arith, taken is.count h is.most)) ends.stood).now image left;
-    })
-    stopped_by image mounted store first mid last is before other moment false ends = inr (record {
-      count = is.count;
-      least = is.least;
-      most = is.most;
-      configured = ends.orders;
-      orders = [];
-      allowed = (configures_when (is_configured choose (take is.count h) config) config moment ends.orders other ends.allowed, refl);
-      stood = over_mount is.count (given_all choose (take is.count h) ends.orders) first mid last is.most before ends.all.stood;
-      exit = all_stand (given_all choose (take is.count h) ends.orders) is.count store last ends.all.hold;
-    })
+    -- the run stops where settings are to be put in force
+    module _ (image : Image) (mounted store : Store M) (first mid last : D) (ahead ahead' : Option Moments) (is : IsMounted g fits holds choose h k image mounted mid) (before : Always g first mid (StandsFrom fits choose h k))
+        (other : is_configured choose (take is.count h) config ≡ false) (moment : ℤ) (told : Told (Answered moment) ahead ahead') (stop : Stop) (why : IsUnset choose (take is.count h) (configuring config moment) stop) where
+      shut : (orders : List Order) → AtMost (configuring config moment) orders → WhenShut choose config stop ahead ahead' (take is.count h) orders []
+      shut orders at_most = record {
+        differ = other;
+        moment = moment;
+        asked = asked_once (configuring config moment) (configuring config moment ∷ []) ahead ahead' refl told;
+        at_most = at_most;
+        why = why;
+        none = refl;
+      }
+
+      shut_by : (lost : Bool) → Ends lost g fits holds choose (take is.count h) is.count (AtMost (configuring config moment)) store mid last → HasRun lost g fits choose h k (WhenShut choose config stop ahead ahead') first last
+      shut_by true ends = record {
+        count = is.count;
+        least = is.least;
+        most = is.most;
+        configured = ends.orders;
+        orders = [];
+        allowed = shut ends.orders ends.allowed;
+        stood = over_mount is.count (given_all choose (take is.count h) ends.orders) first mid last is.most before ends.stood;
+        exit = λ image left. (fewer g fits holds choose (given_all choose (take is.count h) ends.orders) (length (take is.count h)) is.count mid last (omega (arith, taken is.count h is.most)) ends.stood).now image left;
+      }
+      shut_by false ends = record {
+        count = is.count;
+        least = is.least;
+        most = is.most;
+        configured = ends.orders;
+        orders = [];
+        allowed = shut ends.orders ends.allowed;
+        stood = over_mount is.count (given_all choose (take is.count h) ends.orders) first mid last is.most before ends.all.stood;
+        exit = all_stand (given_all choose (take is.count h) ends.orders) is.count store last ends.all.hold;
+      }
+
+      pub stopped_by : Ends (loses stop) g fits holds choose (take is.count h) is.count (AtMost (configuring config moment)) store mid last → HasShut stop g fits choose h k config ahead ahead' first last
+      stopped_by ends = inr (shut_by (loses stop) ends)
 
     -- ---- commands behind these
 
-    module _ (mounted : Store M) (first mid last : D) (opened : HasOpened g fits holds choose h k config mounted first mid) where
+    module _ (mounted : Store M) (ahead ahead' : Option Moments) (first mid last : D) (opened : HasOpened g fits holds choose h k config mounted ahead ahead' first mid) where
       abbrev begun : List Order
       begun = given_all choose (take opened.count h) opened.configured
 
@@ -150,15 +176,23 @@ module _ {D : Type 0} (g : Ghosts D) {M : Type 0} (fits : Book → Type 0) (hold
           (always_weaker g first mid _ _ (still orders) opened.stood)
           (always_weaker g mid last _ _ (λ image stands. inr stands) (since orders stood))
 
-      pub run_by : (store : Store M) (may : List Order → List Order → Type 0) (lost : Bool) → Ends lost g fits holds choose begun opened.count (may begun) store mid last →
-          HasRun lost g fits choose h k (WhenOpen choose config may) first last
+      when_open : (may : Doing) (orders : List Order) → may opened.count ahead' begun orders → WhenOpen choose config ahead may (take opened.count h) opened.configured orders
+      when_open may orders so = record {
+        configures = opened.configures;
+        told = ahead';
+        asked = opened.asked;
+        behind = subst (λ (n : ℕ). may n ahead' begun orders) (sym (taken opened.count h opened.most)) so;
+      }
+
+      pub run_by : (store : Store M) (may : Doing) (lost : Bool) → Ends lost g fits holds choose begun opened.count (may opened.count ahead' begun) store mid last →
+          HasRun lost g fits choose h k (WhenOpen choose config ahead may) first last
       run_by store may true ends = record {
         count = opened.count;
         least = opened.least;
         most = opened.most;
         configured = opened.configured;
         orders = ends.orders;
-        allowed = (opened.configures, ends.allowed);
+        allowed = when_open may ends.orders ends.allowed;
         stood = over_opened ends.orders ends.stood;
         exit = λ image left. (since ends.orders ends.stood).now image left;
       }
@@ -168,56 +202,39 @@ module _ {D : Type 0} (g : Ghosts D) {M : Type 0} (fits : Book → Type 0) (hold
         most = opened.most;
         configured = opened.configured;
         orders = ends.orders;
-        allowed = (opened.configures, ends.allowed);
+        allowed = when_open may ends.orders ends.allowed;
         stood = over_opened ends.orders ends.all.stood;
         exit = all_stand (given_all choose begun ends.orders) opened.count store last ends.all.hold;
       }
 
-      pub halted_by : (store : Store M) (task : Task) (moment : ℤ) (lost : Bool) → Ends lost g fits holds choose begun opened.count (λ (orders : List Order). (orders ≡ []) ⊎ (orders ≡ orders_in task moment)) store mid last →
-          HasStopped lost g fits choose h k (WhenEither choose config (Partly task)) first last
-      halted_by store task moment lost ends = inr (some (run_by store (Partly task) lost (ends_weaker g fits holds choose begun opened.count store mid last lost (λ orders. (orders ≡ []) ⊎ (orders ≡ orders_in task moment)) (Partly task begun) part ends))) where
-        part : (orders : List Order) → (orders ≡ []) ⊎ (orders ≡ orders_in task moment) → Partly task begun orders
-        part orders (inl none) = inl none
-        part orders (inr all) = inr (moment, all)
+      -- ---- a task
 
-        some : HasRun lost g fits choose h k (WhenOpen choose config (Partly task)) first last → HasRun lost g fits choose h k (WhenEither choose config (Partly task)) first last
-        some run = record { count = run.count; least = run.least; most = run.most; configured = run.configured; orders = run.orders; allowed = inr run.allowed; stood = run.stood; exit = run.exit }
+      module _ (store : Store M) (task : Task) (moment : ℤ) (ahead'' : Option Moments) (asked : Asks (orders_in task moment) ahead' ahead'') (out out' : Option (List ℕ)) where
+        pub done_when : (result : Result Unit Stop) (done : Unit) → result ≡ Ok done → IsFine choose begun task moment → HasPrinted HasWritten g choose begun task moment last out out' →
+            Ends (loses_in result) g fits holds choose begun opened.count (Gave result (orders_in task moment)) store mid last →
+            HasRun false g fits choose h k (WhenOpen choose config ahead (HasDone g choose task ahead'' out out' last)) first last
+        done_when result done is fine printed ends =
+            run_by store (HasDone g choose task ahead'' out out' last) false
+            (left_weaker g fits holds choose begun opened.count store mid last (λ orders. orders ≡ orders_in task moment) (HasDone g choose task ahead'' out out' last opened.count ahead' begun)
+            (λ orders are. record { moment = moment; orders_are = are; asked = asked; fine = fine; printed = printed })
+            (subst (λ (r : Result Unit Stop). Ends (loses_in r) g fits holds choose begun opened.count (Gave r (orders_in task moment)) store mid last) is ends))
 
-      pub done_when : (store : Store M) (task : Task) (moment : ℤ) (result : Result Unit Stop) (done : Unit) → result ≡ Ok done → (out out' : Option (List ℕ)) → HasPrinted g choose begun task moment mid out out' →
-          Ends (loses_in result) g fits holds choose begun opened.count (Gave result (orders_in task moment)) store mid last → HasRun false g fits choose h k (WhenOpen choose config (HasDone g choose task out out')) first last
-      done_when store task moment result done is out out' printed ends =
-          run_by store (HasDone g choose task out out') false
-          (left_weaker g fits holds choose begun opened.count store mid last (λ orders. orders ≡ orders_in task moment) (HasDone g choose task out out' begun)
-          (λ orders are. record { moment = moment; orders_are = are; disk = mid; printed = printed })
-          (subst (λ (r : Result Unit Stop). Ends (loses_in r) g fits holds choose begun opened.count (Gave r (orders_in task moment)) store mid last) is ends))
+        pub halted_when : (result : Result Unit Stop) (stop : Stop) → result ≡ Err stop → IsWhy choose begun task moment stop → (says task stop ≡ true → HasPrinted HasBegun g choose begun task moment last out out') →
+            Ends (loses_in result) g fits holds choose begun opened.count (Gave result (orders_in task moment)) store mid last →
+            HasRun (loses stop) g fits choose h k (WhenOpen choose config ahead (HasHalted g choose task stop ahead'' out out' last)) first last
+        halted_when result stop is why printed ends =
+            run_by store (HasHalted g choose task stop ahead'' out out' last) (loses stop)
+            (ends_weaker g fits holds choose begun opened.count store mid last (loses stop) (GaveAll (is_output stop) (orders_in task moment)) (HasHalted g choose task stop ahead'' out out' last opened.count ahead' begun)
+            (λ orders are. record { moment = moment; orders_are = are; asked = asked; why = why; printed = printed })
+            (subst (λ (r : Result Unit Stop). Ends (loses_in r) g fits holds choose begun opened.count (Gave r (orders_in task moment)) store mid last) is ends))
 
-      pub halted_when : (store : Store M) (task : Task) (moment : ℤ) (result : Result Unit Stop) (stop : Stop) → result ≡ Err stop →
-          Ends (loses_in result) g fits holds choose begun opened.count (Gave result (orders_in task moment)) store mid last → HasStopped (loses stop) g fits choose h k (WhenEither choose config (Partly task)) first last
-      halted_when store task moment result stop is ends =
-          halted_by store task moment (loses stop) (subst (λ (r : Result Unit Stop). Ends (loses_in r) g fits holds choose begun opened.count (Gave r (orders_in task moment)) store mid last) is ends)
+      -- ---- an input
 
-    pub shut_by : (may : List Order → List Order → Type 0) (lost : Bool) (first last : D) → HasStopped lost g fits choose h k (WhenShut choose config) first last → HasStopped lost g fits choose h k (WhenEither choose config may) first last
-    shut_by may lost first last (inl stands) = inl stands
-    shut_by may lost first last (inr run) = inr (record { count = run.count; least = run.least; most = run.most; configured = run.configured; orders = run.orders; allowed = inl run.allowed; stood = run.stood; exit = run.exit })
+      module _ (store : Store M) (origin : ChannelMeta) (moment : ℤ) (ahead'' : Option Moments) (told : Told (Answered moment) ahead' ahead'') (left left' : Option (List ℕ)) where
+        abbrev fed_of : Result Unit Stop → Type 0
+        fed_of result = Ends (loses_in result) g fits holds choose begun opened.count (Fed choose opened.count begun origin moment result left left') store mid last
 
-    pub either_by : (may : List Order → List Order → Type 0) (lost : Bool) (first last : D) → HasRun lost g fits choose h k (WhenOpen choose config may) first last → HasStopped lost g fits choose h k (WhenEither choose config may) first last
-    either_by may lost first last run = inr (record { count = run.count; least = run.least; most = run.most; configured = run.configured; orders = run.orders; allowed = inr run.allowed; stood = run.stood; exit = run.exit })
-
-    module _ (mounted : Store M) (first mid last : D) (opened : HasOpened g fits holds choose h k config mounted first mid) (store : Store M) (origin : ChannelMeta) (moment : ℤ) (left left' : Option (List ℕ)) where
-      abbrev now : List Order
-      now = given_all choose (take opened.count h) opened.configured
-
-      abbrev fed_of : Result Unit Stop → Type 0
-      fed_of result = Ends (loses_in result) g fits holds choose now opened.count (Fed (is_ok result) (is_begun (after choose now) tilde) origin moment left left') store mid last
-
-      fed_by : (lost done : Bool) → Ends lost g fits holds choose now opened.count (Fed done (is_begun (after choose now) tilde) origin moment left left') store mid last →
-          HasRun lost g fits choose h k (WhenOpen choose config (HasFed done choose origin left left')) first last
-      fed_by lost done ends = run_by mounted first mid last opened store (HasFed done choose origin left left') lost
-          (ends_weaker g fits holds choose now opened.count store mid last lost (Fed done (is_begun (after choose now) tilde) origin moment left left') (HasFed done choose origin left left' now)
-          (λ orders fed. record { moment = moment; fed = fed }) ends)
-
-      pub fed_when : (result : Result Unit Stop) (done : Unit) → result ≡ Ok done → fed_of result → HasRun false g fits choose h k (WhenOpen choose config (HasFed true choose origin left left')) first last
-      fed_when result done is ends = fed_by false true (subst fed_of is ends)
-
-      pub unfed_when : (result : Result Unit Stop) (stop : Stop) → result ≡ Err stop → fed_of result → HasStopped (loses stop) g fits choose h k (WhenEither choose config (HasFed false choose origin left left')) first last
-      unfed_when result stop is ends = either_by (HasFed false choose origin left left') (loses stop) first last (fed_by (loses stop) false (subst fed_of is ends))
+        pub fed_when : (result : Result Unit Stop) → fed_of result → HasRun (loses_in result) g fits choose h k (WhenOpen choose config ahead (HasFed choose origin result ahead'' left left')) first last
+        fed_when result ends = run_by store (HasFed choose origin result ahead'' left left') (loses_in result)
+            (ends_weaker g fits holds choose begun opened.count store mid last (loses_in result) (Fed choose opened.count begun origin moment result left left') (HasFed choose origin result ahead'' left left' opened.count ahead' begun)
+            (λ orders fed. record { moment = moment; asked = told; fed = fed }) ends)

@@ -4,3 +4,5 @@ pub mod Joining
 pub mod Tasks
 pub mod Exports
 pub mod Feeding
+pub mod Causes
+pub mod Begun

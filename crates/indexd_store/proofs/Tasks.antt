@@ -1,37 +1,44 @@
 -- How a task ends: what it gave, in the words of the run.
-use Rattle.std.proofs.Common.{◌≡◌, ℕ, ℤ, Bool, true, false, List, [], ◌∷◌, length, refl, sym, ◌∙◌, subst, arith, ◌⊎◌, inl, inr}
+use Rattle.std.proofs.Common.{◌≡◌, ◌||◌, ap, ℕ, ℤ, Bool, true, false, List, [], ◌∷◌, length, drop, refl, sym, ◌∙◌, subst, arith, ◌⊎◌, inl, inr}
 use Rattle.std.specs.Borrow.{Bor}
 use Rattle.ix_base.specs.declared.events.Range.{Range}
-use Rattle.std.specs.Prelude.{Result, Ok, Err, OnOk, IfErr, Option}
+use Rattle.std.specs.Prelude.{Result, Ok, Err, OnOk, OnErr, IfErr, IsErrOf, Option}
 use Rattle.ix_disk.specs.declared.disk.Disk.{Ghosts}
+use Rattle.ix_life.specs.declared.views.View.{View}
 use Rattle.ix_book.specs.Book.{Book}
+use Rattle.ix_machine.specs.Bounds.{IsAllowed}
 use Rattle.ix_machine.specs.Given.{Chooser}
+use Rattle.ix_machine.specs.Step.{after}
 use Rattle.ix_machine.specs.declared.commands.Order.{Order}
 use Rattle.ix_run.proofs.Gone.{stood_here}
+use Rattle.ix_run.specs.Giving.{AreAllowed}
+use Rattle.ix_store.specs.Counting.{numbers}
 use Rattle.ix_store.specs.Holding.{Holds}
 use Rattle.ix_store.specs.declared.store.Store.{Store}
 use Rattle.indexd_store.specs.Ends.{IsLeft, Ends, AtMost}
-use Rattle.indexd_store.specs.Stops.{loses, loses_in}
-use Rattle.indexd_store.specs.Tasks.{Gave, HasSaid, HasPrinted}
+use Rattle.indexd_store.specs.Stops.{loses, loses_in, is_output, is_input}
+use Rattle.indexd_store.specs.Tasks.{GaveAll, Gave, Writing, HasSaid, HasPrinted, is_export, says, IsUnnamed, IsUnsaid}
 use Rattle.indexd_store.specs.declared.task.Task.{Task}
 use Rattle.indexd_store.specs.declared.task.Task.TheVariants as tasks
 use Rattle.indexd_store.specs.declared.stop.Stop.{Stop}
+use Rattle.indexd_store.specs.declared.stop.Stop.TheVariants as stops
 
-pub partly : (order : Order) (all orders : List Order) → order ∷ [] ≡ all → AtMost order orders → (orders ≡ []) ⊎ (orders ≡ all)
-partly order all orders is (inl none) = inl none
-partly order all orders is (inr one) = inr (one ∙ is)
+pub partly : (stop : Stop) (order : Order) (all orders : List Order) → is_output stop ≡ false → order ∷ [] ≡ all → AtMost order orders → GaveAll (is_output stop) all orders
+partly stop order all orders quiet is (inl none) = subst (λ (b : Bool). GaveAll b all orders) (sym quiet) (inl none)
+partly stop order all orders quiet is (inr one) = subst (λ (b : Bool). GaveAll b all orders) (sym quiet) (inr (one ∙ is))
 
--- where there is nothing to give nothing is given
+pub allowed_one : (choose : Chooser) (base : ℕ) (h : List Order) (order : Order) (orders : List Order) → orders ≡ order ∷ [] → AreAllowed choose base h orders →
+    IsAllowed choose false (numbers (drop base h)) (after choose h) order
+allowed_one choose base h order orders is all = (subst (λ (os : List Order). AreAllowed choose base h os) is all).0
+
+-- where all is given, or there is nothing to give and nothing is given
+pub gave_whole : (b : Bool) (all orders : List Order) → orders ≡ all → GaveAll b all orders
+gave_whole true all orders is = is
+gave_whole false all orders is = inr is
+
 pub gave_none : (result : Result Unit Stop) (all orders : List Order) → all ≡ [] → orders ≡ [] → Gave result all orders
 gave_none (Ok done) all orders is none = none ∙ sym is
-gave_none (Err stop) all orders is none = inl none
-
-abbrev pub is_export : Task → Bool
-is_export tasks.Buckets = false
-is_export (tasks.Export index range) = true
-is_export (tasks.Roll index) = false
-is_export (tasks.Thaw index id) = false
-is_export tasks.Tick = false
+gave_none (Err stop) all orders is none = gave_whole (is_output stop) all orders (none ∙ sym is)
 
 pub not_export : (task : Task) → ((index : Bor (List ℕ)) (range : Range) → task ≡ tasks.Export index range → ⊥) → is_export task ≡ false
 not_export tasks.Buckets other = refl
@@ -40,13 +47,36 @@ not_export (tasks.Roll index) other = refl
 not_export (tasks.Thaw index id) other = refl
 not_export tasks.Tick other = refl
 
-pub printed_as : {D : Type 0} (g : Ghosts D) (choose : Chooser) (h : List Order) (task : Task) (moment : ℤ) (disk : D) (out out' : Option (List ℕ)) →
-    is_export task ≡ false → HasSaid choose h task moment out out' → HasPrinted g choose h task moment disk out out'
-printed_as g choose h tasks.Buckets moment disk out out' not said = said
-printed_as g choose h (tasks.Export index range) moment disk out out' not said = cc
-printed_as g choose h (tasks.Roll index) moment disk out out' not said = said
-printed_as g choose h (tasks.Thaw index id) moment disk out out' not said = said
-printed_as g choose h tasks.Tick moment disk out out' not said = said
+pub printed_as : {D : Type 0} (writes : Writing) (g : Ghosts D) (choose : Chooser) (h : List Order) (task : Task) (moment : ℤ) (disk : D) (out out' : Option (List ℕ)) →
+    is_export task ≡ false → HasSaid writes choose h task moment out out' → HasPrinted writes g choose h task moment disk out out'
+printed_as writes g choose h tasks.Buckets moment disk out out' not said = said
+printed_as writes g choose h (tasks.Export index range) moment disk out out' not said = cc
+printed_as writes g choose h (tasks.Roll index) moment disk out out' not said = said
+printed_as writes g choose h (tasks.Thaw index id) moment disk out out' not said = said
+printed_as writes g choose h tasks.Tick moment disk out out' not said = said
+
+-- what is said at a stop of a task other than an export
+pub says_output : (task : Task) (stop : Stop) → is_export task ≡ false → says task stop ≡ is_output stop
+says_output task stop not = ap (λ (b : Bool). b || is_output stop) not
+
+pub says_export : (task : Task) (stop : Stop) (index : Bor (List ℕ)) (range : Range) → task ≡ tasks.Export index range → says task stop ≡ true
+says_export task stop index range is = ap (λ (t : Task). says t stop) is
+
+-- ---- stops of a text
+
+pub unsaid_safe : (task : Task) (view : View) (stop : Stop) → IsUnsaid task view stop → loses stop ≡ false
+unsaid_safe task view stop (inl is) = ap loses is
+unsaid_safe task view stop (inr (inl is)) = ap loses is
+unsaid_safe task view stop (inr (inr is)) = ap loses is.0
+
+pub unsaid_unread : (task : Task) (view : View) (stop : Stop) → IsUnsaid task view stop → is_input stop ≡ false
+unsaid_unread task view stop (inl is) = ap is_input is
+unsaid_unread task view stop (inr (inl is)) = ap is_input is
+unsaid_unread task view stop (inr (inr is)) = ap is_input is.0
+
+pub unsaid_by : (task : Task) (view : View) (stop : Stop) → (stop ≡ stops.Memory) ⊎ ((stop ≡ stops.Unsound) × IsUnnamed task view) → IsUnsaid task view stop
+unsaid_by task view stop (inl is) = inl is
+unsaid_by task view stop (inr is) = inr (inr is)
 
 -- a fact that holds where the result is Ok, or Err
 pub on_ok_by : (result : Result Unit Stop) (Q : Type 0) → ((done : Unit) → result ≡ Ok done → Q) → OnOk result Q
@@ -61,6 +91,33 @@ pub if_err_by : (result : Result Unit Stop) (Q : Stop → Type 0) → ((stop : S
 if_err_by (Ok done) Q so = tt
 if_err_by (Err stop) Q so = so stop refl
 
+pub at_err : (result : Result Unit Stop) (stop : Stop) (P : Stop → Type 0) → result ≡ Err stop → IfErr result P → P stop
+at_err (Ok done) stop P is so = cc
+at_err (Err other) stop P is so = let e : other ≡ stop = cc in subst P e so
+
+pub at_stop : (result : Result Unit Stop) (stop : Stop) (P : Type 0) → result ≡ Err stop → OnErr result P → P
+at_stop (Ok done) stop P is so = cc
+at_stop (Err other) stop P is so = so
+
+-- the one stop that blames the output
+abbrev stopped_at : Stop → Result Unit Stop
+stopped_at stop = Err stop
+
+output_is : (stop : Stop) → is_output stop ≡ true → stop ≡ stops.Output
+output_is stops.Memory out = cc
+output_is stops.Disk out = cc
+output_is (stops.Damaged file at) out = cc
+output_is stops.Unsound out = cc
+output_is stops.NotFound out = cc
+output_is stops.TooManyChannels out = cc
+output_is stops.Full out = cc
+output_is stops.Output out = refl
+output_is stops.Input out = cc
+output_is stops.Endless out = cc
+
+pub output_of : (result : Result Unit Stop) (stop : Stop) → result ≡ Err stop → is_output stop ≡ true → IsErrOf result stops.Output
+output_of result stop is output = is ∙ ap stopped_at (output_is stop output)
+
 module _ {D : Type 0} (g : Ghosts D) {M : Type 0} (fits : Book → Type 0) (holds : Chooser → List Order → M → Type 0) (choose : Chooser) (h : List Order) (base : ℕ) (store : Store M) (first last : D) where
   pub left_weaker : (may must : List Order → Type 0) → ((orders : List Order) → may orders → must orders) → IsLeft g fits holds choose h base may store first last → IsLeft g fits holds choose h base must store first last
   left_weaker may must so left = record { orders = left.orders; allowed = so left.orders left.allowed; all = left.all }
@@ -73,11 +130,12 @@ module _ {D : Type 0} (g : Ghosts D) {M : Type 0} (fits : Book → Type 0) (hold
   ends_safe lost may safe left = subst (λ (b : Bool). Ends b g fits holds choose h base may store first last) (sym safe) left
 
   -- what was given stays given when its text is written, or is not
-  pub said : (count : ℕ) (result : Result Unit Stop) (all : List Order) → IfErr result (λ stop. loses stop ≡ false) →
+  pub said : (count : ℕ) (result : Result Unit Stop) (all : List Order) (task : Task) (view : View) → IfErr result (λ stop. IsUnsaid task view stop) →
       IsLeft g fits holds choose h base (Gave {T = ℕ} (Ok count) all) store first last → Ends (loses_in result) g fits holds choose h base (Gave result all) store first last
-  said count (Ok done) all safe left = left_weaker (Gave {T = ℕ} (Ok count) all) (Gave {T = Unit} (Ok done) all) (λ orders is. is) left
-  said count (Err stop) all safe left =
-      ends_safe (loses stop) (Gave {T = Unit} (Err stop) all) safe (left_weaker (Gave {T = ℕ} (Ok count) all) (Gave {T = Unit} (Err stop) all) (λ orders is. inr is) left)
+  said count (Ok done) all task view safe left = left_weaker (Gave {T = ℕ} (Ok count) all) (Gave {T = Unit} (Ok done) all) (λ orders is. is) left
+  said count (Err stop) all task view unsaid left =
+      ends_safe (loses stop) (Gave {T = Unit} (Err stop) all) (unsaid_safe task view stop unsaid)
+      (left_weaker (Gave {T = ℕ} (Ok count) all) (Gave {T = Unit} (Err stop) all) (λ orders is. gave_whole (is_output stop) all orders is) left)
 
 -- nothing is given
 pub none_given : {D : Type 0} (g : Ghosts D) {M : Type 0} (fits : Book → Type 0) (holds : Chooser → List Order → M → Type 0) (choose : Chooser) (h : List Order) (base : ℕ) (store : Store M) (disk : D) (may : List Order → Type 0) →
@@ -85,5 +143,5 @@ pub none_given : {D : Type 0} (g : Ghosts D) {M : Type 0} (fits : Book → Type 
 none_given g fits holds choose h base store disk may so hold = record {
   orders = [];
   allowed = so;
-  all = record { hold = hold; stood = stood_here g fits holds choose h base (length h) (length h) store disk (omega arith) hold };
+  all = record { allowed = tt; hold = hold; stood = stood_here g fits holds choose h base (length h) (length h) store disk (omega arith) hold };
 }

@@ -3,3 +3,4 @@ pub mod Ends
 pub mod Opened
 pub mod Tasks
 pub mod Previews
+pub mod Asked

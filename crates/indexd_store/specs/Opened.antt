@@ -1,9 +1,11 @@
 -- A run of the program over whatever stands on the disk at its start: a store is mounted, settings are put in force, and commands are given.
-use Rattle.std.specs.Prelude.{◌≡◌, ◌≤◌, ◌⊎◌, ℕ, ℤ, Bool, true, false, List, [], ◌∷◌, length, take}
+use Rattle.std.specs.Prelude.{◌≡◌, ◌≤◌, ◌⊎◌, ℕ, ℤ, Bool, true, false, List, [], ◌∷◌, length, take, Option}
+use Rattle.ix_base.specs.Clocks.{Moments}
 use Rattle.ix_disk.specs.Image.{Image}
 use Rattle.ix_disk.specs.Moments.{Always}
 use Rattle.ix_disk.specs.declared.disk.Disk.{Ghosts}
 use Rattle.ix_book.specs.Book.{Book}
+use Rattle.ix_machine.specs.Bounds.{IsFull}
 use Rattle.ix_machine.specs.Given.{Chooser}
 use Rattle.ix_machine.specs.Step.{after}
 use Rattle.ix_machine.specs.declared.commands.Command.TheVariants.{Configure}
@@ -12,8 +14,13 @@ use Rattle.ix_machine.specs.declared.commands.Order.{Order}
 use Rattle.ix_run.specs.Giving.{given_all}
 use Rattle.ix_store.specs.Holding.{Holds}
 use Rattle.ix_store.specs.Written.{StandsFrom}
+use Rattle.ix_store.specs.declared.fault.MountFault.{MountFault}
 use Rattle.ix_store.specs.declared.store.Store.{Store}
-use Rattle.indexd_store.specs.Ends.{same_kept}
+use Rattle.indexd_store.specs.Asked.{Asks}
+use Rattle.indexd_store.specs.Ends.{AtMost, same_kept}
+use Rattle.indexd_store.specs.Stops.{of_mount, loses}
+use Rattle.indexd_store.specs.declared.stop.Stop.{Stop}
+use Rattle.indexd_store.specs.declared.stop.Stop.TheVariants as stops
 
 -- whatever a crash at the start may leave stands for a prefix of the history with at least k commands
 abbrev pub Begins : {D : Type 0} → Ghosts D → (Book → Type 0) → Chooser → List Order → ℕ → D → Type 0
@@ -35,18 +42,38 @@ Configures false config orders = (moment : ℤ) × (orders ≡ configuring confi
 
 -- ---- what was given: over what was mounted, to put settings in force, and then
 
--- settings are in force, and such orders were given behind what there was then
-abbrev pub WhenOpen : Chooser → Config → (List Order → List Order → Type 0) → List Order → List Order → List Order → Type 0
-WhenOpen choose config may mounted configured orders =
-    Configures (is_configured choose mounted config) config configured × may (given_all choose mounted configured) orders
+-- what is said of orders that were given, by how many commands were mounted, what the clock was to tell, and the history then
+abbrev pub Doing : Type 1
+Doing = ℕ → Option Moments → List Order → List Order → Type 0
 
--- settings may not be in force yet, and no orders were given
-abbrev pub WhenShut : Chooser → Config → List Order → List Order → List Order → Type 0
-WhenShut choose config mounted configured orders = ((configured ≡ []) ⊎ Configures (is_configured choose mounted config) config configured) × (orders ≡ [])
+-- Settings are in force, and the clock was asked for their command alone; and such orders were given behind.
+pub record WhenOpen (choose : Chooser) (config : Config) (ahead : Option Moments) (may : Doing) (mounted configured orders : List Order) : Type 0 where
+  pub configures : Configures (is_configured choose mounted config) config configured
+  pub told : Option Moments
+  pub asked : Asks configured ahead told
+  pub behind : may (length mounted) told (given_all choose mounted configured) orders
 
--- one of the two
-abbrev pub WhenEither : Chooser → Config → (List Order → List Order → Type 0) → List Order → List Order → List Order → Type 0
-WhenEither choose config may mounted configured orders = WhenShut choose config mounted configured orders ⊎ WhenOpen choose config may mounted configured orders
+-- why settings are not put in force: there is no room for them in the store, or the disk failed, or memory is short
+abbrev pub IsUnset : Chooser → List Order → Order → Stop → Type 0
+IsUnset choose mounted order stops.Memory = Unit {0}
+IsUnset choose mounted order stops.Disk = Unit {0}
+IsUnset choose mounted order (stops.Damaged file at) = Unit {0}
+IsUnset choose mounted order stops.Unsound = ⊥
+IsUnset choose mounted order stops.NotFound = ⊥
+IsUnset choose mounted order stops.TooManyChannels = ⊥
+IsUnset choose mounted order stops.Full = IsFull choose false 0 (after choose mounted) order
+IsUnset choose mounted order stops.Output = ⊥
+IsUnset choose mounted order stops.Input = ⊥
+IsUnset choose mounted order stops.Endless = ⊥
+
+-- Settings were to be put in force where others are, and the run stopped there. No other orders were given, and the clock was asked once.
+pub record WhenShut (choose : Chooser) (config : Config) (stop : Stop) (ahead ahead' : Option Moments) (mounted configured orders : List Order) : Type 0 where
+  pub differ : is_configured choose mounted config ≡ false
+  pub moment : ℤ
+  pub asked : Asks (configuring config moment ∷ []) ahead ahead'
+  pub at_most : AtMost (configuring config moment) configured
+  pub why : IsUnset choose mounted (configuring config moment) stop
+  pub none : orders ≡ []
 
 -- ---- runs
 
@@ -54,13 +81,15 @@ WhenEither choose config may mounted configured orders = WhenShut choose config 
 abbrev pub StandsInRun : (Book → Type 0) → Chooser → List Order → ℕ → List Order → ℕ → Image → Type 0
 StandsInRun fits choose history k now count image = StandsFrom fits choose history k image ⊎ StandsFrom fits choose now count image
 
--- A store was mounted with the first `count` commands of the history, and the settings are in force. All is committed.
-pub record HasOpened {D : Type 0} (d : Ghosts D) {M : Type 0} (fits : Book → Type 0) (holds : Chooser → List Order → M → Type 0) (choose : Chooser) (history : List Order) (k : ℕ) (config : Config) (store : Store M) (before disk : D) : Type 0 where
+-- A store was mounted with the first `count` commands of the history, and the settings are in force, for whose command alone the clock was
+-- asked. All is committed.
+pub record HasOpened {D : Type 0} (d : Ghosts D) {M : Type 0} (fits : Book → Type 0) (holds : Chooser → List Order → M → Type 0) (choose : Chooser) (history : List Order) (k : ℕ) (config : Config) (store : Store M) (ahead ahead' : Option Moments) (before disk : D) : Type 0 where
   pub count : ℕ
   pub least : k ≤ count
   pub most : count ≤ length history
   pub configured : List Order
   pub configures : Configures (is_configured choose (take count history) config) config configured
+  pub asked : Asks configured ahead ahead'
   pub hold : Holds d fits holds choose (given_all choose (take count history) configured) count (length (given_all choose (take count history) configured)) store disk
   pub stood : Always d before disk (StandsInRun fits choose history k (given_all choose (take count history) configured) count)
 
@@ -82,7 +111,20 @@ pub record HasRun (lost : Bool) {D : Type 0} (d : Ghosts D) (fits : Book → Typ
       StandsFrom fits choose (given_all choose (given_all choose (take count history) configured) orders)
       (lasting lost count (length (given_all choose (given_all choose (take count history) configured) orders))) image
 
--- Or nothing was mounted, and every image stands for what was there.
-abbrev pub HasStopped : Bool → {D : Type 0} → Ghosts D → (Book → Type 0) → Chooser → List Order → ℕ → (List Order → List Order → List Order → Type 0) → D → D → Type 0
-HasStopped lost d fits choose history k may before disk =
-    Always d before disk (StandsFrom fits choose history k) ⊎ HasRun lost d fits choose history k may before disk
+-- Nothing was mounted: the clock was not asked, and every image stands for what was there, which is sound.
+pub record HasNotMounted (stop : Stop) {D : Type 0} (d : Ghosts D) (fits : Book → Type 0) (choose : Chooser) (history : List Order) (k : ℕ) (ahead ahead' : Option Moments) (before disk : D) : Type 0 where
+  pub fault : MountFault
+  pub stop_is : stop ≡ of_mount fault
+  pub sound : stop ≡ stops.Unsound → ⊥
+  pub not_asked : ahead' ≡ ahead
+  pub stood : Always d before disk (StandsFrom fits choose history k)
+
+-- A run stopped before its settings were in force.
+abbrev pub HasShut : Stop → {D : Type 0} → Ghosts D → (Book → Type 0) → Chooser → List Order → ℕ → Config → Option Moments → Option Moments → D → D → Type 0
+HasShut stop d fits choose history k config ahead ahead' before disk =
+    HasNotMounted stop d fits choose history k ahead ahead' before disk ⊎ HasRun (loses stop) d fits choose history k (WhenShut choose config stop ahead ahead') before disk
+
+-- It stopped so, and what else it works on is untouched; or behind that.
+abbrev pub HasStopped : Stop → {D : Type 0} → Ghosts D → (Book → Type 0) → Chooser → List Order → ℕ → Config → Option Moments → Option Moments → Type 0 → Doing → D → D → Type 0
+HasStopped stop d fits choose history k config ahead ahead' untouched may before disk =
+    (HasShut stop d fits choose history k config ahead ahead' before disk × untouched) ⊎ HasRun (loses stop) d fits choose history k (WhenOpen choose config ahead may) before disk

@@ -1,6 +1,7 @@
 -- A preview whose events are stored: what was given of the commands that store an input.
-use Rattle.std.specs.Prelude.{◌≡◌, ℤ, ℕ, Bool, true, false, List, [], ◌++◌, Option, Some, None, is_none}
+use Rattle.std.specs.Prelude.{◌≡◌, ◌≤◌, ◌<◌, ◌⊎◌, ℤ, ℕ, Bool, true, false, List, [], ◌∷◌, ◌++◌, length, drop, Option, Some, None, IfSome, is_none, Result, Ok, Err}
 use Rattle.std.specs.List.{AllByRecursion}
+use Rattle.ix_base.specs.Clocks.{Moments, Answered}
 use Rattle.ix_base.specs.Told.{Told, Took}
 use Rattle.ix_base.specs.declared.events.ChannelMeta.{ChannelMeta}
 use Rattle.ix_life.specs.Limits.{limits_of}
@@ -8,8 +9,15 @@ use Rattle.ix_life.specs.declared.sets.LimitSet.{LimitSet}
 use Rattle.ix_machine.specs.Given.{Chooser}
 use Rattle.ix_machine.specs.Judged.{is_begun}
 use Rattle.ix_machine.specs.Step.{after}
+use Rattle.ix_machine.specs.declared.answers.Refusal.{Refusal}
 use Rattle.ix_machine.specs.declared.commands.Order.{Order}
-use Rattle.ix_run.specs.Storing.{tilde, joined, storing, IsBlock}
+use Rattle.ix_run.specs.Giving.{given_all, AreAllowed}
+use Rattle.ix_run.specs.Storing.{tilde, joined, storing, end_order, input_limit, IsBlock, IsNextRefused}
+use Rattle.ix_snapshot.specs.Shelved.{IsSet}
+use Rattle.ix_store.specs.Counting.{numbers}
+use Rattle.indexd_store.specs.Stops.{of_refusal}
+use Rattle.indexd_store.specs.declared.stop.Stop.{Stop}
+use Rattle.indexd_store.specs.declared.stop.Stop.TheVariants as stops
 
 -- whether an index is stated that is not configured
 abbrev pub is_missing_in : LimitSet → Option (List ℕ) → Bool
@@ -19,16 +27,64 @@ is_missing_in limits (Some index) = is_none (limits_of limits index)
 abbrev pub is_missing : LimitSet → ChannelMeta → Bool
 is_missing limits origin = is_missing_in limits origin.index
 
--- Of the commands that store what was taken from the input the first were given, and where the run was done all.
-pub record Fed (done is_open : Bool) (origin : ChannelMeta) (moment : ℤ) (left left' : Option (List ℕ)) (orders : List Order) : Type 0 where
+-- the index that is stated is configured by the limits in force, or it is not
+pub record Misses (choose : Chooser) (begun : List Order) (origin : ChannelMeta) (answer : Bool) : Type 0 where
+  pub limits : LimitSet
+  pub in_force : IsSet (after choose begun).force limits
+  pub answers : is_missing limits origin ≡ answer
+
+-- ---- how far the input is read, and why no further
+
+-- A run that is done has read it to its end, below the limit; one that says `Endless` has taken as much as is taken of one.
+abbrev pub IsRead : Result Unit Stop → ℕ → Option (List ℕ) → Type 0
+IsRead (Ok done) taken left = (taken < input_limit) × IfSome left (λ bytes. bytes ≡ [])
+IsRead (Err stop) taken left = (taken ≤ input_limit) × (stop ≡ stops.Endless → taken ≡ input_limit)
+
+-- What was taken from the input.
+pub record HasTaken (result : Result Unit Stop) (left left' : Option (List ℕ)) : Type 0 where
+  pub taken : List ℕ
+  pub took : Told (Took taken) left left'
+  pub read : IsRead result (length taken) left'
+
+-- the store refuses the next command so, in a run that began behind the first `base` commands
+abbrev pub IsRefusedSo : Chooser → ℕ → List Order → Stop → List Order → List Order → Type 0
+IsRefusedSo choose base begun stop given rest =
+    (refusal : Refusal) × (stop ≡ of_refusal refusal)
+    × IsNextRefused choose (numbers (drop base (given_all choose begun given))) (after choose (given_all choose begun given)) refusal rest
+
+-- Why no more than these commands are given. An input that is not read to its end leaves its channel open. Disk and input count their faults,
+-- and memory may be short at any time.
+abbrev pub IsWhy : Chooser → ℕ → List Order → ChannelMeta → ℤ → Stop → List Order → List Order → Type 0
+IsWhy choose base begun origin moment stops.Memory given rest = Unit {0}
+IsWhy choose base begun origin moment stops.Disk given rest = Unit {0}
+IsWhy choose base begun origin moment (stops.Damaged file at) given rest = Unit {0}
+IsWhy choose base begun origin moment stops.Unsound given rest = ⊥
+IsWhy choose base begun origin moment stops.NotFound given rest =
+    ((given ≡ []) × Misses choose begun origin true) ⊎ IsRefusedSo choose base begun stops.NotFound given rest
+IsWhy choose base begun origin moment stops.TooManyChannels given rest = IsRefusedSo choose base begun stops.TooManyChannels given rest
+IsWhy choose base begun origin moment stops.Full given rest = IsRefusedSo choose base begun stops.Full given rest
+IsWhy choose base begun origin moment stops.Output given rest = ⊥
+IsWhy choose base begun origin moment stops.Input given rest = rest ≡ end_order moment ∷ []
+IsWhy choose base begun origin moment stops.Endless given rest = rest ≡ end_order moment ∷ []
+
+abbrev pub IsEnd : Chooser → ℕ → List Order → ChannelMeta → ℤ → Result Unit Stop → List Order → List Order → Type 0
+IsEnd choose base begun origin moment (Ok done) given rest = (rest ≡ []) × Misses choose begun origin false × AreAllowed choose base begun given
+IsEnd choose base begun origin moment (Err stop) given rest = IsWhy choose base begun origin moment stop given rest
+
+-- ---- what is given
+
+-- Of the commands that store what was taken from the input the first were given, and where the run was done all, each of which was allowed.
+pub record Fed (choose : Chooser) (base : ℕ) (begun : List Order) (origin : ChannelMeta) (moment : ℤ) (result : Result Unit Stop) (left left' : Option (List ℕ)) (orders : List Order) : Type 0 where
   pub pieces : List (List ℕ)
   pub sizes : AllByRecursion IsBlock pieces
   pub took : Told (Took (joined pieces)) left left'
+  pub read : IsRead result (length (joined pieces)) left'
   pub rest : List Order
-  pub whole : storing is_open origin moment pieces ≡ orders ++ rest
-  pub all : done ≡ true → rest ≡ []
+  pub whole : storing (is_begun (after choose begun) tilde) origin moment pieces ≡ orders ++ rest
+  pub end : IsEnd choose base begun origin moment result orders rest
 
--- at some moment, behind what there was: the channel may have been open
-pub record HasFed (done : Bool) (choose : Chooser) (origin : ChannelMeta) (left left' : Option (List ℕ)) (begun orders : List Order) : Type 0 where
+-- The clock was asked once, and all bytes arrived at that moment.
+pub record HasFed (choose : Chooser) (origin : ChannelMeta) (result : Result Unit Stop) (ahead' : Option Moments) (left left' : Option (List ℕ)) (base : ℕ) (ahead : Option Moments) (begun orders : List Order) : Type 0 where
   pub moment : ℤ
-  pub fed : Fed done (is_begun (after choose begun) tilde) origin moment left left' orders
+  pub asked : Told (Answered moment) ahead ahead'
+  pub fed : Fed choose base begun origin moment result left left' orders

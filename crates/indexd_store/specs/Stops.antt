@@ -77,6 +77,32 @@ abbrev pub loses_in : {T : Type 0} → Result T Stop → Bool
 loses_in (Ok done) = false
 loses_in (Err stop) = loses stop
 
+-- what the text is written to has failed
+abbrev pub is_output : Stop → Bool
+is_output stops.Memory = false
+is_output stops.Disk = false
+is_output (stops.Damaged file at) = false
+is_output stops.Unsound = false
+is_output stops.NotFound = false
+is_output stops.TooManyChannels = false
+is_output stops.Full = false
+is_output stops.Output = true
+is_output stops.Input = false
+is_output stops.Endless = false
+
+-- an input was not read to its end
+abbrev pub is_input : Stop → Bool
+is_input stops.Memory = false
+is_input stops.Disk = false
+is_input (stops.Damaged file at) = false
+is_input stops.Unsound = false
+is_input stops.NotFound = false
+is_input stops.TooManyChannels = false
+is_input stops.Full = false
+is_input stops.Output = false
+is_input stops.Input = true
+is_input stops.Endless = true
+
 -- why a run stops at a command: the store refused it for its cause, or nothing was committed
 abbrev pub Caused : Chooser → ℕ → List Order → Order → Stop → Type 0
 Caused choose drawn history order stop =

@@ -1,25 +1,31 @@
 -- The commands of the program that work on a store: what each gives to it, and what it writes.
-use Rattle.std.specs.Prelude.{◌≡◌, ◌⊎◌, ◌++◌, ◌==◌, ◌&&◌, ℕ, ℤ, Bool, if◌then◌else◌, bytes_eq, List, [], ◌∷◌, codes, decimal, Option, Some, None, Result, Ok, Err}
+use Rattle.std.specs.Prelude.{◌≡◌, ◌⊎◌, ◌++◌, ◌==◌, ◌&&◌, ◌||◌, ℕ, ℤ, Bool, true, false, if◌then◌else◌, bytes_eq, List, [], ◌∷◌, codes, decimal, Option, Some, None, Result, Ok, Err}
 use Rattle.ix_items.specs.declared.items.Entry.{Entry}
 use Rattle.ix_life.specs.declared.views.View.{View}
+use Rattle.ix_machine.specs.Bounds.{IsAllowed, IsRefused}
 use Rattle.ix_machine.specs.Given.{Chooser}
 use Rattle.ix_machine.specs.Judged.{moved}
 use Rattle.ix_machine.specs.State.{State}
 use Rattle.ix_machine.specs.Step.{after, effective}
+use Rattle.ix_machine.specs.declared.answers.Refusal.{Refusal}
 use Rattle.ix_machine.specs.declared.commands.Command.{Command}
 use Rattle.ix_machine.specs.declared.commands.Command.TheVariants as commands
 use Rattle.ix_machine.specs.declared.commands.Order.{Order}
-use Rattle.ix_base.specs.Told.{HasWritten}
+use Rattle.ix_base.specs.Clocks.{Moments}
+use Rattle.ix_base.specs.Told.{HasWritten, HasBegun}
 use Rattle.ix_base.specs.declared.events.Range.{Range}
 use Rattle.ix_disk.specs.Image.{Image}
 use Rattle.ix_disk.specs.declared.disk.Disk.{Ghosts}
 use Rattle.ix_export.specs.Lines.{text as lines}
-use Rattle.ix_store.specs.Exporting.{exported, HaveRecords}
+use Rattle.ix_store.specs.Exporting.{is_seen, exported}
 use Rattle.ix_report.specs.Listing.{listing}
 use Rattle.ix_report.specs.Names.{closed_name}
 use Rattle.ix_run.specs.Giving.{given_all}
 use Rattle.ix_store.specs.Showing.{IsViewOf}
+use Rattle.indexd_store.specs.Asked.{Asks}
+use Rattle.indexd_store.specs.Stops.{of_refusal, is_output}
 use Rattle.indexd_store.specs.declared.stop.Stop.{Stop}
+use Rattle.indexd_store.specs.declared.stop.Stop.TheVariants as stops
 use Rattle.indexd_store.specs.declared.task.Task.{Task}
 use Rattle.indexd_store.specs.declared.task.Task.TheVariants as tasks
 
@@ -39,16 +45,65 @@ orders_by (Some command) moment = record { command = command; moment = moment } 
 abbrev pub orders_in : Task → ℤ → List Order
 orders_in task moment = orders_by (command_in task) moment
 
--- a run that is done has given all, and one that stopped all or nothing
+-- all was given, or perhaps nothing
+abbrev pub GaveAll : Bool → List Order → List Order → Type 0
+GaveAll true all orders = orders ≡ all
+GaveAll false all orders = (orders ≡ []) ⊎ (orders ≡ all)
+
+-- a run that is done has given all, and so has one whose output failed; another stop leaves all or nothing
 abbrev pub Gave : {T : Type 0} → Result T Stop → List Order → List Order → Type 0
 Gave (Ok done) all orders = orders ≡ all
-Gave (Err stop) all orders = (orders ≡ []) ⊎ (orders ≡ all)
+Gave (Err stop) all orders = GaveAll (is_output stop) all orders
 
-abbrev pub Whole : Task → List Order → Type 0
-Whole task orders = (moment : ℤ) × (orders ≡ orders_in task moment)
+-- ---- why it is not
 
-abbrev pub Partly : Task → List Order → List Order → Type 0
-Partly task begun orders = (orders ≡ []) ⊎ Whole task orders
+-- the store refuses a command so
+abbrev pub IsRefusedSo : Chooser → List Order → Option Command → ℤ → Stop → Type 0
+IsRefusedSo choose history None moment stop = ⊥
+IsRefusedSo choose history (Some command) moment stop =
+    (refusal : Refusal) × (stop ≡ of_refusal refusal) × IsRefused choose false 0 (after choose history) (record { command = command; moment = moment }) refusal
+
+-- why an export stops
+abbrev pub IsUnexported : Chooser → List Order → List ℕ → Stop → Type 0
+IsUnexported choose history index stops.Memory = Unit {0}
+IsUnexported choose history index stops.Disk = Unit {0}
+IsUnexported choose history index (stops.Damaged file at) = Unit {0}
+IsUnexported choose history index stops.Unsound = ⊥
+IsUnexported choose history index stops.NotFound = is_seen (after choose history) index ≡ false
+IsUnexported choose history index stops.TooManyChannels = ⊥
+IsUnexported choose history index stops.Full = ⊥
+IsUnexported choose history index stops.Output = Unit {0}
+IsUnexported choose history index stops.Input = ⊥
+IsUnexported choose history index stops.Endless = ⊥
+
+-- an index that is to be exported is neither configured nor ever had a bucket
+abbrev pub IsUnseen : Chooser → List Order → Task → Type 0
+IsUnseen choose history tasks.Buckets = ⊥
+IsUnseen choose history (tasks.Export index range) = is_seen (after choose history) index.now ≡ false
+IsUnseen choose history (tasks.Roll index) = ⊥
+IsUnseen choose history (tasks.Thaw index id) = ⊥
+IsUnseen choose history tasks.Tick = ⊥
+
+-- Why a task stops. Disk and output count their faults, and memory may be short at any time.
+abbrev pub IsWhy : Chooser → List Order → Task → ℤ → Stop → Type 0
+IsWhy choose history task moment stops.Memory = Unit {0}
+IsWhy choose history task moment stops.Disk = Unit {0}
+IsWhy choose history task moment (stops.Damaged file at) = Unit {0}
+IsWhy choose history task moment stops.Unsound = ⊥
+IsWhy choose history task moment stops.NotFound = IsUnseen choose history task ⊎ IsRefusedSo choose history (command_in task) moment stops.NotFound
+IsWhy choose history task moment stops.TooManyChannels = ⊥
+IsWhy choose history task moment stops.Full = IsRefusedSo choose history (command_in task) moment stops.Full
+IsWhy choose history task moment stops.Output = Unit {0}
+IsWhy choose history task moment stops.Input = ⊥
+IsWhy choose history task moment stops.Endless = ⊥
+
+-- there is no such cause: its index is seen, and its command is allowed
+abbrev pub IsFine : Chooser → List Order → Task → ℤ → Type 0
+IsFine choose history tasks.Buckets moment = Unit {0}
+IsFine choose history (tasks.Export index range) moment = is_seen (after choose history) index.now ≡ true
+IsFine choose history (tasks.Roll index) moment = IsAllowed choose false 0 (after choose history) (record { command = commands.Roll index.now; moment = moment })
+IsFine choose history (tasks.Thaw index id) moment = IsAllowed choose false 0 (after choose history) (record { command = commands.Thaw index.now id; moment = moment })
+IsFine choose history tasks.Tick moment = IsAllowed choose false 0 (after choose history) (record { command = commands.Tick; moment = moment })
 
 -- how many buckets a command moves
 abbrev pub moved_by : State → Option Command → ℤ → ℕ
@@ -83,31 +138,67 @@ IsText (tasks.Roll index) view count text = text ≡ counted (codes "rolled ") c
 IsText (tasks.Thaw index id) view count text = IsThawed (entry_of index.now id view.ledger) text
 IsText tasks.Tick view count text = text ≡ counted (codes "frozen ") count
 
--- The text of a command that was given behind a history was written.
-pub record HasSaid (choose : Chooser) (history : List Order) (task : Task) (moment : ℤ) (out out' : Option (List ℕ)) : Type 0 where
+-- what is said of a text: it was written, or a front of it was
+abbrev pub Writing : Type 1
+Writing = List ℕ → Option (List ℕ) → Option (List ℕ) → Type 0
+
+-- the text of a command that was given behind a history
+pub record HasSaid (writes : Writing) (choose : Chooser) (history : List Order) (task : Task) (moment : ℤ) (out out' : Option (List ℕ)) : Type 0 where
   pub view : View
   pub is_view : IsViewOf (after choose (given_all choose history (orders_in task moment))) view
   pub text : List ℕ
   pub is_text : IsText task view (moved_by (after choose history) (command_in task) moment) text
-  pub written : HasWritten text out out'
+  pub written : writes text out out'
 
--- The lines of the events that the history put into an index were written, where each event has a record and the disk tells what it reads.
-abbrev pub HasExported : {D : Type 0} → Ghosts D → Chooser → List Order → List ℕ → Range → D → Option (List ℕ) → Option (List ℕ) → Type 0
-HasExported d choose history index range disk out out' =
-    (image : Image) → HaveRecords (after choose history) → d.seen disk ≡ Some image → HasWritten (lines range (exported (after choose history) index)) out out'
+-- the lines of the events that the history put into an index, where the disk tells what it reads
+abbrev pub HasExported : Writing → {D : Type 0} → Ghosts D → Chooser → List Order → List ℕ → Range → D → Option (List ℕ) → Option (List ℕ) → Type 0
+HasExported writes d choose history index range disk out out' =
+    (image : Image) → d.seen disk ≡ Some image → writes (lines range (exported (after choose history) index)) out out'
 
--- what a task has written, of which all was committed on this disk
-abbrev pub HasPrinted : {D : Type 0} → Ghosts D → Chooser → List Order → Task → ℤ → D → Option (List ℕ) → Option (List ℕ) → Type 0
-HasPrinted d choose history tasks.Buckets moment disk out out' = HasSaid choose history tasks.Buckets moment out out'
-HasPrinted d choose history (tasks.Export index range) moment disk out out' = HasExported d choose history index.now range disk out out'
-HasPrinted d choose history (tasks.Roll index) moment disk out out' = HasSaid choose history (tasks.Roll index) moment out out'
-HasPrinted d choose history (tasks.Thaw index id) moment disk out out' = HasSaid choose history (tasks.Thaw index id) moment out out'
-HasPrinted d choose history tasks.Tick moment disk out out' = HasSaid choose history tasks.Tick moment out out'
+-- what a task writes, of which all was committed on this disk
+abbrev pub HasPrinted : Writing → {D : Type 0} → Ghosts D → Chooser → List Order → Task → ℤ → D → Option (List ℕ) → Option (List ℕ) → Type 0
+HasPrinted writes d choose history tasks.Buckets moment disk out out' = HasSaid writes choose history tasks.Buckets moment out out'
+HasPrinted writes d choose history (tasks.Export index range) moment disk out out' = HasExported writes d choose history index.now range disk out out'
+HasPrinted writes d choose history (tasks.Roll index) moment disk out out' = HasSaid writes choose history (tasks.Roll index) moment out out'
+HasPrinted writes d choose history (tasks.Thaw index id) moment disk out out' = HasSaid writes choose history (tasks.Thaw index id) moment out out'
+HasPrinted writes d choose history tasks.Tick moment disk out out' = HasSaid writes choose history tasks.Tick moment out out'
 
--- A task was given behind what there was, and its text was written.
-pub record HasDone {D : Type 0} (d : Ghosts D) (choose : Chooser) (task : Task) (out out' : Option (List ℕ)) (begun orders : List Order) : Type 0 where
+-- whether something may be written at a stop: by an export, or by an output that failed; else nothing is
+abbrev pub is_export : Task → Bool
+is_export tasks.Buckets = false
+is_export (tasks.Export index range) = true
+is_export (tasks.Roll index) = false
+is_export (tasks.Thaw index id) = false
+is_export tasks.Tick = false
+
+abbrev pub says : Task → Stop → Bool
+says task stop = is_export task || is_output stop
+
+-- why nothing is said of a command that was given
+abbrev pub IsUnnamed : Task → View → Type 0
+IsUnnamed tasks.Buckets view = ⊥
+IsUnnamed (tasks.Export index range) view = ⊥
+IsUnnamed (tasks.Roll index) view = ⊥
+IsUnnamed (tasks.Thaw index id) view = entry_of index.now id view.ledger ≡ None
+IsUnnamed tasks.Tick view = ⊥
+
+abbrev pub IsUnsaid : Task → View → Stop → Type 0
+IsUnsaid task view stop = (stop ≡ stops.Memory) ⊎ ((stop ≡ stops.Output) ⊎ ((stop ≡ stops.Unsound) × IsUnnamed task view))
+
+-- ---- the whole
+
+-- A task was given behind what there was, at the moment that the clock told for it alone, and its text was written. The disk is that at the exit.
+pub record HasDone {D : Type 0} (d : Ghosts D) (choose : Chooser) (task : Task) (ahead' : Option Moments) (out out' : Option (List ℕ)) (disk : D) (base : ℕ) (ahead : Option Moments) (begun orders : List Order) : Type 0 where
   pub moment : ℤ
   pub orders_are : orders ≡ orders_in task moment
-  -- the disk when the store was open
-  pub disk : D
-  pub printed : HasPrinted d choose begun task moment disk out out'
+  pub asked : Asks (orders_in task moment) ahead ahead'
+  pub fine : IsFine choose begun task moment
+  pub printed : HasPrinted HasWritten d choose begun task moment disk out out'
+
+-- It stopped for its cause: where something was written, it is a front of the text.
+pub record HasHalted {D : Type 0} (d : Ghosts D) (choose : Chooser) (task : Task) (stop : Stop) (ahead' : Option Moments) (out out' : Option (List ℕ)) (disk : D) (base : ℕ) (ahead : Option Moments) (begun orders : List Order) : Type 0 where
+  pub moment : ℤ
+  pub orders_are : GaveAll (is_output stop) (orders_in task moment) orders
+  pub asked : Asks (orders_in task moment) ahead ahead'
+  pub why : IsWhy choose begun task moment stop
+  pub printed : says task stop ≡ true → HasPrinted HasBegun d choose begun task moment disk out out'

@@ -1,14 +1,14 @@
 //! A run begins: the store is mounted, and the settings of the files are put in force. Each run over a store calls it first.
 
-ghost use Rattle.std.specs.Prelude.{◌≡◌, ◌≤◌, ℕ, ℤ, List, Some, IfOk, IfErr, IsErrOf};
+ghost use Rattle.std.specs.Prelude.{◌≡◌, ◌≤◌, ℕ, ℤ, List, false, Some, IfOk, IfErr, IsErrOf};
 ghost use Rattle.std.specs.List.{AllByRecursion};
 ghost use Rattle.ix_base.specs.Faults.{Rose};
 ghost use Rattle.ix_disk.specs.Image.{Image};
 ghost use Rattle.ix_keep.specs.Snapshot.{IsOver};
 ghost use Rattle.ix_machine.specs.Given.{Chooser};
 ghost use Rattle.ix_machine.specs.declared.commands.Order.{Order};
-ghost use Rattle.indexd_store.specs.Opened.{Begins, configuring, WhenShut, HasOpened, HasStopped};
-ghost use Rattle.indexd_store.specs.Stops.{loses};
+ghost use Rattle.indexd_store.specs.Opened.{Begins, configuring, HasOpened, HasShut};
+ghost use Rattle.indexd_store.specs.Stops.{is_output, is_input};
 
 use crate::settings::same_kept;
 use crate::single::run_last;
@@ -30,19 +30,16 @@ pub fn open<M: Memory + Drop, D: Disk, C: Clock>(
     // Some prefix of what the images at the start stand for is there, with the settings; all is committed, and no image has lost any of it.
     ensures opened { IfOk result (λ store. (choose : Chooser) (history : List Order) (k : ℕ) → M.is_chooser choose → AllByRecursion M.takes history →
         Begins D.Disk M.Book.fits choose history k disk.old → (image : Image) → D.Disk.seen disk.old ≡ Some image →
-        HasOpened D.Disk M.Book.fits M.holds choose history k config store disk.old disk.new) }
-    // At a stop nothing of before is lost either.
+        HasOpened D.Disk M.Book.fits M.holds choose history k config store (C.ahead clock.old) (C.ahead clock.new) disk.old disk.new) }
+    // At a stop nothing of before is lost either, and it has its cause.
     ensures stopped { IfErr result (λ stop. (choose : Chooser) (history : List Order) (k : ℕ) → M.is_chooser choose → AllByRecursion M.takes history →
         Begins D.Disk M.Book.fits choose history k disk.old → (image : Image) → D.Disk.seen disk.old ≡ Some image →
-        HasStopped (loses stop) D.Disk M.Book.fits choose history k (WhenShut choose config) disk.old disk.new) }
-    // What is on the disk is sound.
-    ensures sound { IsErrOf result Stop.Unsound → (choose : Chooser) (history : List Order) (k : ℕ) → M.is_chooser choose → AllByRecursion M.takes history →
-        Begins D.Disk M.Book.fits choose history k disk.old → (image : Image) → D.Disk.seen disk.old ≡ Some image → ⊥ }
+        HasShut stop D.Disk M.Book.fits choose history k config (C.ahead clock.old) (C.ahead clock.new) disk.old disk.new) }
     ensures over { IfOk result (λ store. IsOver D.Disk store.keeper disk.new) }
     ensures later { D.Disk.faults disk.old ≤ D.Disk.faults disk.new }
     ensures cause { IsErrOf result Stop.Disk → Rose (D.Disk.faults disk.old) (D.Disk.faults disk.new) }
-    ensures quiet { IsErrOf result Stop.Output → ⊥ }
-    ensures unread { IsErrOf result Stop.Input → ⊥ }
+    ensures quiet { IfErr result (λ stop. is_output stop ≡ false) }
+    ensures unread { IfErr result (λ stop. is_input stop ≡ false) }
 {
     let mut store = match Store::<M>::mount(alloc, disk) {
         Ok(store) => store,

@@ -1,23 +1,19 @@
 //! A preview whose events are stored: the input is given to the store as the stream of a channel. The program calls `run_preview`.
 
-ghost use Rattle.std.specs.Prelude.{◌≡◌, ◌≤◌, ℕ, ℤ, List, length, false, true, Some, Err, IfOk, IfErr, OnOk, IsErrOf, is_ok};
+ghost use Rattle.std.specs.Prelude.{◌≡◌, ◌≤◌, ℕ, ℤ, List, length, false, Some, IfOk, IfErr, OnOk, IsErrOf};
 ghost use Rattle.std.specs.List.{AllByRecursion};
 ghost use Rattle.ix_base.specs.Faults.{Rose};
 ghost use Rattle.ix_disk.specs.Image.{Image};
 ghost use Rattle.ix_keep.specs.Snapshot.{IsOver};
 ghost use Rattle.ix_machine.specs.Given.{Chooser};
-ghost use Rattle.ix_machine.specs.Judged.{is_begun};
-ghost use Rattle.ix_machine.specs.Step.{after};
 ghost use Rattle.ix_machine.specs.declared.commands.Order.{Order};
-ghost use Rattle.ix_run.specs.Storing.{tilde, begin_order, block_order, end_order, IsBlock};
-ghost use Rattle.ix_life.specs.declared.sets.LimitSet.{LimitSet};
-ghost use Rattle.ix_snapshot.specs.Shelved.{IsSet};
+ghost use Rattle.ix_run.specs.Storing.{begin_order, block_order, end_order, IsBlock};
 ghost use Rattle.ix_store.specs.Holding.{Holds};
 ghost use Rattle.indexd_store.specs.Ends.{Ends};
-ghost use Rattle.indexd_store.specs.Opened.{Begins, configuring, WhenOpen, WhenEither, HasRun, HasStopped};
+ghost use Rattle.indexd_store.specs.Opened.{Begins, configuring, WhenOpen, HasRun, HasStopped};
 ghost use Rattle.indexd_store.specs.Previews as defs;
-ghost use Rattle.indexd_store.specs.Previews.{Fed, HasFed};
-ghost use Rattle.indexd_store.specs.Stops.{loses, loses_in};
+ghost use Rattle.indexd_store.specs.Previews.{HasTaken, Fed, HasFed};
+ghost use Rattle.indexd_store.specs.Stops.{loses_in, is_output};
 
 use crate::opening::open;
 use crate::stop::{Stop, of_run};
@@ -54,10 +50,9 @@ fn store_preview<M: Memory + Drop, D: Disk, S: Source>(
     ensures ends { (choose : Chooser) (history : List Order) (base : ℕ) → M.is_chooser choose → AllByRecursion M.takes history →
         Holds D.Disk M.Book.fits M.holds choose history base (length history) store.old disk.old →
         Ends (loses_in result) D.Disk M.Book.fits M.holds choose history base
-        (Fed (is_ok result) (is_begun (after choose history) tilde) arrival.origin arrival.moment (S.left input.old) (S.left input.new)) store.new disk.old disk.new }
-    // By the limits of the settings in force.
-    ensures missed { (choose : Chooser) (history : List Order) (base : ℕ) → Holds D.Disk M.Book.fits M.holds choose history base (length history) store.old disk.old →
-        (limits : LimitSet) × IsSet (after choose history).force limits × (defs.is_missing limits arrival.origin ≡ true → (result ≡ Err Stop.NotFound) × (S.left input.new ≡ S.left input.old)) }
+        (Fed choose base history arrival.origin arrival.moment result (S.left input.old) (S.left input.new)) store.new disk.old disk.new }
+    ensures read { HasTaken result (S.left input.old) (S.left input.new) }
+    ensures quiet { IfErr result (λ stop. is_output stop ≡ false) }
     ensures later { D.Disk.faults disk.old ≤ D.Disk.faults disk.new }
     ensures cause { IsErrOf result Stop.Disk → Rose (D.Disk.faults disk.old) (D.Disk.faults disk.new) }
     ensures read_later { S.faults input.old ≤ S.faults input.new }
@@ -89,11 +84,18 @@ pub fn run_preview<M: Memory + Drop, D: Disk, C: Clock, S: Source>(
     // A run that is done has given all the commands that store the whole input, and every image at the exit has them.
     ensures done { OnOk result ((choose : Chooser) (history : List Order) (k : ℕ) → M.is_chooser choose → AllByRecursion M.takes history →
         Begins D.Disk M.Book.fits choose history k disk.old → (image : Image) → D.Disk.seen disk.old ≡ Some image →
-        HasRun false D.Disk M.Book.fits choose history k (WhenOpen choose config (HasFed true choose origin (S.left input.old) (S.left input.new))) disk.old disk.new) }
-    // One that stops has given a front of those that store what it has read.
+        HasRun false D.Disk M.Book.fits choose history k
+        (WhenOpen choose config (C.ahead clock.old) (HasFed choose origin result (C.ahead clock.new) (S.left input.old) (S.left input.new))) disk.old disk.new) }
+    // One that stops has a cause, and has given a front of those that store what it has read.
     ensures stopped { IfErr result (λ stop. (choose : Chooser) (history : List Order) (k : ℕ) → M.is_chooser choose → AllByRecursion M.takes history →
         Begins D.Disk M.Book.fits choose history k disk.old → (image : Image) → D.Disk.seen disk.old ≡ Some image →
-        HasStopped (loses stop) D.Disk M.Book.fits choose history k (WhenEither choose config (HasFed false choose origin (S.left input.old) (S.left input.new))) disk.old disk.new) }
+        HasStopped stop D.Disk M.Book.fits choose history k config (C.ahead clock.old) (C.ahead clock.new) (S.left input.new ≡ S.left input.old)
+        (HasFed choose origin result (C.ahead clock.new) (S.left input.old) (S.left input.new)) disk.old disk.new) }
+    // What is on the disk is sound.
+    ensures sound { IsErrOf result Stop.Unsound → (choose : Chooser) (history : List Order) (k : ℕ) → M.is_chooser choose → AllByRecursion M.takes history →
+        Begins D.Disk M.Book.fits choose history k disk.old → (image : Image) → D.Disk.seen disk.old ≡ Some image → ⊥ }
+    ensures read { HasTaken result (S.left input.old) (S.left input.new) }
+    ensures quiet { IfErr result (λ stop. is_output stop ≡ false) }
     ensures later { D.Disk.faults disk.old ≤ D.Disk.faults disk.new }
     ensures cause { IsErrOf result Stop.Disk → Rose (D.Disk.faults disk.old) (D.Disk.faults disk.new) }
     ensures read_later { S.faults input.old ≤ S.faults input.new }

@@ -1,18 +1,21 @@
 //! A run over a store: it is opened, its task is given to it and committed, and the text is written. The program calls it.
 
-ghost use Rattle.std.specs.Prelude.{◌≡◌, ◌≤◌, ℕ, ℤ, List, length, false, Some, IfOk, IfErr, OnOk, IsErrOf};
+ghost use Rattle.std.specs.Prelude.{◌≡◌, ◌≤◌, ℕ, ℤ, List, length, true, false, Some, IfOk, IfErr, OnOk, IsErrOf};
 ghost use Rattle.std.specs.List.{AllByRecursion};
 ghost use Rattle.ix_base.specs.Faults.{Rose};
+ghost use Rattle.ix_base.specs.Told.{HasWritten, HasBegun};
 ghost use Rattle.ix_disk.specs.Image.{Image};
 ghost use Rattle.ix_keep.specs.Snapshot.{IsOver};
 ghost use Rattle.ix_machine.specs.Given.{Chooser};
 ghost use Rattle.ix_machine.specs.Step.{after};
 ghost use Rattle.ix_machine.specs.declared.commands.Order.{Order};
+ghost use Rattle.ix_store.specs.Exporting.{HaveRecords};
 ghost use Rattle.ix_store.specs.Holding.{Holds};
+ghost use Rattle.indexd_store.specs.Asked.{Asks};
 ghost use Rattle.indexd_store.specs.Ends.{Ends};
-ghost use Rattle.indexd_store.specs.Opened.{Begins, configuring, WhenOpen, WhenEither, HasRun, HasStopped};
-ghost use Rattle.indexd_store.specs.Stops.{loses, loses_in};
-ghost use Rattle.indexd_store.specs.Tasks.{command_in, orders_in, Gave, Partly, moved_by, HasSaid, HasPrinted, HasDone};
+ghost use Rattle.indexd_store.specs.Opened.{Begins, configuring, WhenOpen, HasRun, HasStopped};
+ghost use Rattle.indexd_store.specs.Stops.{loses_in, is_output, is_input};
+ghost use Rattle.indexd_store.specs.Tasks.{command_in, orders_in, Gave, IsWhy, IsFine, moved_by, is_export, says, HasSaid, HasPrinted, HasDone, HasHalted};
 
 use crate::export::export;
 use crate::opening::open;
@@ -25,6 +28,16 @@ use ix_disk::Disk;
 use ix_machine::Config;
 use ix_store::{Memory, Store};
 use std::alloc::Global;
+
+/// The moment of a task's command: the clock is asked for it. Where there is no command it is not asked.
+fn moment_of<C: Clock>(task: Task<'_>, clock: &mut C) -> i64
+    ensures { Asks (orders_in task.entry result) (C.ahead clock.old) (C.ahead clock.new) }
+{
+    match task {
+        Task::Buckets | Task::Export { .. } => 0,
+        Task::Roll { .. } | Task::Thaw { .. } | Task::Tick => clock.now(),
+    }
+}
 
 /// Gives the store the command of a task, commits it, and answers how many buckets it moved.
 fn give_task<M: Memory + Drop, D: Disk>(
@@ -42,9 +55,16 @@ fn give_task<M: Memory + Drop, D: Disk>(
     ensures moved { IfOk result (λ count. (choose : Chooser) (history : List Order) (base : ℕ) → M.is_chooser choose → AllByRecursion M.takes history →
         Holds D.Disk M.Book.fits M.holds choose history base (length history) store.old disk.old →
         count ≡ moved_by (after choose history) (command_in task.entry) moment) }
+    ensures fine { OnOk result (is_export task.entry ≡ false → (choose : Chooser) (history : List Order) (base : ℕ) → M.is_chooser choose → AllByRecursion M.takes history →
+        Holds D.Disk M.Book.fits M.holds choose history base (length history) store.old disk.old →
+        IsFine choose history task.entry moment) }
+    ensures why { IfErr result (λ stop. (choose : Chooser) (history : List Order) (base : ℕ) → M.is_chooser choose → AllByRecursion M.takes history →
+        Holds D.Disk M.Book.fits M.holds choose history base (length history) store.old disk.old →
+        IsWhy choose history task.entry moment stop) }
     ensures later { D.Disk.faults disk.old ≤ D.Disk.faults disk.new }
     ensures cause { IsErrOf result Stop.Disk → Rose (D.Disk.faults disk.old) (D.Disk.faults disk.new) }
-    ensures quiet { IsErrOf result Stop.Output → ⊥ }
+    ensures quiet { IfErr result (λ stop. is_output stop ≡ false) }
+    ensures unread { IfErr result (λ stop. is_input stop ≡ false) }
 {
     let command = match command_of(alloc, task) {
         Ok(Some(command)) => command,
@@ -67,13 +87,25 @@ fn give_and_say<M: Memory + Drop, D: Disk, W: Sink>(
     output: &mut W,
 ) -> Result<(), Stop>
     requires over { IsOver D.Disk store.old.keeper disk.old }
+    requires other { is_export task ≡ false }
     requires takes { AllByRecursion M.takes (orders_in task moment) }
     ensures ends { (choose : Chooser) (history : List Order) (base : ℕ) → M.is_chooser choose → AllByRecursion M.takes history →
         Holds D.Disk M.Book.fits M.holds choose history base (length history) store.old disk.old →
         Ends (loses_in result) D.Disk M.Book.fits M.holds choose history base (Gave result (orders_in task.entry moment)) store.new disk.old disk.new }
     ensures printed { OnOk result ((choose : Chooser) (history : List Order) (base : ℕ) → M.is_chooser choose → AllByRecursion M.takes history →
         Holds D.Disk M.Book.fits M.holds choose history base (length history) store.old disk.old →
-        HasSaid choose history task.entry moment (W.given output.old) (W.given output.new)) }
+        HasSaid HasWritten choose history task.entry moment (W.given output.old) (W.given output.new)) }
+    ensures fine { OnOk result ((choose : Chooser) (history : List Order) (base : ℕ) → M.is_chooser choose → AllByRecursion M.takes history →
+        Holds D.Disk M.Book.fits M.holds choose history base (length history) store.old disk.old →
+        IsFine choose history task.entry moment) }
+    ensures begun { IsErrOf result Stop.Output → (choose : Chooser) (history : List Order) (base : ℕ) → M.is_chooser choose → AllByRecursion M.takes history →
+        Holds D.Disk M.Book.fits M.holds choose history base (length history) store.old disk.old →
+        HasSaid HasBegun choose history task.entry moment (W.given output.old) (W.given output.new) }
+    ensures quiet { IfErr result (λ stop. is_output stop ≡ false → W.given output.new ≡ W.given output.old) }
+    ensures why { IfErr result (λ stop. (choose : Chooser) (history : List Order) (base : ℕ) → M.is_chooser choose → AllByRecursion M.takes history →
+        Holds D.Disk M.Book.fits M.holds choose history base (length history) store.old disk.old →
+        IsWhy choose history task.entry moment stop) }
+    ensures unread { IfErr result (λ stop. is_input stop ≡ false) }
     ensures later { D.Disk.faults disk.old ≤ D.Disk.faults disk.new }
     ensures cause { IsErrOf result Stop.Disk → Rose (D.Disk.faults disk.old) (D.Disk.faults disk.new) }
     ensures grown { W.faults output.old ≤ W.faults output.new }
@@ -96,12 +128,25 @@ fn carry_out<M: Memory + Drop, D: Disk, W: Sink>(
 ) -> Result<(), Stop>
     requires over { IsOver D.Disk store.old.keeper disk.old }
     requires takes { AllByRecursion M.takes (orders_in task moment) }
+    requires records { (choose : Chooser) (history : List Order) (memory : M) → M.is_chooser choose → AllByRecursion M.takes history → M.holds choose history memory →
+        HaveRecords (after choose history) }
     ensures ends { (choose : Chooser) (history : List Order) (base : ℕ) → M.is_chooser choose → AllByRecursion M.takes history →
         Holds D.Disk M.Book.fits M.holds choose history base (length history) store.old disk.old →
         Ends (loses_in result) D.Disk M.Book.fits M.holds choose history base (Gave result (orders_in task.entry moment)) store.new disk.old disk.new }
     ensures printed { OnOk result ((choose : Chooser) (history : List Order) (base : ℕ) → M.is_chooser choose → AllByRecursion M.takes history →
         Holds D.Disk M.Book.fits M.holds choose history base (length history) store.old disk.old →
-        HasPrinted D.Disk choose history task.entry moment disk.old (W.given output.old) (W.given output.new)) }
+        HasPrinted HasWritten D.Disk choose history task.entry moment disk.new (W.given output.old) (W.given output.new)) }
+    ensures fine { OnOk result ((choose : Chooser) (history : List Order) (base : ℕ) → M.is_chooser choose → AllByRecursion M.takes history →
+        Holds D.Disk M.Book.fits M.holds choose history base (length history) store.old disk.old →
+        IsFine choose history task.entry moment) }
+    ensures begun { IfErr result (λ stop. says task.entry stop ≡ true → (choose : Chooser) (history : List Order) (base : ℕ) → M.is_chooser choose → AllByRecursion M.takes history →
+        Holds D.Disk M.Book.fits M.holds choose history base (length history) store.old disk.old →
+        HasPrinted HasBegun D.Disk choose history task.entry moment disk.new (W.given output.old) (W.given output.new)) }
+    ensures quiet { IfErr result (λ stop. says task.entry stop ≡ false → W.given output.new ≡ W.given output.old) }
+    ensures why { IfErr result (λ stop. (choose : Chooser) (history : List Order) (base : ℕ) → M.is_chooser choose → AllByRecursion M.takes history →
+        Holds D.Disk M.Book.fits M.holds choose history base (length history) store.old disk.old →
+        IsWhy choose history task.entry moment stop) }
+    ensures unread { IfErr result (λ stop. is_input stop ≡ false) }
     ensures later { D.Disk.faults disk.old ≤ D.Disk.faults disk.new }
     ensures cause { IsErrOf result Stop.Disk → Rose (D.Disk.faults disk.old) (D.Disk.faults disk.new) }
     ensures grown { W.faults output.old ≤ W.faults output.new }
@@ -124,14 +169,25 @@ pub fn run_task<M: Memory + Drop, D: Disk, C: Clock, W: Sink>(
 ) -> Result<(), Stop>
     requires settings { (moment : ℤ) → M.takes (configuring config moment) }
     requires takes { (moment : ℤ) → AllByRecursion M.takes (orders_in task moment) }
+    // Each event of a history has a record.
+    requires records { (choose : Chooser) (history : List Order) (memory : M) → M.is_chooser choose → AllByRecursion M.takes history → M.holds choose history memory →
+        HaveRecords (after choose history) }
     // A run that is done has given the task behind the settings and written its text, and every image at the exit has all.
     ensures done { OnOk result ((choose : Chooser) (history : List Order) (k : ℕ) → M.is_chooser choose → AllByRecursion M.takes history →
         Begins D.Disk M.Book.fits choose history k disk.old → (image : Image) → D.Disk.seen disk.old ≡ Some image →
-        HasRun false D.Disk M.Book.fits choose history k (WhenOpen choose config (HasDone D.Disk choose task.entry (W.given output.old) (W.given output.new))) disk.old disk.new) }
-    // One that stops has lost nothing of what was mounted, and where the disk is not at fault nothing that was accepted since.
+        HasRun false D.Disk M.Book.fits choose history k
+        (WhenOpen choose config (C.ahead clock.old) (HasDone D.Disk choose task.entry (C.ahead clock.new) (W.given output.old) (W.given output.new) disk.new)) disk.old disk.new) }
+    // One that stops has a cause. It has lost nothing of what was mounted, and where the disk is not at fault nothing that was accepted since.
     ensures stopped { IfErr result (λ stop. (choose : Chooser) (history : List Order) (k : ℕ) → M.is_chooser choose → AllByRecursion M.takes history →
         Begins D.Disk M.Book.fits choose history k disk.old → (image : Image) → D.Disk.seen disk.old ≡ Some image →
-        HasStopped (loses stop) D.Disk M.Book.fits choose history k (WhenEither choose config (Partly task.entry)) disk.old disk.new) }
+        HasStopped stop D.Disk M.Book.fits choose history k config (C.ahead clock.old) (C.ahead clock.new) (W.given output.new ≡ W.given output.old)
+        (HasHalted D.Disk choose task.entry stop (C.ahead clock.new) (W.given output.old) (W.given output.new) disk.new) disk.old disk.new) }
+    // Only an export, and an output that fails, leave a part of a text.
+    ensures quiet { IfErr result (λ stop. says task.entry stop ≡ false → W.given output.new ≡ W.given output.old) }
+    // What is on the disk is sound.
+    ensures sound { IsErrOf result Stop.Unsound → (choose : Chooser) (history : List Order) (k : ℕ) → M.is_chooser choose → AllByRecursion M.takes history →
+        Begins D.Disk M.Book.fits choose history k disk.old → (image : Image) → D.Disk.seen disk.old ≡ Some image → ⊥ }
+    ensures unread { IfErr result (λ stop. is_input stop ≡ false) }
     ensures later { D.Disk.faults disk.old ≤ D.Disk.faults disk.new }
     ensures cause { IsErrOf result Stop.Disk → Rose (D.Disk.faults disk.old) (D.Disk.faults disk.new) }
     ensures grown { W.faults output.old ≤ W.faults output.new }
@@ -141,6 +197,6 @@ pub fn run_task<M: Memory + Drop, D: Disk, C: Clock, W: Sink>(
         Ok(store) => store,
         Err(stop) => return Err(stop),
     };
-    let moment = clock.now();
+    let moment = moment_of(task, clock);
     carry_out(alloc, &mut store, disk, task, moment, output)
 }

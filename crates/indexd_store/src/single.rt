@@ -1,6 +1,6 @@
 //! The last command of a run.
 
-ghost use Rattle.std.specs.Prelude.{◌≡◌, ◌≤◌, ◌+◌, ℕ, List, length, true, IfOk, IfErr, OnOk, IsErrOf};
+ghost use Rattle.std.specs.Prelude.{◌≡◌, ◌≤◌, ◌+◌, ℕ, List, length, true, false, IfOk, IfErr, OnOk, IsErrOf};
 ghost use Rattle.std.specs.List.{AllByRecursion};
 ghost use Rattle.ix_base.specs.Faults.{Rose};
 ghost use Rattle.ix_keep.specs.Snapshot.{IsOver};
@@ -8,7 +8,7 @@ ghost use Rattle.ix_machine.specs.Given.{Chooser};
 ghost use Rattle.ix_machine.specs.declared.commands.Order.{Order};
 ghost use Rattle.ix_store.specs.Holding.{Holds, IsAnswer};
 ghost use Rattle.indexd_store.specs.Ends.{IsLeft, Ends, Only, AtMost};
-ghost use Rattle.indexd_store.specs.Stops.{loses, Caused};
+ghost use Rattle.indexd_store.specs.Stops.{loses, is_output, is_input, Caused};
 
 use crate::stop::{Stop, of_give};
 use ix_disk::Disk;
@@ -43,8 +43,8 @@ pub fn run_last<M: Memory + Drop, D: Disk>(
     ensures over { OnOk result (IsOver D.Disk store.new.keeper disk.new) }
     ensures later { D.Disk.faults disk.old ≤ D.Disk.faults disk.new }
     ensures cause { IsErrOf result Stop.Disk → Rose (D.Disk.faults disk.old) (D.Disk.faults disk.new) }
-    ensures quiet { IsErrOf result Stop.Output → ⊥ }
-    ensures unread { IsErrOf result Stop.Input → ⊥ }
+    ensures quiet { IfErr result (λ stop. is_output stop ≡ false) }
+    ensures unread { IfErr result (λ stop. is_input stop ≡ false) }
 {
     match give_last(store, disk, command, moment) {
         Ok(answer) => Ok(answer),

@@ -1,11 +1,11 @@
 //! What the commands over a store write. `run` calls `say` when the command is committed.
 
-ghost use Rattle.std.specs.Prelude.{◌≡◌, ◌++◌, ◌≤◌, false, decimal, OnOk, IfOk, IfErr, IsErrOf, List, ℕ};
+ghost use Rattle.std.specs.Prelude.{◌≡◌, ◌++◌, ◌≤◌, ◌⊎◌, false, None, decimal, OnOk, IfOk, IfErr, IsErrOf, List, ℕ};
 ghost use Rattle.std.specs.Option.{option_copied};
 ghost use Rattle.ix_base.specs.Faults.{Rose};
-ghost use Rattle.ix_base.specs.Told.{HasWritten};
+ghost use Rattle.ix_base.specs.Told.{HasWritten, HasBegun};
 ghost use Rattle.ix_report.specs.Names.{seconds, seconds_text, closed_name};
-ghost use Rattle.indexd_store.specs.Stops.{loses};
+ghost use Rattle.indexd_store.specs.Stops.{is_output};
 ghost use Rattle.indexd_store.specs.Tasks as defs;
 
 use crate::stop::Stop;
@@ -90,8 +90,7 @@ fn entry_of<'a>(entries: &'a [Entry], index: &[u8], id: u64) -> Option<&'a Entry
 /// The line of a bucket that was thawed. The ledger has an entry of it.
 fn name_line(alloc: Global, view: &View, index: &[u8], id: u64) -> Result<Bytes, Stop>
     ensures line { IfOk result (λ line. defs.IsThawed (defs.entry_of index.now id view.now.ledger) line) }
-    ensures stopped { IfErr result (λ stop. loses stop ≡ false) }
-    ensures quiet { IsErrOf result Stop.Output → ⊥ }
+    ensures stopped { IfErr result (λ stop. (stop ≡ Stop.Memory) ⊎ ((stop ≡ Stop.Unsound) × (defs.entry_of index.now id view.now.ledger ≡ None))) }
 {
     match entry_of(view.ledger.as_slice(), index, id) {
         Some(entry) => match thawed_line(alloc, entry) {
@@ -105,8 +104,7 @@ fn name_line(alloc: Global, view: &View, index: &[u8], id: u64) -> Result<Bytes,
 /// The text of a command that moved so many buckets. The lines of an export are written as they are read, and it has no other text.
 fn text_of(alloc: Global, view: &View, task: Task<'_>, count: u64) -> Result<Bytes, Stop>
     ensures text { IfOk result (λ text. defs.IsText task.entry view.now count text) }
-    ensures stopped { IfErr result (λ stop. loses stop ≡ false) }
-    ensures quiet { IsErrOf result Stop.Output → ⊥ }
+    ensures stopped { IfErr result (λ stop. (stop ≡ Stop.Memory) ⊎ ((stop ≡ Stop.Unsound) × defs.IsUnnamed task.entry view.now)) }
 {
     let made = match task {
         Task::Buckets => listing(alloc, view),
@@ -130,7 +128,10 @@ pub(crate) fn say<W: Sink>(
     output: &mut W,
 ) -> Result<(), Stop>
     ensures written { OnOk result ((text : List ℕ) × defs.IsText task.entry view.now count text × HasWritten text (W.given output.old) (W.given output.new)) }
-    ensures stopped { IfErr result (λ stop. loses stop ≡ false) }
+    // Where the output fails a front of it is, and else nothing.
+    ensures begun { IsErrOf result Stop.Output → (text : List ℕ) × defs.IsText task.entry view.now count text × HasBegun text (W.given output.old) (W.given output.new) }
+    ensures quiet { IfErr result (λ stop. is_output stop ≡ false → W.given output.new ≡ W.given output.old) }
+    ensures stopped { IfErr result (λ stop. defs.IsUnsaid task.entry view.now stop) }
     ensures later { W.faults output.old ≤ W.faults output.new }
     ensures cause { IsErrOf result Stop.Output → Rose (W.faults output.old) (W.faults output.new) }
 {

@@ -1,9 +1,10 @@
 -- Commands given one after the other, and what a disk stood for meanwhile.
-use Rattle.std.proofs.Common.{◌≡◌, ◌≤◌, ℕ, List, [], ◌∷◌, ◌++◌, length, refl, sym, ap, ◌∙◌, subst, arith}
+use Rattle.std.proofs.Common.{◌≡◌, ◌≤◌, ℕ, false, List, [], ◌∷◌, ◌++◌, length, refl, sym, ap, ◌∙◌, subst, arith}
 use Rattle.ix_disk.specs.declared.disk.Disk.{Ghosts}
 use Rattle.ix_disk.proofs.Runs.{always_weaker}
 use Rattle.ix_disk.specs.Image.{Image}
 use Rattle.ix_book.specs.Book.{Book}
+use Rattle.ix_machine.specs.Bounds.{IsAllowed}
 use Rattle.ix_machine.specs.Given.{Chooser}
 use Rattle.ix_machine.specs.Judged.{adds}
 use Rattle.ix_machine.specs.Step.{after}
@@ -13,7 +14,7 @@ use Rattle.ix_store.specs.Holding.{Holds}
 use Rattle.ix_store.specs.Making.{with_order}
 use Rattle.ix_store.specs.Written.{StandsFrom}
 use Rattle.ix_store.specs.declared.store.Store.{Store}
-use Rattle.ix_run.specs.Giving.{given_all, IsKept}
+use Rattle.ix_run.specs.Giving.{given_all, AreAllowed, IsKept}
 use Rattle.ix_run.specs.Running.{HasStood, IsGiven}
 use Rattle.ix_run.proofs.Gone.{stood_longer, stood_on}
 
@@ -21,6 +22,11 @@ use Rattle.ix_run.proofs.Gone.{stood_longer, stood_on}
 pub given_join : (choose : Chooser) (h a b : List Order) → given_all choose h (a ++ b) ≡ given_all choose (given_all choose h a) b
 given_join choose h [] b = refl
 given_join choose h (o ∷ a) b = given_join choose (with_order choose h o) a b
+
+-- all were allowed where both parts were
+pub allowed_join : (choose : Chooser) (base : ℕ) (h a b : List Order) → AreAllowed choose base h a → AreAllowed choose base (given_all choose h a) b → AreAllowed choose base h (a ++ b)
+allowed_join choose base h [] b one two = two
+allowed_join choose base h (o ∷ a) b one two = (one.0, allowed_join choose base (with_order choose h o) a b one.1 two)
 
 -- what they add stands behind the history
 abbrev pub more_of : Chooser → List Order → List Order → List Order
@@ -56,13 +62,14 @@ module _ {D : Type 0} (g : Ghosts D) {M : Type 0} (fits : Book → Type 0) (hold
       stood_on g fits holds choose (with_order choose h order) k first half last one.gone.stood (fewer (with_order choose h order) one.gone.count k half last one.gone.kept stood)
 
   -- a command, and then a commit of all
-  pub kept_last : (h : List Order) (base k : ℕ) (order : Order) (before mid store : Store M) (first half last : D) (answer : Accepted) → (one : IsGiven g fits holds choose h base k order before answer mid first half) →
+  pub kept_last : (h : List Order) (base k : ℕ) (order : Order) (before mid store : Store M) (first half last : D) (answer : Accepted) → Holds g fits holds choose h base k before first → (one : IsGiven g fits holds choose h base k order before answer mid first half) →
       Holds g fits holds choose (with_order choose h order) base (length (with_order choose h order)) store last → HasStood g fits choose (with_order choose h order) one.gone.count half last →
       IsKept g fits holds choose h base k order before answer store first last
-  kept_last h base k order before mid store first half last answer one hold stood = record {
+  kept_last h base k order before mid store first half last answer old one hold stood = record {
     allowed = one.allowed;
     answers = one.answers;
     all = record {
+      allowed = (subst (λ (drawn : ℕ). IsAllowed choose false drawn (after choose h) order) old.staged.counted.drawn_are one.allowed, tt);
       hold = hold;
       stood = stood_last h base k order before mid first half last answer one stood;
     };

@@ -1,5 +1,5 @@
 -- Images that stand for prefixes of a history stand for prefixes of a longer one.
-use Rattle.std.proofs.Common.{◌≡◌, ◌≤◌, ℕ, List, [], ◌∷◌, ◌++◌, length, take, refl, sym, ap, subst, arith, append_assoc, ◌⊎◌, inl, inr}
+use Rattle.std.proofs.Common.{◌≡◌, ◌≤◌, ℕ, zero, suc, false, List, [], ◌∷◌, ◌++◌, length, take, drop, refl, sym, ap, ◌∙◌, subst, arith, append_assoc, ◌⊎◌, inl, inr}
 use Rattle.ix_disk.proofs.Runs.{always_begins, always_on, always_weaker}
 use Rattle.ix_disk.specs.Image.{Image}
 use Rattle.ix_disk.specs.Moments.{Always}
@@ -13,17 +13,25 @@ use Rattle.ix_keep.specs.Undo.{HasSameLogs}
 use Rattle.ix_machine.specs.Judged.{adds}
 use Rattle.ix_machine.specs.Step.{after}
 use Rattle.ix_machine.specs.declared.answers.Accepted.{Accepted}
+use Rattle.ix_store.specs.Counting.{is_due}
 use Rattle.ix_store.specs.Holding.{Holds, Staged, IsAccepted}
 use Rattle.ix_store.specs.Making.{with_order}
 use Rattle.ix_store.specs.Written.{Stands, StandsFrom}
 use Rattle.ix_store.specs.declared.store.Store.{Store}
 use Rattle.ix_store.proofs.Counted.{take_more, take_whole}
 use Rattle.ix_store.proofs.Lawful.{held_stands, held_then, stands_from}
-use Rattle.ix_run.specs.Running.{HasStood, HasGone, IsGiven}
+use Rattle.ix_run.specs.Running.{HasStood, HasGone, HasSettled, IsGiven}
 
 pub none_more : (h : List Order) → h ++ [] ≡ h
 none_more [] = refl
 none_more (o ∷ h) = ap (λ (l : List Order). o ∷ l) (none_more h)
+
+-- all of them are dropped
+none_left : (h : List Order) (n : ℕ) → length h ≡ n → drop n (h ++ []) ≡ []
+none_left [] zero is = refl
+none_left [] (suc n) is = refl
+none_left (o ∷ h) zero is = absurd (omega (arith, is))
+none_left (o ∷ h) (suc n) is = none_left h n (omega (arith, is))
 
 length_more : (a b : List Order) → length a ≤ length (a ++ b)
 length_more [] b = omega arith
@@ -105,6 +113,22 @@ module _ {D : Type 0} (g : Ghosts D) {M : Type 0} (fits : Book → Type 0) (hold
     stood = subst (λ (some : List Order). HasStood g fits choose some k before disk) (sym (none_more h)) (stood_either h run k before disk within always);
   }
 
+  -- what is not committed is not due: it was not before, or nothing is left
+  pub settled_none : (h : List Order) (base k : ℕ) (store : Store M) (disk : D) → Holds g fits holds choose h base k store disk → is_due (drop k h) ≡ false → HasSettled g fits holds choose h [] base k store disk disk
+  unfolding gone_none
+  settled_none h base k store disk hold rest = record {
+    gone = gone_none h base k store disk hold;
+    not_due = ap (λ (some : List Order). is_due (drop k some)) (none_more h) ∙ rest;
+  }
+
+  pub settled_all : (h : List Order) (run base k : ℕ) (store : Store M) (before disk : D) → k ≤ length h → Holds g fits holds choose h base (length h) store disk →
+      Always g before disk (λ (image : Image). Stands fits run choose (take k h) image ⊎ Stands fits run choose h image) → HasSettled g fits holds choose h [] base k store before disk
+  unfolding gone_all
+  settled_all h run base k store before disk within hold always = record {
+    gone = gone_all h run base k store before disk within hold always;
+    not_due = ap (λ (some : List Order). is_due some) (none_left h (length h) refl);
+  }
+
   -- an accepted command, of whose answer the disk is no part
   pub accepted_gone : (h : List Order) (base k : ℕ) (order : Order) (before store : Store M) (disk : D) → (hold : Holds g fits holds choose h base k before disk) → HasSameLogs before.keeper store.keeper →
       Staged fits holds choose (with_order choose h order) base k store hold.old → HasGone g fits holds choose h (adds (after choose h) order) base k store disk disk
@@ -118,18 +142,19 @@ module _ {D : Type 0} (g : Ghosts D) {M : Type 0} (fits : Book → Type 0) (hold
 
   pub given : (h : List Order) (base k : ℕ) (order : Order) (before mid store : Store M) (first last : D) (answer : Accepted) → (hold : Holds g fits holds choose h base k before first) → HasSameLogs before.keeper mid.keeper →
       IsAccepted fits holds choose h base k order before mid hold.old answer →
-      (Holds g fits holds choose (with_order choose h order) base k mid first → HasGone g fits holds choose (with_order choose h order) [] base k store first last) →
+      (Holds g fits holds choose (with_order choose h order) base k mid first → HasSettled g fits holds choose (with_order choose h order) [] base k store first last) →
       IsGiven g fits holds choose h base k order before answer store first last
   given h base k order before mid store first last answer hold logs is then =
       let two = then (held_then g fits holds choose h (with_order choose h order) base k before mid first hold logs is.staged) in record {
         allowed = is.allowed;
         answers = is.answers;
         gone = record {
-          count = two.count;
-          kept = two.kept;
-          hold = subst (λ (some : List Order). Holds g fits holds choose some base two.count store last) (none_more (with_order choose h order)) two.hold;
-          stood = subst (λ (some : List Order). HasStood g fits choose some k first last) (none_more (with_order choose h order)) two.stood;
+          count = two.gone.count;
+          kept = two.gone.kept;
+          hold = subst (λ (some : List Order). Holds g fits holds choose some base two.gone.count store last) (none_more (with_order choose h order)) two.gone.hold;
+          stood = subst (λ (some : List Order). HasStood g fits choose some k first last) (none_more (with_order choose h order)) two.gone.stood;
         };
+        not_due = subst (λ (some : List Order). is_due (drop two.gone.count some) ≡ false) (none_more (with_order choose h order)) two.not_due;
       }
 
   pub given_stood : (h : List Order) (base k : ℕ) (order : Order) (before mid : Store M) (first last : D) (answer : Accepted) → (hold : Holds g fits holds choose h base k before first) → HasSameLogs before.keeper mid.keeper →

@@ -9,6 +9,7 @@ use Rattle.ix_base.specs.declared.events.ChannelMeta.{ChannelMeta}
 use Rattle.ix_disk.specs.declared.disk.Disk.{Ghosts}
 use Rattle.ix_book.specs.Book.{Book}
 use Rattle.ix_keep.specs.declared.fault.CommitFault.{CommitFault}
+use Rattle.ix_machine.specs.Bounds.{IsAllowed}
 use Rattle.ix_machine.specs.Given.{Chooser}
 use Rattle.ix_machine.specs.Step.{after}
 use Rattle.ix_machine.specs.declared.answers.Accepted.{Accepted}
@@ -28,7 +29,7 @@ use Rattle.ix_run.specs.declared.giving.GiveFault.TheVariants as faults
 use Rattle.ix_run.specs.declared.input.RunFault.{RunFault}
 use Rattle.ix_run.specs.declared.input.RunFault.TheVariants as stops
 use Rattle.ix_run.proofs.Gone.{stood_on, stood_here, none_more}
-use Rattle.ix_run.proofs.Given.{given_join, stood_given, fewer}
+use Rattle.ix_run.proofs.Given.{given_join, allowed_join, stood_given, fewer}
 
 -- ---- what is read
 
@@ -81,6 +82,7 @@ module _ {D : Type 0} (g : Ghosts D) {M : Type 0} (fits : Book → Type 0) (hold
   given_none h base k store disk hold = record {
     count = k;
     kept = omega arith;
+    allowed = tt;
     hold = hold;
     stood = stood_here g fits holds choose h base k k store disk (omega arith) hold;
   }
@@ -98,6 +100,7 @@ module _ {D : Type 0} (g : Ghosts D) {M : Type 0} (fits : Book → Type 0) (hold
   given_on h a b base k mid_store store first mid last one two = record {
     count = two.count;
     kept = omega (arith, one.kept, two.kept);
+    allowed = allowed_join choose base h a b one.allowed two.allowed;
     hold = subst (λ (some : List Order). Holds g fits holds choose some base two.count store last) (sym (given_join choose h a b)) two.hold;
     stood = stood_join h a b k one.count first mid last one.kept one.stood two.stood;
   }
@@ -149,9 +152,15 @@ module _ {D : Type 0} (g : Ghosts D) {M : Type 0} (fits : Book → Type 0) (hold
 
   -- ---- one of them
 
-  pub gave_one : (h : List Order) (base k : ℕ) (order : Order) (old store : Store M) (first last : D) (answer : Accepted) → IsGiven g fits holds choose h base k order old answer store first last →
+  pub gave_one : (h : List Order) (base k : ℕ) (order : Order) (old store : Store M) (first last : D) (answer : Accepted) → Holds g fits holds choose h base k old first → IsGiven g fits holds choose h base k order old answer store first last →
       HasGivenAll g fits holds choose h (order ∷ []) base k store first last
-  gave_one h base k order old store first last answer is = record { count = is.gone.count; kept = is.gone.kept; hold = is.gone.hold; stood = is.gone.stood }
+  gave_one h base k order old store first last answer hold is = record {
+    count = is.gone.count;
+    kept = is.gone.kept;
+    allowed = (subst (λ (drawn : ℕ). IsAllowed choose false drawn (after choose h) order) hold.staged.counted.drawn_are is.allowed, tt);
+    hold = is.gone.hold;
+    stood = is.gone.stood;
+  }
 
   pub gave_none : (h : List Order) (base k : ℕ) (order : Order) (old store : Store M) (first last : D) (fault : GiveFault) → Holds g fits holds choose h base k old first →
       IsNotGiven g fits holds choose h base k order old fault store first last → Gives g fits holds choose h base k store first last (Err fault) (order ∷ [])
@@ -164,6 +173,7 @@ module _ {D : Type 0} (g : Ghosts D) {M : Type 0} (fits : Book → Type 0) (hold
       record {
         count = not.1.count;
         kept = not.1.kept;
+        allowed = tt;
         hold = subst (λ (some : List Order). Holds g fits holds choose some base not.1.count store last) (none_more h) not.1.hold;
         stood = subst (λ (some : List Order). HasStood g fits choose some k first last) (none_more h) not.1.stood;
       },
@@ -253,7 +263,7 @@ module _ {D : Type 0} (g : Ghosts D) {M : Type 0} (fits : Book → Type 0) (hold
 
     module _ (done : (history : List Order) (base k : ℕ) → Holds g fits holds choose history base k mid_store mid → Holds g fits holds choose history base (length history) store last) where
       kept_to : (os : List Order) → HasGivenAll g fits holds choose h os base k mid_store first mid → HasKeptAll g fits holds choose h os base k store first last
-      kept_to os one = record { hold = done (given_all choose h os) base one.count one.hold; stood = stood_to os one }
+      kept_to os one = record { allowed = one.allowed; hold = done (given_all choose h os) base one.count one.hold; stood = stood_to os one }
 
       pub settled : (result : Result Unit RunFault) (filled ending : List Order) → is_run_cut result ≡ false → Feeds g fits holds choose h base k mid_store first mid result filled ending →
           Stores g fits holds choose h base k store first last result filled ending

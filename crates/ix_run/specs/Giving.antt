@@ -1,5 +1,5 @@
 -- Commands that are given one after the other.
-use Rattle.std.specs.Prelude.{◌≤◌, ℕ, false, List, [], ◌∷◌, length}
+use Rattle.std.specs.Prelude.{◌≤◌, ℕ, false, List, [], ◌∷◌, length, drop}
 use Rattle.ix_disk.specs.declared.disk.Disk.{Ghosts}
 use Rattle.ix_book.specs.Book.{Book}
 use Rattle.ix_machine.specs.Bounds.{IsAllowed}
@@ -7,6 +7,7 @@ use Rattle.ix_machine.specs.Given.{Chooser}
 use Rattle.ix_machine.specs.Step.{after}
 use Rattle.ix_machine.specs.declared.answers.Accepted.{Accepted}
 use Rattle.ix_machine.specs.declared.commands.Order.{Order}
+use Rattle.ix_store.specs.Counting.{numbers}
 use Rattle.ix_store.specs.Holding.{Holds, IsAnswer}
 use Rattle.ix_store.specs.Making.{with_order}
 use Rattle.ix_store.specs.declared.store.Store.{Store}
@@ -17,15 +18,23 @@ abbrev pub given_all : Chooser → List Order → List Order → List Order
 given_all choose history [] = history
 given_all choose history (order ∷ orders) = given_all choose (with_order choose history order) orders
 
+-- each was allowed when it was given, in a run that began behind the first `base` commands
+abbrev pub AreAllowed : Chooser → ℕ → List Order → List Order → Type 0
+AreAllowed choose base history [] = Unit {0}
+AreAllowed choose base history (order ∷ orders) =
+    IsAllowed choose false (numbers (drop base history)) (after choose history) order × AreAllowed choose base (with_order choose history order) orders
+
 -- Store and disk hold the history with these commands; no fewer are committed than before; and every image since stood for a prefix.
 pub record HasGivenAll {D : Type 0} (d : Ghosts D) {M : Type 0} (fits : Book → Type 0) (holds : Chooser → List Order → M → Type 0) (choose : Chooser) (history orders : List Order) (base k : ℕ) (store : Store M) (before disk : D) : Type 0 where
   pub count : ℕ
   pub kept : k ≤ count
+  pub allowed : AreAllowed choose base history orders
   pub hold : Holds d fits holds choose (given_all choose history orders) base count store disk
   pub stood : HasStood d fits choose (given_all choose history orders) k before disk
 
 -- and all are committed
 pub record HasKeptAll {D : Type 0} (d : Ghosts D) {M : Type 0} (fits : Book → Type 0) (holds : Chooser → List Order → M → Type 0) (choose : Chooser) (history orders : List Order) (base k : ℕ) (store : Store M) (before disk : D) : Type 0 where
+  pub allowed : AreAllowed choose base history orders
   pub hold : Holds d fits holds choose (given_all choose history orders) base (length (given_all choose history orders)) store disk
   pub stood : HasStood d fits choose (given_all choose history orders) k before disk
 

@@ -1,5 +1,5 @@
 -- What a store and its disk hold while commands are given.
-use Rattle.std.specs.Prelude.{◌≤◌, ℕ, false, List, [], ◌++◌}
+use Rattle.std.specs.Prelude.{◌≡◌, ◌≤◌, ℕ, false, List, [], ◌++◌, drop}
 use Rattle.ix_disk.specs.Moments.{Always}
 use Rattle.ix_disk.specs.declared.disk.Disk.{Ghosts}
 use Rattle.ix_book.specs.Book.{Book}
@@ -9,6 +9,7 @@ use Rattle.ix_machine.specs.Judged.{adds}
 use Rattle.ix_machine.specs.Step.{after}
 use Rattle.ix_machine.specs.declared.answers.Accepted.{Accepted}
 use Rattle.ix_machine.specs.declared.commands.Order.{Order}
+use Rattle.ix_store.specs.Counting.{is_due}
 use Rattle.ix_store.specs.Holding.{Holds, IsAnswer}
 use Rattle.ix_store.specs.Written.{StandsFrom}
 use Rattle.ix_store.specs.declared.store.Store.{Store}
@@ -26,11 +27,17 @@ pub record HasGone {D : Type 0} (d : Ghosts D) {M : Type 0} (fits : Book → Typ
   pub hold : Holds d fits holds choose (history ++ more) base count store disk
   pub stood : HasStood d fits choose (history ++ more) k before disk
 
--- A command was given: it was allowed, and this is its answer.
+-- The same, where what is not committed is not due.
+pub record HasSettled {D : Type 0} (d : Ghosts D) {M : Type 0} (fits : Book → Type 0) (holds : Chooser → List Order → M → Type 0) (choose : Chooser) (history more : List Order) (base k : ℕ) (store : Store M) (before disk : D) : Type 0 where
+  pub gone : HasGone d fits holds choose history more base k store before disk
+  pub not_due : is_due (drop gone.count (history ++ more)) ≡ false
+
+-- A command was given: it was allowed, this is its answer, and what is not committed is not due.
 pub record IsGiven {D : Type 0} (d : Ghosts D) {M : Type 0} (fits : Book → Type 0) (holds : Chooser → List Order → M → Type 0) (choose : Chooser) (history : List Order) (base k : ℕ) (order : Order) (old : Store M) (answer : Accepted) (store : Store M) (before disk : D) : Type 0 where
   pub allowed : IsAllowed choose false old.drawn (after choose history) order
   pub answers : IsAnswer old.run old.drawn choose history order answer
   pub gone : HasGone d fits holds choose history (adds (after choose history) order) base k store before disk
+  pub not_due : is_due (drop gone.count (history ++ adds (after choose history) order)) ≡ false
 
 -- A command was refused for its cause, and all is as it was; or it was accepted, and the disk failed.
 abbrev pub IsNotGiven : {D : Type 0} → Ghosts D → {M : Type 0} → (Book → Type 0) → (Chooser → List Order → M → Type 0) → Chooser → List Order → ℕ → ℕ → Order → Store M → GiveFault → Store M → D → D → Type 0

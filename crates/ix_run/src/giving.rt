@@ -7,7 +7,7 @@ ghost use Rattle.ix_keep.specs.Snapshot.{IsOver};
 ghost use Rattle.ix_machine.specs.Given.{Chooser};
 ghost use Rattle.ix_machine.specs.declared.answers.Refusal.{Refusal as Refused};
 ghost use Rattle.ix_machine.specs.declared.commands.Order.{Order};
-ghost use Rattle.ix_run.specs.Running.{HasStood, HasGone, IsGiven, IsNotGiven};
+ghost use Rattle.ix_run.specs.Running.{HasStood, HasSettled, IsGiven, IsNotGiven};
 ghost use Rattle.ix_store.specs.Holding.{Holds};
 
 use ix_disk::Disk;
@@ -31,7 +31,7 @@ fn commit_due<M: Memory + Drop, D: Disk>(
 ) -> Result<(), CommitFault>
     requires { IsOver D.Disk store.old.keeper disk.old }
     ensures gone { OnOk result ((choose : Chooser) (history : List Order) (base k : ℕ) → Holds D.Disk M.Book.fits M.holds choose history base k store.old disk.old →
-        HasGone D.Disk M.Book.fits M.holds choose history [] base k store.new disk.old disk.new) }
+        HasSettled D.Disk M.Book.fits M.holds choose history [] base k store.new disk.old disk.new) }
     ensures stood { (choose : Chooser) (history : List Order) (base k : ℕ) → Holds D.Disk M.Book.fits M.holds choose history base k store.old disk.old →
         HasStood D.Disk M.Book.fits choose history k disk.old disk.new }
     ensures over { OnOk result (IsOver D.Disk store.new.keeper disk.new) }
@@ -55,7 +55,7 @@ pub fn give<M: Memory + Drop, D: Disk>(
 ) -> Result<Accepted, GiveFault>
     requires over { IsOver D.Disk store.old.keeper disk.old }
     requires takes { M.takes (record { command = command; moment = moment }) }
-    // An accepted command is behind the others, and what was committed still is.
+    // An accepted command is behind the others, what was committed still is, and what is not is not due.
     ensures given { IfOk result (λ answer. (choose : Chooser) (history : List Order) (base k : ℕ) → M.is_chooser choose → AllByRecursion M.takes history →
         Holds D.Disk M.Book.fits M.holds choose history base k store.old disk.old →
         IsGiven D.Disk M.Book.fits M.holds choose history base k (record { command = command; moment = moment }) store.old answer store.new disk.old disk.new) }

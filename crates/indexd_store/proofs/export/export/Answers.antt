@@ -1,9 +1,9 @@
-use Rattle.std.proofs.Common.{ℕ, List, subst, refl, length}
-use Rattle.ix_base.specs.Told.{HasWritten}
+use Rattle.std.proofs.Common.{◌≡◌, ◌∙◌, ℕ, false, List, subst, refl, sym, length}
+use Rattle.ix_base.specs.Told.{HasWritten, HasBegun}
 use Rattle.ix_export.specs.Lines.{text}
 use Rattle.ix_machine.specs.Step.{after}
-use Rattle.ix_store.specs.Exporting.{exported}
-use Rattle.indexd_store.proofs.Exports.{left_as_was, stopped_as}
+use Rattle.ix_store.specs.Exporting.{is_seen, exported}
+use Rattle.indexd_store.proofs.Exports.{left_as_was, stopped_as, unexported, seen_by}
 use Rattle.indexd_store.proofs.export.export.Goals as goal
 
 pub returns-in-Ok-clause-ends : goal.returns-in-Ok-clause-ends
@@ -11,9 +11,26 @@ returns-in-Ok-clause-ends g c = λ choose h base hold.
     left_as_was g.D.Disk _ g.M.Memory.holds choose h base c.args.store.now c.export.new.self c.args.disk.now c.export.new.disk hold c.in-Ok.ensures.images (c.in-Ok.ensures.held refl choose h base (length h) hold)
 
 pub returns-in-Ok-clause-lines : goal.returns-in-Ok-clause-lines
-returns-in-Ok-clause-lines g c = λ choose h base hold image records seen.
+returns-in-Ok-clause-lines g c = λ choose h base chooser taken hold image seen.
+    let records = c.requires.records choose h c.args.store.now.memory chooser taken hold.staged.memory in
     subst (λ (name : List ℕ). HasWritten (text c.args.range.now (exported (after choose h) name)) (g.W.Sink.given c.args.output.now) (g.W.Sink.given c.export.new.out))
-    c.as_bytes.ensures.value (c.in-Ok.ensures.lines choose h base image records hold seen)
+    c.as_bytes.ensures.value (c.in-Ok.ensures.lines choose h base image records hold (sym c.in-Ok.ensures.same ∙ seen))
+
+pub returns-in-Ok-clause-fine : goal.returns-in-Ok-clause-fine
+returns-in-Ok-clause-fine g c = λ choose h base hold. seen_by (is_seen (after choose h) c.args.index.now)
+    (λ unseen. let e = (c.in-Ok.ensures.unknown choose h base (length h) hold.old hold.staged).1 (cc (unseen, c.as_bytes.ensures.value)) in cc)
+
+pub returns-in-Err-clause-begun : goal.returns-in-Err-clause-begun
+returns-in-Err-clause-begun g c = λ choose h base chooser taken hold image seen.
+    let records = c.requires.records choose h c.args.store.now.memory chooser taken hold.staged.memory in
+    subst (λ (name : List ℕ). HasBegun (text c.args.range.now (exported (after choose h) name)) (g.W.Sink.given c.args.output.now) (g.W.Sink.given c.export.new.out))
+    c.as_bytes.ensures.value (c.in-Err.ensures.begun choose h base image records hold (sym c.in-Err.ensures.same ∙ seen))
+
+pub returns-in-Err-clause-why : goal.returns-in-Err-clause-why
+returns-in-Err-clause-why g c = λ choose h base hold.
+    unexported g.D.Disk _ g.M.Memory.holds choose h base c.args.store.now c.export.new.self c.args.disk.now c.export.new.disk c.args.index.now c.of_export.result c.in-Err.fault c.of_export.ensures
+    hold (λ is. c.in-Err.ensures.closed.0 (cc (is)))
+    (λ is. subst (λ (name : List ℕ). is_seen (after choose h) name ≡ false) c.as_bytes.ensures.value ((c.in-Err.ensures.unknown choose h base (length h) hold.old hold.staged).0 (cc (is))))
 
 pub returns-in-Err-clause-ends : goal.returns-in-Err-clause-ends
 returns-in-Err-clause-ends g c = λ choose h base hold.

@@ -1,9 +1,11 @@
-use Rattle.std.proofs.Common.{◌≡◌, true, false, take, w64, to_z, of_z}
+use Rattle.std.proofs.Common.{rules, ◌≡◌, true, false, take, refl, inl, w64, to_z, of_z}
+use Rattle.std.proofs.lemmas.Int.{to_z-of_z}
+use mir.Val.{SFits}
 use Rattle.ix_store.specs.declared.fault.MountFault.TheVariants as mounts
 use Rattle.indexd_store.specs.Ends.{same_kept}
-use Rattle.indexd_store.specs.Stops.{of_mount, loses}
+use Rattle.indexd_store.specs.Stops.{of_mount}
 use Rattle.indexd_store.specs.declared.stop.Stop.TheVariants as stops
-use Rattle.indexd_store.proofs.Ending.{sound_settings, unsound_of_mount}
+use Rattle.indexd_store.proofs.Ending.{unset, unsound_of_mount}
 use Rattle.indexd_store.proofs.Joining.{front_has, committed, configured_as, opened_same, opened_by, stopped_by}
 use Rattle.indexd_store.proofs.opening.open.Goals as goal
 
@@ -11,7 +13,7 @@ pub returns-then-same_kept-clause-opened : goal.returns-then-same_kept-clause-op
 returns-then-same_kept-clause-opened g c = λ choose history k chooser taken begins image seen.
     let is = c.in-Ok.ensures.mounted choose history k chooser taken begins image seen in
     let same : c.same_kept.result ≡ same_kept c.kept.result.now c.args.config.kept = cc (c.same_kept.ensures, c.as_slice.ensures, c.as_slice-2.ensures) in
-    opened_same g.D.Disk _ g.M.Memory.holds choose history k c.args.config image c.in-Ok.store c.args.disk.now c.mount.new.disk is (c.in-Ok.ensures.images choose history k begins)
+    opened_same g.D.Disk _ g.M.Memory.holds choose history k c.args.config image c.in-Ok.store c.args.disk.now c.mount.new.disk (g.C.Clock.ahead c.args.clock.now) is (c.in-Ok.ensures.images choose history k begins)
     (configured_as g.D.Disk _ g.M.Memory.holds choose history k c.args.config image c.in-Ok.store c.mount.new.disk is c.kept.result.now c.kept.ensures c.same_kept.result true same c.if-same_kept.true)
 
 pub run_last-requires-clause-takes : goal.run_last-requires-clause-takes
@@ -19,34 +21,38 @@ run_last-requires-clause-takes g c = c.requires (to_z w64 (of_z w64 c.now-moment
 
 pub returns-in-Ok-run_last-clause-opened : goal.returns-in-Ok-run_last-clause-opened
 returns-in-Ok-run_last-clause-opened g c = λ choose history k chooser taken begins image seen.
+    let fits : SFits w64 c.now-moment.result = search rules in
     let is = c.in-Ok.ensures.mounted choose history k chooser taken begins image seen in
     let same : c.same_kept.result ≡ same_kept c.kept.result.now c.args.config.kept = cc (c.same_kept.ensures, c.as_slice.ensures, c.as_slice-2.ensures) in
-    opened_by g.D.Disk _ g.M.Memory.holds choose history k c.args.config image c.in-Ok.store c.run_last.new.store c.args.disk.now c.mount.new.disk c.run_last.new.disk is (c.in-Ok.ensures.images choose history k begins)
+    let left = simp to_z-of_z at (c.in-Ok-run_last.ensures.left choose (take is.count history) is.count chooser (front_has g.M.Memory.takes is.count history taken)
+    (committed g.D.Disk _ g.M.Memory.holds choose history k c.args.config image c.in-Ok.store c.mount.new.disk is)) in
+    opened_by g.D.Disk _ g.M.Memory.holds choose history k c.args.config image c.in-Ok.store c.run_last.new.store c.args.disk.now c.mount.new.disk c.run_last.new.disk
+    (g.C.Clock.ahead c.args.clock.now) (g.C.Clock.ahead c.now-moment.new.self) is (c.in-Ok.ensures.images choose history k begins)
     (configured_as g.D.Disk _ g.M.Memory.holds choose history k c.args.config image c.in-Ok.store c.mount.new.disk is c.kept.result.now c.kept.ensures c.same_kept.result false same c.if-same_kept.false)
-    (to_z w64 (of_z w64 c.now-moment.result))
-    (c.in-Ok-run_last.ensures.left choose (take is.count history) is.count chooser (front_has g.M.Memory.takes is.count history taken)
-    (committed g.D.Disk _ g.M.Memory.holds choose history k c.args.config image c.in-Ok.store c.mount.new.disk is))
+    c.now-moment.result c.now-moment.ensures left
 
 pub returns-in-Err-run_last-clause-stopped : goal.returns-in-Err-run_last-clause-stopped
 returns-in-Err-run_last-clause-stopped g c = λ choose history k chooser taken begins image seen.
+    let fits : SFits w64 c.now-moment.result = search rules in
     let is = c.in-Ok.ensures.mounted choose history k chooser taken begins image seen in
     let same : c.same_kept.result ≡ same_kept c.kept.result.now c.args.config.kept = cc (c.same_kept.ensures, c.as_slice.ensures, c.as_slice-2.ensures) in
-    stopped_by g.D.Disk _ g.M.Memory.holds choose history k c.args.config image c.in-Ok.store c.run_last.new.store c.args.disk.now c.mount.new.disk c.run_last.new.disk is (c.in-Ok.ensures.images choose history k begins)
+    let all = committed g.D.Disk _ g.M.Memory.holds choose history k c.args.config image c.in-Ok.store c.mount.new.disk is in
+    let front = front_has g.M.Memory.takes is.count history taken in
+    let caused = simp to_z-of_z at (c.in-Err-run_last.ensures.caused choose (take is.count history) is.count chooser front all) in
+    let ends = simp to_z-of_z at (c.in-Err-run_last.ensures.stopped choose (take is.count history) is.count chooser front all) in
+    stopped_by g.D.Disk _ g.M.Memory.holds choose history k c.args.config image c.in-Ok.store c.run_last.new.store c.args.disk.now c.mount.new.disk c.run_last.new.disk
+    (g.C.Clock.ahead c.args.clock.now) (g.C.Clock.ahead c.now-moment.new.self) is (c.in-Ok.ensures.images choose history k begins)
     (configured_as g.D.Disk _ g.M.Memory.holds choose history k c.args.config image c.in-Ok.store c.mount.new.disk is c.kept.result.now c.kept.ensures c.same_kept.result false same c.if-same_kept.false)
-    (to_z w64 (of_z w64 c.now-moment.result)) (loses c.in-Err-run_last.stop)
-    (c.in-Err-run_last.ensures.stopped choose (take is.count history) is.count chooser (front_has g.M.Memory.takes is.count history taken)
-    (committed g.D.Disk _ g.M.Memory.holds choose history k c.args.config image c.in-Ok.store c.mount.new.disk is))
+    c.now-moment.result c.now-moment.ensures c.in-Err-run_last.stop (unset choose c.in-Ok.store.drawn (take is.count history) c.args.config c.now-moment.result c.in-Err-run_last.stop caused) ends
 
-pub returns-in-Err-run_last-clause-sound : goal.returns-in-Err-run_last-clause-sound
-returns-in-Err-run_last-clause-sound g c = λ unsound choose history k chooser taken begins image seen.
-    let is = c.in-Ok.ensures.mounted choose history k chooser taken begins image seen in
-    let stop_is : c.in-Err-run_last.stop ≡ stops.Unsound = cc (unsound) in
-    sound_settings choose c.in-Ok.store.drawn (take is.count history) c.args.config (to_z w64 (of_z w64 c.now-moment.result)) c.in-Err-run_last.stop stop_is
-    (c.in-Err-run_last.ensures.caused choose (take is.count history) is.count chooser (front_has g.M.Memory.takes is.count history taken)
-    (committed g.D.Disk _ g.M.Memory.holds choose history k c.args.config image c.in-Ok.store c.mount.new.disk is))
-
-pub returns-in-Err-clause-sound : goal.returns-in-Err-clause-sound
-returns-in-Err-clause-sound g c = λ unsound choose history k chooser taken begins image seen.
-    let is : of_mount c.in-Err.fault ≡ stops.Unsound = cc (unsound, c.of_mount.ensures) in
-    let mount_is : c.in-Err.fault ≡ mounts.Unsound = unsound_of_mount c.in-Err.fault is in
-    c.in-Err.ensures.sound (cc (mount_is)) choose history k chooser taken begins image seen
+pub returns-in-Err-clause-stopped : goal.returns-in-Err-clause-stopped
+returns-in-Err-clause-stopped g c = λ choose history k chooser taken begins image seen. inl (record {
+  fault = c.in-Err.fault;
+  stop_is = c.of_mount.ensures;
+  sound = λ unsound.
+      let is : of_mount c.in-Err.fault ≡ stops.Unsound = cc (unsound, c.of_mount.ensures) in
+      let mount_is : c.in-Err.fault ≡ mounts.Unsound = unsound_of_mount c.in-Err.fault is in
+      c.in-Err.ensures.sound (cc (mount_is)) choose history k chooser taken begins image seen;
+  not_asked = refl;
+  stood = c.in-Err.ensures.images choose history k begins;
+})

@@ -1,33 +1,54 @@
-use Rattle.std.proofs.Common.{take, false, w64, to_z, of_z}
+use Rattle.std.proofs.Common.{rules, Bool, take, refl, ap, subst, inl, inr, w64}
+use Rattle.std.proofs.lemmas.Int.{to_z-of_z}
+use mir.Val.{SFits}
 use Rattle.ix_run.specs.Giving.{given_all}
-use Rattle.indexd_store.specs.Opened.{is_configured}
+use Rattle.indexd_store.specs.Opened.{is_configured, WhenOpen, HasRun}
 use Rattle.indexd_store.specs.Previews.{HasFed}
-use Rattle.indexd_store.specs.Stops.{loses}
-use Rattle.indexd_store.proofs.Joining.{front_has, begun_taken, fed_when, unfed_when, shut_by}
+use Rattle.indexd_store.specs.Stops.{loses_in}
+use Rattle.indexd_store.proofs.Feeding.{none_taken, fed_sound}
+use Rattle.indexd_store.proofs.Joining.{front_has, begun_taken, fed_when, shut_sound}
 use Rattle.indexd_store.proofs.Tasks.{on_ok_by, if_err_by}
 use Rattle.indexd_store.proofs.preview.run_preview.Goals as goal
 
 pub returns-in-Err-clause-stopped : goal.returns-in-Err-clause-stopped
-returns-in-Err-clause-stopped g c = λ choose history k chooser taken begins image seen.
-    shut_by g.D.Disk _ g.M.Memory.holds choose history k c.args.config (HasFed false choose c.args.origin (g.S.Source.left c.args.input.now) (g.S.Source.left c.args.input.now)) (loses c.in-Err.stop) c.args.disk.now c.open.new.disk
-    (c.in-Err.ensures.stopped choose history k chooser taken begins image seen)
+returns-in-Err-clause-stopped g c = λ choose history k chooser taken begins image seen. inl (c.in-Err.ensures.stopped choose history k chooser taken begins image seen, refl)
+
+pub returns-in-Err-clause-sound : goal.returns-in-Err-clause-sound
+returns-in-Err-clause-sound g c = λ unsound choose history k chooser taken begins image seen.
+    shut_sound c.in-Err.stop g.D.Disk _ choose history k c.args.config _ _ c.args.disk.now c.open.new.disk (cc (unsound)) (c.in-Err.ensures.stopped choose history k chooser taken begins image seen)
+
+pub returns-clause-sound : goal.returns-clause-sound
+returns-clause-sound g c = λ unsound choose history k chooser taken begins image seen.
+    let opened = c.in-Ok.ensures.opened choose history k chooser taken begins image seen in
+    let taken_now = begun_taken g.M.Memory.takes g.met.M.Memory.ticks_are_taken choose (take opened.count history) c.args.config (is_configured choose (take opened.count history) c.args.config) opened.configured
+    c.requires.settings (front_has g.M.Memory.takes opened.count history taken) opened.configures in
+    fed_sound g.D.Disk _ g.M.Memory.holds choose (given_all choose (take opened.count history) opened.configured) opened.count c.store_preview.new.store c.open.new.disk c.store_preview.new.disk
+    c.args.origin _ c.store_preview.result (g.S.Source.left c.args.input.now) (g.S.Source.left c.store_preview.new.input) unsound
+    (c.store_preview.ensures.ends choose (given_all choose (take opened.count history) opened.configured) opened.count chooser taken_now opened.hold)
 
 pub returns-clause-done : goal.returns-clause-done
 returns-clause-done g c = on_ok_by c.store_preview.result _ (λ done is. λ choose history k chooser taken begins image seen.
+    let fits : SFits w64 c.now-moment.result = search rules in
     let opened = c.in-Ok.ensures.opened choose history k chooser taken begins image seen in
-    fed_when g.D.Disk _ g.M.Memory.holds choose history k c.args.config c.in-Ok.store c.args.disk.now c.open.new.disk c.store_preview.new.disk opened
-    c.store_preview.new.store c.args.origin (to_z w64 (of_z w64 c.now-moment.result)) (g.S.Source.left c.args.input.now) (g.S.Source.left c.store_preview.new.input) c.store_preview.result done is
-    (c.store_preview.ensures.ends choose (given_all choose (take opened.count history) opened.configured) opened.count chooser
-    (begun_taken g.M.Memory.takes g.met.M.Memory.ticks_are_taken choose (take opened.count history) c.args.config (is_configured choose (take opened.count history) c.args.config) opened.configured
-    c.requires.settings (front_has g.M.Memory.takes opened.count history taken) opened.configures)
-    opened.hold))
+    let taken_now = begun_taken g.M.Memory.takes g.met.M.Memory.ticks_are_taken choose (take opened.count history) c.args.config (is_configured choose (take opened.count history) c.args.config) opened.configured
+    c.requires.settings (front_has g.M.Memory.takes opened.count history taken) opened.configures in
+    let ends = simp to_z-of_z at (c.store_preview.ensures.ends choose (given_all choose (take opened.count history) opened.configured) opened.count chooser taken_now opened.hold) in
+    subst (λ (lost : Bool). HasRun lost g.D.Disk g.M.Book.Replay.fits choose history k (WhenOpen choose c.args.config (g.C.Clock.ahead c.args.clock.now)
+    (HasFed choose c.args.origin c.store_preview.result (g.C.Clock.ahead c.now-moment.new.self) (g.S.Source.left c.args.input.now) (g.S.Source.left c.store_preview.new.input))) c.args.disk.now c.store_preview.new.disk) (ap loses_in is)
+    (fed_when g.D.Disk _ g.M.Memory.holds choose history k c.args.config c.in-Ok.store (g.C.Clock.ahead c.args.clock.now) (g.C.Clock.ahead c.open.new.clock) c.args.disk.now c.open.new.disk c.store_preview.new.disk opened
+    c.store_preview.new.store c.args.origin c.now-moment.result (g.C.Clock.ahead c.now-moment.new.self) c.now-moment.ensures (g.S.Source.left c.args.input.now) (g.S.Source.left c.store_preview.new.input) c.store_preview.result ends))
 
 pub returns-clause-stopped : goal.returns-clause-stopped
 returns-clause-stopped g c = if_err_by c.store_preview.result _ (λ stop is. λ choose history k chooser taken begins image seen.
+    let fits : SFits w64 c.now-moment.result = search rules in
     let opened = c.in-Ok.ensures.opened choose history k chooser taken begins image seen in
-    unfed_when g.D.Disk _ g.M.Memory.holds choose history k c.args.config c.in-Ok.store c.args.disk.now c.open.new.disk c.store_preview.new.disk opened
-    c.store_preview.new.store c.args.origin (to_z w64 (of_z w64 c.now-moment.result)) (g.S.Source.left c.args.input.now) (g.S.Source.left c.store_preview.new.input) c.store_preview.result stop is
-    (c.store_preview.ensures.ends choose (given_all choose (take opened.count history) opened.configured) opened.count chooser
-    (begun_taken g.M.Memory.takes g.met.M.Memory.ticks_are_taken choose (take opened.count history) c.args.config (is_configured choose (take opened.count history) c.args.config) opened.configured
-    c.requires.settings (front_has g.M.Memory.takes opened.count history taken) opened.configures)
-    opened.hold))
+    let taken_now = begun_taken g.M.Memory.takes g.met.M.Memory.ticks_are_taken choose (take opened.count history) c.args.config (is_configured choose (take opened.count history) c.args.config) opened.configured
+    c.requires.settings (front_has g.M.Memory.takes opened.count history taken) opened.configures in
+    let ends = simp to_z-of_z at (c.store_preview.ensures.ends choose (given_all choose (take opened.count history) opened.configured) opened.count chooser taken_now opened.hold) in
+    inr (subst (λ (lost : Bool). HasRun lost g.D.Disk g.M.Book.Replay.fits choose history k (WhenOpen choose c.args.config (g.C.Clock.ahead c.args.clock.now)
+    (HasFed choose c.args.origin c.store_preview.result (g.C.Clock.ahead c.now-moment.new.self) (g.S.Source.left c.args.input.now) (g.S.Source.left c.store_preview.new.input))) c.args.disk.now c.store_preview.new.disk) (ap loses_in is)
+    (fed_when g.D.Disk _ g.M.Memory.holds choose history k c.args.config c.in-Ok.store (g.C.Clock.ahead c.args.clock.now) (g.C.Clock.ahead c.open.new.clock) c.args.disk.now c.open.new.disk c.store_preview.new.disk opened
+    c.store_preview.new.store c.args.origin c.now-moment.result (g.C.Clock.ahead c.now-moment.new.self) c.now-moment.ensures (g.S.Source.left c.args.input.now) (g.S.Source.left c.store_preview.new.input) c.store_preview.result ends)))
+
+pub returns-in-Err-clause-read : goal.returns-in-Err-clause-read
+returns-in-Err-clause-read g c = none_taken c.in-Err.stop (g.S.Source.left c.args.input.now) c.in-Err.ensures.unread

@@ -6,14 +6,16 @@ use Rattle.ix_machine.specs.declared.commands.Order.{Order}
 use Rattle.ix_run.specs.Giving.{given_all}
 use Rattle.ix_store.specs.Showing.{IsViewOf}
 use Rattle.indexd_store.specs.Tasks.{orders_in, IsText}
-use Rattle.indexd_store.proofs.Tasks.{on_ok_by, at_ok, said}
+use Rattle.indexd_store.proofs.Causes.{named, why_unsaid}
+use Rattle.indexd_store.proofs.Tasks.{on_ok_by, at_ok, if_err_by, at_err, said, unsaid_unread}
 use Rattle.indexd_store.proofs.run.give_and_say.Goals as goal
 
 pub returns-in-Ok-clause-ends : goal.returns-in-Ok-clause-ends
 returns-in-Ok-clause-ends g c = λ choose h base chooser taken hold.
     let fits : SFits w64 c.args.moment = search rules in
     let left = simp to_z-of_z at (c.in-Ok.ensures.ends choose h base chooser taken hold) in
-    said g.D.Disk _ g.M.Memory.holds choose h base c.give_task.new.store c.args.disk.now c.give_task.new.disk c.in-Ok.count c.say.result (orders_in c.args.task c.args.moment) c.say.ensures.stopped left
+    said g.D.Disk _ g.M.Memory.holds choose h base c.give_task.new.store c.args.disk.now c.give_task.new.disk c.in-Ok.count c.say.result (orders_in c.args.task c.args.moment)
+    c.args.task c.view.result.now c.say.ensures.stopped left
 
 pub returns-in-Ok-clause-printed : goal.returns-in-Ok-clause-printed
 returns-in-Ok-clause-printed g c = on_ok_by c.say.result _ (λ done is. λ choose h base chooser taken hold.
@@ -29,3 +31,40 @@ returns-in-Ok-clause-printed g c = on_ok_by c.say.result _ (λ done is. λ choos
       is_text = subst (λ (count : ℕ). IsText c.args.task c.view.result.now count written.0) moved written.1;
       written = written.2;
     })
+
+pub returns-in-Ok-clause-fine : goal.returns-in-Ok-clause-fine
+returns-in-Ok-clause-fine g c = on_ok_by c.say.result _ (λ done is. λ choose h base chooser taken hold.
+    let fits : SFits w64 c.args.moment = search rules in
+    simp to_z-of_z at (c.in-Ok.ensures.fine c.requires.other choose h base chooser taken hold))
+
+pub returns-in-Ok-clause-begun : goal.returns-in-Ok-clause-begun
+returns-in-Ok-clause-begun g c = λ is choose h base chooser taken hold.
+    let fits : SFits w64 c.args.moment = search rules in
+    let left = simp to_z-of_z at (c.in-Ok.ensures.ends choose h base chooser taken hold) in
+    let moved = simp to_z-of_z at (c.in-Ok.ensures.moved choose h base chooser taken hold) in
+    let written = c.say.ensures.begun is in
+    record {
+      view = c.view.result.now;
+      is_view = subst (λ (orders : List Order). IsViewOf (after choose (given_all choose h orders)) c.view.result.now) left.allowed
+          (c.view.ensures choose (given_all choose h left.orders) base (length (given_all choose h left.orders)) left.all.hold.old left.all.hold.staged);
+      text = written.0;
+      is_text = subst (λ (count : ℕ). IsText c.args.task c.view.result.now count written.0) moved written.1;
+      written = written.2;
+    }
+
+pub returns-in-Ok-clause-why : goal.returns-in-Ok-clause-why
+returns-in-Ok-clause-why g c = if_err_by c.say.result _ (λ stop is. λ choose h base chooser taken hold.
+    let fits : SFits w64 c.args.moment = search rules in
+    let left = simp to_z-of_z at (c.in-Ok.ensures.ends choose h base chooser taken hold) in
+    let fine = simp to_z-of_z at (c.in-Ok.ensures.fine c.requires.other choose h base chooser taken hold) in
+    let seen = subst (λ (orders : List Order). IsViewOf (after choose (given_all choose h orders)) c.view.result.now) left.allowed
+    (c.view.ensures choose (given_all choose h left.orders) base (length (given_all choose h left.orders)) left.all.hold.old left.all.hold.staged) in
+    why_unsaid choose h c.args.task c.args.moment c.view.result.now stop (named choose h c.args.task c.args.moment c.view.result.now fine seen) (at_err c.say.result stop _ is c.say.ensures.stopped))
+
+pub returns-in-Ok-clause-unread : goal.returns-in-Ok-clause-unread
+returns-in-Ok-clause-unread g c = if_err_by c.say.result _ (λ stop is. unsaid_unread c.args.task c.view.result.now stop (at_err c.say.result stop _ is c.say.ensures.stopped))
+
+pub returns-in-Err-clause-why : goal.returns-in-Err-clause-why
+returns-in-Err-clause-why g c = λ choose h base chooser taken hold.
+    let fits : SFits w64 c.args.moment = search rules in
+    simp to_z-of_z at (c.in-Err.ensures.why choose h base chooser taken hold)

@@ -1,9 +1,10 @@
 use Rattle.std.proofs.Common.{arith}
-use Rattle.ix_run.proofs.Gone.{gone_all, gone_none, stood_here, stood_either}
+use Rattle.ix_run.proofs.Gone.{settled_all, settled_none, stood_here, stood_either}
 use Rattle.ix_run.proofs.giving.commit_due.Goals as goal
 
 pub returns-then-not-due-clause-gone : goal.returns-then-not-due-clause-gone
-returns-then-not-due-clause-gone g c = λ choose h base k hold. gone_none g.D.Disk _ g.M.Memory.holds choose h base k c.args.store.now c.args.disk.now hold
+returns-then-not-due-clause-gone g c = λ choose h base k hold.
+    settled_none g.D.Disk _ g.M.Memory.holds choose h base k c.args.store.now c.args.disk.now hold (let e = c.due.ensures choose h base k hold.old hold.staged in cc)
 
 pub returns-then-not-due-clause-stood : goal.returns-then-not-due-clause-stood
 returns-then-not-due-clause-stood g c = λ choose h base k hold. stood_here g.D.Disk _ g.M.Memory.holds choose h base k k c.args.store.now c.args.disk.now (omega arith) hold
@@ -14,7 +15,7 @@ returns-in_err-commit-clause-stood g c = λ choose h base k hold.
 
 pub returns-clause-gone : goal.returns-clause-gone
 returns-clause-gone g c = λ choose h base k hold.
-    gone_all g.D.Disk _ g.M.Memory.holds choose h c.args.store.now.run base k _ c.args.disk.now c.commit.new.disk hold.staged.within (c.in_ok-commit.ensures.done choose h base k hold) (c.commit.ensures.images choose h base k hold)
+    settled_all g.D.Disk _ g.M.Memory.holds choose h c.args.store.now.run base k _ c.args.disk.now c.commit.new.disk hold.staged.within (c.in_ok-commit.ensures.done choose h base k hold) (c.commit.ensures.images choose h base k hold)
 
 pub returns-clause-stood : goal.returns-clause-stood
 returns-clause-stood g c = λ choose h base k hold.

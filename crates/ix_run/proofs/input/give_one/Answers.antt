@@ -8,7 +8,7 @@ use Rattle.ix_run.proofs.input.give_one.Goals as goal
 pub returns-in-Ok-clause-given : goal.returns-in-Ok-clause-given
 returns-in-Ok-clause-given g c = λ choose h base k chooser taken hold.
     let fits : SFits w64 c.args.moment = search rules in
-    gave_one g.D.Disk _ g.M.Memory.holds choose h base k (record { command = c.args.command; moment = c.args.moment }) c.args.store.now c.give.new.store c.args.disk.now c.give.new.disk c.in-Ok.field-0
+    gave_one g.D.Disk _ g.M.Memory.holds choose h base k (record { command = c.args.command; moment = c.args.moment }) c.args.store.now c.give.new.store c.args.disk.now c.give.new.disk c.in-Ok.field-0 hold
     (simp to_z-of_z at (c.in-Ok.ensures.given choose h base k chooser taken hold))
 
 pub returns-in-Err-clause-given : goal.returns-in-Err-clause-given
