@@ -108,3 +108,10 @@ pub removals_behind : (slots : List Slot) (i : ℕ) (slot : Slot) (files : List 
 removals_behind slots i slot files within is are =
     subst (λ (l : List Slot). AreRemovals l (removals_after slot.item files)) (sym (take_more slots i slot within ∙ ap (λ (s : Slot). take i slots ++ s ∷ []) (sym is)))
     (behind_item slot.item files (take i slots) are slot refl)
+
+pub removals_last : (slots : List Slot) (i : ℕ) (slot : Slot) (files : List File) → i < length slots → slot ≡ get_or slots i slot → files ≡ removals_in (replay (items_of (take i slots)) empty)
+    → removals_after slot.item files ≡ removals_in (replay (items_of (take (i + 1) slots)) empty)
+removals_last slots i slot files within is same =
+    ap (λ (l : List File). removals_after slot.item l) same
+    ∙ sym (step_behind (take i slots) slot slot.item refl empty)
+    ∙ ap (λ (l : List Slot). removals_in (replay (items_of l) empty)) (sym (take_more slots i slot within ∙ ap (λ (s : Slot). take i slots ++ s ∷ []) (sym is)))

@@ -3,7 +3,7 @@
 ghost use Rattle.std.specs.Prelude.{◌≡◌, ◌<◌, ◌≤◌, ◌+◌, ℕ, length, get_or, take, true, false, All};
 ghost use Rattle.std.specs.List.{AllByRecursion};
 ghost use Rattle.ix_items.specs.Spelling.{HasSpelling};
-ghost use Rattle.ix_book.specs.Book.{Book, name_of, is_same, replay};
+ghost use Rattle.ix_book.specs.Book.{Book, empty, name_of, is_same, removals_in, replay};
 ghost use Rattle.ix_book.specs.Slots.{bytes_of, items_of, without, AreOnce, AreRemovals};
 ghost use Rattle.ix_book.specs.declared.slot.Slot.{Slot};
 
@@ -149,7 +149,8 @@ pub fn drop_older(slots: &mut Sequence<Slot>, from: usize, size: u64) -> u64
 
 /// The files that the last removals among these items name; none where there are none.
 pub fn last_removals(slots: &[Slot]) -> &[File]
-    ensures { AreRemovals slots.now result.now }
+    ensures are { AreRemovals slots.now result.now }
+    ensures last { result.now ≡ removals_in (replay (items_of slots.now) empty) }
 {
     let mut files: &[File] = &[];
     for slot in slots {

@@ -38,11 +38,11 @@ commit_damaged (commits.Damaged f a) file at is = cc
 
 -- ---- logs
 
-length_roots : (k : ℕ) → length (roots k) ≡ k
+pub length_roots : (k : ℕ) → length (roots k) ≡ k
 length_roots zero = refl
 length_roots (suc k) = length-append (roots k) _ ∙ ap (λ (n : ℕ). n + 1) (length_roots k) ∙ simp unary_clauses refl
 
-roots_one : (a b : ℕ) → roots a ≡ roots b → a ≡ b
+pub roots_one : (a b : ℕ) → roots a ≡ roots b → a ≡ b
 roots_one a b is = sym (length_roots a) ∙ ap length is ∙ length_roots b
 
 -- ---- names

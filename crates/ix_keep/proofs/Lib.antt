@@ -9,3 +9,4 @@ pub mod Steps
 pub mod Beginning
 pub mod Resting
 pub mod Shorter
+pub mod Reading

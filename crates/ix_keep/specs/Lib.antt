@@ -5,6 +5,7 @@ pub mod Cuts
 pub mod Drafts
 pub mod Mounting
 pub mod Parts
+pub mod Reads
 pub mod Shortening
 pub mod Snapshot
 pub mod Undo

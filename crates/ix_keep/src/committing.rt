@@ -1,16 +1,20 @@
 //! A commit: what is staged is made durable, in one body of the log.
 
-ghost use Rattle.std.specs.Prelude.{◌≡◌, ◌<◌, ◌≤◌, ℕ, length, Some, Ok, Err, OnOk, OnErr, IsErrOf, true};
+ghost use Rattle.std.specs.Prelude.{◌≡◌, ◌≢◌, ◌<◌, ◌≤◌, ℕ, length, Some, Ok, Err, OnOk, OnErr, IsErrOf, true};
 ghost use Rattle.ix_base.specs.Faults.{Rose};
+ghost use Rattle.ix_base.specs.Told.{Told};
 ghost use Rattle.ix_base.specs.declared.files.Area.TheVariants.{Meta};
 ghost use Rattle.ix_base.specs.declared.files.File.{File};
 ghost use Rattle.ix_disk.specs.Image.{Image, bytes_in};
 ghost use Rattle.ix_disk.specs.Moments.{Always, Goes};
+ghost use Rattle.ix_book.specs.Book.{empty, replay, removals_in};
 ghost use Rattle.ix_book.specs.Replaying.{first_after};
+ghost use Rattle.ix_book.specs.Slots.{items_of};
 ghost use Rattle.ix_keep.specs.Committing.{IsShort};
 ghost use Rattle.ix_keep.specs.Contents.{Filling, Spares, HoldsFilling, Keeping, Anyhow};
 ghost use Rattle.ix_keep.specs.Parts.{AreParts};
 ghost use Rattle.ix_keep.specs.Copies.{AreCopies, after_copies};
+ghost use Rattle.ix_keep.specs.Reads.{OrGone, IsElsewhere, ReadsNone};
 ghost use Rattle.ix_keep.specs.Snapshot.{Snapshot, KeepsEither, Held, IsOver, IsIdle, IsMeasured, log_of};
 ghost use Rattle.ix_keep.specs.declared.fault.CommitFault.{CommitFault};
 
@@ -36,6 +40,9 @@ fn fill<D: Disk>(
     ensures logs { (log : File) → log.area ≡ Meta → Goes D.Disk disk.old disk.new (Keeping log) }
     ensures filled { (log : File) (old grown : Filling) → log.area ≡ Meta → AreParts old grown parts.now → AreCopies old grown copies.now → HoldsFilling D.Disk disk.old old →
         OnOk result (HoldsFilling D.Disk disk.new (after_copies copies.now grown)) }
+    ensures seen { (other : File) → IsElsewhere parts.now copies.now other → Told (Keeping other) (D.Disk.seen disk.old) (D.Disk.seen disk.new) }
+    ensures sound { (log : File) (old grown : Filling) → log.area ≡ Meta → AreParts old grown parts.now → AreCopies old grown copies.now → HoldsFilling D.Disk disk.old old →
+        (image : Image) → D.Disk.seen disk.old ≡ Some image → (file : File) (at : ℕ) → result ≡ Err (CommitFault.Damaged file at) → ⊥ }
     ensures damaged { (file : File) (at : ℕ) → result ≡ Err (CommitFault.Damaged file at) → IsShort parts.now copies.now file at
         × ((image : Image) → D.Disk.seen disk.new ≡ Some image → at ≡ length (bytes_in image file)) }
     ensures later { D.Disk.faults disk.old ≤ D.Disk.faults disk.new }
@@ -57,6 +64,10 @@ fn commit_staged<D: Disk, B: Replay>(keeper: &mut Keeper, disk: &mut D) -> Resul
     ensures closed { OnErr result (keeper.new.closed ≡ true) }
     ensures file { log_of keeper.new ≡ log_of keeper.old }
     ensures number { OnOk result (keeper.new.number ≡ keeper.old.number) }
+    ensures seen { (other : File) → IsElsewhere keeper.old.parts keeper.old.copies other → other ≢ log_of keeper.old → Told (OrGone other) (D.Disk.seen disk.old) (D.Disk.seen disk.new) }
+    ensures removed { OnOk result (ReadsNone D.Disk disk.new (log_of keeper.old) (removals_in (replay (items_of keeper.old.slots) empty))) }
+    ensures sound { (old new : Snapshot) → Held D.Disk B.fits keeper.old disk.old old new → (image : Image) → D.Disk.seen disk.old ≡ Some image →
+        (file : File) (at : ℕ) → result ≡ Err (CommitFault.Damaged file at) → ⊥ }
     ensures damaged { (file : File) (at : ℕ) → result ≡ Err (CommitFault.Damaged file at) → IsShort keeper.old.parts keeper.old.copies file at
         × ((image : Image) → D.Disk.seen disk.new ≡ Some image → at ≡ length (bytes_in image file)) }
     ensures later { D.Disk.faults disk.old ≤ D.Disk.faults disk.new }
@@ -109,6 +120,14 @@ pub fn commit<D: Disk, B: Replay>(keeper: &mut Keeper, disk: &mut D) -> Result<(
     ensures comes { Goes D.Disk disk.old disk.new Anyhow }
     ensures closed { OnErr result (keeper.new.closed ≡ true) }
     ensures file { log_of keeper.new ≡ log_of keeper.old }
+    // A disk that tells what it reads goes on telling, and each other file for which nothing is staged is as it was or removed.
+    ensures told { Told Anyhow (D.Disk.seen disk.old) (D.Disk.seen disk.new) }
+    ensures seen { (other : File) → IsElsewhere keeper.old.parts keeper.old.copies other → other ≢ log_of keeper.old → Told (OrGone other) (D.Disk.seen disk.old) (D.Disk.seen disk.new) }
+    // After Ok the files that the staged removals name are gone.
+    ensures removed { OnOk result (ReadsNone D.Disk disk.new (log_of keeper.old) (removals_in (replay (items_of keeper.old.slots) empty))) }
+    // Where keeper and disk hold a snapshot, and the disk tells what it reads, nothing is damaged.
+    ensures sound { (old new : Snapshot) → Held D.Disk B.fits keeper.old disk.old old new → (image : Image) → D.Disk.seen disk.old ≡ Some image →
+        (file : File) (at : ℕ) → result ≡ Err (CommitFault.Damaged file at) → ⊥ }
     // The named file has so many bytes, fewer than were committed.
     ensures damaged { (file : File) (at : ℕ) → result ≡ Err (CommitFault.Damaged file at) → IsShort keeper.old.parts keeper.old.copies file at
         × ((image : Image) → D.Disk.seen disk.new ≡ Some image → at ≡ length (bytes_in image file)) }

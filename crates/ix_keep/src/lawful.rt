@@ -3,13 +3,14 @@
 ghost use Rattle.std.specs.Prelude.{◌≡◌, ◌≢◌, ℕ, []};
 ghost use Rattle.ix_base.specs.declared.files.File.{File};
 ghost use Rattle.ix_items.specs.declared.items.Item.TheVariants as items;
-ghost use Rattle.ix_disk.specs.Image.{nothing};
-ghost use Rattle.ix_book.specs.Book.{Name, empty, after_item};
+ghost use Rattle.ix_disk.specs.Image.{Image, nothing};
+ghost use Rattle.ix_book.specs.Book.{Name, Book, empty, after_item};
 ghost use Rattle.ix_keep.specs.Contents.{filling};
 ghost use Rattle.ix_keep.specs.Snapshot.{Snapshot, Stages, Forgets};
 ghost use Rattle.ix_keep.specs.Undo.{IsSame};
 ghost use Rattle.ix_keep.specs.Shortening.{TellsLong};
-ghost use Rattle.ix_keep.specs.Mounting.{KeepsOneOf};
+ghost use Rattle.ix_keep.specs.Mounting.{KeepsOneOf, IsBadLog};
+ghost use Rattle.ix_keep.specs.Reads.{LeadsTo};
 ghost use Rattle.ix_keep.specs.declared.keeper.Keeper.{Keeper};
 
 use ix_book::Replay;
@@ -36,4 +37,14 @@ pub fn same_stages()
 /// knows how long that is.
 pub fn wants_for_a_long_log<D: Disk>()
     ensures { TellsLong D.Disk }
+{}
+
+/// Logs with a bad gate lead to no book: so a mount that is Ok, or full, found none.
+pub fn bad_logs_lead_nowhere<B: Replay>()
+    ensures { (file : File) (at : ℕ) (image : Image) (book : Book) → IsBadLog B.fits file at image → LeadsTo B.fits book image → ⊥ }
+{}
+
+/// An image leads to one book at the most.
+pub fn leads_to_one_book<B: Replay>()
+    ensures { (image : Image) (a b : Book) → LeadsTo B.fits a image → LeadsTo B.fits b image → a ≡ b }
 {}

@@ -20,7 +20,10 @@ pub use copied::{Copied, Place};
 pub use drafting::{stage, stage_both};
 pub use fault::CommitFault;
 pub use keeper::{Keeper, StageFault};
-pub use lawful::{empty_disk_keeps, forgets, same_stages, wants_for_a_long_log};
+pub use lawful::{
+    bad_logs_lead_nowhere, empty_disk_keeps, forgets, leads_to_one_book, same_stages,
+    wants_for_a_long_log,
+};
 pub use mounting::{MountFault, mount};
 pub use parts::Part;
 pub use piece::{Draft, Piece};

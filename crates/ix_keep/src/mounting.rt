@@ -1,7 +1,8 @@
 //! Mounting: the logs are read, the state is replayed, and the next run begins.
 
-ghost use Rattle.std.specs.Prelude.{◌≡◌, ◌≤◌, ◌<◌, ◌+◌, ◌-◌, ◌^◌, ◌⊎◌, ℕ, [], length, Some, Err, OnOk, OnErr, IfOk, IsErrOf, true, false, not};
+ghost use Rattle.std.specs.Prelude.{◌≡◌, ◌≢◌, ◌≤◌, ◌<◌, ◌+◌, ◌-◌, ◌^◌, ◌⊎◌, ℕ, [], length, Some, Err, OnOk, OnErr, IfOk, IsErrOf, true, false, not};
 ghost use Rattle.ix_base.specs.Faults.{Rose};
+ghost use Rattle.ix_base.specs.Told.{Told};
 ghost use Rattle.ix_base.specs.declared.files.File.{File};
 ghost use Rattle.ix_items.specs.declared.items.Item.TheVariants as items;
 ghost use Rattle.ix_items.specs.Spelling.{HasSpelling};
@@ -13,6 +14,7 @@ ghost use Rattle.ix_book.specs.Root.{Taken, roots, log_file, IsBadRoot};
 ghost use Rattle.ix_book.specs.Replaying.{IsReplayed, IsBadGate};
 ghost use Rattle.ix_keep.specs.Contents.{Anyhow};
 ghost use Rattle.ix_keep.specs.Snapshot.{Snapshot, KeepsEither, Held, IsOver, IsIdle, IsMeasured, Stages, log_of, with_item, begun};
+ghost use Rattle.ix_keep.specs.Reads.{OrGone, ReadsNone, IsBegunFrom, HasNoRun};
 ghost use Rattle.ix_keep.specs.Undo.{HasSameLogs};
 ghost use Rattle.ix_keep.specs.Mounting.{IsRead, IsFamily, AllKeep, KeepsOneOf, IsMountedAt, IsBadMount, IsBadLog, as_mount, as_mount_too};
 
@@ -212,6 +214,10 @@ fn begin<D: Disk, B: Replay>(
     ensures over { OnOk result (IsOver D.Disk keeper.new disk.new) }
     ensures idle { OnOk result (IsIdle keeper.new) }
     ensures measured { OnOk result (IsMeasured D.Disk keeper.new disk.new) }
+    ensures file { log_of keeper.new ≡ log_of keeper.old }
+    ensures told { Told Anyhow (D.Disk.seen disk.old) (D.Disk.seen disk.new) }
+    ensures seen { keeper.old.parts ≡ [] → keeper.old.copies ≡ [] → (other : File) → other ≢ log_of keeper.old → Told (OrGone other) (D.Disk.seen disk.old) (D.Disk.seen disk.new) }
+    ensures entered { IsErrOf result MountFault.Full → (s : Snapshot) → B.stands state.old ≡ s.book → B.stands state.new ≡ (begun (not (has_settings s.book)) run s).book }
     ensures made { (s : Snapshot) → B.stands state.old ≡ s.book → OnOk result (B.stands state.new ≡ (begun (not (has_settings s.book)) run s).book) }
     ensures damaged { keeper.old.parts ≡ [] → keeper.old.copies ≡ [] → (file : File) (at : ℕ) → IsBadMount result file at → ⊥ }
     ensures full { IsErrOf result MountFault.Full → B.fits (B.stands state.new) → ⊥ }
@@ -248,11 +254,19 @@ pub fn mount<D: Disk, B: Replay>(
     ensures idle { IfOk result (λ keeper. IsIdle keeper) }
     // And the keeper knows how long the log is.
     ensures measured { IfOk result (λ keeper. IsMeasured D.Disk keeper disk.new) }
+    // As the disk reads, its logs lead to a book, and the state stands for that one with the next run begun.
+    ensures read { OnOk result ((image : Image) → D.Disk.seen disk.old ≡ Some image → IsBegunFrom B.fits image (B.stands state.new)) }
+    // Then the files that the last removals name are gone.
+    ensures removed { IfOk result (λ keeper. ReadsNone D.Disk disk.new (log_of keeper) (removals_in (B.stands state.new))) }
+    // A disk that tells what it reads goes on telling.
+    ensures told { Told Anyhow (D.Disk.seen disk.old) (D.Disk.seen disk.new) }
     // It names the gate of the first bad body of the root log or the current one, as the disk reads.
     ensures damaged { (named : File) (at : ℕ) → IsBadMount result named at → (image : Image) → D.Disk.seen disk.old ≡ Some image → IsBadLog B.fits named at image }
     // It is full exactly where the run that was found is the last, or the state above takes no first body.
     ensures full { IsErrOf result MountFault.Full → (2 ^ 63 - 1 ≤ run_in (B.stands state.new)) ⊎ (B.fits (B.stands state.new) → ⊥) }
     ensures not_full { OnOk result (run_in (B.stands state.new) < 2 ^ 63) }
+    // And so it is by the book that the logs lead to, as the disk reads.
+    ensures full_as_read { IsErrOf result MountFault.Full → (image : Image) → D.Disk.seen disk.old ≡ Some image → HasNoRun B.fits image }
     ensures later { D.Disk.faults disk.old ≤ D.Disk.faults disk.new }
     ensures cause { IsErrOf result MountFault.Disk → Rose (D.Disk.faults disk.old) (D.Disk.faults disk.new) }
 {

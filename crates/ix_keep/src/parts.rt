@@ -4,7 +4,8 @@ ghost use Rattle.std.specs.Prelude.{◌≡◌, ◌≢◌, ◌<◌, ◌≤◌, �
 ghost use Rattle.ix_base.specs.Faults.{Rose};
 ghost use Rattle.ix_base.specs.declared.files.Area.TheVariants.{Meta};
 ghost use Rattle.ix_base.specs.declared.files.File.{File};
-ghost use Rattle.ix_disk.specs.Image.{Image, bytes_in};
+ghost use Rattle.ix_base.specs.Told.{Told};
+ghost use Rattle.ix_disk.specs.Image.{Image, bytes_in, Apart};
 ghost use Rattle.ix_disk.specs.Moments.{Goes, Holds};
 ghost use Rattle.ix_bucket.specs.Append.{Behind, HasAt};
 ghost use Rattle.ix_keep.specs.Contents.{Filling, Keeping, Spares, HoldsFilling};
@@ -70,9 +71,13 @@ pub fn extend_part(parts: &mut Sequence<Part>, at: usize, bytes: &[u8]) -> Resul
 }
 
 /// Puts staged bytes behind the committed ones.
+#[tactic(auto, using(ix_disk::proofs::Others::others))]
 fn settle<D: Disk>(disk: &mut D, part: &Part) -> Result<(), CommitFault>
     ensures images { Goes D.Disk disk.old disk.new (Behind (file_in part.now) part.now.committed) }
     ensures appended { OnOk result (Holds D.Disk disk.new (file_in part.now) (HasAt part.now.committed part.now.staged)) }
+    ensures seen { Told (Apart (file_in part.now)) (D.Disk.seen disk.old) (D.Disk.seen disk.new) }
+    ensures sound { (image : Image) → D.Disk.seen disk.old ≡ Some image → part.now.committed ≤ length (bytes_in image (file_in part.now)) →
+        (file : File) (at : ℕ) → result ≡ Err (CommitFault.Damaged file at) → ⊥ }
     ensures damaged { (file : File) (at : ℕ) → result ≡ Err (CommitFault.Damaged file at) → (file ≡ file_in part.now) × (at < part.now.committed)
         × ((image : Image) → D.Disk.seen disk.new ≡ Some image → at ≡ length (bytes_in image file)) }
     ensures later { D.Disk.faults disk.old ≤ D.Disk.faults disk.new }
@@ -92,6 +97,9 @@ pub fn settle_all<D: Disk>(disk: &mut D, parts: &[Part]) -> Result<(), CommitFau
     ensures images { (log : File) (old new : Filling) → log.area ≡ Meta → AreParts old new parts.now → Goes D.Disk disk.old disk.new (Spares log old) }
     ensures logs { (log : File) → log.area ≡ Meta → Goes D.Disk disk.old disk.new (Keeping log) }
     ensures settled { (log : File) (old new : Filling) → log.area ≡ Meta → AreParts old new parts.now → HoldsFilling D.Disk disk.old old → OnOk result (HoldsFilling D.Disk disk.new new) }
+    ensures seen { (other : File) → All (λ part. other ≢ file_in part) parts.now → Told (Keeping other) (D.Disk.seen disk.old) (D.Disk.seen disk.new) }
+    ensures sound { (log : File) (old new : Filling) → log.area ≡ Meta → AreParts old new parts.now → HoldsFilling D.Disk disk.old old →
+        (image : Image) → D.Disk.seen disk.old ≡ Some image → (file : File) (at : ℕ) → result ≡ Err (CommitFault.Damaged file at) → ⊥ }
     ensures damaged { (file : File) (at : ℕ) → result ≡ Err (CommitFault.Damaged file at) →
         ((part : Part) × Contains parts.now part × (file ≡ file_in part) × (at < part.committed))
         × ((image : Image) → D.Disk.seen disk.new ≡ Some image → at ≡ length (bytes_in image file)) }

@@ -1,10 +1,13 @@
 //! Files that no bucket has any more are removed: by a commit, and again by a mount.
 
-ghost use Rattle.std.specs.Prelude.{◌≡◌, List, All};
+ghost use Rattle.std.specs.Prelude.{◌≡◌, List, Some, OnOk, All};
 ghost use Rattle.ix_base.specs.Faults.{HasCause};
 ghost use Rattle.ix_base.specs.declared.files.File.{File};
+ghost use Rattle.ix_base.specs.Told.{Told};
+ghost use Rattle.ix_disk.specs.Image.{Image};
 ghost use Rattle.ix_disk.specs.Moments.{Goes};
 ghost use Rattle.ix_keep.specs.Contents.{Contents, Spares, IsFree, KeepsLogs, filling};
+ghost use Rattle.ix_keep.specs.Reads.{Removing, IsGone, ReadsNone};
 
 use ix_base::{Failed, File};
 use ix_book::log_file;
@@ -14,6 +17,8 @@ use ix_disk::Disk;
 fn remove_one<D: Disk>(disk: &mut D, file: File, current: File) -> Result<(), Failed>
     ensures images { (contents : Contents) → IsFree current contents file → Goes D.Disk disk.old disk.new (Spares current (filling contents)) }
     ensures logs { Goes D.Disk disk.old disk.new (KeepsLogs current) }
+    ensures seen { Told Removing (D.Disk.seen disk.old) (D.Disk.seen disk.new) }
+    ensures removed { OnOk result ((image : Image) → D.Disk.seen disk.new ≡ Some image → IsGone current image file) }
     ensures cause { HasCause (D.Disk.faults disk.old) (D.Disk.faults disk.new) result }
 {
     if file == log_file(0) || file == current {
@@ -27,6 +32,9 @@ fn remove_one<D: Disk>(disk: &mut D, file: File, current: File) -> Result<(), Fa
 pub fn remove_all<D: Disk>(disk: &mut D, files: &[File], current: File) -> Result<(), Failed>
     ensures images { (contents : Contents) → All (IsFree current contents) files.now → Goes D.Disk disk.old disk.new (Spares current (filling contents)) }
     ensures logs { Goes D.Disk disk.old disk.new (KeepsLogs current) }
+    // As the disk reads, each file is as it was or gone, and after Ok these are gone.
+    ensures seen { Told Removing (D.Disk.seen disk.old) (D.Disk.seen disk.new) }
+    ensures removed { OnOk result (ReadsNone D.Disk disk.new current files.now) }
     ensures cause { HasCause (D.Disk.faults disk.old) (D.Disk.faults disk.new) result }
 {
     for file in files {

@@ -1,7 +1,9 @@
 //! A checkpoint: the whole state is written as the one body of a further log, which then is the current one.
 
-ghost use Rattle.std.specs.Prelude.{◌≡◌, ◌<◌, ◌≤◌, ◌+◌, ◌-◌, ◌^◌, ℕ, [], length, Err, true, false, OnOk, OnErr, IsErrOf};
+ghost use Rattle.std.specs.Prelude.{◌≡◌, ◌<◌, ◌≤◌, ◌+◌, ◌-◌, ◌^◌, ℕ, [], length, Err, None, Some, true, false, OnOk, OnErr, IsErrOf};
 ghost use Rattle.ix_base.specs.Faults.{Rose};
+ghost use Rattle.ix_base.specs.Told.{Told};
+ghost use Rattle.ix_disk.specs.Image.{Image};
 ghost use Rattle.ix_disk.specs.Moments.{Goes, Always};
 ghost use Rattle.ix_log.specs.Log.{file_of, place_of};
 ghost use Rattle.ix_checkpoint.specs.Whole.{whole_body};
@@ -75,6 +77,10 @@ pub fn checkpoint<D: Disk, B: Replay, W: Whole>(
     ensures shortest { OnOk result (IsShortest D.Disk keeper.new disk.new) }
     ensures measured { OnOk result (IsMeasured D.Disk keeper.new disk.new) }
     ensures number { OnOk result (keeper.new.number ≡ keeper.old.number + 1) }
+    // And the old one is gone, as the disk reads.
+    ensures gone { OnOk result ((image : Image) → D.Disk.seen disk.new ≡ Some image → image (log_of keeper.old) ≡ None) }
+    // A disk that tells what it reads goes on telling.
+    ensures told { Told Anyhow (D.Disk.seen disk.old) (D.Disk.seen disk.new) }
     // For want of memory all is as it was.
     ensures memory { IsErrOf result CheckpointFault.NoMemory → keeper.new ≡ keeper.old }
     ensures held_still { IsErrOf result CheckpointFault.NoMemory → (s : Snapshot) → Held D.Disk B.fits keeper.old disk.old s s → Held D.Disk B.fits keeper.new disk.new s s }

@@ -177,3 +177,18 @@ pub fn has_files<D: Disk>(disk: &mut D, groups: i64) -> bool {
         _ => true,
     }
 }
+
+/// Whether a file is missing, or empty.
+fn is_empty<D: Disk>(disk: &mut D, file: File) -> bool {
+    match disk.length(file) {
+        Ok(length) => length == 0,
+        Err(_) => false,
+    }
+}
+
+/// Whether the files are gone that a store is done with after so many groups.
+pub fn has_no_more<D: Disk>(disk: &mut D, groups: i64) -> bool {
+    let one = groups < 3 || is_empty(disk, file(Area::Home, 1));
+    let two = groups < 4 || is_empty(disk, file(Area::Home, 2));
+    one && two
+}

@@ -1,6 +1,6 @@
 //! Stops at each call, and each call failing once.
 
-use crate::script::{file, has_files, last_of, live};
+use crate::script::{file, has_files, has_no_more, last_of, live};
 use ix_base::{Area, FailPlan, NoMemory};
 use ix_book::PlainBook;
 use ix_disk::{Disk, MemDisk, OneFail, StopDisk};
@@ -47,6 +47,9 @@ fn found<D: Disk>(alloc: Global, disk: &mut D, torn: bool) -> i64 {
     let groups = last_of(&book);
     if !has_files(disk, groups) {
         return -2;
+    }
+    if !torn && !has_no_more(disk, groups) {
+        return -4;
     }
     match checkpoints(disk, torn) {
         Some(count) => groups.saturating_add(count.saturating_mul(10)),

@@ -1,5 +1,8 @@
 use Rattle.std.proofs.Common.{◌≡◌, ◌+◌, ℕ, List, ◌++◌, length, take, subst, sym, ap, ◌∙◌, inr, arith, append_assoc, length-append}
 use Rattle.ix_base.specs.declared.files.File.{File}
+use Rattle.ix_base.specs.Told.{Told}
+use Rattle.ix_disk.specs.Image.{Apart}
+use Rattle.ix_disk.proofs.Others.{apart_on}
 use Rattle.ix_disk.specs.Moments.{Goes, InFile}
 use Rattle.ix_disk.proofs.Runs.{run_on}
 use Rattle.ix_log.specs.Log.{HasBodies, IsPutting, file_of}
@@ -37,6 +40,8 @@ loop-slot-preserved g c =
       putting = λ bodies body ready some. put bodies body ready;
       images = λ bodies body ready. run_on g.D.Disk c.args.disk.now c.loop-slot.disk c.put.new.disk (file_of c.args.log.now) (HasBodies bodies) (inv.images bodies body ready)
           (subst (λ (f : File). Goes g.D.Disk c.loop-slot.disk c.put.new.disk (InFile f (HasBodies bodies))) inv.file (c.put.ensures.images bodies _ (inv.ready bodies body ready)));
+      seen = apart_on (file_of c.args.log.now) (g.D.Disk.seen c.args.disk.now) (g.D.Disk.seen c.loop-slot.disk) (g.D.Disk.seen c.put.new.disk) inv.seen
+          (subst (λ (f : File). Told (Apart f) (g.D.Disk.seen c.loop-slot.disk) (g.D.Disk.seen c.put.new.disk)) inv.file c.put.ensures.seen);
       file = c.put.ensures.file ∙ inv.file;
       later = omega (arith, inv.later, c.put.ensures.cause.later);
     }

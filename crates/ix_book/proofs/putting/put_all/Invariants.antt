@@ -1,4 +1,6 @@
 use Rattle.std.proofs.Common.{◌≡◌, ◌<◌, ◌≤◌, ◌+◌, ℕ, List, ◌++◌, length, take}
+use Rattle.ix_base.specs.Told.{Told}
+use Rattle.ix_disk.specs.Image.{Apart}
 use Rattle.ix_disk.specs.Moments.{Goes, InFile}
 use Rattle.ix_log.specs.Log.{IsUsable, IsBegun, IsReady, IsPutting, HasBodies, file_of, put_so_far}
 use Rattle.ix_book.specs.Slots.{bytes_of}
@@ -15,6 +17,7 @@ invariant-loop-slot g l = record {
       0 < l.slot-index → IsPutting g.D.Disk l.log l.disk bodies (body ++ bytes_of (take l.slot-index l.slots));
   images : (bodies : List (List ℕ)) (body : List ℕ) → IsReady g.D.Disk l.fn.log l.fn.disk bodies body →
       Goes g.D.Disk l.fn.disk l.disk (InFile (file_of l.fn.log) (HasBodies bodies));
+  seen : Told (Apart (file_of l.fn.log)) (g.D.Disk.seen l.fn.disk) (g.D.Disk.seen l.disk);
   file : file_of l.log ≡ file_of l.fn.log;
   later : g.D.Disk.faults l.fn.disk ≤ g.D.Disk.faults l.disk;
 }

@@ -1,4 +1,19 @@
-use Rattle.std.proofs.Common.{rules, ◌≡◌, ◌∙◌}
+use Rattle.std.proofs.Common.{rules, ◌≡◌, ◌≢◌, ◌∙◌, List, Option, Err, [], refl, ap, subst, sym, inl}
+use Rattle.std.specs.Prelude.{All}
+use Rattle.std.proofs.lemmas.List.Elements.{All-nil}
+use Rattle.std.proofs.lemmas.Result.{err_from_is_err_and}
+use Rattle.ix_base.specs.declared.files.File.{File}
+use Rattle.ix_base.specs.Told.{Told}
+use Rattle.ix_disk.specs.Image.{Image}
+use Rattle.ix_book.specs.Book.{empty, replay, removals_in}
+use Rattle.ix_book.specs.Root.{log_file}
+use Rattle.ix_book.specs.Slots.{items_of}
+use Rattle.ix_book.specs.declared.slot.Slot.{Slot}
+use Rattle.ix_keep.specs.Contents.{Anyhow}
+use Rattle.ix_keep.specs.Reads.{OrGone, IsGone}
+use Rattle.ix_keep.specs.Snapshot.{log_of}
+use Rattle.ix_keep.specs.declared.fault.CommitFault.TheVariants as faults
+use Rattle.ix_keep.proofs.Reading.{told_same, told_anyhow, anyhow_same, root_elsewhere, root_no_log}
 use Rattle.ix_keep.proofs.Resting.{idle_of, not_idle, idle_held, idle_images, asked_images, asked_comes, asked_held, asked_over}
 use Rattle.ix_keep.proofs.committing.commit.Goals as goal
 
@@ -40,3 +55,54 @@ returns-clause-done g c = λ old new held.
 pub returns-clause-over : goal.returns-clause-over
 returns-clause-over g c =
     asked_over g.D.Disk g.B.Replay.fits c.commit_staged.new.keeper c.measure.new.self c.commit_staged.new.disk c.measure.new.disk c.in_ok-measure.ensures.logs c.measure.ensures.images c.in_ok-commit_staged.ensures.over
+
+pub returns-then-not-is_staged-clause-told : goal.returns-then-not-is_staged-clause-told
+returns-then-not-is_staged-clause-told g c = anyhow_same (g.D.Disk.seen c.args.disk.now) (g.D.Disk.seen c.args.disk.now) refl
+
+pub returns-then-not-is_staged-clause-seen : goal.returns-then-not-is_staged-clause-seen
+returns-then-not-is_staged-clause-seen g c = λ other apart ne. told_same (OrGone other) (λ a. inl refl) (g.D.Disk.seen c.args.disk.now) (g.D.Disk.seen c.args.disk.now) refl
+
+pub returns-then-not-is_staged-clause-removed : goal.returns-then-not-is_staged-clause-removed
+returns-then-not-is_staged-clause-removed g c = λ image told.
+    let untrue = c.if-not-is_staged.true in
+    let staged = c.is_staged.ensures in
+    let idle = idle_of c.args.keeper.now (search rules) in
+    subst (λ (s : List Slot). All (IsGone (log_of c.args.keeper.now) image) (removals_in (replay (items_of s) empty))) (sym idle.1.1) (All-nil (IsGone (log_of c.args.keeper.now) image))
+
+pub returns-in_err-commit_staged-clause-told : goal.returns-in_err-commit_staged-clause-told
+returns-in_err-commit_staged-clause-told g c =
+    let keeper = c.args.keeper.now in
+    told_anyhow (OrGone (log_file 0)) (g.D.Disk.seen c.args.disk.now) (g.D.Disk.seen c.commit_staged.new.disk)
+    (c.commit_staged.ensures.seen (log_file 0) (root_elsewhere keeper.parts keeper.copies) (root_no_log g.D.Disk keeper c.args.disk.now c.requires))
+
+pub returns-in_err-commit_staged-clause-sound : goal.returns-in_err-commit_staged-clause-sound
+returns-in_err-commit_staged-clause-sound g c = λ old new held image told file at is.
+    let p = err_from_is_err_and c.from_residual.result c.from_residual.ensures.1 in
+    let p1 = p.1 in
+    let p2 = p.2 in
+    let w : c.commit_staged.result ≡ Err c.in_err-commit_staged.field-0.0 = c.in_err-commit_staged.was in
+    let was : c.commit_staged.result ≡ Err (faults.Damaged file at) = cc in
+    c.commit_staged.ensures.sound old new held image told file at was
+
+pub returns-in_err-measure-clause-seen : goal.returns-in_err-measure-clause-seen
+returns-in_err-measure-clause-seen g c = λ other apart ne.
+    subst (λ (now : Option Image). Told (OrGone other) (g.D.Disk.seen c.args.disk.now) now) (sym c.measure.ensures.same) (c.commit_staged.ensures.seen other apart ne)
+
+pub returns-in_err-measure-clause-told : goal.returns-in_err-measure-clause-told
+returns-in_err-measure-clause-told g c =
+    let keeper = c.args.keeper.now in
+    told_anyhow (OrGone (log_file 0)) (g.D.Disk.seen c.args.disk.now) (g.D.Disk.seen c.measure.new.disk)
+    (returns-in_err-measure-clause-seen g c (log_file 0) (root_elsewhere keeper.parts keeper.copies) (root_no_log g.D.Disk keeper c.args.disk.now c.requires))
+
+pub returns-clause-seen : goal.returns-clause-seen
+returns-clause-seen g c = λ other apart ne.
+    subst (λ (now : Option Image). Told (OrGone other) (g.D.Disk.seen c.args.disk.now) now) (sym c.measure.ensures.same) (c.commit_staged.ensures.seen other apart ne)
+
+pub returns-clause-told : goal.returns-clause-told
+returns-clause-told g c =
+    let keeper = c.args.keeper.now in
+    told_anyhow (OrGone (log_file 0)) (g.D.Disk.seen c.args.disk.now) (g.D.Disk.seen c.measure.new.disk)
+    (returns-clause-seen g c (log_file 0) (root_elsewhere keeper.parts keeper.copies) (root_no_log g.D.Disk keeper c.args.disk.now c.requires))
+
+pub returns-clause-removed : goal.returns-clause-removed
+returns-clause-removed g c = λ image told. c.in_ok-commit_staged.ensures.removed image (sym c.measure.ensures.same ∙ told)

@@ -1,16 +1,24 @@
-use Rattle.std.proofs.Common.{◌≡◌, ℕ, ◌<◌, List, [], ◌∷◌, ◌++◌, length, refl, subst, sym, ◌∙◌, inl}
+use Rattle.std.proofs.lemmas.Result.{err_from_is_err_and}
+use Rattle.std.proofs.Common.{◌≡◌, ◌≢◌, Option, Err, ap, ℕ, ◌<◌, List, [], ◌∷◌, ◌++◌, length, refl, subst, sym, ◌∙◌, inl}
 use Rattle.std.specs.Prelude.{All}
 use Rattle.ix_base.specs.declared.files.File.{File}
+use Rattle.ix_base.specs.Told.{Told}
+use Rattle.ix_disk.specs.Image.{Image, Apart}
 use Rattle.ix_disk.specs.Moments.{Goes, InFile}
 use Rattle.ix_log.specs.Log.{IsAtEnd, file_of}
 use Rattle.ix_book.specs.Root.{log_file}
-use Rattle.ix_book.specs.Slots.{bytes_of, WithBody, AreRemovals}
+use Rattle.ix_book.specs.Book.{empty, replay, removals_in}
+use Rattle.ix_book.specs.Slots.{bytes_of, items_of, WithBody, AreRemovals}
 use Rattle.ix_book.specs.declared.slot.Slot.{Slot}
-use Rattle.ix_keep.specs.Contents.{Spares, KeepsLogs, IsFree, HoldsFilling, filling}
+use Rattle.ix_keep.specs.Contents.{Spares, Keeping, KeepsLogs, IsFree, HoldsFilling, filling}
 use Rattle.ix_keep.specs.Parts.{AreParts}
 use Rattle.ix_keep.specs.Snapshot.{AreOver}
 use Rattle.ix_keep.specs.Copies.{AreCopies, after_copies}
+use Rattle.ix_keep.specs.Reads.{OrGone, IsElsewhere, IsGone, Removing}
+use Rattle.ix_keep.specs.declared.fault.CommitFault.TheVariants as faults
+use Rattle.ix_keep.specs.declared.parts.Part.{Part}
 use Rattle.ix_keep.specs.declared.copied.Copied.{Copied}
+use Rattle.ix_keep.proofs.Reading.{told_through, told_as, told_on, root_elsewhere, gone_behind}
 use Rattle.ix_keep.proofs.Settling.{loosely, loosely_on, anyhow_on}
 use Rattle.ix_keep.proofs.Holding.{meta, commit_first, commit_end, commit_put, commit_images, commit_done, removals_free, over_end, over_after}
 use Rattle.ix_keep.proofs.committing.commit_staged.Goals as goal
@@ -74,7 +82,7 @@ returns-in_err-remove_all-clause-images g c = λ old new held.
     let gone = c.remove_all.new.disk in
     let some = subst (λ (s : List Slot). 0 < length s → IsAtEnd g.D.Disk c.put_body.new.log last (held.committed.bodies ++ bytes_of s ∷ [])) c.as_slice-3.ensures (c.in_ok-put_body.ensures.finished held.committed.bodies end) in
     let none = subst (λ (s : List Slot). length s ≡ 0 → IsAtEnd g.D.Disk c.put_body.new.log last held.committed.bodies) c.as_slice-3.ensures (c.in_ok-put_body.ensures.none held.committed.bodies end) in
-    let are = subst (λ (s : List Slot). AreRemovals s c.last_removals.result.now) c.as_slice-4.ensures c.last_removals.ensures in
+    let are = subst (λ (s : List Slot). AreRemovals s c.last_removals.result.now) c.as_slice-4.ensures c.last_removals.ensures.are in
     let free = removals_free (file_of keeper.log) keeper new old.book c.last_removals.result.now are held.stages.items held.free in
     let named : c.log_file.result ≡ file_of keeper.log = c.log_file.ensures ∙ sym c.requires.file in
     let removed = subst (λ (f : File). Goes g.D.Disk last gone (Spares f (filling new.contents))) named
@@ -108,7 +116,7 @@ returns-clause-images g c = λ old new held.
     let gone = c.remove_all.new.disk in
     let some = subst (λ (s : List Slot). 0 < length s → IsAtEnd g.D.Disk c.put_body.new.log last (held.committed.bodies ++ bytes_of s ∷ [])) c.as_slice-3.ensures (c.in_ok-put_body.ensures.finished held.committed.bodies end) in
     let none = subst (λ (s : List Slot). length s ≡ 0 → IsAtEnd g.D.Disk c.put_body.new.log last held.committed.bodies) c.as_slice-3.ensures (c.in_ok-put_body.ensures.none held.committed.bodies end) in
-    let are = subst (λ (s : List Slot). AreRemovals s c.last_removals.result.now) c.as_slice-4.ensures c.last_removals.ensures in
+    let are = subst (λ (s : List Slot). AreRemovals s c.last_removals.result.now) c.as_slice-4.ensures c.last_removals.ensures.are in
     let free = removals_free (file_of keeper.log) keeper new old.book c.last_removals.result.now are held.stages.items held.free in
     let named : c.log_file.result ≡ file_of keeper.log = c.log_file.ensures ∙ sym c.requires.file in
     let removed = subst (λ (f : File). Goes g.D.Disk last gone (Spares f (filling new.contents))) named
@@ -142,7 +150,7 @@ returns-clause-done g c = λ old new held.
     let gone = c.remove_all.new.disk in
     let some = subst (λ (s : List Slot). 0 < length s → IsAtEnd g.D.Disk c.put_body.new.log last (held.committed.bodies ++ bytes_of s ∷ [])) c.as_slice-3.ensures (c.in_ok-put_body.ensures.finished held.committed.bodies end) in
     let none = subst (λ (s : List Slot). length s ≡ 0 → IsAtEnd g.D.Disk c.put_body.new.log last held.committed.bodies) c.as_slice-3.ensures (c.in_ok-put_body.ensures.none held.committed.bodies end) in
-    let are = subst (λ (s : List Slot). AreRemovals s c.last_removals.result.now) c.as_slice-4.ensures c.last_removals.ensures in
+    let are = subst (λ (s : List Slot). AreRemovals s c.last_removals.result.now) c.as_slice-4.ensures c.last_removals.ensures.are in
     let free = removals_free (file_of keeper.log) keeper new old.book c.last_removals.result.now are held.stages.items held.free in
     let named : c.log_file.result ≡ file_of keeper.log = c.log_file.ensures ∙ sym c.requires.file in
     let removed = subst (λ (f : File). Goes g.D.Disk last gone (Spares f (filling new.contents))) named
@@ -163,3 +171,66 @@ returns-clause-over g c =
     let removed = subst (λ (f : File). Goes g.D.Disk last c.remove_all.new.disk (KeepsLogs f)) c.log_file.ensures c.remove_all.ensures.logs in
     subst (λ (n : ℕ). AreOver g.D.Disk keeper.root c.put_body.new.log keeper.number n c.remove_all.new.disk) (sym c.first_of-keeper.ensures)
     (over_after g.D.Disk keeper first mid over c.fill.ensures.logs last c.remove_all.new.disk put c.put_body.new.log c.put_body.ensures.file some none removed)
+
+pub returns-in_err-fill-clause-seen : goal.returns-in_err-fill-clause-seen
+returns-in_err-fill-clause-seen g c = λ other apart ne.
+    let keeper = c.args.keeper.now in
+    let first = g.D.Disk.seen c.args.disk.now in
+    let mid = g.D.Disk.seen c.fill.new.disk in
+    let there = subst (λ (p : List Part). IsElsewhere p c.as_slice-2.result.now other) (sym c.as_slice.ensures) (subst (λ (x : List Copied). IsElsewhere keeper.parts x other) (sym c.as_slice-2.ensures) apart) in
+    let filled = c.fill.ensures.seen other there in
+    told_as (Keeping other) (OrGone other) (λ a b same. inl same) first mid filled
+
+pub returns-in_err-put_body-clause-seen : goal.returns-in_err-put_body-clause-seen
+returns-in_err-put_body-clause-seen g c = λ other apart ne.
+    let keeper = c.args.keeper.now in
+    let first = g.D.Disk.seen c.args.disk.now in
+    let mid = g.D.Disk.seen c.fill.new.disk in
+    let last = g.D.Disk.seen c.put_body.new.disk in
+    let there = subst (λ (p : List Part). IsElsewhere p c.as_slice-2.result.now other) (sym c.as_slice.ensures) (subst (λ (x : List Copied). IsElsewhere keeper.parts x other) (sym c.as_slice-2.ensures) apart) in
+    let filled = c.fill.ensures.seen other there in
+    let put = told_through (Keeping other) (Apart (file_of keeper.log)) (Keeping other) (λ a b c same leaves. leaves other ne ∙ same) first mid last filled c.put_body.ensures.seen in
+    told_as (Keeping other) (OrGone other) (λ a b same. inl same) first last put
+
+pub returns-in_err-remove_all-clause-seen : goal.returns-in_err-remove_all-clause-seen
+returns-in_err-remove_all-clause-seen g c = λ other apart ne.
+    let keeper = c.args.keeper.now in
+    let first = g.D.Disk.seen c.args.disk.now in
+    let mid = g.D.Disk.seen c.fill.new.disk in
+    let last = g.D.Disk.seen c.put_body.new.disk in
+    let there = subst (λ (p : List Part). IsElsewhere p c.as_slice-2.result.now other) (sym c.as_slice.ensures) (subst (λ (x : List Copied). IsElsewhere keeper.parts x other) (sym c.as_slice-2.ensures) apart) in
+    let filled = c.fill.ensures.seen other there in
+    let put = told_through (Keeping other) (Apart (file_of keeper.log)) (Keeping other) (λ a b c same leaves. leaves other ne ∙ same) first mid last filled c.put_body.ensures.seen in
+    told_through (Keeping other) Removing (OrGone other) (λ a b c same gone. gone_behind other a b c same (gone other)) first last (g.D.Disk.seen c.remove_all.new.disk) put c.remove_all.ensures.seen
+
+pub returns-clause-seen : goal.returns-clause-seen
+returns-clause-seen g c = λ other apart ne.
+    let keeper = c.args.keeper.now in
+    let first = g.D.Disk.seen c.args.disk.now in
+    let mid = g.D.Disk.seen c.fill.new.disk in
+    let last = g.D.Disk.seen c.put_body.new.disk in
+    let there = subst (λ (p : List Part). IsElsewhere p c.as_slice-2.result.now other) (sym c.as_slice.ensures) (subst (λ (x : List Copied). IsElsewhere keeper.parts x other) (sym c.as_slice-2.ensures) apart) in
+    let filled = c.fill.ensures.seen other there in
+    let put = told_through (Keeping other) (Apart (file_of keeper.log)) (Keeping other) (λ a b c same leaves. leaves other ne ∙ same) first mid last filled c.put_body.ensures.seen in
+    told_through (Keeping other) Removing (OrGone other) (λ a b c same gone. gone_behind other a b c same (gone other)) first last (g.D.Disk.seen c.remove_all.new.disk) put c.remove_all.ensures.seen
+
+pub returns-clause-removed : goal.returns-clause-removed
+returns-clause-removed g c = λ image told.
+    let keeper = c.args.keeper.now in
+    let named : c.log_file.result ≡ file_of keeper.log = c.log_file.ensures ∙ sym c.requires.file in
+    let files : c.last_removals.result.now ≡ removals_in (replay (items_of keeper.slots) empty) = c.last_removals.ensures.last ∙ ap (λ (s : List Slot). removals_in (replay (items_of s) empty)) c.as_slice-4.ensures in
+    subst (λ (l : List File). All (IsGone (file_of keeper.log) image) l) files (subst (λ (f : File). All (IsGone f image) c.last_removals.result.now) named (c.in_ok-remove_all.ensures.removed image told))
+
+pub returns-in_err-fill-clause-sound : goal.returns-in_err-fill-clause-sound
+returns-in_err-fill-clause-sound g c = λ old new held image told file at is.
+    let keeper = c.args.keeper.now in
+    let first = c.args.disk.now in
+    let m = meta g.D.Disk g.B.Replay.fits keeper first old new held in
+    let parts = subst (AreParts (filling old.contents) held.stages.grown) (sym c.as_slice.ensures) held.stages.parts in
+    let copies = subst (AreCopies (filling old.contents) held.stages.grown) (sym c.as_slice-2.ensures) held.stages.copies in
+    let p = err_from_is_err_and c.from_residual.result c.from_residual.ensures.1 in
+    let p1 = p.1 in
+    let p2 = p.2 in
+    let w : c.fill.result ≡ Err c.in_err-fill.field-0.0 = c.in_err-fill.was in
+    let was : c.fill.result ≡ Err (faults.Damaged file at) = cc in
+    c.fill.ensures.sound (file_of keeper.log) (filling old.contents) held.stages.grown m parts copies held.committed.contents image told file at was

@@ -1,9 +1,12 @@
-use Rattle.std.proofs.Common.{◌≡◌, ◌≤◌, take}
+use Rattle.std.proofs.Common.{◌≡◌, ◌≢◌, ◌≤◌, take}
+use Rattle.std.specs.Prelude.{All}
 use Rattle.ix_base.specs.declared.files.Area.TheVariants.{Meta}
 use Rattle.ix_base.specs.declared.files.File.{File}
+use Rattle.ix_base.specs.Told.{Told}
 use Rattle.ix_disk.specs.Moments.{Goes}
 use Rattle.ix_keep.specs.Contents.{Filling, HoldsFilling, Spares, Keeping}
-use Rattle.ix_keep.specs.Copies.{AreCopies, after_copies}
+use Rattle.ix_keep.specs.Copies.{AreCopies, after_copies, target}
+use Rattle.ix_keep.specs.declared.copied.Copied.{Copied}
 use Rattle.ix_keep.proofs.copying.copy_all.Given as goal
 
 abbrev pub invariant-loop-one : goal.invariant-loop-one
@@ -11,5 +14,6 @@ invariant-loop-one g l = record {
   run : (log : File) (old now : Filling) → log.area ≡ Meta → AreCopies old now l.copies → Goes g.D.Disk l.fn.disk l.disk (Spares log old);
   done : (old now : Filling) → AreCopies old now l.copies → HoldsFilling g.D.Disk l.fn.disk now → HoldsFilling g.D.Disk l.disk (after_copies (take l.one-index l.copies) now);
   logs : (log : File) → log.area ≡ Meta → Goes g.D.Disk l.fn.disk l.disk (Keeping log);
+  seen : (other : File) → All (λ (x : Copied). other ≢ target x) l.copies → Told (Keeping other) (g.D.Disk.seen l.fn.disk) (g.D.Disk.seen l.disk);
   later : g.D.Disk.faults l.fn.disk ≤ g.D.Disk.faults l.disk;
 }

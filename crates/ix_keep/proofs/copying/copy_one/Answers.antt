@@ -4,6 +4,7 @@ use Rattle.ix_disk.specs.Image.{Image, Apart}
 use Rattle.ix_disk.specs.Moments.{Goes}
 use Rattle.ix_archive.specs.Copies.{HasCopy}
 use Rattle.ix_keep.proofs.FreeFiles.{copy_holds}
+use Rattle.ix_keep.proofs.Reading.{copy_there}
 use Rattle.ix_keep.proofs.copying.copy_one.Goals as goal
 
 pub returns-in-Ok-clause-copied : goal.returns-in-Ok-clause-copied

@@ -1,4 +1,13 @@
-use Rattle.std.proofs.Common.{rules, ◌≡◌, ap, subst, sym, ◌∙◌}
+use Rattle.std.proofs.Common.{rules, ◌≡◌, ◌≢◌, List, [], Option, refl, ap, subst, sym, ◌∙◌, inl}
+use Rattle.std.proofs.lemmas.List.Elements.{All-nil}
+use Rattle.ix_base.specs.declared.files.File.{File}
+use Rattle.ix_log.specs.Log.{file_of}
+use Rattle.ix_keep.specs.Copies.{target}
+use Rattle.ix_keep.specs.Parts.{file_in}
+use Rattle.ix_keep.specs.Reads.{OrGone, IsElsewhere}
+use Rattle.ix_keep.specs.declared.copied.Copied.{Copied}
+use Rattle.ix_keep.specs.declared.parts.Part.{Part}
+use Rattle.ix_keep.proofs.Reading.{told_same, anyhow_same, nothing_elsewhere}
 use Rattle.std.specs.Prelude.{not}
 use Rattle.ix_book.specs.Book.{has_settings}
 use Rattle.ix_keep.specs.Snapshot.{begun}
@@ -46,3 +55,38 @@ returns-clause-done g c = λ s is held.
     let fit = subst g.B.Replay.fits made (c.in-Ok-true.ensures.judged.0 (search rules)) in
     let now = begin_held g.D.Disk g.B.Replay.fits c.args.keeper.now c.enter_run.new.keeper c.args.disk.now s c.args.run _ fresh c.enter_run.ensures.logs held stages fit in
     c.in_ok-commit.ensures.done s (begun (not (has_settings s.book)) c.args.run s) now
+
+pub returns-in_err-enter_run-clause-told : goal.returns-in_err-enter_run-clause-told
+returns-in_err-enter_run-clause-told g c = anyhow_same (g.D.Disk.seen c.args.disk.now) (g.D.Disk.seen c.args.disk.now) refl
+
+pub returns-in_err-enter_run-clause-seen : goal.returns-in_err-enter_run-clause-seen
+returns-in_err-enter_run-clause-seen g c = λ no_parts no_copies other ne. told_same (OrGone other) (λ a. inl refl) (g.D.Disk.seen c.args.disk.now) (g.D.Disk.seen c.args.disk.now) refl
+
+pub returns-in-Ok-false-clause-told : goal.returns-in-Ok-false-clause-told
+returns-in-Ok-false-clause-told g c = anyhow_same (g.D.Disk.seen c.args.disk.now) (g.D.Disk.seen c.args.disk.now) refl
+
+pub returns-in-Ok-false-clause-seen : goal.returns-in-Ok-false-clause-seen
+returns-in-Ok-false-clause-seen g c = λ no_parts no_copies other ne. told_same (OrGone other) (λ a. inl refl) (g.D.Disk.seen c.args.disk.now) (g.D.Disk.seen c.args.disk.now) refl
+
+pub returns-in-Err-clause-told : goal.returns-in-Err-clause-told
+returns-in-Err-clause-told g c = anyhow_same (g.D.Disk.seen c.args.disk.now) (g.D.Disk.seen c.args.disk.now) refl
+
+pub returns-in-Err-clause-seen : goal.returns-in-Err-clause-seen
+returns-in-Err-clause-seen g c = λ no_parts no_copies other ne. told_same (OrGone other) (λ a. inl refl) (g.D.Disk.seen c.args.disk.now) (g.D.Disk.seen c.args.disk.now) refl
+
+pub returns-in_err-commit-clause-seen : goal.returns-in_err-commit-clause-seen
+returns-in_err-commit-clause-seen g c = λ no_parts no_copies other ne.
+    let apart = nothing_elsewhere c.enter_run.new.keeper.parts c.enter_run.new.keeper.copies other (c.enter_run.ensures.parts ∙ no_parts) (c.enter_run.ensures.copies ∙ no_copies) in
+    c.commit.ensures.seen other apart (λ same. ne (same ∙ ap file_of c.enter_run.ensures.logs.log))
+
+pub returns-clause-seen : goal.returns-clause-seen
+returns-clause-seen g c = λ no_parts no_copies other ne.
+    let apart = nothing_elsewhere c.enter_run.new.keeper.parts c.enter_run.new.keeper.copies other (c.enter_run.ensures.parts ∙ no_parts) (c.enter_run.ensures.copies ∙ no_copies) in
+    c.commit.ensures.seen other apart (λ same. ne (same ∙ ap file_of c.enter_run.ensures.logs.log))
+
+pub returns-in-Ok-false-clause-entered : goal.returns-in-Ok-false-clause-entered
+returns-in-Ok-false-clause-entered g c = λ full s is.
+    let settled : c.has_settings-fresh.result ≡ has_settings s.book = c.has_settings-fresh.ensures ∙ ap has_settings is in
+    let fresh = ap not settled in
+    let made = c.in_ok-enter_run.ensures.made s is in
+    c.judge.ensures.same ∙ made ∙ ap (λ t. (begun t c.args.run s).book) fresh

@@ -1,15 +1,19 @@
-use Rattle.std.proofs.Common.{rules, ◌≡◌, ◌+◌, Err, refl, ap, subst, sym, ◌∙◌, arith}
+use Rattle.std.proofs.Common.{rules, ◌≡◌, ◌≢◌, ◌+◌, ◌<◌, ◌≤◌, ℕ, List, [], Option, Some, Err, refl, ap, subst, sym, ◌∙◌, inl, inr, arith}
 use Rattle.std.specs.Prelude.{All, None, not}
 use Rattle.std.proofs.lemmas.Result.{err_from_is_err_and}
 use Rattle.ix_keep.specs.declared.mounting.MountFault.TheVariants as mounts
 use Rattle.ix_base.specs.declared.files.File.{File}
+use Rattle.ix_base.specs.Told.{Told}
+use Rattle.ix_disk.specs.Image.{Image}
 use Rattle.ix_disk.specs.Moments.{Goes}
 use Rattle.ix_disk.proofs.Runs.{always_still, always_on, still_all}
 use Rattle.ix_book.specs.Book.{run_in, removals_in, has_settings}
-use Rattle.ix_keep.specs.Contents.{Contents, IsFree, Spares, filling}
+use Rattle.ix_keep.specs.Contents.{Contents, IsFree, Spares, Anyhow, filling}
+use Rattle.ix_keep.specs.Reads.{OrGone, Removing, IsGone, ReadsNone, next_run}
 use Rattle.ix_keep.specs.Snapshot.{Snapshot, log_of}
 use Rattle.ix_keep.specs.Mounting.{KeepsOneOf}
 use Rattle.ix_keep.proofs.Settling.{loosely}
+use Rattle.ix_keep.proofs.Reading.{told_anyhow, anyhow_same, anyhow_through, gone_begun, read_leads, begun_next, removals_next, if_ok}
 use Rattle.ix_keep.proofs.Beginning.{read_over, removed_images, begun_images, mounted_at, run_begun}
 use Rattle.ix_keep.proofs.mounting.mount.Goals as goal
 
@@ -123,3 +127,92 @@ returns-clause-not_full g c =
     let made = c.in_ok-begin.ensures.made s refl in
     let is : run_in (g.B.Replay.stands c.begin.new.state) ≡ c.run-run.result + 1 = ap run_in made ∙ run_begun (not (has_settings book)) (c.run-run.result + 1) s in
     omega (arith, is, c.if-run-ge9223372036854775807.false)
+
+pub returns-in_err-keeper-clause-told : goal.returns-in_err-keeper-clause-told
+returns-in_err-keeper-clause-told g c = anyhow_same (g.D.Disk.seen c.args.disk.now) (g.D.Disk.seen c.read.new.disk) c.read.ensures.same
+
+pub returns-then-is_err-clause-told : goal.returns-then-is_err-clause-told
+returns-then-is_err-clause-told g c =
+    let mid = g.D.Disk.seen c.read.new.disk in
+    anyhow_through (g.D.Disk.seen c.args.disk.now) mid (g.D.Disk.seen c.remove_all.new.disk) (anyhow_same (g.D.Disk.seen c.args.disk.now) mid c.read.ensures.same) (told_anyhow Removing mid (g.D.Disk.seen c.remove_all.new.disk) c.remove_all.ensures.seen)
+
+pub returns-then-run-ge9223372036854775807-clause-told : goal.returns-then-run-ge9223372036854775807-clause-told
+returns-then-run-ge9223372036854775807-clause-told g c =
+    let mid = g.D.Disk.seen c.read.new.disk in
+    anyhow_through (g.D.Disk.seen c.args.disk.now) mid (g.D.Disk.seen c.remove_all.new.disk) (anyhow_same (g.D.Disk.seen c.args.disk.now) mid c.read.ensures.same) (told_anyhow Removing mid (g.D.Disk.seen c.remove_all.new.disk) c.remove_all.ensures.seen)
+
+pub returns-then-run-ge9223372036854775807-clause-full_as_read : goal.returns-then-run-ge9223372036854775807-clause-full_as_read
+returns-then-run-ge9223372036854775807-clause-full_as_read g c = λ full image told.
+    let mid = c.read.new.disk in
+    let book = g.B.Replay.stands c.read.new.state in
+    let run : c.run-run.result ≡ run_in book = c.run-run.ensures in
+    record {
+      book = book;
+      leads = read_leads g.B.Replay.fits g.D.Disk c.in_ok-keeper.keeper mid book c.in_ok-keeper.ensures.read image (g.met.D.Disk.seen_may_stay mid image (c.read.ensures.same ∙ told));
+      none = inl (omega (arith, run, c.if-run-ge9223372036854775807.true));
+    }
+
+pub returns-in_err-begin-clause-told : goal.returns-in_err-begin-clause-told
+returns-in_err-begin-clause-told g c =
+    let start = g.D.Disk.seen c.args.disk.now in
+    let mid = g.D.Disk.seen c.read.new.disk in
+    let del = g.D.Disk.seen c.remove_all.new.disk in
+    anyhow_through start del (g.D.Disk.seen c.begin.new.disk)
+    (anyhow_through start mid del (anyhow_same start mid c.read.ensures.same) (told_anyhow Removing mid del c.remove_all.ensures.seen)) c.begin.ensures.told
+
+pub returns-clause-told : goal.returns-clause-told
+returns-clause-told g c =
+    let start = g.D.Disk.seen c.args.disk.now in
+    let mid = g.D.Disk.seen c.read.new.disk in
+    let del = g.D.Disk.seen c.remove_all.new.disk in
+    anyhow_through start del (g.D.Disk.seen c.begin.new.disk)
+    (anyhow_through start mid del (anyhow_same start mid c.read.ensures.same) (told_anyhow Removing mid del c.remove_all.ensures.seen)) c.begin.ensures.told
+
+pub returns-in_err-begin-clause-full_as_read : goal.returns-in_err-begin-clause-full_as_read
+returns-in_err-begin-clause-full_as_read g c = λ full image told.
+    let mid = c.read.new.disk in
+    let book = g.B.Replay.stands c.read.new.state in
+    let run : c.run-run.result ≡ run_in book = c.run-run.ensures in
+    let s : Snapshot = record { book = book; contents = λ file. None } in
+    let p = err_from_is_err_and c.from_residual-in_err-begin.result c.from_residual-in_err-begin.ensures.1 in
+    let p1 = p.1 in
+    let p2 = p.2 in
+    let w : c.begin.result ≡ Err c.in_err-begin.field-0.0 = c.in_err-begin.was in
+    let was : c.begin.result ≡ Err mounts.Full = cc in
+    let is : g.B.Replay.stands c.begin.new.state ≡ next_run book = c.begin.ensures.entered was s refl ∙ begun_next book (c.run-run.result + 1) s refl (ap (λ (n : ℕ). n + 1) run) in
+    record {
+      book = book;
+      leads = read_leads g.B.Replay.fits g.D.Disk c.in_ok-keeper.keeper mid book c.in_ok-keeper.ensures.read image (g.met.D.Disk.seen_may_stay mid image (c.read.ensures.same ∙ told));
+      none = inr (λ fit. c.begin.ensures.full was (subst g.B.Replay.fits (sym is) fit));
+    }
+
+pub returns-clause-read : goal.returns-clause-read
+returns-clause-read g c = λ image told.
+    let mid = c.read.new.disk in
+    let book = g.B.Replay.stands c.read.new.state in
+    let run : c.run-run.result ≡ run_in book = c.run-run.ensures in
+    let s : Snapshot = record { book = book; contents = λ file. None } in
+    record {
+      book = book;
+      leads = read_leads g.B.Replay.fits g.D.Disk c.in_ok-keeper.keeper mid book c.in_ok-keeper.ensures.read image (g.met.D.Disk.seen_may_stay mid image (c.read.ensures.same ∙ told));
+      room = omega (arith, run, c.if-run-ge9223372036854775807.false);
+      is = c.in_ok-begin.ensures.made s refl ∙ begun_next book (c.run-run.result + 1) s refl (ap (λ (n : ℕ). n + 1) run);
+    }
+
+pub returns-clause-removed : goal.returns-clause-removed
+returns-clause-removed g c = λ image told.
+    let keeper = c.in_ok-keeper.keeper in
+    let read = c.in_ok-keeper.ensures.read in
+    let mid = c.read.new.disk in
+    let del = c.remove_all.new.disk in
+    let last = c.begin.new.disk in
+    let book = g.B.Replay.stands c.read.new.state in
+    let s : Snapshot = record { book = book; contents = λ file. None } in
+    let files = c.removals.result.now in
+    let current : c.log_file.result ≡ log_of keeper = c.log_file.ensures ∙ sym (read_over g.D.Disk g.B.Replay.fits keeper mid book read).file in
+    let gone = subst (λ (f : File). ReadsNone g.D.Disk del f files) current (if_ok c.remove_all.result (ReadsNone g.D.Disk del c.log_file.result files) (sym c.is_err.ensures.value ∙ c.if-is_err.false) c.remove_all.ensures.removed) in
+    let behind = gone_begun g.D.Disk (log_of keeper) files del last c.begin.ensures.told (c.begin.ensures.seen read.no_parts read.no_copies) gone image told in
+    let named : files ≡ removals_in (g.B.Replay.stands c.begin.new.state) =
+    c.removals.ensures ∙ sym (removals_next (not (has_settings book)) (c.run-run.result + 1) s) ∙ sym (ap removals_in (c.in_ok-begin.ensures.made s refl)) in
+    subst (λ (f : File). All (IsGone f image) (removals_in (g.B.Replay.stands c.begin.new.state))) (sym c.begin.ensures.file)
+    (subst (λ (l : List File). All (IsGone (log_of keeper) image) l) named behind)

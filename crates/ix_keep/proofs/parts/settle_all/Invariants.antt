@@ -1,7 +1,8 @@
-use Rattle.std.proofs.Common.{◌≡◌, ◌≤◌, take}
+use Rattle.std.proofs.Common.{◌≡◌, ◌≢◌, ◌≤◌, take}
 use Rattle.std.specs.Prelude.{All}
 use Rattle.ix_base.specs.declared.files.Area.TheVariants.{Meta}
 use Rattle.ix_base.specs.declared.files.File.{File}
+use Rattle.ix_base.specs.Told.{Told}
 use Rattle.ix_disk.specs.Moments.{Goes, Holds}
 use Rattle.ix_keep.specs.Contents.{Filling, BeginsWith, HoldsFilling, Spares, Keeping}
 use Rattle.ix_keep.specs.Parts.{AreParts, file_in}
@@ -14,5 +15,6 @@ invariant-loop-part g l = record {
   done : (log : File) (old new : Filling) → log.area ≡ Meta → AreParts old new l.parts → HoldsFilling g.D.Disk l.fn.disk old →
       All (λ (p : Part). Holds g.D.Disk l.disk (file_in p) (BeginsWith (new (file_in p)))) (take l.part-index l.parts);
   logs : (log : File) → log.area ≡ Meta → Goes g.D.Disk l.fn.disk l.disk (Keeping log);
+  seen : (other : File) → All (λ (p : Part). other ≢ file_in p) l.parts → Told (Keeping other) (g.D.Disk.seen l.fn.disk) (g.D.Disk.seen l.disk);
   later : g.D.Disk.faults l.fn.disk ≤ g.D.Disk.faults l.disk;
 }

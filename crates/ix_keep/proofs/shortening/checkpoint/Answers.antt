@@ -1,4 +1,4 @@
-use Rattle.std.proofs.Common.{rules, ◌≡◌, ◌≢◌, ◌+◌, ◌<◌, ◌^◌, ℕ, List, [], ◌∷◌, length, refl, ap, subst, sym, ◌∙◌, inl, arith}
+use Rattle.std.proofs.Common.{rules, ◌≡◌, ◌≢◌, ◌+◌, ◌<◌, ◌^◌, ℕ, List, [], ◌∷◌, length, refl, ap, subst, sym, ◌∙◌, None, inl, arith}
 use Rattle.ix_base.specs.Told.{Told}
 use Rattle.ix_base.specs.declared.files.File.{File}
 use Rattle.ix_disk.specs.Image.{Apart, MayRemove, bytes_in}
@@ -12,6 +12,7 @@ use Rattle.ix_keep.specs.Snapshot.{log_of}
 use Rattle.ix_keep.specs.Shortening.{HasOneBody}
 use Rattle.ix_keep.proofs.Settling.{anyhow_on, loosely}
 use Rattle.ix_keep.proofs.Shorter.{number_room, apart_comes, over_still, over_root, measured_still, end_gone, root_gone, over_new, root_mid, written_images, numbered_images, removed_images, shortened_held, place_one, new_file, new_file_other}
+use Rattle.ix_keep.proofs.Reading.{told_anyhow, anyhow_through, gone_done}
 use Rattle.ix_keep.proofs.shortening.checkpoint.Goals as goal
 
 pub returns-in-Err-clause-images : goal.returns-in-Err-clause-images
@@ -213,3 +214,34 @@ returns-clause-measured g c = λ image told.
     let found = new_file g.D.Disk (λ image disk told. g.met.D.Disk.seen_may_stay disk image told) mid last gone c.in-Ok.log body (file_of keeper.root) c.log_file-old.result other.0
     (λ same. other.1 (same ∙ c.log_file-old.ensures)) c.put_number.ensures.seen removed c.in-Ok.ensures.written c.in-Ok.ensures.no_more image told in
     c.go_over.ensures.bytes ∙ sym found.1 ∙ ap (λ (f : File). length (bytes_in image f)) (sym (ap file_of c.go_over.ensures.log))
+
+pub returns-clause-gone : goal.returns-clause-gone
+returns-clause-gone g c = λ image told.
+    let old : c.log_file-old.result ≡ log_of c.args.keeper.now = c.log_file-old.ensures ∙ sym c.requires.over.file in
+    subst (λ (f : File). image f ≡ None) old (gone_done c.log_file-old.result (g.D.Disk.seen c.put_number.new.disk) (g.D.Disk.seen c.remove.new.self) c.in_ok-remove.ensures.removed image told)
+
+pub returns-in-Err-clause-told : goal.returns-in-Err-clause-told
+returns-in-Err-clause-told g c = told_anyhow _ (g.D.Disk.seen c.args.disk.now) (g.D.Disk.seen c.write_log.new.disk) c.write_log.ensures.seen
+
+pub returns-in_err-put_number-clause-told : goal.returns-in_err-put_number-clause-told
+returns-in_err-put_number-clause-told g c =
+    let first = g.D.Disk.seen c.args.disk.now in
+    let mid = g.D.Disk.seen c.write_log.new.disk in
+    let last = g.D.Disk.seen c.put_number.new.disk in
+    anyhow_through first mid last (told_anyhow _ first mid c.write_log.ensures.seen) (told_anyhow _ mid last c.put_number.ensures.seen)
+
+pub returns-in_err-remove-clause-told : goal.returns-in_err-remove-clause-told
+returns-in_err-remove-clause-told g c =
+    let first = g.D.Disk.seen c.args.disk.now in
+    let mid = g.D.Disk.seen c.write_log.new.disk in
+    let last = g.D.Disk.seen c.put_number.new.disk in
+    let gone = g.D.Disk.seen c.remove.new.self in
+    anyhow_through first last gone (anyhow_through first mid last (told_anyhow _ first mid c.write_log.ensures.seen) (told_anyhow _ mid last c.put_number.ensures.seen)) (told_anyhow _ last gone c.in_err-remove.ensures.begun)
+
+pub returns-clause-told : goal.returns-clause-told
+returns-clause-told g c =
+    let first = g.D.Disk.seen c.args.disk.now in
+    let mid = g.D.Disk.seen c.write_log.new.disk in
+    let last = g.D.Disk.seen c.put_number.new.disk in
+    let gone = g.D.Disk.seen c.remove.new.self in
+    anyhow_through first last gone (anyhow_through first mid last (told_anyhow _ first mid c.write_log.ensures.seen) (told_anyhow _ mid last c.put_number.ensures.seen)) (told_anyhow _ last gone c.in_ok-remove.ensures.removed)
