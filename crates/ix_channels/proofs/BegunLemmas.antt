@@ -10,6 +10,7 @@ use Rattle.ix_carry.specs.declared.carry.Carry.{Carry}
 use Rattle.ix_items.specs.declared.items.Item.{Item}
 use Rattle.ix_items.specs.declared.items.Item.TheVariants as items
 use Rattle.ix_items.specs.declared.items.Kept.{Kept}
+use Rattle.ix_kept.proofs.Brief.{AreBrief, configured_brief, source_type_brief}
 use Rattle.ix_kept.specs.Configs.{IsChooser}
 use Rattle.ix_kept.specs.Taken.{IsStated}
 use Rattle.ix_machine.specs.Given.{Chooser, is_configured, default_index}
@@ -38,8 +39,6 @@ use Rattle.ix_channels.specs.Taken.{item_of}
 use Rattle.ix_channels.specs.Working.{MayBeDone, IsWorked}
 use Rattle.ix_channels.specs.declared.working.Worked.{Worked}
 use Rattle.ix_channels.proofs.Channels.{inserted}
-use Rattle.ix_channels.proofs.SourceTypes.{source_type_brief}
-use Rattle.ix_channels.proofs.Stanzas.{AreBrief, configured_brief}
 
 some_none : {X : Type 0} {x : X} → Some x ≡ None → ⊥
 some_none e = cc

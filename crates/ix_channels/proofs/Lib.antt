@@ -1,5 +1,3 @@
-pub mod Stanzas
-pub mod SourceTypes
 pub mod Briefness
 pub mod Carries
 pub mod Sized

@@ -6,6 +6,7 @@ use Rattle.ix_base.specs.declared.events.ChannelMeta.{ChannelMeta}
 use Rattle.ix_base.specs.declared.events.Event.{Event}
 use Rattle.ix_base.specs.declared.events.Routed.{Routed}
 use Rattle.ix_base.specs.declared.events.Routed.TheVariants.{To, Null}
+use Rattle.ix_kept.proofs.Brief.{configured_brief}
 use Rattle.ix_kept.specs.Configs.{IsChooser}
 use Rattle.ix_kept.specs.Taken.{IsDirect, IsStated}
 use Rattle.ix_life.specs.declared.sets.LimitSet.{LimitSet}
@@ -32,7 +33,6 @@ use Rattle.ix_channels.specs.declared.change.ChannelChange.TheVariants as change
 use Rattle.ix_channels.specs.declared.working.Worked.{Worked}
 use Rattle.ix_channels.proofs.Alike.{alike}
 use Rattle.ix_channels.proofs.BegunLemmas.{briefs, resolved_is, chosen_same, source_type_of}
-use Rattle.ix_channels.proofs.Stanzas.{configured_brief}
 
 some_none : {X : Type 0} {x : X} → Some x ≡ None → ⊥
 some_none e = cc

@@ -8,6 +8,7 @@ use Rattle.ix_base.specs.declared.events.ChannelMeta.{ChannelMeta}
 use Rattle.ix_base.specs.declared.events.Spot.{Spot}
 use Rattle.ix_fields.specs.Spelling.{IsShort}
 use Rattle.ix_items.specs.Spelling.{IsMeta}
+use Rattle.ix_kept.proofs.Brief.{last_chance_brief}
 use Rattle.ix_machine.specs.Given.{Chooser}
 use Rattle.ix_machine.specs.State.{State, Life}
 use Rattle.ix_machine.specs.Step.{after, begun, longer, stepped}
@@ -27,7 +28,6 @@ use Rattle.ix_channels.specs.Sizes.{HasBriefChance}
 use Rattle.ix_channels.specs.Working.{MayBeDone, StaysWithin}
 use Rattle.ix_channels.proofs.BegunLemmas.{briefs, begun_is}
 use Rattle.ix_channels.proofs.Sized.{sized_short}
-use Rattle.ix_channels.proofs.Stanzas.{last_chance_brief}
 use Rattle.ix_channels.proofs.TakenLemmas.{in_range, more_moments, block_life, end_life}
 
 -- a channel in memory stands for a stream, and what is said of it has a spelling

@@ -8,3 +8,4 @@ mod Merges
 mod Moves
 mod KeptLemmas
 mod NameLemmas
+pub mod Brief

@@ -1,226 +1,30 @@
--- Names of indexes that settings in force give have at most 1,024 bytes, and so have the source types.
-use Rattle.std.proofs.Common.{◌≡◌, ℕ, ◌≤◌, Bool, true, false, List, [], ◌∷◌, map, refl, sym, ap, ◌∙◌, subst, length, arith}
-use Rattle.std.specs.Prelude.{Option, Some, None, IfSome, is_some, if◌then◌else◌, ◌==◌, ◌&&◌, ◌||◌, nat_le, codes, bytes_eq, filter, unwrap_or}
-use Rattle.std.specs.List.{AllByRecursion}
-use Rattle.std.specs.Option.{option_map, option_or}
-use Rattle.std.proofs.lemmas.Bool.{leb-true}
+-- Indexes and source types that settings in force name have names of at most 1,024 bytes.
+use Rattle.std.proofs.Common.{◌≡◌, ℕ, List, ap, subst}
+use Rattle.std.specs.Prelude.{None, Some, IfSome}
 use Rattle.ix_base.specs.declared.events.ChannelMeta.{ChannelMeta}
-use Rattle.ix_conf.specs.Value.{is_at, entry_at}
-use Rattle.ix_conf.specs.declared.layers.MergedEntry.{MergedEntry}
 use Rattle.ix_items.specs.declared.items.Kept.{Kept}
-use Rattle.ix_kept.specs.Configs.{AreProps, IsChooser}
-use Rattle.ix_life.specs.Limits.{is_good, fault_at, value_fault, fault_with, first_of, first_fault}
-use Rattle.ix_life.specs.Stanzas.{is_volume, is_index_stanza, is_index}
-use Rattle.ix_life.specs.declared.faults.LimitFault.{LimitFault}
-use Rattle.ix_life.specs.declared.faults.LimitFault.TheVariants.{BadValue}
-use Rattle.ix_machine.specs.Given.{Chooser, entry, entries, default_index, home}
-use Rattle.ix_machine.proofs.Named.{by_test, same_bytes}
-use Rattle.ix_props.specs.Choice.{value_in, HoldsForSource, IsChosen}
-use Rattle.ix_props.specs.Kinds.{is_ignored, entry_kind, event_kind, time_kind, class_kind}
-use Rattle.ix_props.specs.Props.{IsOfKind, AreRead}
+use Rattle.ix_kept.proofs.Brief as kept
+use Rattle.ix_kept.proofs.Brief.{IsBrief, AreBrief}
+use Rattle.ix_kept.specs.Configs.{IsChooser}
+use Rattle.ix_life.specs.Limits.{first_fault}
+use Rattle.ix_machine.specs.Given.{Chooser, entries, default_index, home}
 use Rattle.ix_props.specs.Same.{AreSame}
-use Rattle.ix_props.specs.Settings.{name_or, IsSourceType}
-use Rattle.ix_props.specs.Values.{name}
-use Rattle.ix_props.specs.declared.props.PropsEntry.{PropsEntry}
 use Rattle.ix_props.specs.declared.settings.Settings.{Settings}
-use Rattle.ix_props.specs.declared.values.Value.{Value}
-use Rattle.ix_props.specs.declared.values.Value.TheVariants as value
-use Rattle.ix_values.specs.Values.{stated, value_of}
 use Rattle.ix_ranges.proofs.Chosen.{settings_exist}
 use Rattle.ix_ranges.proofs.Loaded.{AreLoaded}
 
-false_true : false ≡ true → ⊥
-false_true e = cc
-
-none_some : {X : Type 0} {x : X} → None ≡ Some x → ⊥
-none_some e = cc
-
-some_same : {X : Type 0} {x y : X} → Some x ≡ Some y → x ≡ y
-some_same e = cc
-
-both_are : (a b : Bool) → (a && b) ≡ true → (a ≡ true) × (b ≡ true)
-both_are true b e = (refl, e)
-both_are false b e = absurd (false_true e)
-
-abbrev IsBrief : List ℕ → Type 0
-IsBrief text = length text ≤ 1024
-
--- ---- indexes that are configured
-
-abbrev EntriesAreBrief : List MergedEntry → Type 0
-EntriesAreBrief es = AllByRecursion (λ (e : MergedEntry). IsBrief e.stanza) es
-
-some_of : (test : Kept → Bool) (force : List Kept) → AllByRecursion (λ (kept : Kept). IsBrief kept.stanza) force → EntriesAreBrief (map entry (filter test force))
-some_of test [] h = tt
-some_of test (k ∷ force) h =
-    by_test (test k)
-    (λ t. rw t (h.0, some_of test force h.1))
-    (λ t. rw t (some_of test force h.1))
-
-entry_brief : (name : List ℕ) (es : List MergedEntry) → EntriesAreBrief es → is_some (entry_at name [] es) ≡ true → IsBrief name
-entry_brief name [] h e = absurd (false_true e)
-entry_brief name (x ∷ es) h e =
-    by_test (is_at name [] x)
-    (λ t. subst IsBrief (sym (same_bytes name x.stanza (both_are (bytes_eq name x.stanza) (bytes_eq [] x.key) t).0)) h.0)
-    (λ t. entry_brief name es h.1 (rw t at e))
-
-main_brief : IsBrief (codes "main")
-main_brief = let short : 4 ≤ 1024 = omega arith in short
-
-index_brief : (es : List MergedEntry) (name : List ℕ) → EntriesAreBrief es → is_index es name ≡ true → IsBrief name
-index_brief es name h e =
-    by_test (bytes_eq name (codes "main"))
-    (λ t. subst IsBrief (sym (same_bytes name (codes "main") t)) main_brief)
-    (λ t. (let both = both_are (is_index_stanza name) (is_some (entry_at name [] es)) (rw t at e) in
-    entry_brief name es h both.1))
-
--- ---- the default one and the last chance are configured
-
-module _ (all : List MergedEntry) (sound : first_fault all ≡ None) where
-  abbrev fault_by : List ℕ → List ℕ → List ℕ → Option LimitFault
-  fault_by stanza key value = if is_volume stanza || is_good all stanza key value then None else Some (BadValue stanza key)
-
-  neither : (a b : Option LimitFault) → option_or a b ≡ None → (a ≡ None) × (b ≡ None)
-  neither None b m = (refl, m)
-  neither (Some f) b m = absurd (none_some (sym m))
-
-  no_fault_here : (es : List MergedEntry) (stanza key : List ℕ) (e : MergedEntry) → first_of all es ≡ None → entry_at stanza key es ≡ Some e →
-      (fault_at all e ≡ None) × (is_at stanza key e ≡ true)
-  no_fault_here [] stanza key e n h = absurd (none_some h)
-  no_fault_here (x ∷ es) stanza key e n h =
-      let both = neither (fault_at all x) (first_of all es) n in
-      by_test (is_at stanza key x)
-      (λ t. (let same : x ≡ e = some_same (rw t at h) in
-      (ap (fault_at all) (sym same) ∙ both.0, ap (is_at stanza key) (sym same) ∙ t)))
-      (λ t. no_fault_here es stanza key e both.1 (rw t at h))
-
-  -- a value of at least one byte of a key has no fault
-  good_value : (e : MergedEntry) (stanza key value : List ℕ) (k : ℕ) (rest : List ℕ) → key ≡ k ∷ rest → e.value ≡ value → fault_at all e ≡ None →
-      is_at stanza key e ≡ true → fault_by stanza key value ≡ None
-  good_value e stanza key value k rest some v n t =
-      let both = both_are (bytes_eq stanza e.stanza) (bytes_eq key e.key) t in
-      let stanza_is : stanza ≡ e.stanza = same_bytes stanza e.stanza both.0 in
-      let key_is : key ≡ e.key = same_bytes key e.key both.1 in
-      let value_good : value_fault all e ≡ None = subst (λ (l : List ℕ). fault_with all e l ≡ None) (sym key_is ∙ some) n in
-      ap (λ (s : List ℕ). fault_by s key value) stanza_is
-      ∙ ap (λ (l : List ℕ). fault_by e.stanza l value) key_is
-      ∙ ap (λ (u : List ℕ). fault_by e.stanza e.key u) (sym v)
-      ∙ value_good
-
-  no_fault_passes : (b : Bool) (f : LimitFault) → (if b then None else Some f) ≡ None → b ≡ true
-  no_fault_passes true f h = refl
-  no_fault_passes false f h = absurd (none_some (sym h))
-
-  chance_by : (e : MergedEntry) (value name : List ℕ) → e.value ≡ value → fault_at all e ≡ None → is_at (codes "default") (codes "lastChanceIndex") e ≡ true →
-      stated (Some value) ≡ Some name → is_index all name ≡ true
-  chance_by e [] name v n t h = absurd (none_some h)
-  chance_by e (b ∷ bs) name v n t h =
-      let good = good_value e (codes "default") (codes "lastChanceIndex") (b ∷ bs) 108 (codes "astChanceIndex") refl v n t in
-      subst (λ (m : List ℕ). is_index all m ≡ true) (some_same h)
-      (no_fault_passes (is_index all (b ∷ bs)) (BadValue (codes "default") (codes "lastChanceIndex")) good)
-
-  default_by : (e : MergedEntry) (value name : List ℕ) → e.value ≡ value → fault_at all e ≡ None → is_at (codes "default") (codes "defaultDatabase") e ≡ true →
-      stated (Some value) ≡ Some name → is_index all name ≡ true
-  default_by e [] name v n t h = absurd (none_some h)
-  default_by e (b ∷ bs) name v n t h =
-      let good = good_value e (codes "default") (codes "defaultDatabase") (b ∷ bs) 100 (codes "efaultDatabase") refl v n t in
-      subst (λ (m : List ℕ). is_index all m ≡ true) (some_same h)
-      (no_fault_passes (is_index all (b ∷ bs)) (BadValue (codes "default") (codes "defaultDatabase")) good)
-
-  abbrev value_by : Option MergedEntry → Option (List ℕ)
-  value_by o = option_map (λ (x : List ℕ × List ℕ). x.0) (option_map (λ (entry : MergedEntry). (entry.value, entry.layer)) o)
-
-  chance_is_index : (name : List ℕ) → value_of all (codes "default") (codes "lastChanceIndex") ≡ Some name → is_index all name ≡ true
-  chance_is_index name h = by (entry_at (codes "default") (codes "lastChanceIndex") all) refl h
-    where
-      by : (o : Option MergedEntry) → entry_at (codes "default") (codes "lastChanceIndex") all ≡ o → stated (option_or (value_by o) (value_by o)) ≡ Some name → is_index all name ≡ true
-      by None e k = absurd (none_some k)
-      by (Some x) e k =
-          let both = no_fault_here all (codes "default") (codes "lastChanceIndex") x sound e in
-          chance_by x x.value name refl both.0 both.1 k
-
-  default_is_index : (name : List ℕ) → value_of all (codes "default") (codes "defaultDatabase") ≡ Some name → is_index all name ≡ true
-  default_is_index name h = by (entry_at (codes "default") (codes "defaultDatabase") all) refl h
-    where
-      by : (o : Option MergedEntry) → entry_at (codes "default") (codes "defaultDatabase") all ≡ o → stated (option_or (value_by o) (value_by o)) ≡ Some name → is_index all name ≡ true
-      by None e k = absurd (none_some k)
-      by (Some x) e k =
-          let both = no_fault_here all (codes "default") (codes "defaultDatabase") x sound e in
-          default_by x x.value name refl both.0 both.1 k
-
--- ---- by settings in force
-
 module _ (force : List Kept) (h : AreLoaded force) where
-  stanzas : EntriesAreBrief (entries force)
-  stanzas =
-      some_of (λ (kept : Kept). kept.file == 3) force
-      (subst (λ (l : List Kept). AllByRecursion (λ (kept : Kept). IsBrief kept.stanza) l) h.same h.is.stanzas)
+  stanzas : AreBrief force
+  stanzas = subst AreBrief h.same h.is.stanzas
 
   no_fault : first_fault (entries force) ≡ None
   no_fault = subst (λ (l : List Kept). first_fault (entries l) ≡ None) h.same h.is.limits.sound
 
   pub default_brief : IsBrief (default_index force)
-  default_brief = by (value_of (entries force) (codes "default") (codes "defaultDatabase")) refl
-    where
-      by : (o : Option (List ℕ)) → value_of (entries force) (codes "default") (codes "defaultDatabase") ≡ o → IsBrief (unwrap_or o (codes "main"))
-      by None e = main_brief
-      by (Some name) e = index_brief (entries force) name stanzas (default_is_index (entries force) no_fault name e)
+  default_brief = kept.default_brief force stanzas no_fault
 
   pub home_brief : (index name : List ℕ) → home force index ≡ Some name → IsBrief name
-  home_brief index name e =
-      index_brief (entries force) name stanzas
-      (by_test (is_index (entries force) index)
-      (λ t. subst (λ (n : List ℕ). is_index (entries force) n ≡ true) (some_same (rw t at e)) t)
-      (λ t. chance_is_index (entries force) no_fault name (rw t at e)))
-
--- ---- source types
-
-abbrev IsBriefValue : Value → Type 0
-IsBriefValue v = IsBrief (name_or (codes "unknown") (Some v))
-
-unknown_brief : IsBrief (codes "unknown")
-unknown_brief = let short : 7 ≤ 1024 = omega arith in short
-
-name_is : (text : List ℕ) (v : Value) → option_map value.Name (name text) ≡ Some v → IsBriefValue v
-name_is text v e =
-    by_test (nat_le 1 (length text) && nat_le (length text) 1024)
-    (λ t. (let brief : length text ≤ 1024 = leb-true (length text) 1024 (both_are (nat_le 1 (length text)) (nat_le (length text) 1024) t).1 in
-    subst IsBriefValue (some_same (rw t at e)) brief))
-    (λ t. absurd (none_some (rw t at e)))
-
-nothing_is : (v : Value) → v ≡ value.Nothing → IsBriefValue v
-nothing_is v e = subst IsBriefValue (sym e) unknown_brief
-
--- an entry with this key
-value_is : (transforms zones : List MergedEntry) (e : MergedEntry) (v : Value) → e.key ≡ codes "sourcetype" → IsOfKind transforms zones (entry_kind e) e v → IsBriefValue v
-unfolding event_kind time_kind class_kind
-value_is transforms zones e v k h =
-    by_test (is_ignored e.stanza)
-    (λ t. nothing_is v (rw t at h))
-    (λ t. by_test (length e.value == 0)
-    (λ u. nothing_is v (rw (t, k, u) at h))
-    (λ u. name_is e.value v (rw (t, k, u) at h)))
-
-found_brief : (transforms zones es : List MergedEntry) (props : List PropsEntry) (stanza : List ℕ) (v : Value) → AreRead transforms zones es props →
-    value_in stanza (codes "sourcetype") props ≡ Some v → IsBriefValue v
-found_brief transforms zones [] [] stanza v h e = absurd (none_some e)
-found_brief transforms zones [] (x ∷ props) stanza v h e = absurd h
-found_brief transforms zones (s ∷ es) [] stanza v h e = absurd h
-found_brief transforms zones (s ∷ es) (x ∷ props) stanza v h e =
-    by_test (bytes_eq stanza x.stanza && bytes_eq (codes "sourcetype") x.key)
-    (λ t. (let key : codes "sourcetype" ≡ x.key = same_bytes (codes "sourcetype") x.key (both_are (bytes_eq stanza x.stanza) (bytes_eq (codes "sourcetype") x.key) t).1 in
-    subst IsBriefValue (some_same (rw t at e)) (value_is transforms zones s x.value (sym h.0.key ∙ sym key) h.0.value)))
-    (λ t. found_brief transforms zones es props stanza v h.1 (rw t at e))
-
-chosen_brief : (force : List Kept) (props : List PropsEntry) (source : List ℕ) (found : Option Value) → AreProps force props →
-    IsChosen props (HoldsForSource props source) (codes "sourcetype") found → IsBrief (name_or (codes "unknown") found)
-chosen_brief force props source None h c = unknown_brief
-chosen_brief force props source (Some v) h c = found_brief h.transforms h.zones h.props props c.stanza v h.read c.has
-
-type_brief : (force : List Kept) (props : List PropsEntry) (given : Option (List ℕ)) (source sourcetype : List ℕ) → AreProps force props →
-    IfSome given IsBrief → IsSourceType props given source sourcetype → IsBrief sourcetype
-type_brief force props (Some name) source sourcetype h b is = subst IsBrief (sym is) b
-type_brief force props None source sourcetype h b is = subst IsBrief (sym is.2) (chosen_brief force props source is.0 h is.1)
+  home_brief = kept.home_brief force stanzas no_fault
 
 -- whoever chooses settings chooses a brief source type
 pub source_type_brief : (choose : Chooser) (force : List Kept) (meta : ChannelMeta) → IsChooser choose → AreLoaded force → IfSome meta.sourcetype IsBrief →
@@ -228,6 +32,7 @@ pub source_type_brief : (choose : Chooser) (force : List Kept) (meta : ChannelMe
 source_type_brief choose force meta chooser h b =
     let found = settings_exist h.config.props meta in
     let same : AreSame found.0 (choose h.config.kept meta) = chooser h.config h.is meta found.0 found.1 in
-    let brief : IsBrief found.0.sourcetype = type_brief h.config.kept h.config.props meta.sourcetype meta.source found.0.sourcetype h.is.props b found.1.sourcetype in
+    let brief : IsBrief found.0.sourcetype =
+    kept.source_type_brief h.config.kept h.config.props meta.sourcetype meta.source found.0.sourcetype h.is.props b found.1.sourcetype in
     subst (λ (l : List Kept). IsBrief (choose l meta).sourcetype) h.same
     (subst IsBrief (ap (λ (s : Settings). s.sourcetype) same.others) brief)

@@ -1,11 +1,11 @@
 -- What is made of the items of a history's log is the state that the history leads to, and no such log is refused.
 use Rattle.std.proofs.Common.{◌≡◌, inl, inr, ℕ, true, false, List, [], ◌∷◌, map, refl, sym, ap, subst, ◌∙◌}
-use Rattle.std.specs.Prelude.{Option, None, is_some}
+use Rattle.std.specs.Prelude.{Option, None, is_some, reverse}
 use Rattle.std.specs.List.{AllByRecursion, AllZip, Any}
 use Rattle.std.specs.List.Sorted.{IsPermutation}
 use Rattle.std.proofs.lemmas.Cmp.{nat_list_cmp_total}
 use Rattle.std.proofs.lemmas.List.Elements.{All-from_recursion}
-use Rattle.std.proofs.lemmas.List.Sorted.{IsPermutation-sym, IsPermutation-trans, ranks_by}
+use Rattle.std.proofs.lemmas.List.Sorted.{IsPermutation-reverse, IsPermutation-sym, IsPermutation-trans, ranks_by}
 use Rattle.ix_carry.specs.Form.{IsCarryOf}
 use Rattle.ix_carry.specs.Spelling.{spell}
 use Rattle.ix_indexes.specs.Names.{CommandBringsLimits, BringsLimits, HasName}
@@ -14,6 +14,7 @@ use Rattle.ix_indexes.proofs.Volumes.{names_are_no_volumes}
 use Rattle.ix_items.specs.declared.items.Entry.{Entry}
 use Rattle.ix_items.specs.declared.items.Item.{Item}
 use Rattle.ix_items.specs.declared.items.Kept.{Kept}
+use Rattle.ix_kept.proofs.Brief.{source_type_brief}
 use Rattle.ix_kept.specs.Configs.{IsChooser, IsConfig, layer_in}
 use Rattle.ix_kept.specs.Taken.{IsTakenCommand, AreGiven}
 use Rattle.ix_life.specs.Retired.{HaveStanzas}
@@ -60,7 +61,6 @@ use Rattle.ix_recall.proofs.Ledgers.{permuted}
 use Rattle.ix_recall.proofs.Lives.{KeepsLife, lives_kept}
 use Rattle.ix_recall.proofs.Said.{all_said}
 use Rattle.ix_recall.proofs.Shuffles.{sorted_same}
-use Rattle.ix_recall.proofs.SourceTypes.{source_type_brief}
 
 -- ---- what was gathered of a log
 
@@ -227,7 +227,9 @@ holds choose history said held listed log r =
       };
       storage = record {
         shelves_are = shelves_seen choose history g held is r (record { stanzas = stanzas; set_is = set }) log.given;
-        ledger_is = subst (λ l. IsPermutation l m.catalog.ledger) (sym r.ledger) (ledger_moved choose history g.entries is.entries);
+        ledger_is = subst (λ l. IsPermutation l m.catalog.ledger) (sym r.ledger)
+            (IsPermutation-trans (reverse g.entries) g.entries m.catalog.ledger (IsPermutation-sym g.entries (reverse g.entries) (IsPermutation-reverse g.entries))
+            (ledger_moved choose history g.entries is.entries));
         last_is = r.last ∙ is.last;
         tick_is = r.tick ∙ is.tick;
       };

@@ -4,7 +4,6 @@ pub mod Shuffles
 pub mod Turns
 pub mod Refusals
 pub mod Defaults
-pub mod SourceTypes
 pub mod Lives
 pub mod Said
 pub mod Gathers
@@ -12,3 +11,4 @@ pub mod Ledgers
 pub mod CarryForms
 pub mod IndexBuckets
 pub mod Holding
+pub mod Firsts

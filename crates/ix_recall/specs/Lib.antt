@@ -1,5 +1,6 @@
 pub mod Gathered
 pub mod Recalled
+pub mod First
 pub mod Faults
 pub mod Standing
 pub mod Laws

@@ -1,5 +1,5 @@
 -- The state in memory that is made of what the items of a log say.
-use Rattle.std.specs.Prelude.{◌≡◌, ◌⊎◌, ℕ, if◌then◌else◌, List, [], Option, Some, None, bytes_eq}
+use Rattle.std.specs.Prelude.{◌≡◌, ◌⊎◌, ℕ, if◌then◌else◌, List, [], reverse, Option, Some, None, bytes_eq}
 use Rattle.std.specs.List.{AllByRecursion, AllZip, Any, filter_map}
 use Rattle.std.specs.List.Sorted.{IsPermutation, IsSortedBy, IsSortedByKey}
 use Rattle.std.specs.Ordering.{nat_cmp}
@@ -125,7 +125,8 @@ pub record IsRecalled (g : Gathered) (held : Held) : Type 0 where
   pub channels : AreResumed g.channels held.config.props held.channels.items
   pub spots : AreSorted spot_path g.spots held.spots.items
   pub indexes : AreShelved g.indexes g.buckets held.config.limits held.view.indexes
-  pub ledger : held.view.ledger ≡ g.entries
+  -- the items were taken from the last one on
+  pub ledger : held.view.ledger ≡ reverse g.entries
   pub settled : held.view.settled ≡ g.counts.settled
   pub nulled : held.view.nulled ≡ g.counts.nulled
   pub dropped : held.view.dropped ≡ g.counts.dropped

@@ -11,4 +11,4 @@ mod sorting;
 
 pub use faults::RecallFault;
 pub use laws::logs_are_held;
-pub use recalling::recall;
+pub use recalling::{Recalled, recall};

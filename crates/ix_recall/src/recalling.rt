@@ -1,8 +1,9 @@
 //! The state of a store from the items of its log. A mount calls `recall` once the log is read.
 
-ghost use Rattle.std.specs.Prelude.{◌≡◌, ℕ, List, Option, IfOk, IsErrOf};
+ghost use Rattle.std.specs.Prelude.{◌≡◌, ℕ, List, reverse, Option, IfOk, IsErrOf};
+ghost use Rattle.std.specs.List.{filter_map, list_any};
 ghost use Rattle.ix_book.specs.Book.{empty, replay};
-ghost use Rattle.ix_items.specs.declared.items.Item.{Item};
+ghost use Rattle.ix_items.specs.declared.items.Item.{Item as Logged};
 ghost use Rattle.ix_kept.specs.Configs.{IsChooser};
 ghost use Rattle.ix_kept.specs.Taken.{AreGiven};
 ghost use Rattle.ix_machine.specs.Given.{Chooser};
@@ -11,6 +12,8 @@ ghost use Rattle.ix_replay.specs.Fits.{fits};
 ghost use Rattle.ix_snapshot.specs.Snap.{left};
 ghost use Rattle.ix_state.specs.Held.{Holds};
 ghost use Rattle.ix_store.specs.Written.{over};
+ghost use Rattle.ix_recall.specs.First.{is_first, is_moments};
+ghost use Rattle.ix_recall.specs.Gathered.{entry_in};
 ghost use Rattle.ix_recall.specs.Recalled.{IsRecalled, IsNoState};
 
 use crate::channels::channels_of;
@@ -18,11 +21,30 @@ use crate::faults::RecallFault;
 use crate::gathering::{Gathered, gather};
 use crate::indexes::indexes_of;
 use crate::sorting::spots_by_path;
+use ix_base::Sequence;
+use ix_items::Item;
 use ix_kept::config_of;
-use ix_life::View;
+use ix_life::{EntryList, View};
 use ix_replay::Replayed;
 use ix_state::Held;
 use std::alloc::Global;
+
+/// The state that the items of a log lead to.
+#[derive(Drop)]
+pub struct Recalled {
+    pub held: Held,
+    /// Whether it is that of a store that has accepted nothing.
+    pub fresh: bool,
+}
+
+/// The entries, the last one first.
+fn turned(entries: EntryList) -> EntryList
+    ensures { result ≡ reverse entries }
+{
+    let mut entries = entries.into_vec();
+    entries.reverse();
+    Sequence::from_vec(entries)
+}
 
 /// The state of what was gathered.
 fn hold(alloc: Global, gathered: Gathered) -> Result<Held, RecallFault>
@@ -51,7 +73,7 @@ fn hold(alloc: Global, gathered: Gathered) -> Result<Held, RecallFault>
         spots: spots_by_path(spots.into_vec()),
         view: View {
             indexes,
-            ledger: entries,
+            ledger: turned(entries),
             settled: counts.settled,
             nulled: counts.nulled,
             dropped: counts.dropped,
@@ -63,15 +85,52 @@ fn hold(alloc: Global, gathered: Gathered) -> Result<Held, RecallFault>
     })
 }
 
+/// Whether an item says moments, as those of each command do.
+fn is_moments(item: &Item) -> bool
+    ensures { result ≡ is_moments item.now }
+{
+    match item {
+        Item::Moments { .. } => true,
+        Item::Settings { .. }
+        | Item::Run { .. }
+        | Item::Channel { .. }
+        | Item::Ended { .. }
+        | Item::Bucket { .. }
+        | Item::Gone { .. }
+        | Item::Ledger { .. }
+        | Item::Counts { .. }
+        | Item::Spot { .. }
+        | Item::NextFile { .. }
+        | Item::Removals { .. }
+        | Item::NextId { .. } => false,
+    }
+}
+
+/// Whether one of them does.
+fn say_moments(items: &[Item]) -> bool
+    ensures { result ≡ list_any is_moments items.now }
+{
+    items.iter().any(|item| is_moments(item))
+}
+
 /// The state that the history of a log leads to. `Unsound` comes of no log that a history leaves: its settings cannot be loaded,
 /// or what is carried of a channel is no carry.
-pub fn recall(alloc: Global, book: Replayed) -> Result<Held, RecallFault>
-    ensures done { IfOk result (λ held. (choose : Chooser) (history : List Order) (run : ℕ) (removed : Option Item) →
+pub fn recall(alloc: Global, book: Replayed) -> Result<Recalled, RecallFault>
+    ensures done { IfOk result (λ recalled. (choose : Chooser) (history : List Order) (run : ℕ) (removed : Option Logged) →
         IsChooser choose → AreGiven history → fits (replay book empty) → replay book empty ≡ over run removed (left choose history).book →
-        Holds choose history held) }
-    ensures sound { IsErrOf result RecallFault.Unsound → (choose : Chooser) (history : List Order) (run : ℕ) (removed : Option Item) →
+        Holds choose history recalled.held) }
+    ensures fresh { IfOk result (λ recalled. (choose : Chooser) (history : List Order) (run : ℕ) (removed : Option Logged) →
+        replay book empty ≡ over run removed (left choose history).book → is_first history ≡ recalled.fresh) }
+    // The ledger stands as its items do.
+    ensures ledger { IfOk result (λ recalled. recalled.held.view.ledger ≡ filter_map entry_in book) }
+    ensures sound { IsErrOf result RecallFault.Unsound → (choose : Chooser) (history : List Order) (run : ℕ) (removed : Option Logged) →
         IsChooser choose → AreGiven history → fits (replay book empty) → replay book empty ≡ over run removed (left choose history).book → ⊥ }
 {
-    let gathered = gather(alloc, book.into_items())?;
-    hold(alloc, gathered)
+    let items = book.into_items();
+    let fresh = !say_moments(items.as_slice());
+    let gathered = gather(alloc, items)?;
+    match hold(alloc, gathered) {
+        Ok(held) => Ok(Recalled { held, fresh }),
+        Err(fault) => Err(fault),
+    }
 }

@@ -21,7 +21,7 @@ returns-clause-recalled c =
       indexes =
           subst (λ (names : List (List ℕ)). AreShelved names c.args.gathered.buckets limits c.in_ok-indexes.indexes) c.into_vec.ensures
           (subst (λ (placed : List Placed). AreShelved c.into_vec.result.items placed limits c.in_ok-indexes.indexes) c.as_slice.ensures c.in_ok-indexes.ensures);
-      ledger = refl;
+      ledger = c.turned.ensures;
       settled = refl;
       nulled = refl;
       dropped = refl;

@@ -1,27 +1,42 @@
-use Rattle.std.proofs.Common.{subst, ap, ◌∙◌}
-use Rattle.std.proofs.lemmas.Result.{IfOk-weaker}
-use Rattle.std.specs.Prelude.{List}
+use Rattle.std.proofs.Common.{◌≡◌, Bool, List, subst, sym, ap, ◌∙◌}
+use Rattle.std.specs.Prelude.{not, reverse, IsErrOf, Err}
+use Rattle.std.specs.List.{list_any}
 use Rattle.ix_items.specs.declared.items.Item.{Item}
 use Rattle.ix_replay.specs.Lists.{AreListed}
 use Rattle.ix_recall.specs.declared.gathering.Gathered.{Gathered}
+use Rattle.ix_recall.specs.First.{is_moments}
 use Rattle.ix_recall.specs.Gathered.{nothing, all_taken}
 use Rattle.ix_recall.specs.Recalled.{IsRecalled, IsNoState}
+use Rattle.ix_recall.proofs.Firsts.{first_is, turned}
 use Rattle.ix_recall.proofs.Holding.{holds, not_refused}
 use Rattle.ix_recall.proofs.recalling.recall.Goals as goal
 
-pub returns : goal.returns
-returns c =
-    let book : List Item = c.args.book in
-    let same = c.into_items.ensures.same in
-    let listed : AreListed book = subst AreListed same c.into_items.ensures.lists.listed in
+same_fault : {T E : Type 0} {a b : E} → IsErrOf {T = T} {E = E} (Err a) b → a ≡ b
+same_fault e = cc
+
+pub returns-in-Ok-clause-done : goal.returns-in-Ok-clause-done
+returns-in-Ok-clause-done c = λ choose history run removed chooser given fit is.
+    let same = c.into_items-items.ensures.same in
+    let listed : AreListed c.args.book = subst AreListed same c.into_items-items.ensures.lists.listed in
     let gathered = c.in_ok-gathered.ensures ∙ ap (λ l. all_taken l nothing) same in
-    record {
-      done = IfOk-weaker c.hold.result _ _
-          (λ held recalled choose history run removed chooser given fit is.
-          holds choose history book held listed (record { chooser = chooser; given = given; fits_it = fit; run = run; removed = removed; is = is })
-          (subst (λ (g : Gathered). IsRecalled g held) gathered recalled))
-          c.hold.ensures.recalled;
-      sound = λ err choose history run removed chooser given fit is.
-          not_refused choose history book listed (record { chooser = chooser; given = given; fits_it = fit; run = run; removed = removed; is = is })
-          (subst IsNoState gathered (c.hold.ensures.unsound err));
-    }
+    holds choose history c.args.book c.in-Ok.held listed (record { chooser = chooser; given = given; fits_it = fit; run = run; removed = removed; is = is })
+    (subst (λ (g : Gathered). IsRecalled g c.in-Ok.held) gathered c.in-Ok.ensures.recalled)
+
+pub returns-in-Ok-clause-fresh : goal.returns-in-Ok-clause-fresh
+returns-in-Ok-clause-fresh c = λ choose history run removed is.
+    let same = c.into_items-items.ensures.same in
+    first_is choose history run removed c.args.book (record { stands = sym is; listed = subst AreListed same c.into_items-items.ensures.lists.listed })
+    ∙ ap not (sym (c.say_moments-fresh.ensures ∙ ap (list_any is_moments) (c.as_slice.ensures.value ∙ same)))
+
+pub returns-in-Ok-clause-ledger : goal.returns-in-Ok-clause-ledger
+returns-in-Ok-clause-ledger c =
+    let gathered = c.in_ok-gathered.ensures ∙ ap (λ l. all_taken l nothing) c.into_items-items.ensures.same in
+    c.in-Ok.ensures.recalled.ledger ∙ ap (λ (g : Gathered). reverse g.entries) gathered ∙ turned c.args.book
+
+pub returns-in-Err-clause-sound : goal.returns-in-Err-clause-sound
+returns-in-Err-clause-sound c = λ err choose history run removed chooser given fit is.
+    let same = c.into_items-items.ensures.same in
+    let listed : AreListed c.args.book = subst AreListed same c.into_items-items.ensures.lists.listed in
+    let gathered = c.in_ok-gathered.ensures ∙ ap (λ l. all_taken l nothing) same in
+    not_refused choose history c.args.book listed (record { chooser = chooser; given = given; fits_it = fit; run = run; removed = removed; is = is })
+    (subst IsNoState gathered (c.in-Err.ensures.unsound (ap (λ f. Err f) (same_fault err))))
