@@ -1,4 +1,5 @@
 pub mod Ending
+pub mod Undamaged
 pub mod SameKept
 pub mod Joining
 pub mod Tasks

@@ -1,13 +1,15 @@
 //! The events of an index are exported from an open store. `run` calls it.
 
-ghost use Rattle.std.specs.Prelude.{◌≡◌, ◌≤◌, ℕ, List, [], length, true, false, OnOk, OnErr, IfErr, IsErrOf};
+ghost use Rattle.std.specs.Prelude.{◌≡◌, ◌≤◌, ℕ, List, [], length, true, false, Some, Err, OnOk, OnErr, IfErr, IsErrOf};
 ghost use Rattle.std.specs.List.{AllByRecursion};
 ghost use Rattle.ix_base.specs.Faults.{Rose};
 ghost use Rattle.ix_base.specs.Told.{HasWritten, HasBegun};
+ghost use Rattle.ix_base.specs.declared.files.File.{File};
+ghost use Rattle.ix_disk.specs.Image.{Image};
 ghost use Rattle.ix_machine.specs.Given.{Chooser};
 ghost use Rattle.ix_machine.specs.Step.{after};
 ghost use Rattle.ix_machine.specs.declared.commands.Order.{Order};
-ghost use Rattle.ix_store.specs.Exporting.{is_seen, HaveRecords};
+ghost use Rattle.ix_store.specs.Exporting.{is_seen};
 ghost use Rattle.ix_store.specs.Holding.{Holds};
 ghost use Rattle.indexd_store.specs.Ends.{Ends};
 ghost use Rattle.indexd_store.specs.Stops.{loses_in, is_input};
@@ -26,9 +28,6 @@ pub(crate) fn export<M: Memory + Drop, D: Disk, W: Sink>(
     range: &Range,
     output: &mut W,
 ) -> Result<(), Stop>
-    // Each event of a history has a record.
-    requires records { (choose : Chooser) (history : List Order) (memory : M) → M.is_chooser choose → AllByRecursion M.takes history → M.holds choose history memory →
-        HaveRecords (after choose history) }
     ensures ends { (choose : Chooser) (history : List Order) (base : ℕ) →
         Holds D.Disk M.Book.fits M.holds choose history base (length history) store.old disk.old →
         Ends (loses_in result) D.Disk M.Book.fits M.holds choose history base (λ orders. orders ≡ []) store.new disk.old disk.new }
@@ -43,6 +42,9 @@ pub(crate) fn export<M: Memory + Drop, D: Disk, W: Sink>(
     ensures begun { OnErr result ((choose : Chooser) (history : List Order) (base : ℕ) → M.is_chooser choose → AllByRecursion M.takes history →
         Holds D.Disk M.Book.fits M.holds choose history base (length history) store.old disk.old →
         HasExported HasBegun D.Disk choose history index.now range.now disk.new (W.given output.old) (W.given output.new)) }
+    // A disk that keeps what was committed is not damaged.
+    ensures undamaged { (file : File) (at : ℕ) → result ≡ Err (Stop.Damaged file at) → (choose : Chooser) (history : List Order) (base : ℕ) → M.is_chooser choose →
+        AllByRecursion M.takes history → Holds D.Disk M.Book.fits M.holds choose history base (length history) store.old disk.old → (image : Image) → D.Disk.seen disk.new ≡ Some image → ⊥ }
     ensures later { D.Disk.faults disk.old ≤ D.Disk.faults disk.new }
     ensures cause { IsErrOf result Stop.Disk → Rose (D.Disk.faults disk.old) (D.Disk.faults disk.new) }
     ensures grown { W.faults output.old ≤ W.faults output.new }

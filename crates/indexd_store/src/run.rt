@@ -1,15 +1,15 @@
 //! A run over a store: it is opened, its task is given to it and committed, and the text is written. The program calls it.
 
-ghost use Rattle.std.specs.Prelude.{◌≡◌, ◌≤◌, ℕ, ℤ, List, length, true, false, Some, IfOk, IfErr, OnOk, IsErrOf};
+ghost use Rattle.std.specs.Prelude.{◌≡◌, ◌≤◌, ℕ, ℤ, List, length, true, false, Some, Err, IfOk, IfErr, OnOk, IsErrOf};
 ghost use Rattle.std.specs.List.{AllByRecursion};
 ghost use Rattle.ix_base.specs.Faults.{Rose};
 ghost use Rattle.ix_base.specs.Told.{HasWritten, HasBegun};
+ghost use Rattle.ix_base.specs.declared.files.File.{File};
 ghost use Rattle.ix_disk.specs.Image.{Image};
 ghost use Rattle.ix_keep.specs.Snapshot.{IsOver};
 ghost use Rattle.ix_machine.specs.Given.{Chooser};
 ghost use Rattle.ix_machine.specs.Step.{after};
 ghost use Rattle.ix_machine.specs.declared.commands.Order.{Order};
-ghost use Rattle.ix_store.specs.Exporting.{HaveRecords};
 ghost use Rattle.ix_store.specs.Holding.{Holds};
 ghost use Rattle.indexd_store.specs.Asked.{Asks};
 ghost use Rattle.indexd_store.specs.Ends.{Ends};
@@ -61,6 +61,8 @@ fn give_task<M: Memory + Drop, D: Disk>(
     ensures why { IfErr result (λ stop. (choose : Chooser) (history : List Order) (base : ℕ) → M.is_chooser choose → AllByRecursion M.takes history →
         Holds D.Disk M.Book.fits M.holds choose history base (length history) store.old disk.old →
         IsWhy choose history task.entry moment stop) }
+    ensures undamaged { (file : File) (at : ℕ) → result ≡ Err (Stop.Damaged file at) → (choose : Chooser) (history : List Order) (base : ℕ) → M.is_chooser choose →
+        AllByRecursion M.takes history → Holds D.Disk M.Book.fits M.holds choose history base (length history) store.old disk.old → (image : Image) → D.Disk.seen disk.new ≡ Some image → ⊥ }
     ensures later { D.Disk.faults disk.old ≤ D.Disk.faults disk.new }
     ensures cause { IsErrOf result Stop.Disk → Rose (D.Disk.faults disk.old) (D.Disk.faults disk.new) }
     ensures quiet { IfErr result (λ stop. is_output stop ≡ false) }
@@ -106,6 +108,8 @@ fn give_and_say<M: Memory + Drop, D: Disk, W: Sink>(
         Holds D.Disk M.Book.fits M.holds choose history base (length history) store.old disk.old →
         IsWhy choose history task.entry moment stop) }
     ensures unread { IfErr result (λ stop. is_input stop ≡ false) }
+    ensures undamaged { (file : File) (at : ℕ) → result ≡ Err (Stop.Damaged file at) → (choose : Chooser) (history : List Order) (base : ℕ) → M.is_chooser choose →
+        AllByRecursion M.takes history → Holds D.Disk M.Book.fits M.holds choose history base (length history) store.old disk.old → (image : Image) → D.Disk.seen disk.new ≡ Some image → ⊥ }
     ensures later { D.Disk.faults disk.old ≤ D.Disk.faults disk.new }
     ensures cause { IsErrOf result Stop.Disk → Rose (D.Disk.faults disk.old) (D.Disk.faults disk.new) }
     ensures grown { W.faults output.old ≤ W.faults output.new }
@@ -128,8 +132,6 @@ fn carry_out<M: Memory + Drop, D: Disk, W: Sink>(
 ) -> Result<(), Stop>
     requires over { IsOver D.Disk store.old.keeper disk.old }
     requires takes { AllByRecursion M.takes (orders_in task moment) }
-    requires records { (choose : Chooser) (history : List Order) (memory : M) → M.is_chooser choose → AllByRecursion M.takes history → M.holds choose history memory →
-        HaveRecords (after choose history) }
     ensures ends { (choose : Chooser) (history : List Order) (base : ℕ) → M.is_chooser choose → AllByRecursion M.takes history →
         Holds D.Disk M.Book.fits M.holds choose history base (length history) store.old disk.old →
         Ends (loses_in result) D.Disk M.Book.fits M.holds choose history base (Gave result (orders_in task.entry moment)) store.new disk.old disk.new }
@@ -147,6 +149,8 @@ fn carry_out<M: Memory + Drop, D: Disk, W: Sink>(
         Holds D.Disk M.Book.fits M.holds choose history base (length history) store.old disk.old →
         IsWhy choose history task.entry moment stop) }
     ensures unread { IfErr result (λ stop. is_input stop ≡ false) }
+    ensures undamaged { (file : File) (at : ℕ) → result ≡ Err (Stop.Damaged file at) → (choose : Chooser) (history : List Order) (base : ℕ) → M.is_chooser choose →
+        AllByRecursion M.takes history → Holds D.Disk M.Book.fits M.holds choose history base (length history) store.old disk.old → (image : Image) → D.Disk.seen disk.new ≡ Some image → ⊥ }
     ensures later { D.Disk.faults disk.old ≤ D.Disk.faults disk.new }
     ensures cause { IsErrOf result Stop.Disk → Rose (D.Disk.faults disk.old) (D.Disk.faults disk.new) }
     ensures grown { W.faults output.old ≤ W.faults output.new }
@@ -169,9 +173,6 @@ pub fn run_task<M: Memory + Drop, D: Disk, C: Clock, W: Sink>(
 ) -> Result<(), Stop>
     requires settings { (moment : ℤ) → M.takes (configuring config moment) }
     requires takes { (moment : ℤ) → AllByRecursion M.takes (orders_in task moment) }
-    // Each event of a history has a record.
-    requires records { (choose : Chooser) (history : List Order) (memory : M) → M.is_chooser choose → AllByRecursion M.takes history → M.holds choose history memory →
-        HaveRecords (after choose history) }
     // A run that is done has given the task behind the settings and written its text, and every image at the exit has all.
     ensures done { OnOk result ((choose : Chooser) (history : List Order) (k : ℕ) → M.is_chooser choose → AllByRecursion M.takes history →
         Begins D.Disk M.Book.fits choose history k disk.old → (image : Image) → D.Disk.seen disk.old ≡ Some image →
@@ -184,7 +185,10 @@ pub fn run_task<M: Memory + Drop, D: Disk, C: Clock, W: Sink>(
         (HasHalted D.Disk choose task.entry stop (C.ahead clock.new) (W.given output.old) (W.given output.new) disk.new) disk.old disk.new) }
     // Only an export, and an output that fails, leave a part of a text.
     ensures quiet { IfErr result (λ stop. says task.entry stop ≡ false → W.given output.new ≡ W.given output.old) }
-    // What is on the disk is sound.
+    // What is on the disk is not damaged where it keeps what was committed,
+    ensures undamaged { (file : File) (at : ℕ) → result ≡ Err (Stop.Damaged file at) → (choose : Chooser) (history : List Order) (k : ℕ) → M.is_chooser choose → AllByRecursion M.takes history →
+        Begins D.Disk M.Book.fits choose history k disk.old → (image : Image) → D.Disk.seen disk.old ≡ Some image → (later : Image) → D.Disk.seen disk.new ≡ Some later → ⊥ }
+    // and it is sound.
     ensures sound { IsErrOf result Stop.Unsound → (choose : Chooser) (history : List Order) (k : ℕ) → M.is_chooser choose → AllByRecursion M.takes history →
         Begins D.Disk M.Book.fits choose history k disk.old → (image : Image) → D.Disk.seen disk.old ≡ Some image → ⊥ }
     ensures unread { IfErr result (λ stop. is_input stop ≡ false) }

@@ -286,3 +286,16 @@ module _ {D : Type 0} (g : Ghosts D) {M : Type 0} (fits : Book → Type 0) (hold
   cut h base k store first last (Err (stops.Given (faults.Commit fault))) filled ending is feeds = record { given = feeds.given; rest = feeds.rest; parts = feeds.parts; halts = feeds.halts }
   cut h base k store first last (Err stops.Input) filled ending is feeds = absurd (cc)
   cut h base k store first last (Err stops.Endless) filled ending is feeds = absurd (cc)
+
+  -- ---- what store and disk hold behind a run in which the disk did not fail
+
+  pub fed_holds : (h : List Order) (base k : ℕ) (store : Store M) (first last : D) (result : Result Unit RunFault) (filled ending : List Order) → is_run_cut result ≡ false → Feeds g fits holds choose h base k store first last result filled ending →
+      (now : List Order) × (count : ℕ) × Holds g fits holds choose now base count store last
+  fed_holds h base k store first last (Ok done) filled ending uncut feeds = (given_all choose h (filled ++ ending), feeds.count, feeds.hold)
+  fed_holds h base k store first last (Err (stops.Given (faults.Refused refusal))) filled ending uncut feeds = (given_all choose h feeds.given, feeds.halts.1.count, feeds.halts.1.hold)
+  fed_holds h base k store first last (Err (stops.Given (faults.Commit fault))) filled ending uncut feeds = absurd (cc)
+  fed_holds h base k store first last (Err stops.Input) filled ending uncut feeds = (given_all choose h filled, feeds.count, feeds.hold)
+  fed_holds h base k store first last (Err stops.Endless) filled ending uncut feeds = (given_all choose h filled, feeds.count, feeds.hold)
+
+pub cut_at : (result : Result Unit RunFault) (fault : CommitFault) → is_run_cut result ≡ false → result ≡ Err (stops.Given (faults.Commit fault)) → ⊥
+cut_at result fault uncut is = cc (sym uncut ∙ ap is_run_cut is)

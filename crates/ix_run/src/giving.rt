@@ -1,8 +1,10 @@
 //! Commands are given to a store. Each command of the program gives its own so.
 
-ghost use Rattle.std.specs.Prelude.{◌≡◌, ◌≤◌, ℕ, List, [], length, true, IfOk, IfErr, OnOk, OnErr};
+ghost use Rattle.std.specs.Prelude.{◌≡◌, ◌≤◌, ℕ, List, [], length, true, Some, Err, IfOk, IfErr, OnOk, OnErr};
 ghost use Rattle.std.specs.List.{AllByRecursion};
 ghost use Rattle.ix_base.specs.Faults.{Rose};
+ghost use Rattle.ix_base.specs.declared.files.File.{File};
+ghost use Rattle.ix_disk.specs.Image.{Image};
 ghost use Rattle.ix_keep.specs.Snapshot.{IsOver};
 ghost use Rattle.ix_machine.specs.Given.{Chooser};
 ghost use Rattle.ix_machine.specs.declared.answers.Refusal.{Refusal as Refused};
@@ -36,6 +38,8 @@ fn commit_due<M: Memory + Drop, D: Disk>(
         HasStood D.Disk M.Book.fits choose history k disk.old disk.new }
     ensures over { OnOk result (IsOver D.Disk store.new.keeper disk.new) }
     ensures closed { OnErr result (store.new.keeper.closed ≡ true) }
+    ensures undamaged { (file : File) (at : ℕ) → result ≡ Err (CommitFault.Damaged file at) → (choose : Chooser) (history : List Order) (base k : ℕ) →
+        Holds D.Disk M.Book.fits M.holds choose history base k store.old disk.old → (image : Image) → D.Disk.seen disk.new ≡ Some image → ⊥ }
     ensures later { D.Disk.faults disk.old ≤ D.Disk.faults disk.new }
     ensures cause { IfErr result (λ fault. fault ≡ CommitFault.Disk → Rose (D.Disk.faults disk.old) (D.Disk.faults disk.new)) }
 {
@@ -65,6 +69,9 @@ pub fn give<M: Memory + Drop, D: Disk>(
         IsNotGiven D.Disk M.Book.fits M.holds choose history base k (record { command = command; moment = moment }) store.old fault store.new disk.old disk.new) }
     ensures over { OnOk result (IsOver D.Disk store.new.keeper disk.new) }
     ensures still { IfErr result (λ fault. (refusal : Refused) → fault ≡ GiveFault.Refused refusal → IsOver D.Disk store.new.keeper disk.new) }
+    // A disk that keeps what was committed is not damaged.
+    ensures undamaged { (file : File) (at : ℕ) → result ≡ Err (GiveFault.Commit (CommitFault.Damaged file at)) → (choose : Chooser) (history : List Order) (base k : ℕ) → M.is_chooser choose →
+        AllByRecursion M.takes history → Holds D.Disk M.Book.fits M.holds choose history base k store.old disk.old → (image : Image) → D.Disk.seen disk.new ≡ Some image → ⊥ }
     ensures later { D.Disk.faults disk.old ≤ D.Disk.faults disk.new }
     ensures cause { IfErr result (λ fault. fault ≡ GiveFault.Commit CommitFault.Disk → Rose (D.Disk.faults disk.old) (D.Disk.faults disk.new)) }
 {
@@ -89,6 +96,9 @@ pub fn commit_all<M: Memory + Drop, D: Disk>(
     ensures stood { (choose : Chooser) (history : List Order) (base k : ℕ) → Holds D.Disk M.Book.fits M.holds choose history base k store.old disk.old →
         HasStood D.Disk M.Book.fits choose history k disk.old disk.new }
     ensures over { OnOk result (IsOver D.Disk store.new.keeper disk.new) }
+    // A disk that keeps what was committed is not damaged.
+    ensures undamaged { (file : File) (at : ℕ) → result ≡ Err (CommitFault.Damaged file at) → (choose : Chooser) (history : List Order) (base k : ℕ) →
+        Holds D.Disk M.Book.fits M.holds choose history base k store.old disk.old → (image : Image) → D.Disk.seen disk.new ≡ Some image → ⊥ }
     ensures later { D.Disk.faults disk.old ≤ D.Disk.faults disk.new }
     ensures cause { IfErr result (λ fault. fault ≡ CommitFault.Disk → Rose (D.Disk.faults disk.old) (D.Disk.faults disk.new)) }
 {

@@ -1,8 +1,10 @@
 //! An input is stored: it is read to its end in blocks, as the stream of a channel. `preview --store` does so.
 
-ghost use Rattle.std.specs.Prelude.{◌≡◌, ◌≤◌, ◌<◌, ℕ, List, [], ◌∷◌, length, map, false, IfOk, IfErr, IsErrOf, vec_len};
+ghost use Rattle.std.specs.Prelude.{◌≡◌, ◌≤◌, ◌<◌, ℕ, List, [], ◌∷◌, length, map, false, Some, Err, IfOk, IfErr, IsErrOf, vec_len};
 ghost use Rattle.std.specs.List.{AllByRecursion};
 ghost use Rattle.ix_base.specs.Faults.{Rose};
+ghost use Rattle.ix_base.specs.declared.files.File.{File};
+ghost use Rattle.ix_disk.specs.Image.{Image};
 ghost use Rattle.ix_keep.specs.Snapshot.{IsOver};
 ghost use Rattle.ix_machine.specs.Given.{Chooser};
 ghost use Rattle.ix_machine.specs.Judged.{is_begun};
@@ -63,6 +65,8 @@ fn give_one<M: Memory + Drop, D: Disk>(
         Holds D.Disk M.Book.fits M.holds choose history base k store.old disk.old →
         Gives D.Disk M.Book.fits M.holds choose history base k store.new disk.old disk.new result (record { command = command; moment = moment } ∷ []) }
     ensures over { is_cut result ≡ false → IsOver D.Disk store.new.keeper disk.new }
+    ensures undamaged { (file : File) (at : ℕ) → result ≡ Err (GiveFault.Commit (CommitFault.Damaged file at)) → (choose : Chooser) (history : List Order) (base k : ℕ) → M.is_chooser choose →
+        AllByRecursion M.takes history → Holds D.Disk M.Book.fits M.holds choose history base k store.old disk.old → (image : Image) → D.Disk.seen disk.new ≡ Some image → ⊥ }
     ensures later { D.Disk.faults disk.old ≤ D.Disk.faults disk.new }
     ensures cause { IfErr result (λ fault. fault ≡ GiveFault.Commit CommitFault.Disk → Rose (D.Disk.faults disk.old) (D.Disk.faults disk.new)) }
 {
@@ -108,6 +112,8 @@ impl Stream {
             Holds D.Disk M.Book.fits M.holds choose history base k store.old disk.old →
             Gives D.Disk M.Book.fits M.holds choose history base k store.new disk.old disk.new result (end_order self.moment ∷ []) }
         ensures over { is_cut result ≡ false → IsOver D.Disk store.new.keeper disk.new }
+        ensures undamaged { (file : File) (at : ℕ) → result ≡ Err (GiveFault.Commit (CommitFault.Damaged file at)) → (choose : Chooser) (history : List Order) (base k : ℕ) → M.is_chooser choose →
+            AllByRecursion M.takes history → Holds D.Disk M.Book.fits M.holds choose history base k store.old disk.old → (image : Image) → D.Disk.seen disk.new ≡ Some image → ⊥ }
         ensures later { D.Disk.faults disk.old ≤ D.Disk.faults disk.new }
         ensures cause { IfErr result (λ fault. fault ≡ GiveFault.Commit CommitFault.Disk → Rose (D.Disk.faults disk.old) (D.Disk.faults disk.new)) }
     {
@@ -131,6 +137,8 @@ impl Stream {
             Holds D.Disk M.Book.fits M.holds choose history base k store.old disk.old →
             Gives D.Disk M.Book.fits M.holds choose history base k store.new disk.old disk.new result (begin_order origin self.moment ∷ []) }
         ensures over { is_cut result ≡ false → IsOver D.Disk store.new.keeper disk.new }
+        ensures undamaged { (file : File) (at : ℕ) → result ≡ Err (GiveFault.Commit (CommitFault.Damaged file at)) → (choose : Chooser) (history : List Order) (base k : ℕ) → M.is_chooser choose →
+            AllByRecursion M.takes history → Holds D.Disk M.Book.fits M.holds choose history base k store.old disk.old → (image : Image) → D.Disk.seen disk.new ≡ Some image → ⊥ }
         ensures later { D.Disk.faults disk.old ≤ D.Disk.faults disk.new }
         ensures cause { IfErr result (λ fault. fault ≡ GiveFault.Commit CommitFault.Disk → Rose (D.Disk.faults disk.old) (D.Disk.faults disk.new)) }
     {
@@ -155,6 +163,8 @@ impl Stream {
             Holds D.Disk M.Book.fits M.holds choose history base k store.old disk.old →
             Gives D.Disk M.Book.fits M.holds choose history base k store.new disk.old disk.new result (block_order self.moment bytes.now ∷ []) }
         ensures over { is_cut result ≡ false → IsOver D.Disk store.new.keeper disk.new }
+        ensures undamaged { (file : File) (at : ℕ) → result ≡ Err (GiveFault.Commit (CommitFault.Damaged file at)) → (choose : Chooser) (history : List Order) (base k : ℕ) → M.is_chooser choose →
+            AllByRecursion M.takes history → Holds D.Disk M.Book.fits M.holds choose history base k store.old disk.old → (image : Image) → D.Disk.seen disk.new ≡ Some image → ⊥ }
         ensures later { D.Disk.faults disk.old ≤ D.Disk.faults disk.new }
         ensures cause { IfErr result (λ fault. fault ≡ GiveFault.Commit CommitFault.Disk → Rose (D.Disk.faults disk.old) (D.Disk.faults disk.new)) }
     {
@@ -193,6 +203,8 @@ impl Stream {
             Holds D.Disk M.Book.fits M.holds choose history base k store.old disk.old →
             Gives D.Disk M.Book.fits M.holds choose history base k store.new disk.old disk.new result (opening (is_begun (after choose history) tilde) origin self.moment) }
         ensures over { is_cut result ≡ false → IsOver D.Disk store.new.keeper disk.new }
+        ensures undamaged { (file : File) (at : ℕ) → result ≡ Err (GiveFault.Commit (CommitFault.Damaged file at)) → (choose : Chooser) (history : List Order) (base k : ℕ) → M.is_chooser choose →
+            AllByRecursion M.takes history → Holds D.Disk M.Book.fits M.holds choose history base k store.old disk.old → (image : Image) → D.Disk.seen disk.new ≡ Some image → ⊥ }
         ensures later { D.Disk.faults disk.old ≤ D.Disk.faults disk.new }
         ensures cause { IfErr result (λ fault. fault ≡ GiveFault.Commit CommitFault.Disk → Rose (D.Disk.faults disk.old) (D.Disk.faults disk.new)) }
     {
@@ -222,6 +234,8 @@ impl Stream {
             Feeds D.Disk M.Book.fits M.holds choose history base k store.new disk.old disk.new result (map (block_order self.moment) blocks) [])
             (S.left input.old) (S.left input.new) (S.faults input.old) (S.faults input.new) }
         ensures over { is_run_cut result ≡ false → IsOver D.Disk store.new.keeper disk.new }
+        ensures undamaged { (file : File) (at : ℕ) → result ≡ Err (RunFault.Given (GiveFault.Commit (CommitFault.Damaged file at))) → (choose : Chooser) (history : List Order) (base k : ℕ) → M.is_chooser choose →
+            AllByRecursion M.takes history → Holds D.Disk M.Book.fits M.holds choose history base k store.old disk.old → (image : Image) → D.Disk.seen disk.new ≡ Some image → ⊥ }
         ensures later { D.Disk.faults disk.old ≤ D.Disk.faults disk.new }
         ensures read_later { S.faults input.old ≤ S.faults input.new }
         ensures cause { IsErrOf result (RunFault.Given (GiveFault.Commit CommitFault.Disk)) → Rose (D.Disk.faults disk.old) (D.Disk.faults disk.new) }
@@ -264,6 +278,8 @@ impl Stream {
             (filling (is_begun (after choose history) tilde) origin self.moment blocks) (end_order self.moment ∷ []))
             (S.left input.old) (S.left input.new) (S.faults input.old) (S.faults input.new) }
         ensures over { is_run_cut result ≡ false → IsOver D.Disk store.new.keeper disk.new }
+        ensures undamaged { (file : File) (at : ℕ) → result ≡ Err (RunFault.Given (GiveFault.Commit (CommitFault.Damaged file at))) → (choose : Chooser) (history : List Order) (base k : ℕ) → M.is_chooser choose →
+            AllByRecursion M.takes history → Holds D.Disk M.Book.fits M.holds choose history base k store.old disk.old → (image : Image) → D.Disk.seen disk.new ≡ Some image → ⊥ }
         ensures later { D.Disk.faults disk.old ≤ D.Disk.faults disk.new }
         ensures read_later { S.faults input.old ≤ S.faults input.new }
         ensures cause { IsErrOf result (RunFault.Given (GiveFault.Commit CommitFault.Disk)) → Rose (D.Disk.faults disk.old) (D.Disk.faults disk.new) }
@@ -317,6 +333,9 @@ pub fn store_input<M: Memory + Drop, D: Disk, S: Source>(
         (filling (is_begun (after choose history) tilde) arrival.origin arrival.moment blocks) (end_order arrival.moment ∷ []))
         (S.left input.old) (S.left input.new) (S.faults input.old) (S.faults input.new) }
     ensures over { is_run_cut result ≡ false → IsOver D.Disk store.new.keeper disk.new }
+    // A disk that keeps what was committed is not damaged.
+    ensures undamaged { (file : File) (at : ℕ) → result ≡ Err (RunFault.Given (GiveFault.Commit (CommitFault.Damaged file at))) → (choose : Chooser) (history : List Order) (base k : ℕ) → M.is_chooser choose →
+        AllByRecursion M.takes history → Holds D.Disk M.Book.fits M.holds choose history base k store.old disk.old → (image : Image) → D.Disk.seen disk.new ≡ Some image → ⊥ }
     ensures later { D.Disk.faults disk.old ≤ D.Disk.faults disk.new }
     ensures read_later { S.faults input.old ≤ S.faults input.new }
     ensures cause { IsErrOf result (RunFault.Given (GiveFault.Commit CommitFault.Disk)) → Rose (D.Disk.faults disk.old) (D.Disk.faults disk.new) }

@@ -1,6 +1,7 @@
 pub mod Counted
 pub mod Booked
 pub mod Joining
+pub mod Undamaged
 pub mod Committed
 pub mod Unchanged
 pub mod Numbered

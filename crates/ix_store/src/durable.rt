@@ -42,6 +42,9 @@ impl<M: Memory + Drop> Store<M> {
         // The named file, a bucket's or an archive's, has so many bytes, fewer than were committed.
         ensures damaged { (file : File) (at : ℕ) → result ≡ Err (CommitFault.Damaged file at) → IsShort self.old.keeper.parts self.old.keeper.copies file at
             × ((image : Image) → D.Disk.seen disk.new ≡ Some image → at ≡ length (bytes_in image file)) }
+        // A disk that keeps what was committed is not damaged.
+        ensures undamaged { (file : File) (at : ℕ) → result ≡ Err (CommitFault.Damaged file at) → (choose : Chooser) (history : List Order) (base k : ℕ) →
+            Holds D.Disk M.Book.fits M.holds choose history base k self.old disk.old → (image : Image) → D.Disk.seen disk.new ≡ Some image → ⊥ }
         ensures later { D.Disk.faults disk.old ≤ D.Disk.faults disk.new }
         ensures cause { IsErrOf result CommitFault.Disk → Rose (D.Disk.faults disk.old) (D.Disk.faults disk.new) }
     {
@@ -64,7 +67,10 @@ impl<M: Memory + Drop> Store<M> {
         ensures over { IfOk result (λ store. IsOver D.Disk store.keeper disk.new) }
         // It names the gate of the first bad body of the root log or the current one, as the disk reads.
         ensures damaged { (named : File) (at : ℕ) → result ≡ Err (MountFault.Damaged named at) → (image : Image) → D.Disk.seen disk.old ≡ Some image → IsBadLog M.Book.fits named at image }
-        // A disk of whose every image some commands may be read is sound.
+        // A disk of whose every image some commands may be read is not damaged,
+        ensures undamaged { (named : File) (at : ℕ) → result ≡ Err (MountFault.Damaged named at) → (choose : Chooser) (history : List Order) (k : ℕ) →
+            ((image : Image) → D.Disk.may_leave disk.old image → StandsFrom M.Book.fits choose history k image) → (image : Image) → D.Disk.seen disk.old ≡ Some image → ⊥ }
+        // and it is sound.
         ensures sound { IsErrOf result MountFault.Unsound → (choose : Chooser) (history : List Order) (k : ℕ) → M.is_chooser choose → AllByRecursion M.takes history →
             ((image : Image) → D.Disk.may_leave disk.old image → StandsFrom M.Book.fits choose history k image) → (image : Image) → D.Disk.seen disk.old ≡ Some image → ⊥ }
         ensures later { D.Disk.faults disk.old ≤ D.Disk.faults disk.new }

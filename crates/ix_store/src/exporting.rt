@@ -1,6 +1,7 @@
 //! The events of an index are exported. Whoever serves requests, or runs a command of the program, asks for them.
 
 ghost use Rattle.std.specs.Prelude.{◌≡◌, ◌≤◌, ◌||◌, ◌↔◌, ℕ, List, length, true, false, Some, Err, IfOk, OnErr, IsErrOf};
+ghost use Rattle.std.specs.List.{AllByRecursion};
 ghost use Rattle.std.specs.Option.{option_copied, option_map};
 ghost use Rattle.ix_base.specs.Faults.{Rose};
 ghost use Rattle.ix_base.specs.Told.{HasWritten, HasBegun};
@@ -17,7 +18,7 @@ ghost use Rattle.ix_machine.specs.Step.{after};
 ghost use Rattle.ix_machine.specs.declared.commands.Order.{Order};
 ghost use Rattle.ix_shelves.specs.Lists.{find};
 ghost use Rattle.ix_shelves.specs.Shelves.{view_name};
-ghost use Rattle.ix_store.specs.Exporting.{is_seen, listed_in, exported, HaveRecords};
+ghost use Rattle.ix_store.specs.Exporting.{is_seen, listed_in, exported};
 ghost use Rattle.ix_store.specs.Faults.{closes};
 
 use crate::fault::{ExportFault, closes, export_fault_of};
@@ -63,17 +64,17 @@ impl<M: Memory + Drop> Store<M> {
         ensures closed { IsErrOf result ExportFault.Closed ↔ (is_closed self.now ≡ true) }
         ensures unknown { (choose : Chooser) (history : List Order) (base k : ℕ) (old : Snapshot) → Staged M.Book.fits M.holds choose history base k self.now old →
             IsErrOf result ExportFault.UnknownIndex ↔ (is_seen (after choose history) index.now ≡ false) }
-        ensures lines { IfOk result (λ count. (choose : Chooser) (history : List Order) (base : ℕ) (image : Image) → HaveRecords (after choose history) →
+        ensures lines { IfOk result (λ count. (choose : Chooser) (history : List Order) (base : ℕ) (image : Image) → M.is_chooser choose → AllByRecursion M.takes history →
             Holds D.Disk M.Book.fits M.holds choose history base (length history) self.now disk.old → D.Disk.seen disk.old ≡ Some image →
             HasWritten (text range.now (exported (after choose history) index.now)) (W.given out.old) (W.given out.new)) }
-        ensures counted { IfOk result (λ count. (choose : Chooser) (history : List Order) (base : ℕ) (image : Image) → HaveRecords (after choose history) →
+        ensures counted { IfOk result (λ count. (choose : Chooser) (history : List Order) (base : ℕ) (image : Image) → M.is_chooser choose → AllByRecursion M.takes history →
             Holds D.Disk M.Book.fits M.holds choose history base (length history) self.now disk.old → D.Disk.seen disk.old ≡ Some image →
             count ≡ number range.now (exported (after choose history) index.now)) }
-        ensures begun { OnErr result ((choose : Chooser) (history : List Order) (base : ℕ) (image : Image) → HaveRecords (after choose history) →
+        ensures begun { OnErr result ((choose : Chooser) (history : List Order) (base : ℕ) (image : Image) → M.is_chooser choose → AllByRecursion M.takes history →
             Holds D.Disk M.Book.fits M.holds choose history base (length history) self.now disk.old → D.Disk.seen disk.old ≡ Some image →
             HasBegun (text range.now (exported (after choose history) index.now)) (W.given out.old) (W.given out.new)) }
         ensures sound { (file : File) (at : ℕ) → result ≡ Err (ExportFault.Damaged file at) → (choose : Chooser) (history : List Order) (base : ℕ) (image : Image) →
-            HaveRecords (after choose history) → Holds D.Disk M.Book.fits M.holds choose history base (length history) self.now disk.old →
+            M.is_chooser choose → AllByRecursion M.takes history → Holds D.Disk M.Book.fits M.holds choose history base (length history) self.now disk.old →
             D.Disk.seen disk.old ≡ Some image → ⊥ }
         ensures damaged { (file : File) (at : ℕ) → result ≡ Err (ExportFault.Damaged file at) → (choose : Chooser) (history : List Order) (base k : ℕ) (old : Snapshot) (image : Image) →
             Staged M.Book.fits M.holds choose history base k self.now old → D.Disk.seen disk.old ≡ Some image →
@@ -112,20 +113,20 @@ impl<M: Memory + Drop> Store<M> {
         ensures unknown { (choose : Chooser) (history : List Order) (base k : ℕ) (old : Snapshot) → Staged M.Book.fits M.holds choose history base k self.old old →
             IsErrOf result ExportFault.UnknownIndex ↔ (is_seen (after choose history) index.now ≡ false) }
         // The lines are those of the events that the history put into the index,
-        ensures lines { IfOk result (λ count. (choose : Chooser) (history : List Order) (base : ℕ) (image : Image) → HaveRecords (after choose history) →
+        ensures lines { IfOk result (λ count. (choose : Chooser) (history : List Order) (base : ℕ) (image : Image) → M.is_chooser choose → AllByRecursion M.takes history →
             Holds D.Disk M.Book.fits M.holds choose history base (length history) self.old disk.old → D.Disk.seen disk.old ≡ Some image →
             HasWritten (text range.now (exported (after choose history) index.now)) (W.given out.old) (W.given out.new)) }
         // and are counted.
-        ensures counted { IfOk result (λ count. (choose : Chooser) (history : List Order) (base : ℕ) (image : Image) → HaveRecords (after choose history) →
+        ensures counted { IfOk result (λ count. (choose : Chooser) (history : List Order) (base : ℕ) (image : Image) → M.is_chooser choose → AllByRecursion M.takes history →
             Holds D.Disk M.Book.fits M.holds choose history base (length history) self.old disk.old → D.Disk.seen disk.old ≡ Some image →
             count ≡ number range.now (exported (after choose history) index.now)) }
         // A fault leaves a front of them.
-        ensures begun { OnErr result ((choose : Chooser) (history : List Order) (base : ℕ) (image : Image) → HaveRecords (after choose history) →
+        ensures begun { OnErr result ((choose : Chooser) (history : List Order) (base : ℕ) (image : Image) → M.is_chooser choose → AllByRecursion M.takes history →
             Holds D.Disk M.Book.fits M.holds choose history base (length history) self.old disk.old → D.Disk.seen disk.old ≡ Some image →
             HasBegun (text range.now (exported (after choose history) index.now)) (W.given out.old) (W.given out.new)) }
         // A disk that keeps what it was given is not damaged.
         ensures sound { (file : File) (at : ℕ) → result ≡ Err (ExportFault.Damaged file at) → (choose : Chooser) (history : List Order) (base : ℕ) (image : Image) →
-            HaveRecords (after choose history) → Holds D.Disk M.Book.fits M.holds choose history base (length history) self.old disk.old →
+            M.is_chooser choose → AllByRecursion M.takes history → Holds D.Disk M.Book.fits M.holds choose history base (length history) self.old disk.old →
             D.Disk.seen disk.old ≡ Some image → ⊥ }
         // Damaged comes at the first place where no record ends within the bytes of a bucket that count.
         ensures damaged { (file : File) (at : ℕ) → result ≡ Err (ExportFault.Damaged file at) → (choose : Chooser) (history : List Order) (base k : ℕ) (old : Snapshot) (image : Image) →

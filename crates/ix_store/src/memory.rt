@@ -15,6 +15,7 @@ ghost use Rattle.ix_shelves.specs.Lists.{find};
 ghost use Rattle.ix_snapshot.specs.Shelved.{IsSet};
 ghost use Rattle.ix_snapshot.specs.Snap.{left};
 ghost use Rattle.ix_store.specs.Counting.{weight_of};
+ghost use Rattle.ix_store.specs.Exporting.{HaveRecords};
 ghost use Rattle.ix_store.specs.Written.{over};
 ghost use Rattle.ix_store.specs.Making.{AreProper, IsMade};
 ghost use Rattle.ix_store.specs.Showing.{IsViewOf};
@@ -125,4 +126,8 @@ pub trait Memory: Sized {
 
     /// An accepted command may bring a Tick, of any moment.
     ghost ticks_are_taken: { (moment : ℤ) → takes (record { command = Tick; moment = moment }) };
+
+    /// Each event that a history puts into an index has a record.
+    ghost have_records: { (choose : Chooser) (history : List Order) (memory : Self) → is_chooser choose → AllByRecursion takes history → holds choose history memory →
+        HaveRecords (after choose history) };
 }

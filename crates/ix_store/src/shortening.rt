@@ -138,7 +138,9 @@ impl<M: Listing + Drop> Store<M> {
     {
         let walk = match self.memory.walk(self.alloc) {
             Ok(walk) => walk,
-            Err(_) => return Err(CheckpointFault::NoMemory),
+            // The items of a state that commands lead to are never too long, so no caller has to tell the two apart: in both the items
+            // have no room, and nothing has changed.
+            Err(ListFault::TooLong | ListFault::NoMemory) => return Err(CheckpointFault::NoMemory),
         };
         let mut telling = Telling {
             memory: &self.memory,

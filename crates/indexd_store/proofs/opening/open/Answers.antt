@@ -1,4 +1,5 @@
 use Rattle.std.proofs.Common.{rules, ◌≡◌, true, false, take, refl, inl, w64, to_z, of_z}
+use Rattle.std.specs.Prelude.{Err}
 use Rattle.std.proofs.lemmas.Int.{to_z-of_z}
 use mir.Val.{SFits}
 use Rattle.ix_store.specs.declared.fault.MountFault.TheVariants as mounts
@@ -7,6 +8,7 @@ use Rattle.indexd_store.specs.Stops.{of_mount}
 use Rattle.indexd_store.specs.declared.stop.Stop.TheVariants as stops
 use Rattle.indexd_store.proofs.Ending.{unset, unsound_of_mount}
 use Rattle.indexd_store.proofs.Joining.{front_has, committed, configured_as, opened_same, opened_by, stopped_by}
+use Rattle.indexd_store.proofs.Undamaged.{damaged_of_mount}
 use Rattle.indexd_store.proofs.opening.open.Goals as goal
 
 pub returns-then-same_kept-clause-opened : goal.returns-then-same_kept-clause-opened
@@ -56,3 +58,17 @@ returns-in-Err-clause-stopped g c = λ choose history k chooser taken begins ima
   not_asked = refl;
   stood = c.in-Err.ensures.images choose history k begins;
 })
+
+pub returns-in-Err-clause-undamaged : goal.returns-in-Err-clause-undamaged
+returns-in-Err-clause-undamaged g c = λ file at is choose history k chooser taken begins image seen later told.
+    let stop : of_mount c.in-Err.fault ≡ stops.Damaged file at = cc (is, c.of_mount.ensures) in
+    let fault = damaged_of_mount c.in-Err.fault file at stop in
+    let was : c.mount.result ≡ Err (mounts.Damaged file at) = cc (fault, c.in-Err.is) in
+    c.mount.ensures.undamaged file at was choose history k begins image seen
+
+pub returns-in-Err-run_last-clause-undamaged : goal.returns-in-Err-run_last-clause-undamaged
+returns-in-Err-run_last-clause-undamaged g c = λ file at is choose history k chooser taken begins image seen later told.
+    let found = c.in-Ok.ensures.mounted choose history k chooser taken begins image seen in
+    let all = committed g.D.Disk _ g.M.Memory.holds choose history k c.args.config image c.in-Ok.store c.mount.new.disk found in
+    let was : c.run_last.result ≡ Err (stops.Damaged file at) = cc (is, c.in-Err-run_last.is) in
+    c.run_last.ensures.undamaged file at was choose (take found.count history) found.count chooser (front_has g.M.Memory.takes found.count history taken) all later told

@@ -1,10 +1,12 @@
-use Rattle.std.proofs.Common.{rules, Bool, take, refl, ap, subst, inl, inr, w64}
+use Rattle.std.proofs.Common.{rules, ◌≡◌, Bool, take, refl, ap, subst, inl, inr, w64}
+use Rattle.std.specs.Prelude.{Err}
 use Rattle.std.proofs.lemmas.Int.{to_z-of_z}
 use mir.Val.{SFits}
 use Rattle.ix_run.specs.Giving.{given_all}
 use Rattle.indexd_store.specs.Opened.{is_configured, WhenOpen, HasRun}
 use Rattle.indexd_store.specs.Previews.{HasFed}
 use Rattle.indexd_store.specs.Stops.{loses_in}
+use Rattle.indexd_store.specs.declared.stop.Stop.TheVariants as stops
 use Rattle.indexd_store.proofs.Feeding.{none_taken, fed_sound}
 use Rattle.indexd_store.proofs.Joining.{front_has, begun_taken, fed_when, shut_sound}
 use Rattle.indexd_store.proofs.Tasks.{on_ok_by, if_err_by}
@@ -52,3 +54,15 @@ returns-clause-stopped g c = if_err_by c.store_preview.result _ (λ stop is. λ 
 
 pub returns-in-Err-clause-read : goal.returns-in-Err-clause-read
 returns-in-Err-clause-read g c = none_taken c.in-Err.stop (g.S.Source.left c.args.input.now) c.in-Err.ensures.unread
+
+pub returns-in-Err-clause-undamaged : goal.returns-in-Err-clause-undamaged
+returns-in-Err-clause-undamaged g c = λ file at is.
+    let was : c.open.result ≡ Err (stops.Damaged file at) = cc (is, c.in-Err.is) in
+    c.open.ensures.undamaged file at was
+
+pub returns-clause-undamaged : goal.returns-clause-undamaged
+returns-clause-undamaged g c = λ file at is choose history k chooser taken begins image seen.
+    let opened = c.in-Ok.ensures.opened choose history k chooser taken begins image seen in
+    let taken_now = begun_taken g.M.Memory.takes g.met.M.Memory.ticks_are_taken choose (take opened.count history) c.args.config (is_configured choose (take opened.count history) c.args.config) opened.configured
+    c.requires.settings (front_has g.M.Memory.takes opened.count history taken) opened.configures in
+    c.store_preview.ensures.undamaged file at is choose (given_all choose (take opened.count history) opened.configured) opened.count chooser taken_now opened.hold

@@ -1,10 +1,15 @@
-use Rattle.std.proofs.Common.{length, refl}
+use Rattle.std.proofs.Common.{◌≡◌, length, refl}
 use Rattle.std.specs.Prelude.{Err}
+use Rattle.ix_keep.specs.declared.fault.CommitFault.TheVariants as commits
 use Rattle.ix_run.specs.Storing.{joined}
+use Rattle.ix_run.specs.declared.giving.GiveFault.TheVariants.{Commit}
+use Rattle.ix_run.specs.declared.input.RunFault.TheVariants as runs
+use Rattle.indexd_store.specs.Stops.{of_run}
 use Rattle.indexd_store.specs.Previews.{Fed}
 use Rattle.indexd_store.specs.declared.stop.Stop.TheVariants as stops
 use Rattle.indexd_store.proofs.Feeding.{none_fed, none_taken, feeds, read_as, unfed_as}
 use Rattle.indexd_store.proofs.Tasks.{none_given}
+use Rattle.indexd_store.proofs.Undamaged.{damaged_of_run}
 use Rattle.indexd_store.proofs.preview.store_preview.Goals as goal
 
 pub returns-then-is_missing-clause-ends : goal.returns-then-is_missing-clause-ends
@@ -39,3 +44,10 @@ pub returns-in-Err-clause-read : goal.returns-in-Err-clause-read
 returns-in-Err-clause-read g c =
     let read = c.in-Err.ensures.stored in
     record { taken = joined read.pieces; took = read.took; read = read_as c.in-Err.fault c.of_run.result (length (joined read.pieces)) (g.S.Source.left c.store_input.new.input) (g.S.Source.faults c.args.input.now) (g.S.Source.faults c.store_input.new.input) c.of_run.ensures read.read }
+
+pub returns-in-Err-clause-undamaged : goal.returns-in-Err-clause-undamaged
+returns-in-Err-clause-undamaged g c = λ file at is choose h base chooser taken hold.
+    let stop : of_run c.in-Err.fault ≡ stops.Damaged file at = cc (is, c.of_run.ensures) in
+    let fault = damaged_of_run c.in-Err.fault file at stop in
+    let was : c.store_input.result ≡ Err (runs.Given (Commit (commits.Damaged file at))) = cc (fault, c.in-Err.is) in
+    c.store_input.ensures.undamaged file at was choose h base (length h) chooser taken hold

@@ -67,8 +67,12 @@ returns-in_default g c =
           let why = at_err c.give_and_say.result stop _ is c.give_and_say.ensures.why in
           subst (λ (moment : ℤ). IsWhy choose h c.args.task moment stop) moment_is (why choose h base chooser taken hold));
       unread = c.give_and_say.ensures.unread;
+      undamaged = c.give_and_say.ensures.undamaged;
       later = c.give_and_say.ensures.later;
       cause = c.give_and_say.ensures.cause;
       grown = c.give_and_say.ensures.grown;
       output = c.give_and_say.ensures.output;
     }
+
+pub returns-in-Export-clause-undamaged : goal.returns-in-Export-clause-undamaged
+returns-in-Export-clause-undamaged g c = c.export.ensures.undamaged

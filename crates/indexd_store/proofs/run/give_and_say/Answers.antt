@@ -1,4 +1,5 @@
-use Rattle.std.proofs.Common.{rules, ℕ, List, length, subst, w64}
+use Rattle.std.proofs.Common.{rules, ◌≡◌, ℕ, List, length, subst, w64}
+use Rattle.std.specs.Prelude.{Err}
 use Rattle.std.proofs.lemmas.Int.{to_z-of_z}
 use mir.Val.{SFits}
 use Rattle.ix_machine.specs.Step.{after}
@@ -6,8 +7,10 @@ use Rattle.ix_machine.specs.declared.commands.Order.{Order}
 use Rattle.ix_run.specs.Giving.{given_all}
 use Rattle.ix_store.specs.Showing.{IsViewOf}
 use Rattle.indexd_store.specs.Tasks.{orders_in, IsText}
+use Rattle.indexd_store.specs.declared.stop.Stop.TheVariants as stops
 use Rattle.indexd_store.proofs.Causes.{named, why_unsaid}
 use Rattle.indexd_store.proofs.Tasks.{on_ok_by, at_ok, if_err_by, at_err, said, unsaid_unread}
+use Rattle.indexd_store.proofs.Undamaged.{unsaid_undamaged}
 use Rattle.indexd_store.proofs.run.give_and_say.Goals as goal
 
 pub returns-in-Ok-clause-ends : goal.returns-in-Ok-clause-ends
@@ -68,3 +71,12 @@ pub returns-in-Err-clause-why : goal.returns-in-Err-clause-why
 returns-in-Err-clause-why g c = λ choose h base chooser taken hold.
     let fits : SFits w64 c.args.moment = search rules in
     simp to_z-of_z at (c.in-Err.ensures.why choose h base chooser taken hold)
+
+pub returns-in-Ok-clause-undamaged : goal.returns-in-Ok-clause-undamaged
+returns-in-Ok-clause-undamaged g c = λ file at is choose h base chooser taken hold image seen.
+    unsaid_undamaged c.args.task c.view.result.now file at (at_err c.say.result (stops.Damaged file at) _ is c.say.ensures.stopped)
+
+pub returns-in-Err-clause-undamaged : goal.returns-in-Err-clause-undamaged
+returns-in-Err-clause-undamaged g c = λ file at is.
+    let was : c.give_task.result ≡ Err (stops.Damaged file at) = cc (is, c.in-Err.is) in
+    c.give_task.ensures.undamaged file at was

@@ -69,3 +69,8 @@ returns-in-Err-run_last-clause-why g c = λ choose h base chooser taken hold.
     let is : ◌≡◌ {A = Option Command} (command_in c.args.task) (Some c.in-Ok-Some.command) = cc (c.in-Ok-Some.ensures, c.in-Ok-Some.field-0-is) in
     let caused = simp to_z-of_z at (c.in-Err-run_last.ensures.caused choose h base chooser taken hold) in
     why_not choose h c.args.task c.in-Ok-Some.command c.args.moment is c.args.store.now.drawn c.in-Err-run_last.stop caused
+
+pub returns-in-Err-run_last-clause-undamaged : goal.returns-in-Err-run_last-clause-undamaged
+returns-in-Err-run_last-clause-undamaged g c = λ file at is.
+    let was : c.run_last.result ≡ Err (stops.Damaged file at) = cc (is, c.in-Err-run_last.is) in
+    c.run_last.ensures.undamaged file at was

@@ -1,4 +1,5 @@
-use Rattle.std.proofs.Common.{rules, take, refl, inl, inr, w64}
+use Rattle.std.proofs.Common.{rules, ◌≡◌, take, refl, inl, inr, w64}
+use Rattle.std.specs.Prelude.{Err}
 use Rattle.std.proofs.lemmas.Int.{to_z-of_z}
 use mir.Val.{SFits}
 use Rattle.ix_run.specs.Giving.{given_all}
@@ -49,3 +50,15 @@ returns-clause-sound g c = λ unsound choose history k chooser taken begins imag
     let taken_now = begun_taken g.M.Memory.takes g.met.M.Memory.ticks_are_taken choose (take opened.count history) c.args.config (is_configured choose (take opened.count history) c.args.config) opened.configured
     c.requires.settings (front_has g.M.Memory.takes opened.count history taken) opened.configures in
     at_err c.carry_out.result stops.Unsound _ unsound c.carry_out.ensures.why choose (given_all choose (take opened.count history) opened.configured) opened.count chooser taken_now opened.hold
+
+pub returns-in-Err-clause-undamaged : goal.returns-in-Err-clause-undamaged
+returns-in-Err-clause-undamaged g c = λ file at is.
+    let was : c.open.result ≡ Err (stops.Damaged file at) = cc (is, c.in-Err.is) in
+    c.open.ensures.undamaged file at was
+
+pub returns-clause-undamaged : goal.returns-clause-undamaged
+returns-clause-undamaged g c = λ file at is choose history k chooser taken begins image seen.
+    let opened = c.in-Ok.ensures.opened choose history k chooser taken begins image seen in
+    let taken_now = begun_taken g.M.Memory.takes g.met.M.Memory.ticks_are_taken choose (take opened.count history) c.args.config (is_configured choose (take opened.count history) c.args.config) opened.configured
+    c.requires.settings (front_has g.M.Memory.takes opened.count history taken) opened.configures in
+    c.carry_out.ensures.undamaged file at is choose (given_all choose (take opened.count history) opened.configured) opened.count chooser taken_now opened.hold

@@ -1,8 +1,14 @@
-use Rattle.std.proofs.Common.{rules, length}
+use Rattle.std.proofs.Common.{rules, ◌≡◌, length}
+use Rattle.std.specs.Prelude.{Err}
 use Rattle.std.proofs.lemmas.Int.{to_z-of_z}
 use mir.Val.{SFits}
 use Rattle.std.specs.Int.{w64}
+use Rattle.ix_keep.specs.declared.fault.CommitFault.TheVariants as commits
+use Rattle.ix_run.specs.declared.giving.GiveFault.TheVariants.{Commit}
+use Rattle.indexd_store.specs.Stops.{of_give}
+use Rattle.indexd_store.specs.declared.stop.Stop.TheVariants as stops
 use Rattle.indexd_store.proofs.Ending.{stopped, left_by, caused}
+use Rattle.indexd_store.proofs.Undamaged.{damaged_of_give}
 use Rattle.indexd_store.proofs.single.run_last.Goals as goal
 
 pub returns-in-Ok-clause-left : goal.returns-in-Ok-clause-left
@@ -28,3 +34,10 @@ returns-in-Err-clause-caused g c = λ choose h base chooser taken hold.
     let fits : SFits w64 c.args.moment = search rules in
     let not = simp to_z-of_z at (c.in-Err.ensures.fault choose h base (length h) chooser taken hold) in
     caused g.D.Disk g.M.Book.Replay.fits g.M.Memory.holds choose h base (record { command = c.args.command; moment = c.args.moment }) c.give_last.new.store c.args.disk.now c.give_last.new.disk c.args.store.now c.in-Err.fault c.of_give.result c.of_give.ensures not
+
+pub returns-in-Err-clause-undamaged : goal.returns-in-Err-clause-undamaged
+returns-in-Err-clause-undamaged g c = λ file at is choose h base chooser taken hold.
+    let stop : of_give c.in-Err.fault ≡ stops.Damaged file at = cc (is, c.of_give.ensures) in
+    let fault = damaged_of_give c.in-Err.fault file at stop in
+    let was : c.give_last.result ≡ Err (Commit (commits.Damaged file at)) = cc (fault, c.in-Err.is) in
+    c.give_last.ensures.undamaged file at was choose h base (length h) chooser taken hold

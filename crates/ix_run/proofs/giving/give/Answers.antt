@@ -1,4 +1,6 @@
-use Rattle.std.proofs.Common.{rules}
+use Rattle.std.proofs.Common.{rules, ◌≡◌}
+use Rattle.std.specs.Prelude.{Err}
+use Rattle.ix_keep.specs.declared.fault.CommitFault.TheVariants as commits
 use Rattle.std.proofs.lemmas.Int.{to_z-of_z}
 use mir.Val.{SFits}
 use Rattle.std.specs.Int.{w64}
@@ -28,3 +30,10 @@ returns-in-Err-commit_due-clause-fault g c = λ choose h base k chooser taken ho
     let is = simp to_z-of_z at (c.in-Ok.ensures.accepted choose h base k hold.old chooser taken hold.staged) in
     given_stood g.D.Disk _ g.M.Memory.holds choose h base k (record { command = c.args.command; moment = c.args.moment }) c.args.store.now c.accept.new.self c.args.disk.now c.commit_due.new.disk c.in-Ok.answer hold c.accept.ensures.logs is
     (c.commit_due.ensures.stood choose _ base k)
+
+pub returns-in-Err-commit_due-clause-undamaged : goal.returns-in-Err-commit_due-clause-undamaged
+returns-in-Err-commit_due-clause-undamaged g c = λ file at is choose h base k chooser taken hold.
+    let fits : SFits w64 c.args.moment = search rules in
+    let accepted = simp to_z-of_z at (c.in-Ok.ensures.accepted choose h base k hold.old chooser taken hold.staged) in
+    let was : c.commit_due.result ≡ Err (commits.Damaged file at) = cc (is, c.in-Err-commit_due.is) in
+    c.commit_due.ensures.undamaged file at was choose _ base k (held_then g.D.Disk _ g.M.Memory.holds choose h _ base k c.args.store.now c.accept.new.self c.args.disk.now hold c.accept.ensures.logs accepted.staged)

@@ -106,3 +106,11 @@ returns-clause-read g c = record {
   read = omega (arith, c.loop-taken.invariant.count, c.loop-taken.invariant.within);
   done = c.loop-taken.invariant.given;
 }
+
+pub returns-in-Err-add-clause-undamaged : goal.returns-in-Err-add-clause-undamaged
+returns-in-Err-add-clause-undamaged g c = λ file at is choose h base k chooser taken hold.
+    let one = c.loop-taken.invariant.given choose h base k chooser taken hold in
+    let was : c.add.result ≡ Err (faults.Commit (commits.Damaged file at)) = cc (is, c.in-Err-add.is) in
+    c.add.ensures.undamaged file at was choose (given_all choose h (map (block_order c.args.self.moment) c.loop-taken.invariant.pieces)) base one.count chooser
+    (all_taken g.M.Memory.takes g.met.M.Memory.ticks_are_taken choose h (map (block_order c.args.self.moment) c.loop-taken.invariant.pieces) taken
+    (blocks_taken g.M.Memory.takes c.args.self.moment c.requires.takes c.loop-taken.invariant.pieces c.loop-taken.invariant.sizes)) one.hold

@@ -1,9 +1,12 @@
-use Rattle.std.proofs.Common.{[], ◌∷◌, ◌++◌, arith, map}
+use Rattle.std.proofs.Common.{◌≡◌, [], ◌∷◌, ◌++◌, arith, map}
 use Rattle.std.specs.Prelude.{Ok, Err}
+use Rattle.ix_keep.specs.declared.fault.CommitFault.TheVariants as commits
 use Rattle.ix_machine.specs.Judged.{is_begun}
 use Rattle.ix_machine.specs.Step.{after}
 use Rattle.ix_store.proofs.Booked.{all_more}
 use Rattle.ix_run.specs.Giving.{given_all}
+use Rattle.ix_run.specs.declared.giving.GiveFault.TheVariants as faults
+use Rattle.ix_run.specs.declared.input.RunFault.TheVariants as stops
 use Rattle.ix_run.specs.Storing.{tilde, opening, block_order, end_order}
 use Rattle.ix_run.proofs.Stored.{took_none, all_taken, blocks_taken, opening_taken, gives_on, halted_first, opened, feeds_on, feeds_more}
 use Rattle.ix_run.proofs.Filled.{filled_on}
@@ -87,3 +90,31 @@ returns-clause-read g c =
           gives_on g.D.Disk g.M.Book.Replay.fits g.M.Memory.holds choose h (a ++ b) (end_order c.args.self.moment ∷ []) base k c.fill.new.store c.end.new.store c.args.disk.now c.fill.new.disk c.end.new.disk both (Err c.in-Err-end.fault)
           (c.in-Err-end.ensures.given choose (given_all choose h (a ++ b)) base both.count chooser more both.hold);
     }
+
+pub returns-in-Err-fill-clause-undamaged : goal.returns-in-Err-fill-clause-undamaged
+returns-in-Err-fill-clause-undamaged g c = λ file at is choose h base k chooser taken hold.
+    let a = opening (is_begun (after choose h) tilde) c.args.origin c.args.self.moment in
+    let one = c.in-Ok-open.ensures.given choose h base k chooser taken hold in
+    let all = all_taken g.M.Memory.takes g.met.M.Memory.ticks_are_taken choose h a taken (opening_taken g.M.Memory.takes c.args.origin c.args.self.moment c.requires.ends c.requires.begins (is_begun (after choose h) tilde)) in
+    let was : c.fill.result ≡ Err (stops.Given (faults.Commit (commits.Damaged file at))) = cc (is, c.in-Err-fill.is) in
+    c.fill.ensures.undamaged file at was choose (given_all choose h a) base one.count chooser all one.hold
+
+pub returns-clause-undamaged : goal.returns-clause-undamaged
+returns-clause-undamaged g c = λ file at is choose h base k chooser taken hold.
+    let read = c.in-Ok-fill.ensures.read in
+    let a = opening (is_begun (after choose h) tilde) c.args.origin c.args.self.moment in
+    let b = map (block_order c.args.self.moment) read.pieces in
+    let open_taken = opening_taken g.M.Memory.takes c.args.origin c.args.self.moment c.requires.ends c.requires.begins (is_begun (after choose h) tilde) in
+    let one = c.in-Ok-open.ensures.given choose h base k chooser taken hold in
+    let all = all_taken g.M.Memory.takes g.met.M.Memory.ticks_are_taken choose h a taken open_taken in
+    let both = filled_on g.D.Disk g.M.Book.Replay.fits g.M.Memory.holds choose h a b base k c.open.new.store c.fill.new.store c.args.disk.now c.open.new.disk c.fill.new.disk one
+    (read.done choose (given_all choose h a) base one.count chooser all one.hold) in
+    let more = all_taken g.M.Memory.takes g.met.M.Memory.ticks_are_taken choose h (a ++ b) taken
+    (all_more g.M.Memory.takes a b open_taken (blocks_taken g.M.Memory.takes c.args.self.moment c.requires.adds read.pieces read.sizes)) in
+    let was : c.end.result ≡ Err (faults.Commit (commits.Damaged file at)) = cc (is, c.in-Err-end.is) in
+    c.end.ensures.undamaged file at was choose (given_all choose h (a ++ b)) base both.count chooser more both.hold
+
+pub returns-in-Err-open-clause-undamaged : goal.returns-in-Err-open-clause-undamaged
+returns-in-Err-open-clause-undamaged g c = λ file at is.
+    let was : c.open.result ≡ Err (faults.Commit (commits.Damaged file at)) = cc (is, c.in-Err-open.is) in
+    c.open.ensures.undamaged file at was

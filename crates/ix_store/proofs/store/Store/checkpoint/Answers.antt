@@ -6,8 +6,8 @@ use Rattle.ix_store.proofs.store.Store.checkpoint.Goals as goal
 pub checkpoint-requires-clause-short : goal.checkpoint-requires-clause-short
 checkpoint-requires-clause-short g c = room_for _ c.args.self.now.run _ c.in-Ok.ensures.short
 
-pub returns-in-Err-clause-images : goal.returns-in-Err-clause-images
-returns-in-Err-clause-images g c = λ choose h base chooser given hold.
+pub returns-in-Err-TooLong-clause-images : goal.returns-in-Err-TooLong-clause-images
+returns-in-Err-TooLong-clause-images g c = λ choose h base chooser given hold.
     stands_still g.D.Disk _ g.M.Memory.holds choose h base c.args.self.now c.args.disk.now hold c.requires.idle
 
 pub returns-in_err-checkpoint-clause-images : goal.returns-in_err-checkpoint-clause-images

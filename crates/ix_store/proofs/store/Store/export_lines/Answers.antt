@@ -33,28 +33,32 @@ returns-in-Err-clause-unknown g c = λ choose h base k old st.
     (fault_known c.in-Err.fault c.export_fault_of.result c.export_fault_of.ensures)
 
 pub returns-in-Ok-clause-lines : goal.returns-in-Ok-clause-lines
-returns-in-Ok-clause-lines g c = λ choose h base image ranged hold told.
+returns-in-Ok-clause-lines g c = λ choose h base image chooser taken hold told.
+    let ranged = g.met.M.Memory.have_records choose h c.args.self.now.memory chooser taken hold.staged.memory in
     let found = ap (λ o. option_copied o) (sym c.in-Some.is) ∙ c.buckets_of.ensures in
     so_of_exported g.D.Disk g.M.Book.Replay.fits g.M.Memory.holds choose h base c.args.self.now c.args.disk.now c.args.index.now c.view.result.now c.in-Some.buckets.now image
     (λ (events : List Event). HasWritten (text c.args.range.now events) (g.W.Sink.given c.args.out.now) (g.W.Sink.given c.export_buckets.new.out))
     hold ranged (g.met.D.Disk.seen_may_stay c.args.disk.now image told) (c.view.ensures choose h hold.staged.memory) found (λ all have. c.in-Ok.ensures.lines image all told have)
 
 pub returns-in-Ok-clause-counted : goal.returns-in-Ok-clause-counted
-returns-in-Ok-clause-counted g c = λ choose h base image ranged hold told.
+returns-in-Ok-clause-counted g c = λ choose h base image chooser taken hold told.
+    let ranged = g.met.M.Memory.have_records choose h c.args.self.now.memory chooser taken hold.staged.memory in
     let found = ap (λ o. option_copied o) (sym c.in-Some.is) ∙ c.buckets_of.ensures in
     so_of_exported g.D.Disk g.M.Book.Replay.fits g.M.Memory.holds choose h base c.args.self.now c.args.disk.now c.args.index.now c.view.result.now c.in-Some.buckets.now image
     (λ (events : List Event). c.in-Ok.count ≡ number c.args.range.now events)
     hold ranged (g.met.D.Disk.seen_may_stay c.args.disk.now image told) (c.view.ensures choose h hold.staged.memory) found (λ all have. c.in-Ok.ensures.counted image all told have)
 
 pub returns-in-Err-clause-begun : goal.returns-in-Err-clause-begun
-returns-in-Err-clause-begun g c = λ choose h base image ranged hold told.
+returns-in-Err-clause-begun g c = λ choose h base image chooser taken hold told.
+    let ranged = g.met.M.Memory.have_records choose h c.args.self.now.memory chooser taken hold.staged.memory in
     let found = ap (λ o. option_copied o) (sym c.in-Some.is) ∙ c.buckets_of.ensures in
     so_of_exported g.D.Disk g.M.Book.Replay.fits g.M.Memory.holds choose h base c.args.self.now c.args.disk.now c.args.index.now c.view.result.now c.in-Some.buckets.now image
     (λ (events : List Event). HasBegun (text c.args.range.now events) (g.W.Sink.given c.args.out.now) (g.W.Sink.given c.export_buckets.new.out))
     hold ranged (g.met.D.Disk.seen_may_stay c.args.disk.now image told) (c.view.ensures choose h hold.staged.memory) found (λ all have. c.in-Err.ensures.begun image all told have)
 
 pub returns-in-Err-clause-sound : goal.returns-in-Err-clause-sound
-returns-in-Err-clause-sound g c = λ file at is choose h base image ranged hold told.
+returns-in-Err-clause-sound g c = λ file at is choose h base image chooser taken hold told.
+    let ranged = g.met.M.Memory.have_records choose h c.args.self.now.memory chooser taken hold.staged.memory in
     let found = ap (λ o. option_copied o) (sym c.in-Some.is) ∙ c.buckets_of.ensures in
     let none = export_damaged c.in-Err.fault (λ (f : File) (a : ℕ). (image : Image) (all : List (List Event)) → g.D.Disk.seen c.args.disk.now ≡ Some image → HaveEvents image c.in-Some.buckets.now all → ⊥)
     file at c.export_fault_of.result c.export_fault_of.ensures is c.in-Err.ensures.sound in

@@ -4,6 +4,7 @@ use Rattle.ix_keep.specs.declared.mounting.MountFault.{MountFault as KeptFault}
 use Rattle.ix_snapshot.specs.Snap.{leaves}
 use Rattle.ix_store.specs.declared.memory.BookFault.{BookFault}
 use Rattle.ix_store.proofs.Committed.{family_from, holds_mounted, none_unsound, kept_damaged}
+use Rattle.ix_store.proofs.Undamaged.{keeps_undamaged}
 use Rattle.ix_store.proofs.store.Store.mount.Goals as goal
 
 pub returns-in-Ok-from_book-clause-mounted : goal.returns-in-Ok-from_book-clause-mounted
@@ -32,3 +33,9 @@ returns-in-Err-Unsound-clause-images g c = λ choose h k all. c.mount.ensures.im
 
 pub returns-clause-images : goal.returns-clause-images
 returns-clause-images g c = λ choose h k all. c.mount.ensures.images (leaves choose h) k (length h) (family_from choose h k) all
+
+pub returns-in-Err-clause-undamaged : goal.returns-in-Err-clause-undamaged
+returns-in-Err-clause-undamaged g c = λ named at is choose h k all image told.
+    let bad = c.mount.ensures.damaged named at (c.in-Err.is ∙ ap (λ (f : KeptFault). Err f) (kept_damaged c.in-Err.fault named at c.fault_of.result c.fault_of.ensures is)) image told in
+    let stands = all image (g.met.D.Disk.seen_may_stay c.args.disk.now image told) in
+    keeps_undamaged _ stands.kept image named at stands.keeps bad
