@@ -1,0 +1,25 @@
+-- What hinders a part hinders the whole.
+use Rattle.std.proofs.Common.{◌≡◌, refl}
+use Rattle.std.specs.Prelude.{IsErrOf, Err}
+use Rattle.std.specs.declared.result.Result.{Result}
+use Rattle.ix_channels.specs.declared.working.WorkFault.{WorkFault}
+use Rattle.ix_channels.specs.declared.working.WorkFault.TheVariants as works
+use Rattle.ix_moves.specs.declared.moved.MoveFault.{MoveFault}
+use Rattle.ix_moves.specs.declared.moved.MoveFault.TheVariants as moves
+use Rattle.ix_steps.specs.Faults.{by_work, by_move}
+use Rattle.ix_steps.specs.declared.steps.StepFault.{StepFault}
+use Rattle.ix_steps.specs.declared.steps.StepFault.TheVariants as faults
+
+no_full : {T : Type 0} → ◌≡◌ {A = Result T StepFault} (Err faults.NoMemory) (Err faults.Full) → ⊥
+no_full e = cc
+
+pub work_full : {T U : Type 0} (e : WorkFault) → ◌≡◌ {A = Result T StepFault} (Err (by_work e)) (Err faults.Full) → ◌≡◌ {A = Result U WorkFault} (Err e) (Err works.Full)
+work_full works.Full h = refl
+work_full works.NoMemory h = absurd (no_full h)
+
+pub move_full : {T U : Type 0} (e : MoveFault) → ◌≡◌ {A = Result T StepFault} (Err (by_move e)) (Err faults.Full) → ◌≡◌ {A = Result U MoveFault} (Err e) (Err moves.Full)
+move_full moves.Full h = refl
+move_full moves.NoMemory h = absurd (no_full h)
+
+pub none_full : {T : Type 0} {R : Type 0} → ◌≡◌ {A = Result T StepFault} (Err faults.NoMemory) (Err faults.Full) → R
+none_full h = absurd (no_full h)

@@ -1,0 +1,7 @@
+mod Causes
+mod Placing
+mod Stepping
+mod Moving
+mod Dealt
+mod Written
+mod Configuring

@@ -1,0 +1,20 @@
+use Rattle.std.proofs.Common.{◌≡◌}
+use Rattle.std.specs.Prelude.{Err}
+use Rattle.std.specs.declared.result.Result.{Result}
+use Rattle.ix_steps.proofs.Causes.{move_full}
+use Rattle.ix_steps.proofs.Configuring.{configured_over, configured_steps}
+use Rattle.ix_steps.proofs.working.Working.parts.Goals as goal
+
+pub returns-in-Ok-clause-done : goal.returns-in-Ok-clause-done
+returns-in-Ok-clause-done c = record {
+  steps = λ b said is same.
+      configured_steps c.args.self.now c.base-base.result c.in_ok-change.field-0 c.in-Ok.moved b c.args.config.now
+      c.base-base.ensures (c.in_ok-change.ensures.done.works c.args.config.now) c.in-Ok.ensures.done said is same;
+}
+
+pub returns-in-Err-clause-full : goal.returns-in-Err-clause-full
+returns-in-Err-clause-full c =
+    let from = c.from.ensures in
+    rw from (λ full.
+    configured_over c.args.self.now c.base-base.result c.in_ok-change.field-0 c.args.config.now c.base-base.ensures (c.in_ok-change.ensures.done.works c.args.config.now)
+    (c.in-Err.ensures.full (move_full c.in-Err.fault full)))

@@ -1,0 +1,6 @@
+pub mod Spots
+pub mod Settings
+pub mod Faults
+pub mod Next
+pub mod Steps
+pub mod Dealing

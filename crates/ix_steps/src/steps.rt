@@ -1,0 +1,86 @@
+//! What one command leads to, and why it is not worked out. `working` makes it; the tier joins it with that of a Tick.
+
+ghost use Rattle.std.specs.Prelude.{◌≡◌};
+ghost use Rattle.ix_steps.specs.Faults.{by_move, by_work, refusal_of};
+ghost use Rattle.ix_steps.specs.declared.steps.StepFault.TheVariants as faults;
+
+use crate::next::Next;
+use crate::spots::SpotChange;
+use ix_base::{NoMemory as OutOfMemory, Sequence};
+use ix_channels::WorkFault;
+use ix_items::{FileList, Item};
+use ix_keep::Draft;
+use ix_machine::{Config, Refusal};
+use ix_moves::MoveFault;
+use ix_state::Storage;
+
+/// What becomes of settings and spots.
+#[derive(Drop)]
+pub(crate) struct Beside {
+    pub(crate) config: Option<Config>,
+    pub(crate) spot: SpotChange,
+    /// What the log says of them.
+    pub(crate) items: Sequence<Item>,
+}
+
+/// What one command leads to.
+#[derive(Drop)]
+pub struct Step {
+    /// The state in memory then.
+    pub next: Next,
+    /// What it adds to the disk.
+    pub draft: Draft,
+    /// The files that it is done with.
+    pub done_with: FileList,
+    /// How many buckets it rolls, freezes or thaws.
+    pub moved: u64,
+}
+
+/// Why a command is not worked out.
+#[derive(Clone, Copy, Debug, PartialEq, Eq)]
+pub enum StepFault {
+    /// It would pass the bounds of what a store can keep.
+    Full,
+    /// There was no room in memory.
+    NoMemory,
+}
+
+impl From<OutOfMemory> for StepFault {
+    ghost from_gives = { λ _ e. e ≡ faults.NoMemory };
+
+    fn from(_: OutOfMemory) -> StepFault {
+        StepFault::NoMemory
+    }
+}
+
+impl From<WorkFault> for StepFault {
+    ghost from_gives = { λ fault e. e ≡ by_work fault };
+
+    fn from(fault: WorkFault) -> StepFault {
+        match fault {
+            WorkFault::Full => StepFault::Full,
+            WorkFault::NoMemory => StepFault::NoMemory,
+        }
+    }
+}
+
+impl From<MoveFault> for StepFault {
+    ghost from_gives = { λ fault e. e ≡ by_move fault };
+
+    fn from(fault: MoveFault) -> StepFault {
+        match fault {
+            MoveFault::Full => StepFault::Full,
+            MoveFault::NoMemory => StepFault::NoMemory,
+        }
+    }
+}
+
+/// What a fault is to whoever gives a command.
+pub fn refusal_of(fault: StepFault) -> Refusal
+    ensures { result ≡ refusal_of fault }
+{
+    match fault {
+        StepFault::Full => Refusal::Full,
+        StepFault::NoMemory => Refusal::NoMemory,
+    }
+}

@@ -1,0 +1,5 @@
+mod Measured
+mod Pairing
+mod Answering
+mod Refusing
+mod Opened

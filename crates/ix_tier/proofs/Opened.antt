@@ -1,0 +1,30 @@
+-- What a state in memory shows is what the state of its history shows.
+use Rattle.std.proofs.Common.{◌≡◌, ℕ, List, [], ◌∷◌, refl, ap, ◌∙◌}
+use Rattle.std.specs.Prelude.{is_some, ◌||◌, bytes_eq}
+use Rattle.std.specs.List.{AllZip, list_any}
+use Rattle.ix_machine.specs.State.{State, Life, life_name}
+use Rattle.ix_machine.proofs.Named.{by_test}
+use Rattle.ix_shelves.specs.Lists.{find}
+use Rattle.ix_shelves.specs.declared.shelves.Shelves.{Shelves}
+use Rattle.ix_state.specs.Causes.{has_name}
+use Rattle.ix_state.specs.Held.{IsOpen, SeesStorage, shelves_of}
+use Rattle.ix_state.specs.declared.held.Held.{Held}
+use Rattle.ix_state.specs.declared.held.Open.{Open}
+use Rattle.ix_store.specs.Showing.{IsViewOf}
+
+pub open_is : (lives : List Life) (opens : List Open) (name : List ℕ) → AllZip IsOpen lives opens → list_any (has_name name) opens ≡ is_some (find life_name name lives)
+open_is [] [] name h = refl
+open_is [] (o ∷ os) name h = absurd h
+open_is (l ∷ ls) [] name h = absurd h
+open_is (l ∷ ls) (o ∷ os) name h =
+    ap (λ (n : List ℕ). bytes_eq n name || list_any (has_name name) os) h.0.name
+    ∙ by_test (bytes_eq l.name name) (λ t. rw t refl) (λ t. rw t (open_is ls os name h.1))
+
+pub view_is : (m : State) (held : Held) → SeesStorage m (shelves_of held) held.view.ledger held.last held.tick → IsViewOf m held.view
+view_is m held s = record {
+  indexes = ap (λ (x : Shelves). x.indexes) s.shelves_are;
+  ledger = s.ledger_is;
+  settled = ap (λ (x : Shelves). x.settled) s.shelves_are;
+  nulled = ap (λ (x : Shelves). x.nulled) s.shelves_are;
+  dropped = ap (λ (x : Shelves). x.dropped) s.shelves_are;
+}

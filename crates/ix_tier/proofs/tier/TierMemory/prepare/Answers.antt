@@ -1,0 +1,15 @@
+use Rattle.std.proofs.lemmas.Result.{IfOk-weaker, IfErr-weaker}
+use Rattle.ix_tier.proofs.tier.TierMemory.prepare.Goals as goal
+
+pub returns-clause-made : goal.returns-clause-made
+returns-clause-made c = IfOk-weaker c.make_order.result _ _
+    (λ made makes choose history chooser given h. makes choose history c.args.drawn
+    (record { chooser = chooser; given = given; taken = c.requires; holds = h; no_cause = c.in_default.ensures.free.no_cause choose history h })
+    c.in_default.ensures.free.number)
+    c.make_order.ensures.made
+
+pub returns-clause-refused : goal.returns-clause-refused
+returns-clause-refused c = IfErr-weaker c.make_order.result _ _
+    (λ refusal refuses choose history chooser given h. refuses choose history c.args.drawn
+    (record { chooser = chooser; given = given; taken = c.requires; holds = h; no_cause = c.in_default.ensures.free.no_cause choose history h }))
+    c.make_order.ensures.refused

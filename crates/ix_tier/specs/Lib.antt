@@ -1,0 +1,4 @@
+pub mod Seen
+pub mod Made
+pub mod Orders
+pub mod Recorded

@@ -1,0 +1,118 @@
+-- What a command is worked out to, with the Tick that may come before it.
+use Rattle.std.specs.Prelude.{◌≡◌, ◌++◌, ◌∷◌, [], ℤ, Bool, List, Some, None, is_some}
+use Rattle.ix_bounds.specs.Parts.{IsPartsOf}
+use Rattle.ix_keep.specs.Snapshot.{Snapshot}
+use Rattle.ix_kept.specs.Configs.{IsChooser}
+use Rattle.ix_kept.specs.Taken.{IsTakenCommand, AreGiven}
+use Rattle.ix_machine.specs.Bounds.{KeepsBounds, come_to}
+use Rattle.ix_machine.specs.Given.{Chooser}
+use Rattle.ix_machine.specs.Judged as machine
+use Rattle.ix_machine.specs.Judged.{judged, needs_tick}
+use Rattle.ix_machine.specs.Step.{after, effective}
+use Rattle.ix_base.specs.declared.files.File.{File}
+use Rattle.ix_machine.specs.declared.commands.Command.{Command}
+use Rattle.ix_machine.specs.declared.commands.Command.TheVariants.{Tick}
+use Rattle.ix_machine.specs.declared.commands.Order.{Order}
+use Rattle.ix_snapshot.specs.Laws.{HasNoneFrom}
+use Rattle.ix_snapshot.specs.Snap.{left}
+use Rattle.ix_state.specs.Held.{Holds, shelves_of}
+use Rattle.ix_state.specs.declared.held.Held.{Held}
+use Rattle.ix_state.specs.declared.held.Storage.{Storage}
+use Rattle.ix_store.specs.Making.{AreProper, LeadsBy, with_order, with_tick}
+use Rattle.ix_store.specs.Written.{AreDone}
+use Rattle.ix_steps.specs.Next.{HasRoom, IsReady}
+use Rattle.ix_tier.specs.Seen.{parts_of}
+use Rattle.ix_steps.specs.Steps.{Stands, IsStep, order_of}
+use Rattle.ix_tier.specs.declared.pairs.Pair.{Pair}
+use Rattle.ix_steps.specs.declared.steps.Step.{Step}
+use Rattle.ix_tier.specs.declared.pairs.Ticked.{Ticked}
+
+-- A command may come to a state that holds a history, which no cause hinders.
+pub record MayFollow (choose : Chooser) (history : List Order) (order : Order) (held : Held) : Type 0 where
+  pub chooser : IsChooser choose
+  pub given : AreGiven history
+  pub taken : IsTakenCommand order.command
+  pub holds : Holds choose history held
+  pub no_cause : judged (after choose history) order.command ≡ None
+
+-- What was worked out for it, of which the bounds are still to be seen.
+pub record IsPair (choose : Chooser) (history : List Order) (order : Order) (held : Held) (pair : Pair) : Type 0 where
+  pub ready : KeepsBounds (come_to choose (after choose history) order) → IsReady choose (with_order choose history order) held pair.step.next
+  pub parts : IsPartsOf (come_to choose (after choose history) order) (parts_of held pair.step.next)
+  pub ticks : is_some pair.first ≡ needs_tick (after choose history) order
+  pub leads : (old : Snapshot) → HasNoneFrom (after choose history).catalog.next_file old.contents →
+      LeadsBy pair.first pair.step.draft old (left choose history) (left choose (with_tick history order)) (left choose (with_order choose history order))
+  pub done : AreDone (after choose (with_order choose history order)).catalog pair.step.done_with
+  pub many : pair.step.moved ≡ machine.moved (after choose history) order.command (effective (after choose history).last order.moment)
+
+-- its items can be written, and what it leaves can be taken without memory
+pub record IsUsablePair (held : Held) (pair : Pair) : Type 0 where
+  pub proper : AreProper pair.first pair.step.draft
+  pub room : HasRoom held pair.step.next
+
+-- the storage with which it begins
+pub record IsBegun (held : Held) (storage : Storage) : Type 0 where
+  pub shelves : storage.shelves ≡ shelves_of held
+  pub ledger : storage.ledger ≡ None
+  pub last : storage.last ≡ held.last
+  pub tick : storage.tick ≡ held.tick
+
+-- for every history that the state may hold
+abbrev pub Pairs : Order → Held → Pair → Type 0
+Pairs order held pair = (choose : Chooser) (history : List Order) → MayFollow choose history order held → IsPair choose history order held pair
+
+-- which is within the bounds of a store
+abbrev pub PairsWithin : Order → Held → Pair → Type 0
+PairsWithin order held pair = (choose : Chooser) (history : List Order) → MayFollow choose history order held →
+    IsPair choose history order held pair × KeepsBounds (come_to choose (after choose history) order)
+
+-- no such history keeps the bounds of a store
+abbrev pub IsOver : Order → Held → Type 0
+IsOver order held = (choose : Chooser) (history : List Order) → MayFollow choose history order held → KeepsBounds (come_to choose (after choose history) order) → ⊥
+
+-- ---- its parts
+
+abbrev pub done_with_more : Step → List File → Step
+done_with_more step files = record { next = step.next; draft = step.draft; done_with = step.done_with ++ files; moved = step.moved }
+
+-- the one behind the other, done with the files of both
+abbrev pub pair_with : Step → Step → Pair
+pair_with first second = record { first = Some first.draft; step = done_with_more second first.done_with }
+
+-- the storage with which it begins, the moment that it has, and whether a Tick is due
+pub record Begins (choose : Chooser) (history : List Order) (order : Order) (held : Held) (begun : Storage) (moment : ℤ) (is_due : Bool) : Type 0 where
+  pub follows : MayFollow choose history order held
+  pub is_begun : IsBegun held begun
+  pub moment_is : moment ≡ effective (after choose history).last order.moment
+  pub due_is : needs_tick (after choose history) order ≡ is_due
+
+abbrev pub PairsWhere : Bool → Command → Held → Storage → ℤ → Pair → Type 0
+PairsWhere is_due command held begun moment pair = (choose : Chooser) (history : List Order) (given : ℤ) →
+    Begins choose history (order_of command given) held begun moment is_due → IsPair choose history (order_of command given) held pair
+
+abbrev pub IsOverWhere : Bool → Command → Held → Storage → ℤ → Type 0
+IsOverWhere is_due command held begun moment = (choose : Chooser) (history : List Order) (given : ℤ) →
+    Begins choose history (order_of command given) held begun moment is_due → KeepsBounds (come_to choose (after choose history) (order_of command given)) → ⊥
+
+-- ---- the Tick
+
+-- what a Tick is worked out to
+pub record IsTickOf (choose : Chooser) (history : List Order) (given : ℤ) (held : Held) (ticked : Ticked) : Type 0 where
+  pub step : Step
+  pub is_step : IsStep choose history (order_of Tick given) held step
+  pub storage : ticked.storage ≡ step.next.storage
+  pub draft : ticked.draft ≡ step.draft
+  pub files : ticked.done_with ≡ step.done_with
+
+-- What a history leads to is in memory, and a Tick has this moment.
+pub record TickMayCome (choose : Chooser) (history : List Order) (given : ℤ) (held : Held) (begun : Storage) (moment : ℤ) : Type 0 where
+  pub stands : Stands choose history held begun
+  pub moment_is : moment ≡ effective (after choose history).last given
+
+abbrev pub TickSteps : Held → Storage → ℤ → Ticked → Type 0
+TickSteps held begun moment ticked = (choose : Chooser) (history : List Order) (given : ℤ) → TickMayCome choose history given held begun moment →
+    IsTickOf choose history given held ticked
+
+abbrev pub TickIsOver : Held → Storage → ℤ → Type 0
+TickIsOver held begun moment = (choose : Chooser) (history : List Order) (given : ℤ) → TickMayCome choose history given held begun moment →
+    KeepsBounds (after choose history) → KeepsBounds (after choose (history ++ order_of Tick given ∷ [])) → ⊥

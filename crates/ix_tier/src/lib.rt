@@ -1,0 +1,11 @@
+//! The state of a store in memory, as the store takes it: each command is worked out beside the state, with the Tick that may come
+//! before it, and taken once it is staged.
+#![tactic(auto)]
+
+mod copying;
+mod making;
+mod measuring;
+mod pairs;
+mod tier;
+
+pub use tier::Tier;

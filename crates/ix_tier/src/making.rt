@@ -1,0 +1,147 @@
+//! What a command leads to, with the Tick that may come before it. `tier` calls it.
+
+ghost use Rattle.std.specs.Prelude.{◌≡◌, ◌++◌, true, false, IfOk, OnOk, IsErrOf};
+ghost use Rattle.std.specs.List.{AllByRecursion};
+ghost use Rattle.ix_items.specs.Spelling.{HasSpelling};
+ghost use Rattle.ix_kept.specs.Taken.{IsTakenCommand};
+ghost use Rattle.ix_tier.specs.Made.{Pairs, PairsWithin, PairsWhere, IsOver, IsOverWhere, IsUsablePair, TickSteps, TickIsOver, done_with_more};
+
+use crate::copying::storage_of;
+use crate::measuring::is_within;
+use crate::pairs::{Pair, Ticked};
+use ix_base::{File, NoMemory};
+use ix_items::FileList;
+use ix_machine::{Command, Order};
+use ix_state::{Held, Storage};
+use ix_steps::{Step, StepFault, Working};
+use std::alloc::Global;
+
+/// Adds files behind the others.
+fn add_files(list: &mut FileList, files: &[File]) -> Result<(), NoMemory>
+    ensures { OnOk result (list.new ≡ list.old ++ files.now) }
+{
+    for file in files {
+        list.push(*file)?;
+    }
+    Ok(())
+}
+
+/// A step that is done with more files.
+fn with_files(step: Step, files: &[File]) -> Result<Step, NoMemory>
+    ensures { IfOk result (λ more. more ≡ done_with_more step files.now) }
+{
+    let mut step = step;
+    match add_files(&mut step.done_with, files) {
+        Ok(()) => Ok(step),
+        Err(fault) => Err(fault),
+    }
+}
+
+/// What a Tick leads to, but for how many buckets it freezes.
+fn tick<'a>(
+    alloc: Global,
+    held: &'a Held,
+    begun: &'a Storage,
+    moment: i64,
+) -> Result<Ticked, StepFault>
+    ensures done { IfOk result (λ ticked. TickSteps held.now begun.now moment ticked) }
+    ensures proper { IfOk result (λ ticked. AllByRecursion HasSpelling ticked.draft.items) }
+    ensures full { IsErrOf result StepFault.Full → TickIsOver held.now begun.now moment }
+{
+    let work = Working {
+        alloc,
+        held,
+        storage: begun,
+        moment,
+    };
+    let step = work.tick()?;
+    let next = step.next;
+    Ok(Ticked {
+        storage: next.storage,
+        draft: step.draft,
+        done_with: step.done_with,
+    })
+}
+
+/// A Tick, and a command behind it.
+fn with_tick(
+    alloc: Global,
+    held: &Held,
+    begun: &Storage,
+    command: Command,
+    moment: i64,
+) -> Result<Pair, StepFault>
+    requires { IsTakenCommand command }
+    ensures done { IfOk result (λ pair. PairsWhere true command held.now begun.now moment pair) }
+    ensures usable { IfOk result (λ pair. IsUsablePair held.now pair) }
+    ensures full { IsErrOf result StepFault.Full → IsOverWhere true command held.now begun.now moment }
+{
+    let first = tick(alloc, held, begun, moment)?;
+    let work = Working {
+        alloc,
+        held,
+        storage: &first.storage,
+        moment,
+    };
+    let second = work.work(command)?;
+    let step = with_files(second, first.done_with.as_slice())?;
+    Ok(Pair {
+        first: Some(first.draft),
+        step,
+    })
+}
+
+/// A command alone.
+fn without_tick<'a>(
+    alloc: Global,
+    held: &'a Held,
+    begun: &'a Storage,
+    command: Command,
+    moment: i64,
+) -> Result<Pair, StepFault>
+    requires { IsTakenCommand command }
+    ensures done { IfOk result (λ pair. PairsWhere false command held.now begun.now moment pair) }
+    ensures usable { IfOk result (λ pair. IsUsablePair held.now pair) }
+    ensures full { IsErrOf result StepFault.Full → IsOverWhere false command held.now begun.now moment }
+{
+    let work = Working {
+        alloc,
+        held,
+        storage: begun,
+        moment,
+    };
+    let step = work.work(command)?;
+    Ok(Pair { first: None, step })
+}
+
+/// What a command leads to.
+pub(crate) fn make(alloc: Global, held: &Held, order: Order) -> Result<Pair, StepFault>
+    requires { IsTakenCommand order.command }
+    ensures done { IfOk result (λ pair. Pairs order held.now pair) }
+    ensures usable { IfOk result (λ pair. IsUsablePair held.now pair) }
+    ensures full { IsErrOf result StepFault.Full → IsOver order held.now }
+{
+    let is_due = held.needs_tick(&order);
+    let moment = held.effective(order.moment);
+    let begun = storage_of(alloc, held)?;
+    if is_due {
+        with_tick(alloc, held, &begun, order.command, moment)
+    } else {
+        without_tick(alloc, held, &begun, order.command, moment)
+    }
+}
+
+/// What a command leads to, where it keeps the bounds of what a store can keep.
+pub(crate) fn make_within(alloc: Global, held: &Held, order: Order) -> Result<Pair, StepFault>
+    requires { IsTakenCommand order.command }
+    ensures done { IfOk result (λ pair. PairsWithin order held.now pair) }
+    ensures usable { IfOk result (λ pair. IsUsablePair held.now pair) }
+    ensures full { IsErrOf result StepFault.Full → IsOver order held.now }
+{
+    let pair = make(alloc, held, order)?;
+    if is_within(held, &pair.step.next) {
+        Ok(pair)
+    } else {
+        Err(StepFault::Full)
+    }
+}
