@@ -5,3 +5,4 @@ pub mod VerdictLemmas
 pub mod TakingLemmas
 pub mod AskLemmas
 pub mod RouteLemmas
+pub mod LimitLemmas

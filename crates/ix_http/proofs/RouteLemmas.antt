@@ -199,3 +199,6 @@ route-from (events name) is = ap route_of (append_assoc (codes "/indexes/") name
 
 pub routes-are-exact : RoutesAreExact
 routes-are-exact path route = (λ e. route-to path route e, λ n. ap route_of n.1 ∙ route-from route n.0)
+
+pub route_is_named : (path : List ℕ) (r : Route) → route_of path ≡ Some r → IsNamed r
+route_is_named path r is = (route-to path r is).0

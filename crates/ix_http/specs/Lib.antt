@@ -4,5 +4,6 @@ pub mod Bodies
 pub mod Texts
 pub mod Verdicts
 pub mod Asked
+pub mod Limits
 pub mod Behind
 pub mod Replies

@@ -1,11 +1,12 @@
 //! One request is read from a link: its head, and where it is known where it ends, its body.
 
-ghost use Rattle.std.specs.Prelude.{◌≡◌, ◌≤◌, length, Result, Err, Some, None};
+ghost use Rattle.std.specs.Prelude.{◌≡◌, ◌≤◌, length, Result, Err, Some, None, IfOk};
 ghost use Rattle.ix_base.specs.Faults.{Rose};
 ghost use Rattle.ix_base.specs.Told.{Told};
 ghost use Rattle.ix_heads.specs.Reads.{OnlyReads};
 ghost use Rattle.ix_http.specs.Asked.{Fits};
 ghost use Rattle.ix_http.specs.Behind.{FitsAsked, FitsBehind};
+ghost use Rattle.ix_http.specs.Limits.{IsWithin};
 ghost use Rattle.ix_http.specs.Verdicts.{delimited_length, head_fault};
 
 use crate::asks::asked_of;
@@ -25,8 +26,10 @@ fn read_asked<K: Link>(
     head: &Head<'_>,
     count: usize,
 ) -> Result<Incoming, LinkFault>
-    requires { head_fault head.now ≡ None }
+    requires fine { head_fault head.now ≡ None }
+    requires bound { count ≤ 1048576 }
     ensures read { Told (FitsAsked count head.now result) (K.left link.old) (K.left link.new) }
+    ensures within { IfOk result IsWithin }
     ensures reads { OnlyReads (K.given link.old) (K.given link.new) (K.standing link.old) (K.standing link.new) (K.faults link.old) (K.faults link.new) }
     ensures failed { result ≡ Err LinkFault.Failed → Rose (K.faults link.old) (K.faults link.new) }
 {
@@ -53,6 +56,7 @@ fn read_refused<K: Link>(
 ) -> Result<Incoming, LinkFault>
     requires { head_fault head.now ≡ Some fault }
     ensures read { Told (FitsAsked count head.now result) (K.left link.old) (K.left link.new) }
+    ensures within { IfOk result IsWithin }
     ensures reads { OnlyReads (K.given link.old) (K.given link.new) (K.standing link.old) (K.standing link.new) (K.faults link.old) (K.faults link.new) }
     ensures failed { result ≡ Err LinkFault.Failed → Rose (K.faults link.old) (K.faults link.new) }
 {
@@ -67,6 +71,7 @@ fn read_refused<K: Link>(
 fn read_behind<K: Link>(alloc: Global, link: &mut K, head: &Head<'_>) -> Result<Incoming, LinkFault>
     requires { length head.now.lines ≤ 64 }
     ensures read { Told (FitsBehind head.now result) (K.left link.old) (K.left link.new) }
+    ensures within { IfOk result IsWithin }
     ensures reads { OnlyReads (K.given link.old) (K.given link.new) (K.standing link.old) (K.standing link.new) (K.faults link.old) (K.faults link.new) }
     ensures failed { result ≡ Err LinkFault.Failed → Rose (K.faults link.old) (K.faults link.new) }
 {
@@ -84,9 +89,10 @@ fn read_behind<K: Link>(alloc: Global, link: &mut K, head: &Head<'_>) -> Result<
 
 /// Reads one request from a link, and takes just its bytes: the rest is left unread. Where it is known where a request
 /// ends, its body is read before it is judged. The faults are judged in the order of `HttpFault`. `Failed` comes only where
-/// the link failed, `Cut` exactly where it ended inside a request.
+/// the link failed, `Cut` exactly where it ended inside a request. What is asked keeps its limits, whatever the link tells.
 pub fn read_request<K: Link>(alloc: Global, link: &mut K) -> Result<Incoming, LinkFault>
     ensures read { Told (Fits result) (K.left link.old) (K.left link.new) }
+    ensures within { IfOk result IsWithin }
     ensures reads { OnlyReads (K.given link.old) (K.given link.new) (K.standing link.old) (K.standing link.new) (K.faults link.old) (K.faults link.new) }
     ensures failed { result ≡ Err LinkFault.Failed → Rose (K.faults link.old) (K.faults link.new) }
 {

@@ -1,6 +1,6 @@
 //! The bytes behind a head: read into memory, or read over.
 
-ghost use Rattle.std.specs.Prelude.{◌≡◌, ◌≤◌, length, Result, Err};
+ghost use Rattle.std.specs.Prelude.{◌≡◌, ◌≤◌, length, Result, Err, IfOk};
 ghost use Rattle.ix_base.specs.Faults.{Rose};
 ghost use Rattle.ix_base.specs.Told.{Told};
 ghost use Rattle.ix_heads.specs.Reads.{OnlyReads};
@@ -57,6 +57,7 @@ pub(crate) fn read_body<K: Link>(
     count: usize,
 ) -> Result<Bytes, LinkFault>
     ensures read { Told (FitsBody count result) (K.left link.old) (K.left link.new) }
+    ensures sized { IfOk result (λ body. length body ≡ count) }
     ensures reads { OnlyReads (K.given link.old) (K.given link.new) (K.standing link.old) (K.standing link.new) (K.faults link.old) (K.faults link.new) }
     ensures failed { result ≡ Err LinkFault.Failed → Rose (K.faults link.old) (K.faults link.new) }
 {

@@ -1,0 +1,235 @@
+-- How answers come about.
+use Rattle.std.proofs.Common.{◌≡◌, ◌≤◌, ◌⊎◌, ◌∙◌, ℕ, Bool, true, false, List, [], length, take, drop, ◌++◌, refl, sym, ap, subst, ⊎_elim, inl, inr, Option, Some, None, Result, Ok, Err, arith}
+use Rattle.std.specs.Prelude.{IfOk, IfErr, OnOk}
+use Rattle.std.proofs.lemmas.List.{append-nil}
+use Rattle.std.proofs.lemmas.Bool.{false≢true}
+use Rattle.ix_base.specs.declared.files.File.{File}
+use Rattle.ix_base.specs.Told.{Told, HasWritten, HasBegun}
+use Rattle.ix_base.proofs.ToldLemmas.{written_is_begun}
+use Rattle.ix_book.specs.Book.{Book}
+use Rattle.ix_disk.specs.Image.{Image}
+use Rattle.ix_disk.specs.Moments.{Always}
+use Rattle.ix_disk.specs.declared.disk.Disk.{Ghosts}
+use Rattle.ix_http.specs.Asked.{Fits}
+use Rattle.ix_http.specs.Limits.{IsWithin}
+use Rattle.ix_http.specs.declared.kinds.Ask.{Ask}
+use Rattle.ix_keep.specs.Undo.{HasSameLogs}
+use Rattle.ix_keep.specs.declared.fault.CommitFault.{CommitFault}
+use Rattle.ix_keep.specs.declared.fault.CommitFault.TheVariants as commits
+use Rattle.ix_machine.specs.Bounds.{IsAllowed, IsRefused}
+use Rattle.ix_machine.specs.Given.{Chooser}
+use Rattle.ix_machine.specs.Judged.{adds}
+use Rattle.ix_machine.specs.declared.answers.Accepted.{Accepted}
+use Rattle.ix_machine.specs.declared.answers.Refusal.{Refusal}
+use Rattle.ix_machine.specs.declared.commands.Command.{Command}
+use Rattle.ix_machine.specs.declared.commands.Order.{Order}
+use Rattle.ix_store.specs.Counting.{is_due}
+use Rattle.ix_store.specs.Holding.{Holds, IsAccepted, IsUnchanged}
+use Rattle.ix_store.specs.Making.{with_order}
+use Rattle.ix_store.specs.declared.store.Store.{Store}
+use Rattle.ix_store.proofs.Joining.{staged_same}
+use Rattle.ix_store.proofs.Lawful.{held_then}
+use Rattle.ix_serve.specs.Answer.{Answer, Found, Says, MayChange, is_whole, says, accepted, answer_of_fault}
+use Rattle.ix_serve.specs.Entries.{Entry, state, drawn, order}
+use Rattle.ix_serve.specs.Prefixes.{StandsIn}
+use Rattle.ix_serve.specs.Replies.{Reply, text_of, refused}
+use Rattle.ix_serve.specs.Serving.{Wrote, Gave, IsOpen, IsCut, IsTold, HoldsFrom, Answers, Serves}
+use Rattle.ix_serve.specs.declared.served.Served.{Served}
+use Rattle.ix_serve.specs.declared.served.Served.TheVariants as served
+use Rattle.ix_serve.specs.declared.served.ServeFault.{ServeFault}
+use Rattle.ix_serve.specs.declared.served.ServeFault.TheVariants as fault
+use Rattle.ix_serve.proofs.Standing.{same_run, standing}
+
+-- ---- what is written
+
+-- it is a front of the reply at least
+pub wrote_begun : (r : Reply) (delimited : Bool) (clean : Type 0) (result : Result Served ServeFault) (given given' : Option (List ℕ)) → Wrote r delimited clean result given given' → HasBegun (text_of r) given given'
+wrote_begun r delimited clean (Ok served.Ended) given given' is = absurd is
+wrote_begun r delimited clean (Ok (served.Reply status whole)) given given' is = written_is_begun is.2
+wrote_begun r delimited clean (Err fault.Disk) given given' is = is.0
+wrote_begun r delimited clean (Err (fault.Damaged file at)) given given' is = is.0
+wrote_begun r delimited clean (Err fault.Link) given given' is = is
+wrote_begun r delimited clean (Err fault.Cut) given given' is = absurd is
+
+-- where the link is clean it is all of it
+wrote_clean : (r : Reply) (delimited : Bool) (clean : Type 0) (result : Result Served ServeFault) (given given' : Option (List ℕ)) → (result ≡ Err fault.Link → clean → ⊥) →
+    Wrote r delimited clean result given given' → clean → HasWritten (text_of r) given given'
+wrote_clean r delimited clean (Ok served.Ended) given given' by is sent = absurd is
+wrote_clean r delimited clean (Ok (served.Reply status whole)) given given' by is sent = is.2
+wrote_clean r delimited clean (Err fault.Disk) given given' by is sent = is.1 sent
+wrote_clean r delimited clean (Err (fault.Damaged file at)) given given' by is sent = is.1 sent
+wrote_clean r delimited clean (Err fault.Link) given given' by is sent = absurd (by refl sent)
+wrote_clean r delimited clean (Err fault.Cut) given given' by is sent = absurd is
+
+begun_broken : (r : Reply) (delimited : Bool) (clean : Type 0) (cause : CommitFault) (given given' : Option (List ℕ)) → HasBegun (text_of r) given given' → (clean → HasWritten (text_of r) given given') →
+    Wrote r delimited clean (Err (answer_of_fault cause)) given given'
+begun_broken r delimited clean commits.Disk given given' is all = (is, all)
+begun_broken r delimited clean (commits.Damaged file at) given given' is all = (is, all)
+
+-- a reply that was written before a fault of the disk is answered
+pub gave_up : (r : Reply) (delimited : Bool) (clean : Type 0) (result : Result Served ServeFault) (cause : CommitFault) (given given' : Option (List ℕ)) → (result ≡ Err fault.Link → clean → ⊥) →
+    Wrote r delimited clean result given given' → Wrote r delimited clean (Err (answer_of_fault cause)) given given'
+gave_up r delimited clean result cause given given' by is =
+    begun_broken r delimited clean cause given given' (wrote_begun r delimited clean result given given' is) (wrote_clean r delimited clean result given given' by is)
+
+-- behind a commit, the reply was written as before
+pub wrote_settled : (r : Reply) (delimited : Bool) (clean : Type 0) (came result : Result Served ServeFault) (given given' : Option (List ℕ)) →
+    (result ≡ came) ⊎ ((cause : CommitFault) × (result ≡ Err (answer_of_fault cause))) → (came ≡ Err fault.Link → clean → ⊥) →
+    Wrote r delimited clean came given given' → Wrote r delimited clean result given given'
+wrote_settled r delimited clean came result given given' either by is = ⊎_elim
+    (λ (same : result ≡ came). subst (λ (x : Result Served ServeFault). Wrote r delimited clean x given given') (sym same) is)
+    (λ (w : (cause : CommitFault) × (result ≡ Err (answer_of_fault cause))). subst (λ (x : Result Served ServeFault). Wrote r delimited clean x given given') (sym w.1)
+    (begun_broken r delimited clean w.0 given given' (wrote_begun r delimited clean came given given' is) (wrote_clean r delimited clean came given given' by is)))
+    either
+
+wrote_cleaner : (r : Reply) (delimited : Bool) (clean clean' : Type 0) (result : Result Served ServeFault) (given given' : Option (List ℕ)) → (clean' → clean) →
+    Wrote r delimited clean result given given' → Wrote r delimited clean' result given given'
+wrote_cleaner r delimited clean clean' (Ok served.Ended) given given' so is = is
+wrote_cleaner r delimited clean clean' (Ok (served.Reply status whole)) given given' so is = is
+wrote_cleaner r delimited clean clean' (Err fault.Disk) given given' so is = (is.0, λ c. is.1 (so c))
+wrote_cleaner r delimited clean clean' (Err (fault.Damaged file at)) given given' so is = (is.0, λ c. is.1 (so c))
+wrote_cleaner r delimited clean clean' (Err fault.Link) given given' so is = is
+wrote_cleaner r delimited clean clean' (Err fault.Cut) given given' so is = is
+
+pub gave_cleaner : (r : Option Reply) (delimited : Bool) (clean clean' : Type 0) (result : Result Served ServeFault) (given given' : Option (List ℕ)) → (clean' → clean) →
+    Gave r delimited clean result given given' → Gave r delimited clean' result given given'
+gave_cleaner None delimited clean clean' result given given' so is = is
+gave_cleaner (Some r) delimited clean clean' result given given' so is = wrote_cleaner r delimited clean clean' result given given' so is
+
+-- ---- faults
+
+pub open_cut : {D : Type 0} (g : Ghosts D) (new : D) (result : Result Served ServeFault) → IsOpen result → IsCut g new result
+open_cut g new result stays file at is image seen = absurd (subst IsOpen is stays)
+
+-- a store that has failed is not open
+pub closed : (cause : CommitFault) → IsOpen (Err (answer_of_fault cause)) → ⊥
+closed commits.Disk is = is
+closed (commits.Damaged file at) is = is
+
+-- ---- answers
+
+module _ {D : Type 0} (g : Ghosts D) {M : Type 0} (fits : Book → Type 0) (holds : Chooser → List Order → M → Type 0) (e : Entry) where
+  -- all is committed
+  pub due_held : (commits : Bool) (h : List Order) (store : Store M) (disk : D) → e.kept ≤ length h → Holds g fits holds e.choose h e.base (length h) store disk → HoldsFrom g fits holds e commits h store disk
+  due_held commits h store disk within hold = record { count = length h; least = within; hold = hold; all = λ _. refl }
+
+  -- nothing is to be committed
+  pub undue_held : (commits : Bool) (h : List Order) (store : Store M) (disk : D) → commits ≡ false → Holds g fits holds e.choose h e.base e.kept store disk → HoldsFrom g fits holds e commits h store disk
+  undue_held commits h store disk undue hold = record { count = e.kept; least = omega arith; hold = hold; all = λ is. absurd (false≢true (sym undue ∙ is)) }
+
+  -- nothing was added
+  pub queried : (may : Answer → Type 0) (delimited : Bool) (clean : Type 0) (result : Result Served ServeFault) (given given' : Option (List ℕ)) (store : Store M) (old new : D) (r : Option Reply) (commits : Bool) →
+      (let a : Answer = record { reply = r; more = []; commits = commits } in may a) → Gave r delimited clean result given given' → (IsOpen result → HoldsFrom g fits holds e commits e.history store new) →
+      Always g old new (StandsIn fits e.run e.choose e.history e.kept) → IsCut g new result → Answers g fits holds e may delimited clean result given given' store old new
+  queried may delimited clean result given given' store old new r commits may_be gave held images cut = record {
+    answer = record { reply = r; more = []; commits = commits };
+    may_be = may_be;
+    gave = gave;
+    held = λ stays. subst (λ (l : List Order). HoldsFrom g fits holds e commits l store new) (sym (append-nil e.history)) (held stays);
+    images = subst (λ (l : List Order). Always g old new (StandsIn fits e.run e.choose l e.kept)) (sym (append-nil e.history)) images;
+    cut = cut;
+  }
+
+  -- nothing was added and the disk left alone
+  pub idle : (may : Answer → Type 0) (delimited : Bool) (clean : Type 0) (result : Result Served ServeFault) (given given' : Option (List ℕ)) (store : Store M) (disk : D) (r : Option Reply) →
+      (let a : Answer = record { reply = r; more = []; commits = false } in may a) → Gave r delimited clean result given given' → IsOpen result →
+      store.run ≡ e.run → Holds g fits holds e.choose e.history e.base e.kept store disk → Answers g fits holds e may delimited clean result given given' store disk disk
+  idle may delimited clean result given given' store disk r may_be gave stays run hold =
+      queried may delimited clean result given given' store disk disk r false may_be gave
+      (λ _. undue_held false e.history store disk refl hold)
+      (subst (λ (n : ℕ). Always g disk disk (StandsIn fits n e.choose e.history e.kept)) run (standing g fits holds e.choose e.history e.base e.kept store disk hold))
+      (open_cut g disk result stays)
+
+  -- a command was accepted
+  pub changed : (command : Command) (good : Reply) (clean : Type 0) (result : Result Served ServeFault) (given given' : Option (List ℕ)) (before mid store : Store M) (old new : D) (answer : Accepted) →
+      (hold : Holds g fits holds e.choose e.history e.base e.kept before old) → IsAccepted fits holds e.choose e.history e.base e.kept (order e command) before mid hold.old answer →
+      Wrote good true clean result given given' → (IsOpen result → HoldsFrom g fits holds e (is_due (drop e.kept (with_order e.choose e.history (order e command)))) (with_order e.choose e.history (order e command)) store new) →
+      Always g old new (StandsIn fits e.run e.choose (with_order e.choose e.history (order e command)) e.kept) → IsCut g new result →
+      Answers g fits holds e (MayChange e command good) true clean result given given' store old new
+  changed command good clean result given given' before mid store old new answer hold is gave held images cut = record {
+    answer = accepted e command good;
+    may_be = inl (subst (λ (n : ℕ). IsAllowed e.choose false n (state e) (order e command)) hold.staged.counted.drawn_are is.allowed, refl);
+    gave = gave;
+    held = held;
+    images = images;
+    cut = cut;
+  }
+
+  -- store and disk hold it
+  pub held_accepted : (command : Command) (before mid : Store M) (disk : D) (answer : Accepted) (hold : Holds g fits holds e.choose e.history e.base e.kept before disk) → HasSameLogs before.keeper mid.keeper →
+      IsAccepted fits holds e.choose e.history e.base e.kept (order e command) before mid hold.old answer → Holds g fits holds e.choose (with_order e.choose e.history (order e command)) e.base e.kept mid disk
+  held_accepted command before mid disk answer hold logs is = held_then g fits holds e.choose e.history (with_order e.choose e.history (order e command)) e.base e.kept before mid disk hold logs is.staged
+
+  pub run_accepted : (command : Command) (before mid : Store M) (disk : D) (answer : Accepted) (hold : Holds g fits holds e.choose e.history e.base e.kept before disk) →
+      IsAccepted fits holds e.choose e.history e.base e.kept (order e command) before mid hold.old answer → mid.run ≡ before.run
+  run_accepted command before mid disk answer hold is = same_run before.run mid.run hold.old _ _ hold.staged.old_is is.staged.old_is
+
+  -- a command was refused
+  pub refused_so : (command : Command) (good : Reply) (clean : Type 0) (result : Result Served ServeFault) (given given' : Option (List ℕ)) (before store : Store M) (disk : D) (refusal : Refusal) →
+      before.run ≡ e.run → (hold : Holds g fits holds e.choose e.history e.base e.kept before disk) → HasSameLogs before.keeper store.keeper → IsUnchanged before store →
+      IsRefused e.choose false before.drawn (state e) (order e command) refusal → Wrote (refused refusal) true clean result given given' → IsOpen result →
+      Answers g fits holds e (MayChange e command good) true clean result given given' store disk disk
+  refused_so command good clean result given given' before store disk refusal run hold logs same is gave stays =
+      idle (MayChange e command good) true clean result given given' store disk (Some (refused refusal))
+      (inr (refusal, subst (λ (n : ℕ). IsRefused e.choose false n (state e) (order e command) refusal) hold.staged.counted.drawn_are is, refl))
+      gave stays (same.run ∙ run)
+      (held_then g fits holds e.choose e.history e.history e.base e.kept before store disk hold logs (staged_same fits holds e.choose e.history e.base e.kept before store hold.old same hold.staged))
+
+  -- the same said otherwise
+  pub answered : (may may' : Answer → Type 0) (delimited : Bool) (clean : Type 0) (result : Result Served ServeFault) (given given' : Option (List ℕ)) (store : Store M) (old new : D) →
+      ((a : Answer) → may a → may' a) → Answers g fits holds e may delimited clean result given given' store old new → Answers g fits holds e may' delimited clean result given given' store old new
+  answered may may' delimited clean result given given' store old new so is = record {
+    answer = is.answer;
+    may_be = so is.answer is.may_be;
+    gave = is.gave;
+    held = is.held;
+    images = is.images;
+    cut = is.cut;
+  }
+
+  -- the same over a longer time
+  pub cleaner : (may : Answer → Type 0) (delimited : Bool) (clean clean' : Type 0) (result : Result Served ServeFault) (given given' given'' : Option (List ℕ)) (store : Store M) (old new : D) →
+      (clean' → clean) → given ≡ given'' → Answers g fits holds e may delimited clean result given given' store old new → Answers g fits holds e may delimited clean' result given'' given' store old new
+  cleaner may delimited clean clean' result given given' given'' store old new so same is = record {
+    answer = is.answer;
+    may_be = is.may_be;
+    gave = subst (λ (x : Option (List ℕ)). Gave is.answer.reply delimited clean' result x given') same (gave_cleaner is.answer.reply delimited clean clean' result given given' so is.gave);
+    held = is.held;
+    images = is.images;
+    cut = is.cut;
+  }
+
+  -- what was read, and what is answered to it
+  pub served_so : (clean : Type 0) (result : Result Served ServeFault) (left left' left'' given given' : Option (List ℕ)) (store : Store M) (old new : D) (actual read : Found) →
+      actual ≡ read → left'' ≡ left' → Told (Fits actual) left left' → IfOk actual IsWithin →
+      Answers g fits holds e (Says e (IsTold g new) read result) (is_whole read) clean result given given' store old new →
+      Serves g fits holds e clean result left left'' given given' store old new
+  served_so clean result left left' left'' given given' store old new actual read is same took limits answers = record {
+    read = read;
+    took = subst (λ (l : Option (List ℕ)). Told (Fits read) left l) (sym same) (subst (λ (r : Found). Told (Fits r) left left') is took);
+    within = subst (λ (r : Found). IfOk r IsWithin) is limits;
+    answers = answers;
+  }
+
+-- what a commit names
+pub damaged_back : (cause : CommitFault) (file : File) (at : ℕ) → answer_of_fault cause ≡ fault.Damaged file at → cause ≡ commits.Damaged file at
+damaged_back commits.Disk file at is = absurd (cc is)
+damaged_back (commits.Damaged f a) file at is = cc
+
+-- ---- results
+
+pub if_ok : {T E : Type 0} {P Q : T → Type 0} (result : Result T E) → ((x : T) → P x → Q x) → IfOk result P → IfOk result Q
+if_ok (Ok x) so is = so x is
+if_ok (Err e) so is = tt
+
+pub if_err : {T E : Type 0} {P Q : E → Type 0} (result : Result T E) → ((x : E) → P x → Q x) → IfErr result P → IfErr result Q
+if_err (Ok x) so is = tt
+if_err (Err e) so is = so e is
+
+pub on_ok : {T E P Q : Type 0} (result : Result T E) → (P → Q) → OnOk result P → OnOk result Q
+on_ok (Ok x) so is = so is
+on_ok (Err e) so is = tt
+
+pub on_ok_always : {T E P : Type 0} (result : Result T E) → P → OnOk result P
+on_ok_always (Ok x) is = is
+on_ok_always (Err e) is = tt

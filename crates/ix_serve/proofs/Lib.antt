@@ -1,0 +1,4 @@
+pub mod Standing
+pub mod Answering
+pub mod Exporting
+pub mod Asking

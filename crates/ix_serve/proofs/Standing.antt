@@ -1,0 +1,43 @@
+-- How the images of a store stand for prefixes.
+use Rattle.std.proofs.Common.{◌≡◌, ◌≤◌, ◌⊎◌, ℕ, List, length, take, [], ap, sym, subst, ◌∙◌, ⊎_elim, arith}
+use Rattle.ix_book.specs.Book.{Book, run_of, named}
+use Rattle.ix_disk.specs.Image.{Image, Stays}
+use Rattle.ix_disk.specs.Moments.{Always, Goes}
+use Rattle.ix_disk.specs.declared.disk.Disk.{Ghosts}
+use Rattle.ix_disk.proofs.Runs.{always_begins, always_on, always_still, always_weaker}
+use Rattle.ix_keep.specs.Snapshot.{Snapshot}
+use Rattle.ix_machine.specs.Given.{Chooser}
+use Rattle.ix_machine.specs.declared.commands.Order.{Order}
+use Rattle.ix_store.specs.Holding.{Holds}
+use Rattle.ix_store.specs.Written.{Stands, IsOf}
+use Rattle.ix_store.specs.declared.store.Store.{Store}
+use Rattle.ix_store.proofs.Counted.{take_whole}
+use Rattle.ix_store.proofs.Lawful.{held_stands}
+use Rattle.ix_serve.specs.Prefixes.{StandsIn}
+
+-- a snapshot tells its run
+pub same_run : (one other : ℕ) (s a b : Snapshot) → IsOf one s a → IsOf other s b → other ≡ one
+same_run one other s a b is was = ap (λ (book : Book). run_of (book (named 2 [] 0))) (sym was.book ∙ is.book)
+
+module _ (fits : Book → Type 0) (run : ℕ) (choose : Chooser) (h : List Order) (k : ℕ) (within : k ≤ length h) where
+  pub of_first : (image : Image) → Stands fits run choose (take k h) image → StandsIn fits run choose h k image
+  of_first image is = record { count = k; least = omega arith; most = within; stands = is }
+
+  pub of_all : (image : Image) → Stands fits run choose h image → StandsIn fits run choose h k image
+  of_all image is = record { count = length h; least = within; most = omega arith; stands = subst (λ (l : List Order). Stands fits run choose l image) (sym (take_whole h)) is }
+
+  -- what a commit says of the images
+  pub committing : {D : Type 0} (g : Ghosts D) (old new : D) → Always g old new (λ (image : Image). Stands fits run choose (take k h) image ⊎ Stands fits run choose h image) →
+      Always g old new (StandsIn fits run choose h k)
+  committing g old new always = always_weaker g old new (λ (image : Image). Stands fits run choose (take k h) image ⊎ Stands fits run choose h image) (StandsIn fits run choose h k)
+      (λ image. ⊎_elim (of_first image) (of_all image)) always
+
+-- a call that leaves the disk alone
+pub standing : {D : Type 0} (g : Ghosts D) {M : Type 0} (fits : Book → Type 0) (holds : Chooser → List Order → M → Type 0) (choose : Chooser) (h : List Order) (base k : ℕ) (store : Store M) (disk : D) →
+    Holds g fits holds choose h base k store disk → Always g disk disk (StandsIn fits store.run choose h k)
+standing g fits holds choose h base k store disk hold = always_begins g disk (StandsIn fits store.run choose h k)
+    (λ image left. of_first fits store.run choose h k hold.staged.within image (held_stands g fits holds choose h base k store disk hold image left))
+
+-- calls behind, which change nothing
+pub standing_on : {D : Type 0} (g : Ghosts D) (P : Image → Type 0) (old mid new : D) → Always g old mid P → Goes g mid new Stays → Always g old new P
+standing_on g P old mid new first goes = always_on g old mid new P first (always_still g mid new P goes first.now)

@@ -1,0 +1,30 @@
+use Rattle.std.proofs.Common.{◌≡◌, ◌∙◌, ℕ, List, None, Some, inr, refl, ap, sym, subst, true, rules}
+use mir.Val.{SFits}
+use Rattle.std.specs.Int.{w64}
+use Rattle.std.proofs.lemmas.Int.{to_z-of_z}
+use Rattle.ix_http.specs.declared.kinds.Ask.TheVariants as asks
+use Rattle.ix_http.specs.declared.kinds.Kind.TheVariants.{Json}
+use Rattle.ix_machine.specs.declared.answers.Refusal.TheVariants as refusals
+use Rattle.ix_machine.specs.declared.commands.Command.TheVariants as commands
+use Rattle.ix_serve.specs.Answer.{MayBe, MayChange}
+use Rattle.ix_serve.specs.Bodies.{begun_body, acked_body}
+use Rattle.ix_serve.specs.Entries.{entry, drawn}
+use Rattle.ix_serve.specs.Replies.{reply, no_memory}
+use Rattle.ix_serve.specs.Serving.{Answers, IsClean, IsTold}
+use Rattle.ix_serve.proofs.Answering.{idle}
+use Rattle.ix_serve.proofs.changes.serve_block.Goals as goal
+
+pub returns-in_default-clause-answers : goal.returns-in_default-clause-answers
+returns-in_default-clause-answers g c = λ choose h base k chooser taken hold.
+    let e = entry choose h base k c.args.store.now.run c.args.moment in
+    idle g.D.Disk g.M.Book.Replay.fits g.M.Memory.holds e (MayBe e (IsTold g.D.Disk c.args.disk.now) (asks.Block c.args.channel c.args.bytes) c.decline.result) true (IsClean (g.K.Link.faults c.args.link.now) (g.K.Link.faults c.decline.new.link)) c.decline.result
+    (g.K.Link.given c.args.link.now) (g.K.Link.given c.decline.new.link) c.args.store.now c.args.disk.now (Some no_memory) (inr (refusals.NoMemory, tt, refl)) c.decline.ensures.gave c.decline.ensures.open refl hold
+
+pub returns-clause-answers : goal.returns-clause-answers
+returns-clause-answers g c = λ choose h base k chooser taken hold.
+    let fits : SFits w64 c.args.moment = search rules in
+    let e = entry choose h base k c.args.store.now.run c.args.moment in
+    let is = simp to_z-of_z at (c.serve_change.ensures.answers choose h base k chooser taken hold) in
+    let body = c.as_slice.ensures ∙ c.in-Ok.ensures ∙ ap (λ (n : ℕ). acked_body n c.run.result) (c.drawn.ensures choose h base k hold.old hold.staged) ∙ ap (λ (n : ℕ). acked_body (drawn e) n) c.run.ensures in
+    subst (λ (body : List ℕ). Answers g.D.Disk g.M.Book.Replay.fits g.M.Memory.holds e (MayChange e (commands.Block c.args.channel c.args.bytes None) (reply 200 Json body)) true (IsClean (g.K.Link.faults c.args.link.now) (g.K.Link.faults c.serve_change.new.link)) c.serve_change.result
+    (g.K.Link.given c.args.link.now) (g.K.Link.given c.serve_change.new.link) c.serve_change.new.store c.args.disk.now c.serve_change.new.disk) body is

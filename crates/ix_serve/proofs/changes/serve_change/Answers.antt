@@ -1,0 +1,56 @@
+use Rattle.std.proofs.Common.{◌≡◌, ◌∙◌, ℕ, sym, subst, refl, true, rules}
+use mir.Val.{SFits}
+use Rattle.std.specs.Int.{w64}
+use Rattle.std.proofs.lemmas.Int.{to_z-of_z}
+use Rattle.ix_disk.specs.Moments.{Always}
+use Rattle.ix_http.specs.declared.kinds.Kind.TheVariants.{Json}
+use Rattle.ix_store.specs.Making.{with_order}
+use Rattle.ix_serve.specs.Entries.{entry, order}
+use Rattle.ix_serve.specs.Prefixes.{StandsIn}
+use Rattle.ix_serve.specs.Replies.{reply}
+use Rattle.ix_serve.specs.Serving.{IsClean}
+use Rattle.ix_serve.proofs.Answering.{changed, held_accepted, run_accepted, refused_so, wrote_settled, open_cut, due_held, undue_held}
+use Rattle.ix_serve.proofs.Standing.{standing}
+use Rattle.ix_serve.proofs.changes.serve_change.Goals as goal
+
+pub returns-then-due-clause-answers : goal.returns-then-due-clause-answers
+returns-then-due-clause-answers g c = λ choose h base k chooser taken hold.
+    let fits : SFits w64 c.args.moment = search rules in
+    let e = entry choose h base k c.args.store.now.run c.args.moment in
+    let is = simp to_z-of_z at (c.in-Ok.ensures.accepted choose h base k hold.old chooser taken hold.staged) in
+    let h2 = with_order choose h (order e c.args.command) in
+    let now = held_accepted g.D.Disk g.M.Book.Replay.fits g.M.Memory.holds e c.args.command c.args.store.now c.accept.new.self c.args.disk.now _ hold c.accept.ensures.logs is in
+    let clean = IsClean (g.K.Link.faults c.args.link.now) (g.K.Link.faults c.give-came.new.link) in
+    changed g.D.Disk g.M.Book.Replay.fits g.M.Memory.holds e c.args.command (reply c.args.status Json c.args.body.now) clean c.settle.result (g.K.Link.given c.args.link.now) (g.K.Link.given c.give-came.new.link)
+    c.args.store.now c.accept.new.self c.settle.new.store c.args.disk.now c.settle.new.disk _ hold is
+    (wrote_settled (reply c.args.status Json c.args.body.now) true clean c.give-came.result c.settle.result (g.K.Link.given c.args.link.now) (g.K.Link.given c.give-came.new.link) c.settle.ensures.came
+    (λ failed sent. sent (c.give-came.ensures.failed failed)) c.give-came.ensures.gave)
+    (λ stays. due_held g.D.Disk g.M.Book.Replay.fits g.M.Memory.holds e _ h2 c.settle.new.store c.settle.new.disk now.staged.within (c.settle.ensures.done choose h2 base k now stays))
+    (subst (λ (run : ℕ). Always g.D.Disk c.args.disk.now c.settle.new.disk (StandsIn g.M.Book.Replay.fits run choose h2 k))
+    (run_accepted g.D.Disk g.M.Book.Replay.fits g.M.Memory.holds e c.args.command c.args.store.now c.accept.new.self c.args.disk.now _ hold is) (c.settle.ensures.images choose h2 base k now))
+    c.settle.ensures.cut
+
+pub returns-else-due-clause-answers : goal.returns-else-due-clause-answers
+returns-else-due-clause-answers g c = λ choose h base k chooser taken hold.
+    let fits : SFits w64 c.args.moment = search rules in
+    let e = entry choose h base k c.args.store.now.run c.args.moment in
+    let is = simp to_z-of_z at (c.in-Ok.ensures.accepted choose h base k hold.old chooser taken hold.staged) in
+    let h2 = with_order choose h (order e c.args.command) in
+    let now = held_accepted g.D.Disk g.M.Book.Replay.fits g.M.Memory.holds e c.args.command c.args.store.now c.accept.new.self c.args.disk.now _ hold c.accept.ensures.logs is in
+    let clean = IsClean (g.K.Link.faults c.args.link.now) (g.K.Link.faults c.give-came.new.link) in
+    changed g.D.Disk g.M.Book.Replay.fits g.M.Memory.holds e c.args.command (reply c.args.status Json c.args.body.now) clean c.give-came.result (g.K.Link.given c.args.link.now) (g.K.Link.given c.give-came.new.link)
+    c.args.store.now c.accept.new.self c.accept.new.self c.args.disk.now c.args.disk.now _ hold is c.give-came.ensures.gave
+    (λ stays. undue_held g.D.Disk g.M.Book.Replay.fits g.M.Memory.holds e _ h2 c.accept.new.self c.args.disk.now (sym (c.due.ensures choose h2 base k hold.old is.staged) ∙ c.if-due.false) now)
+    (subst (λ (run : ℕ). Always g.D.Disk c.args.disk.now c.args.disk.now (StandsIn g.M.Book.Replay.fits run choose h2 k))
+    (run_accepted g.D.Disk g.M.Book.Replay.fits g.M.Memory.holds e c.args.command c.args.store.now c.accept.new.self c.args.disk.now _ hold is)
+    (standing g.D.Disk g.M.Book.Replay.fits g.M.Memory.holds choose h2 base k c.accept.new.self c.args.disk.now now))
+    (open_cut g.D.Disk c.args.disk.now c.give-came.result c.give-came.ensures.open)
+
+pub returns-in-Err-clause-answers : goal.returns-in-Err-clause-answers
+returns-in-Err-clause-answers g c = λ choose h base k chooser taken hold.
+    let fits : SFits w64 c.args.moment = search rules in
+    let e = entry choose h base k c.args.store.now.run c.args.moment in
+    let refused = simp to_z-of_z at (c.in-Err.ensures.refused choose h base k hold.old chooser taken hold.staged) in
+    refused_so g.D.Disk g.M.Book.Replay.fits g.M.Memory.holds e c.args.command (reply c.args.status Json c.args.body.now) (IsClean (g.K.Link.faults c.args.link.now) (g.K.Link.faults c.give_refusal.new.link)) c.give_refusal.result
+    (g.K.Link.given c.args.link.now) (g.K.Link.given c.give_refusal.new.link) c.args.store.now c.accept.new.self c.args.disk.now c.in-Err.refusal refl hold c.accept.ensures.logs c.in-Err.ensures.err refused
+    c.give_refusal.ensures.gave c.give_refusal.ensures.open

@@ -1,0 +1,29 @@
+use Rattle.std.proofs.Common.{◌≡◌, ◌∙◌, ℕ, List, length, refl, sym}
+use Rattle.ix_serve.specs.Prefixes.{StandsIn}
+use Rattle.ix_serve.proofs.Answering.{if_ok, if_err, on_ok_always}
+use Rattle.ix_serve.proofs.Standing.{committing, standing_on}
+use Rattle.ix_serve.proofs.events.committed_lines.Goals as goal
+
+pub returns-in-Ok-clause-reply : goal.returns-in-Ok-clause-reply
+returns-in-Ok-clause-reply g c =
+    if_ok c.export_lines.result (λ exported says e chooser taken hold. says e chooser taken (c.in-Ok.ensures.done e.choose e.history e.base e.kept hold)) c.export_lines.ensures.reply
+
+pub returns-in-Ok-clause-held : goal.returns-in-Ok-clause-held
+returns-in-Ok-clause-held g c = λ choose h base k hold. c.export_lines.ensures.held choose h base (length h) (c.in-Ok.ensures.done choose h base k hold)
+
+pub returns-in-Ok-clause-cut : goal.returns-in-Ok-clause-cut
+returns-in-Ok-clause-cut g c =
+    if_err c.export_lines.result (λ cause says choose h base k chooser taken hold. says choose h base chooser taken (c.in-Ok.ensures.done choose h base k hold)) c.export_lines.ensures.cut
+
+pub returns-in-Ok-clause-images : goal.returns-in-Ok-clause-images
+returns-in-Ok-clause-images g c = λ choose h base k hold.
+    standing_on g.D.Disk (StandsIn g.M.Book.Replay.fits c.args.store.now.run choose h k) c.args.disk.now c.commit.new.disk c.export_lines.new.disk
+    (committing g.M.Book.Replay.fits c.args.store.now.run choose h k hold.staged.within g.D.Disk c.args.disk.now c.commit.new.disk (c.commit.ensures.images choose h base k hold))
+    c.export_lines.ensures.images
+
+pub returns-in-Err-clause-images : goal.returns-in-Err-clause-images
+returns-in-Err-clause-images g c = λ choose h base k hold.
+    committing g.M.Book.Replay.fits c.args.store.now.run choose h k hold.staged.within g.D.Disk c.args.disk.now c.commit.new.disk (c.commit.ensures.images choose h base k hold)
+
+pub returns-in-Err-clause-cut : goal.returns-in-Err-clause-cut
+returns-in-Err-clause-cut g c = λ choose h base k chooser taken hold file at is image seen. (c.in-Err.ensures.damaged file at (cc)).1 image seen

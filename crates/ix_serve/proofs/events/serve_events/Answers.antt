@@ -1,0 +1,47 @@
+use Rattle.std.proofs.Common.{◌≡◌, ◌∙◌, ℕ, List, length, refl, ap, sym, subst, inl, inr, ⊎_elim, Some, true, false, rules}
+use mir.Val.{SFits}
+use Rattle.std.specs.Int.{w64}
+use Rattle.ix_http.specs.declared.kinds.Ask.TheVariants as asks
+use Rattle.ix_serve.specs.Answer.{MayBe, IsExport, says, answer_of_fault}
+use Rattle.ix_serve.specs.Entries.{entry}
+use Rattle.ix_serve.specs.Exports.{reply_of, MayReply}
+use Rattle.ix_serve.specs.Replies.{Reply, no_memory, broken}
+use Rattle.ix_serve.specs.Serving.{IsClean, IsOpen, IsTold}
+use Rattle.ix_serve.specs.declared.served.ServeFault.TheVariants as fault
+use Rattle.ix_serve.proofs.Answering.{queried, due_held, open_cut, closed, damaged_back}
+use Rattle.ix_serve.proofs.events.serve_events.Goals as goal
+
+pub returns-in-Ok-clause-answers : goal.returns-in-Ok-clause-answers
+returns-in-Ok-clause-answers g c = λ choose h base k chooser taken hold.
+    let e = entry choose h base k c.args.store.now.run c.args.moment in
+    let told = IsTold g.D.Disk c.committed_lines.new.disk in
+    let may = MayBe e told (asks.Events c.args.index.now c.args.range) c.give_exported.result in
+    let clean = IsClean (g.K.Link.faults c.args.link.now) (g.K.Link.faults c.give_exported.new.link) in
+    let said = reply_of c.in-Ok.exported in
+    let now = c.in-Ok.ensures.held choose h base k hold in
+    let reply : MayReply told e c.args.index.now c.args.range said =
+    subst (λ (name : List ℕ). MayReply told e name c.args.range said) c.as_slice.ensures (c.in-Ok.ensures.reply e chooser taken hold) in
+    ⊎_elim
+    (λ (none : said ≡ no_memory). queried g.D.Disk g.M.Book.Replay.fits g.M.Memory.holds e may true clean c.give_exported.result (g.K.Link.given c.args.link.now) (g.K.Link.given c.give_exported.new.link)
+    c.committed_lines.new.store c.args.disk.now c.committed_lines.new.disk (Some said) false (inr (inl (ap (λ (r : Reply). says false r) none))) c.give_exported.ensures.gave
+    (λ stays. due_held g.D.Disk g.M.Book.Replay.fits g.M.Memory.holds e false h c.committed_lines.new.store c.committed_lines.new.disk hold.staged.within now)
+    (c.committed_lines.ensures.images choose h base k hold) (open_cut g.D.Disk c.committed_lines.new.disk c.give_exported.result c.give_exported.ensures.open))
+    (λ (is : IsExport told e c.args.index.now c.args.range said). queried g.D.Disk g.M.Book.Replay.fits g.M.Memory.holds e may true clean c.give_exported.result (g.K.Link.given c.args.link.now) (g.K.Link.given c.give_exported.new.link)
+    c.committed_lines.new.store c.args.disk.now c.committed_lines.new.disk (Some said) true (inl (said, is, refl)) c.give_exported.ensures.gave
+    (λ stays. due_held g.D.Disk g.M.Book.Replay.fits g.M.Memory.holds e true h c.committed_lines.new.store c.committed_lines.new.disk hold.staged.within now)
+    (c.committed_lines.ensures.images choose h base k hold) (open_cut g.D.Disk c.committed_lines.new.disk c.give_exported.result c.give_exported.ensures.open))
+    reply
+
+pub returns-in-Err-clause-answers : goal.returns-in-Err-clause-answers
+returns-in-Err-clause-answers g c = λ choose h base k chooser taken hold.
+    let e = entry choose h base k c.args.store.now.run c.args.moment in
+    let told = IsTold g.D.Disk c.committed_lines.new.disk in
+    let may = MayBe e told (asks.Events c.args.index.now c.args.range) c.give_up.result in
+    let clean = IsClean (g.K.Link.faults c.args.link.now) (g.K.Link.faults c.give_up.new.link) in
+    queried g.D.Disk g.M.Book.Replay.fits g.M.Memory.holds e may true clean c.give_up.result (g.K.Link.given c.args.link.now) (g.K.Link.given c.give_up.new.link)
+    c.committed_lines.new.store c.args.disk.now c.committed_lines.new.disk (Some (broken c.in-Err.cause)) false (inr (inr (c.in-Err.cause, c.give_up.ensures.result, refl))) c.give_up.ensures.gave
+    (λ stays. absurd (closed c.in-Err.cause (subst IsOpen c.give_up.ensures.result stays)))
+    (c.committed_lines.ensures.images choose h base k hold)
+    (λ file at is image seen.
+    let same : answer_of_fault c.in-Err.cause ≡ fault.Damaged file at = cc (c.give_up.ensures.result, is) in
+    c.in-Err.ensures.cut choose h base k chooser taken hold file at (damaged_back c.in-Err.cause file at same) image seen)

@@ -1,0 +1,47 @@
+use Rattle.std.proofs.Common.{◌≡◌, ◌∙◌, ℕ, List, Bool, length, map, refl, ap, sym, subst, inl, inr, Some, true, false}
+use Rattle.std.specs.List.{list_any}
+use Rattle.ix_http.specs.declared.kinds.Ask.TheVariants as asks
+use Rattle.ix_http.specs.declared.kinds.Kind.TheVariants.{Json}
+use Rattle.ix_serve.specs.Answer.{MayBe, says}
+use Rattle.ix_serve.specs.Bodies.{acks_body}
+use Rattle.ix_serve.specs.Entries.{entry, is_acked, is_pending}
+use Rattle.ix_serve.specs.Replies.{reply, no_memory}
+use Rattle.ix_serve.specs.Serving.{IsClean, IsTold}
+use Rattle.ix_serve.proofs.Answering.{idle, queried, wrote_settled, due_held}
+use Rattle.ix_serve.proofs.queries.serve_acks.Goals as goal
+
+pub returns-in_default-clause-answers : goal.returns-in_default-clause-answers
+returns-in_default-clause-answers g c = λ choose h base k chooser taken hold.
+    let e = entry choose h base k c.args.store.now.run c.args.moment in
+    idle g.D.Disk g.M.Book.Replay.fits g.M.Memory.holds e (MayBe e (IsTold g.D.Disk c.args.disk.now) (asks.Acks c.args.run c.args.numbers.now) c.decline.result) true
+    (IsClean (g.K.Link.faults c.args.link.now) (g.K.Link.faults c.decline.new.link)) c.decline.result (g.K.Link.given c.args.link.now) (g.K.Link.given c.decline.new.link) c.args.store.now c.args.disk.now
+    (Some no_memory) (inr refl) c.decline.ensures.gave c.decline.ensures.open refl hold
+
+pub returns-then-pending-clause-answers : goal.returns-then-pending-clause-answers
+returns-then-pending-clause-answers g c = λ choose h base k chooser taken hold.
+    let e = entry choose h base k c.args.store.now.run c.args.moment in
+    let clean = IsClean (g.K.Link.faults c.args.link.now) (g.K.Link.faults c.give-came.new.link) in
+    let body : c.as_slice-3.result.now ≡ acks_body (map (is_acked e c.args.run) c.args.numbers.now) =
+    c.as_slice-3.ensures ∙ c.in-Ok.ensures e hold.old (refl, hold.staged) ∙ ap (λ (l : List ℕ). acks_body (map (is_acked e c.args.run) l)) c.as_slice.ensures in
+    let waits : true ≡ list_any (is_pending e c.args.run) c.args.numbers.now =
+    sym c.if-pending.true ∙ c.has_pending-pending.ensures e hold.old (refl, hold.staged) ∙ ap (list_any (is_pending e c.args.run)) c.as_slice-2.ensures in
+    queried g.D.Disk g.M.Book.Replay.fits g.M.Memory.holds e (MayBe e (IsTold g.D.Disk c.settle.new.disk) (asks.Acks c.args.run c.args.numbers.now) c.settle.result) true clean c.settle.result
+    (g.K.Link.given c.args.link.now) (g.K.Link.given c.give-came.new.link) c.settle.new.store c.args.disk.now c.settle.new.disk (Some (reply 200 Json c.as_slice-3.result.now)) true
+    (inl (λ i. says (waits i) (reply 200 Json (body i))))
+    (wrote_settled (reply 200 Json c.as_slice-3.result.now) true clean c.give-came.result c.settle.result (g.K.Link.given c.args.link.now) (g.K.Link.given c.give-came.new.link) c.settle.ensures.came
+    (λ failed sent. sent (c.give-came.ensures.failed failed)) c.give-came.ensures.gave)
+    (λ stays. due_held g.D.Disk g.M.Book.Replay.fits g.M.Memory.holds e true h c.settle.new.store c.settle.new.disk hold.staged.within (c.settle.ensures.done choose h base k hold stays))
+    (c.settle.ensures.images choose h base k hold)
+    c.settle.ensures.cut
+
+pub returns-clause-answers : goal.returns-clause-answers
+returns-clause-answers g c = λ choose h base k chooser taken hold.
+    let e = entry choose h base k c.args.store.now.run c.args.moment in
+    let clean = IsClean (g.K.Link.faults c.args.link.now) (g.K.Link.faults c.give-came.new.link) in
+    let body : c.as_slice-3.result.now ≡ acks_body (map (is_acked e c.args.run) c.args.numbers.now) =
+    c.as_slice-3.ensures ∙ c.in-Ok.ensures e hold.old (refl, hold.staged) ∙ ap (λ (l : List ℕ). acks_body (map (is_acked e c.args.run) l)) c.as_slice.ensures in
+    let waits : false ≡ list_any (is_pending e c.args.run) c.args.numbers.now =
+    sym c.if-pending.false ∙ c.has_pending-pending.ensures e hold.old (refl, hold.staged) ∙ ap (list_any (is_pending e c.args.run)) c.as_slice-2.ensures in
+    idle g.D.Disk g.M.Book.Replay.fits g.M.Memory.holds e (MayBe e (IsTold g.D.Disk c.args.disk.now) (asks.Acks c.args.run c.args.numbers.now) c.give-came.result) true clean c.give-came.result
+    (g.K.Link.given c.args.link.now) (g.K.Link.given c.give-came.new.link) c.args.store.now c.args.disk.now (Some (reply 200 Json c.as_slice-3.result.now))
+    (inl (λ i. says (waits i) (reply 200 Json (body i)))) c.give-came.ensures.gave c.give-came.ensures.open refl hold

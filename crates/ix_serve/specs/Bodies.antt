@@ -1,0 +1,60 @@
+-- The bodies of replies.
+use Rattle.std.specs.Prelude.{ℕ, Bool, true, false, List, [], ◌∷◌, ◌++◌, codes, decimal}
+use Rattle.ix_http.specs.declared.kinds.HttpFault.{HttpFault}
+use Rattle.ix_http.specs.declared.kinds.HttpFault.TheVariants as http
+use Rattle.ix_keep.specs.declared.fault.CommitFault.{CommitFault}
+use Rattle.ix_keep.specs.declared.fault.CommitFault.TheVariants as commits
+use Rattle.ix_machine.specs.declared.answers.Refusal.{Refusal}
+use Rattle.ix_machine.specs.declared.answers.Refusal.TheVariants as refusals
+
+-- ---- of good replies
+
+abbrev pub begun_body : List ℕ → List ℕ
+begun_body channel = codes "{\"channel\":\"" ++ channel ++ codes "\"}"
+
+abbrev pub acked_body : ℕ → ℕ → List ℕ
+acked_body number run = codes "{\"ack\":" ++ decimal number ++ codes ",\"run\":" ++ decimal run ++ codes "}"
+
+abbrev pub value_text : Bool → List ℕ
+value_text true = codes "true"
+value_text false = codes "false"
+
+-- values with one comma between two, behind what stands before the first
+abbrev pub values_text : List ℕ → List Bool → List ℕ
+values_text before [] = []
+values_text before (value ∷ values) = before ++ value_text value ++ values_text (codes ",") values
+
+abbrev pub acks_body : List Bool → List ℕ
+acks_body values = codes "{\"acks\":[" ++ values_text [] values ++ codes "]}"
+
+-- ---- of faults
+
+abbrev pub error_body : List ℕ → List ℕ
+error_body name = codes "{\"error\":\"" ++ name ++ codes "\"}"
+
+abbrev pub http_name : HttpFault → List ℕ
+http_name http.BadHead = codes "BadHead"
+http_name http.NoRoute = codes "NoRoute"
+http_name http.WrongMethod = codes "WrongMethod"
+http_name http.NoLength = codes "NoLength"
+http_name http.Encoded = codes "Encoded"
+http_name http.TooLong = codes "TooLong"
+http_name http.BadQuery = codes "BadQuery"
+http_name http.BadBody = codes "BadBody"
+
+-- A store is closed by a fault of its disk. No request gives a command that is refused for a bucket.
+abbrev pub refusal_name : Refusal → List ℕ
+refusal_name refusals.Closed = codes "Disk"
+refusal_name refusals.NoChannel = codes "NoChannel"
+refusal_name refusals.ChannelOpen = codes "ChannelOpen"
+refusal_name refusals.UnknownIndex = codes "UnknownIndex"
+refusal_name refusals.NoBucket = codes "NoBucket"
+refusal_name refusals.NotArchived = codes "NotArchived"
+refusal_name refusals.AlreadyThawed = codes "AlreadyThawed"
+refusal_name refusals.TooManyChannels = codes "TooManyChannels"
+refusal_name refusals.Full = codes "Full"
+refusal_name refusals.NoMemory = codes "NoMemory"
+
+abbrev pub commit_name : CommitFault → List ℕ
+commit_name commits.Disk = codes "Disk"
+commit_name (commits.Damaged file at) = codes "Damaged"

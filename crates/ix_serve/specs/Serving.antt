@@ -1,0 +1,101 @@
+-- One request served.
+use Rattle.std.specs.Prelude.{◌≡◌, ◌≤◌, ℕ, Bool, true, false, List, ◌++◌, length, Option, Some, None, Result, Ok, Err, IfOk}
+use Rattle.ix_base.specs.Faults.{Rose}
+use Rattle.ix_base.specs.Told.{Told, HasWritten, HasBegun}
+use Rattle.ix_base.specs.declared.files.File.{File}
+use Rattle.ix_book.specs.Book.{Book}
+use Rattle.ix_disk.specs.Image.{Image, bytes_in}
+use Rattle.ix_disk.specs.Moments.{Always}
+use Rattle.ix_disk.specs.declared.disk.Disk.{Ghosts}
+use Rattle.ix_http.specs.Asked.{Fits}
+use Rattle.ix_http.specs.Limits.{IsWithin}
+use Rattle.ix_machine.specs.Given.{Chooser}
+use Rattle.ix_machine.specs.declared.commands.Order.{Order}
+use Rattle.ix_store.specs.Holding.{Holds}
+use Rattle.ix_store.specs.declared.store.Store.{Store}
+use Rattle.ix_serve.specs.Answer.{Answer, Found, Says, MayList, says, is_whole}
+use Rattle.ix_serve.specs.Entries.{Entry}
+use Rattle.ix_serve.specs.Prefixes.{StandsIn}
+use Rattle.ix_serve.specs.Replies.{Reply, text_of}
+use Rattle.ix_serve.specs.declared.served.Served.{Served}
+use Rattle.ix_serve.specs.declared.served.Served.TheVariants as served
+use Rattle.ix_serve.specs.declared.served.ServeFault.{ServeFault}
+use Rattle.ix_serve.specs.declared.served.ServeFault.TheVariants as fault
+
+-- the disk tells what a read gives
+abbrev pub IsTold : {D : Type 0} → Ghosts D → D → Type 0
+IsTold d disk = (image : Image) × (d.seen disk ≡ Some image)
+
+-- the count of a link's faults has not risen
+abbrev pub IsClean : ℕ → ℕ → Type 0
+IsClean faults faults' = Rose faults faults' → ⊥
+
+-- ---- what is written
+
+-- The reply was written. Where the link failed a front of it was, and where the disk did all of it, if the link is clean.
+abbrev pub Wrote : Reply → Bool → Type 0 → Result Served ServeFault → Option (List ℕ) → Option (List ℕ) → Type 0
+Wrote r delimited clean (Ok served.Ended) given given' = ⊥
+Wrote r delimited clean (Ok (served.Reply status whole)) given given' = (status ≡ r.status) × (whole ≡ delimited) × HasWritten (text_of r) given given'
+Wrote r delimited clean (Err fault.Disk) given given' = HasBegun (text_of r) given given' × (clean → HasWritten (text_of r) given given')
+Wrote r delimited clean (Err (fault.Damaged file at)) given given' = HasBegun (text_of r) given given' × (clean → HasWritten (text_of r) given given')
+Wrote r delimited clean (Err fault.Link) given given' = HasBegun (text_of r) given given'
+Wrote r delimited clean (Err fault.Cut) given given' = ⊥
+
+abbrev pub Gave : Option Reply → Bool → Type 0 → Result Served ServeFault → Option (List ℕ) → Option (List ℕ) → Type 0
+Gave None delimited clean result given given' = given' ≡ given
+Gave (Some r) delimited clean result given given' = Wrote r delimited clean result given given'
+
+-- ---- what is held
+
+-- the store is open still
+abbrev pub IsOpen : Result Served ServeFault → Type 0
+IsOpen (Ok value) = Unit {0}
+IsOpen (Err fault.Disk) = ⊥
+IsOpen (Err (fault.Damaged file at)) = ⊥
+IsOpen (Err fault.Link) = Unit {0}
+IsOpen (Err fault.Cut) = Unit {0}
+
+-- no fewer commands are committed than before, and at a commit point all are
+pub record HoldsFrom {D : Type 0} (d : Ghosts D) {M : Type 0} (fits : Book → Type 0) (holds : Chooser → List Order → M → Type 0) (e : Entry) (commits : Bool) (history : List Order) (store : Store M) (disk : D) : Type 0 where
+  pub count : ℕ
+  pub least : e.kept ≤ count
+  pub hold : Holds d fits holds e.choose history e.base count store disk
+  pub all : commits ≡ true → count ≡ length history
+
+-- a listing, or want of memory, of which the disk is no part
+pub record IsListed (e : Entry) (clean : Type 0) (result : Result Served ServeFault) (given given' : Option (List ℕ)) : Type 0 where
+  pub reply : Reply
+  pub may_be : MayList e (says false reply)
+  pub gave : Wrote reply true clean result given given'
+
+-- ---- the whole
+
+-- Damage is answered where the named file ends at the named place, as far as the disk tells.
+abbrev pub IsCut : {D : Type 0} → Ghosts D → D → Result Served ServeFault → Type 0
+IsCut d disk result = (file : File) (at : ℕ) → result ≡ Err (fault.Damaged file at) → (image : Image) → d.seen disk ≡ Some image → at ≡ length (bytes_in image file)
+
+-- One answer that may be given: what was written of it, what is held behind it, and that every image since the start stands for this run
+-- and a prefix of the same history.
+pub record Answers {D : Type 0} (d : Ghosts D) {M : Type 0} (fits : Book → Type 0) (holds : Chooser → List Order → M → Type 0) (e : Entry) (may : Answer → Type 0) (delimited : Bool) (clean : Type 0)
+    (result : Result Served ServeFault) (given given' : Option (List ℕ)) (store : Store M) (old new : D) : Type 0 where
+  pub answer : Answer
+  pub may_be : may answer
+  pub gave : Gave answer.reply delimited clean result given given'
+  pub held : IsOpen result → HoldsFrom d fits holds e answer.commits (e.history ++ answer.more) store new
+  pub images : Always d old new (StandsIn fits e.run e.choose (e.history ++ answer.more) e.kept)
+  pub cut : IsCut d new result
+
+-- One request: what was read of the bytes of the link, and what was answered to it.
+pub record Serves {D : Type 0} (d : Ghosts D) {M : Type 0} (fits : Book → Type 0) (holds : Chooser → List Order → M → Type 0) (e : Entry) (clean : Type 0)
+    (result : Result Served ServeFault) (left left' given given' : Option (List ℕ)) (store : Store M) (old new : D) : Type 0 where
+  pub read : Found
+  pub took : Told (Fits read) left left'
+  pub within : IfOk read IsWithin
+  pub answers : Answers d fits holds e (Says e (IsTold d new) read result) (is_whole read) clean result given given' store old new
+
+-- the counts of faults never fall, and these answers come only where theirs rose
+pub record Comes (link link' disk disk' : ℕ) (result : Result Served ServeFault) : Type 0 where
+  pub link_later : link ≤ link'
+  pub disk_later : disk ≤ disk'
+  pub by_link : result ≡ Err fault.Link → Rose link link'
+  pub by_disk : result ≡ Err fault.Disk → Rose disk disk'

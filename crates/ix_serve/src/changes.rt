@@ -1,0 +1,148 @@
+//! Requests that change a store: a channel is begun, takes a block, or is ended.
+
+ghost use Rattle.std.specs.Prelude.{◌≡◌, ℕ, List, None, true};
+ghost use Rattle.std.specs.List.{AllByRecursion};
+ghost use Rattle.ix_http.specs.declared.kinds.Ask.TheVariants as asks;
+ghost use Rattle.ix_http.specs.declared.kinds.Kind.TheVariants.{Json};
+ghost use Rattle.ix_keep.specs.Snapshot.{IsOver};
+ghost use Rattle.ix_machine.specs.Given.{Chooser};
+ghost use Rattle.ix_machine.specs.declared.commands.Command.TheVariants as commands;
+ghost use Rattle.ix_machine.specs.declared.commands.Order.{Order};
+ghost use Rattle.ix_serve.specs.Answer.{MayChange, MayBe};
+ghost use Rattle.ix_serve.specs.Entries.{entry};
+ghost use Rattle.ix_serve.specs.Replies.{reply};
+ghost use Rattle.ix_serve.specs.Serving.{Answers, Comes, IsClean, IsOpen, IsTold};
+ghost use Rattle.ix_store.specs.Holding.{Holds};
+
+use crate::bodies::{acked_body, begun_body};
+use crate::keeping::settle;
+use crate::replies::{decline, give, give_refusal};
+use crate::served::{ServeFault, Served};
+use ix_base::{Bytes, ChannelMeta};
+use ix_disk::Disk;
+use ix_http::Kind;
+use ix_link::Link;
+use ix_machine::Command;
+use ix_store::{Memory, Store};
+use std::alloc::Global;
+
+/// Has the store accept a command, writes the reply, and commits where the group is due.
+fn serve_change<K: Link, M: Memory + Drop, D: Disk>(
+    store: &mut Store<M>,
+    link: &mut K,
+    command: Command,
+    status: u16,
+    body: &[u8],
+    moment: i64,
+    disk: &mut D,
+) -> Result<Served, ServeFault>
+    requires over { IsOver D.Disk store.old.keeper disk.old }
+    requires takes { M.takes (record { command = command; moment = moment }) }
+    ensures answers { (choose : Chooser) (history : List Order) (base k : ℕ) → M.is_chooser choose → AllByRecursion M.takes history →
+        Holds D.Disk M.Book.fits M.holds choose history base k store.old disk.old →
+        Answers D.Disk M.Book.fits M.holds (entry choose history base k store.old.run moment)
+        (MayChange (entry choose history base k store.old.run moment) command (reply status Json body.now)) true (IsClean (K.faults link.old) (K.faults link.new))
+        result (K.given link.old) (K.given link.new) store.new disk.old disk.new }
+    ensures left { K.left link.new ≡ K.left link.old }
+    ensures over { IsOpen result → IsOver D.Disk store.new.keeper disk.new }
+    ensures comes { Comes (K.faults link.old) (K.faults link.new) (D.Disk.faults disk.old) (D.Disk.faults disk.new) result }
+{
+    match store.accept(command, moment) {
+        Ok(_) => {
+            let came = give(link, status, Kind::Json, body, true);
+            if store.due() {
+                settle(store, disk, came)
+            } else {
+                came
+            }
+        }
+        Err(refusal) => give_refusal(link, refusal),
+    }
+}
+
+/// Begins a channel.
+pub(crate) fn serve_begin<K: Link, M: Memory + Drop, D: Disk>(
+    alloc: Global,
+    store: &mut Store<M>,
+    link: &mut K,
+    channel: Bytes,
+    meta: ChannelMeta,
+    moment: i64,
+    disk: &mut D,
+) -> Result<Served, ServeFault>
+    requires over { IsOver D.Disk store.old.keeper disk.old }
+    requires takes { M.takes (record { command = commands.Begin channel meta; moment = moment }) }
+    ensures answers { (choose : Chooser) (history : List Order) (base k : ℕ) → M.is_chooser choose → AllByRecursion M.takes history →
+        Holds D.Disk M.Book.fits M.holds choose history base k store.old disk.old →
+        Answers D.Disk M.Book.fits M.holds (entry choose history base k store.old.run moment)
+        (MayBe (entry choose history base k store.old.run moment) (IsTold D.Disk disk.new) (asks.Begin channel meta) result) true (IsClean (K.faults link.old) (K.faults link.new))
+        result (K.given link.old) (K.given link.new) store.new disk.old disk.new }
+    ensures left { K.left link.new ≡ K.left link.old }
+    ensures over { IsOpen result → IsOver D.Disk store.new.keeper disk.new }
+    ensures comes { Comes (K.faults link.old) (K.faults link.new) (D.Disk.faults disk.old) (D.Disk.faults disk.new) result }
+{
+    let Ok(body) = begun_body(alloc, channel.as_slice()) else {
+        return decline(link, true);
+    };
+    let command = Command::Begin { channel, meta };
+    serve_change(store, link, command, 201, body.as_slice(), moment, disk)
+}
+
+/// Gives a block to a channel.
+pub(crate) fn serve_block<K: Link, M: Memory + Drop, D: Disk>(
+    alloc: Global,
+    store: &mut Store<M>,
+    link: &mut K,
+    channel: Bytes,
+    bytes: Bytes,
+    moment: i64,
+    disk: &mut D,
+) -> Result<Served, ServeFault>
+    requires over { IsOver D.Disk store.old.keeper disk.old }
+    requires takes { M.takes (record { command = commands.Block channel bytes None; moment = moment }) }
+    ensures answers { (choose : Chooser) (history : List Order) (base k : ℕ) → M.is_chooser choose → AllByRecursion M.takes history →
+        Holds D.Disk M.Book.fits M.holds choose history base k store.old disk.old →
+        Answers D.Disk M.Book.fits M.holds (entry choose history base k store.old.run moment)
+        (MayBe (entry choose history base k store.old.run moment) (IsTold D.Disk disk.new) (asks.Block channel bytes) result) true (IsClean (K.faults link.old) (K.faults link.new))
+        result (K.given link.old) (K.given link.new) store.new disk.old disk.new }
+    ensures left { K.left link.new ≡ K.left link.old }
+    ensures over { IsOpen result → IsOver D.Disk store.new.keeper disk.new }
+    ensures comes { Comes (K.faults link.old) (K.faults link.new) (D.Disk.faults disk.old) (D.Disk.faults disk.new) result }
+{
+    let Ok(body) = acked_body(alloc, store.drawn(), store.run()) else {
+        return decline(link, true);
+    };
+    let command = Command::Block {
+        channel,
+        bytes,
+        spot: None,
+    };
+    serve_change(store, link, command, 200, body.as_slice(), moment, disk)
+}
+
+/// Ends a channel.
+pub(crate) fn serve_end<K: Link, M: Memory + Drop, D: Disk>(
+    alloc: Global,
+    store: &mut Store<M>,
+    link: &mut K,
+    channel: Bytes,
+    moment: i64,
+    disk: &mut D,
+) -> Result<Served, ServeFault>
+    requires over { IsOver D.Disk store.old.keeper disk.old }
+    requires takes { M.takes (record { command = commands.End channel; moment = moment }) }
+    ensures answers { (choose : Chooser) (history : List Order) (base k : ℕ) → M.is_chooser choose → AllByRecursion M.takes history →
+        Holds D.Disk M.Book.fits M.holds choose history base k store.old disk.old →
+        Answers D.Disk M.Book.fits M.holds (entry choose history base k store.old.run moment)
+        (MayBe (entry choose history base k store.old.run moment) (IsTold D.Disk disk.new) (asks.End channel) result) true (IsClean (K.faults link.old) (K.faults link.new))
+        result (K.given link.old) (K.given link.new) store.new disk.old disk.new }
+    ensures left { K.left link.new ≡ K.left link.old }
+    ensures over { IsOpen result → IsOver D.Disk store.new.keeper disk.new }
+    ensures comes { Comes (K.faults link.old) (K.faults link.new) (D.Disk.faults disk.old) (D.Disk.faults disk.new) result }
+{
+    let Ok(body) = acked_body(alloc, store.drawn(), store.run()) else {
+        return decline(link, true);
+    };
+    let command = Command::End { channel };
+    serve_change(store, link, command, 200, body.as_slice(), moment, disk)
+}

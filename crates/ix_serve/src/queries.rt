@@ -1,0 +1,125 @@
+//! Requests that ask: which numbers are committed, and what is stored.
+
+ghost use Rattle.std.specs.Prelude.{◌≡◌, ◌≤◌, ◌&&◌, ℕ, List, map, true, not, IfOk, Err};
+ghost use Rattle.std.specs.List.{AllByRecursion, list_any};
+ghost use Rattle.ix_base.specs.Faults.{Rose};
+ghost use Rattle.ix_http.specs.declared.kinds.Ask.TheVariants as asks;
+ghost use Rattle.ix_keep.specs.Snapshot.{Snapshot, IsOver};
+ghost use Rattle.ix_machine.specs.Given.{Chooser};
+ghost use Rattle.ix_machine.specs.declared.commands.Order.{Order};
+ghost use Rattle.ix_serve.specs.Answer.{MayBe};
+ghost use Rattle.ix_serve.specs.Bodies.{acks_body};
+ghost use Rattle.ix_serve.specs.Entries.{Entry, IsAt, entry, is_acked, is_pending};
+ghost use Rattle.ix_serve.specs.Serving.{Answers, Comes, IsClean, IsListed, IsOpen, IsTold};
+ghost use Rattle.ix_store.specs.Holding.{Holds};
+
+use crate::bodies::add_value;
+use crate::keeping::settle;
+use crate::replies::{decline, give};
+use crate::served::{ServeFault, Served};
+use ix_base::{Bytes, NoMemory, NumberList};
+use ix_disk::Disk;
+use ix_http::Kind;
+use ix_link::Link;
+use ix_report::listing;
+use ix_store::{Memory, Store};
+use std::alloc::Global;
+
+/// The body of a reply that tells which of the numbers of a run are committed.
+fn acks_body<M: Memory + Drop>(
+    alloc: Global,
+    store: &Store<M>,
+    run: u64,
+    numbers: &[u64],
+) -> Result<Bytes, NoMemory>
+    ensures { IfOk result (λ body. (e : Entry) (old : Snapshot) → IsAt M.Book.fits M.holds e store.now old → body ≡ acks_body (map (is_acked e run) numbers.now)) }
+{
+    let mut body = Bytes::copy_of(alloc, b"{\"acks\":[")?;
+    let mut before: &[u8] = b"";
+    for number in numbers {
+        add_value(&mut body, before, store.acked(run, *number))?;
+        before = b",";
+    }
+    body.extend(b"]}")?;
+    Ok(body)
+}
+
+/// Whether a number is one of this run that is drawn and not committed.
+fn is_waiting(is_own: bool, is_drawn: bool, is_acked: bool) -> bool
+    ensures { result ≡ (is_own && (is_drawn && not is_acked)) }
+{
+    is_own && is_drawn && !is_acked
+}
+
+/// Whether this run has drawn the number, and it is not committed.
+fn is_pending<M: Memory + Drop>(store: &Store<M>, run: u64, number: u64) -> bool
+    ensures { (e : Entry) (old : Snapshot) → IsAt M.Book.fits M.holds e store.now old → result ≡ is_pending e run number }
+{
+    let own = store.run();
+    let drawn = store.drawn();
+    let acked = store.acked(run, number);
+    is_waiting(run == own, number < drawn, acked)
+}
+
+/// Whether this run has drawn one of the numbers, and it is not committed.
+fn has_pending<M: Memory + Drop>(store: &Store<M>, run: u64, numbers: &[u64]) -> bool
+    ensures { (e : Entry) (old : Snapshot) → IsAt M.Book.fits M.holds e store.now old → result ≡ list_any (is_pending e run) numbers.now }
+{
+    for number in numbers {
+        if is_pending(store, run, *number) {
+            return true;
+        }
+    }
+    false
+}
+
+/// Answers which numbers are committed, and commits behind the reply where this run has drawn one that is not.
+pub(crate) fn serve_acks<K: Link, M: Memory + Drop, D: Disk>(
+    alloc: Global,
+    store: &mut Store<M>,
+    link: &mut K,
+    run: u64,
+    numbers: &NumberList,
+    moment: i64,
+    disk: &mut D,
+) -> Result<Served, ServeFault>
+    requires over { IsOver D.Disk store.old.keeper disk.old }
+    ensures answers { (choose : Chooser) (history : List Order) (base k : ℕ) → M.is_chooser choose → AllByRecursion M.takes history →
+        Holds D.Disk M.Book.fits M.holds choose history base k store.old disk.old →
+        Answers D.Disk M.Book.fits M.holds (entry choose history base k store.old.run moment)
+        (MayBe (entry choose history base k store.old.run moment) (IsTold D.Disk disk.new) (asks.Acks run numbers.now) result) true (IsClean (K.faults link.old) (K.faults link.new))
+        result (K.given link.old) (K.given link.new) store.new disk.old disk.new }
+    ensures left { K.left link.new ≡ K.left link.old }
+    ensures over { IsOpen result → IsOver D.Disk store.new.keeper disk.new }
+    ensures comes { Comes (K.faults link.old) (K.faults link.new) (D.Disk.faults disk.old) (D.Disk.faults disk.new) result }
+{
+    let Ok(body) = acks_body(alloc, store, run, numbers.as_slice()) else {
+        return decline(link, true);
+    };
+    let pending = has_pending(store, run, numbers.as_slice());
+    let came = give(link, 200, Kind::Json, body.as_slice(), true);
+    if pending {
+        settle(store, disk, came)
+    } else {
+        came
+    }
+}
+
+/// Answers the listing of the buckets.
+pub(crate) fn serve_buckets<K: Link, M: Memory + Drop>(
+    alloc: Global,
+    store: &Store<M>,
+    link: &mut K,
+) -> Result<Served, ServeFault>
+    ensures lists { (e : Entry) (old : Snapshot) → IsAt M.Book.fits M.holds e store.now old →
+        IsListed e (IsClean (K.faults link.old) (K.faults link.new)) result (K.given link.old) (K.given link.new) }
+    ensures left { K.left link.new ≡ K.left link.old }
+    ensures open { IsOpen result }
+    ensures later { K.faults link.old ≤ K.faults link.new }
+    ensures failed { result ≡ Err ServeFault.Link → Rose (K.faults link.old) (K.faults link.new) }
+{
+    match listing(alloc, store.view()) {
+        Ok(text) => give(link, 200, Kind::Plain, text.as_slice(), true),
+        Err(_) => decline(link, true),
+    }
+}

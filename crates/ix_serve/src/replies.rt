@@ -1,0 +1,101 @@
+//! Replies are written to a link.
+
+ghost use Rattle.std.specs.Prelude.{◌≡◌, ◌≤◌, Some, Err, true};
+ghost use Rattle.ix_base.specs.Faults.{Rose};
+ghost use Rattle.ix_serve.specs.Answer.{answer_of_fault};
+ghost use Rattle.ix_serve.specs.Replies.{reply, unread, refused, broken, no_memory};
+ghost use Rattle.ix_serve.specs.Serving.{Gave, IsClean, IsOpen};
+
+use crate::faults::{commit_body, http_body, http_status, refusal_body, refusal_status};
+use crate::served::{ServeFault, Served, answer_of_fault};
+use ix_http::{HttpFault, Kind, write_reply};
+use ix_keep::CommitFault;
+use ix_link::Link;
+use ix_machine::Refusal;
+
+/// Writes a reply.
+pub(crate) fn give<K: Link>(
+    link: &mut K,
+    status: u16,
+    kind: Kind,
+    body: &[u8],
+    delimited: bool,
+) -> Result<Served, ServeFault>
+    ensures gave { Gave (Some (reply status kind body.now)) delimited (IsClean (K.faults link.old) (K.faults link.new)) result (K.given link.old) (K.given link.new) }
+    ensures left { K.left link.new ≡ K.left link.old }
+    ensures open { IsOpen result }
+    ensures later { K.faults link.old ≤ K.faults link.new }
+    ensures failed { result ≡ Err ServeFault.Link → Rose (K.faults link.old) (K.faults link.new) }
+{
+    match write_reply(link, status, kind, body) {
+        Ok(()) => Ok(Served::Reply { status, delimited }),
+        Err(_) => Err(ServeFault::Link),
+    }
+}
+
+/// Writes why a request is refused before the store is asked.
+pub(crate) fn give_unread<K: Link>(
+    link: &mut K,
+    fault: HttpFault,
+    delimited: bool,
+) -> Result<Served, ServeFault>
+    ensures gave { Gave (Some (unread fault)) delimited (IsClean (K.faults link.old) (K.faults link.new)) result (K.given link.old) (K.given link.new) }
+    ensures left { K.left link.new ≡ K.left link.old }
+    ensures open { IsOpen result }
+    ensures later { K.faults link.old ≤ K.faults link.new }
+    ensures failed { result ≡ Err ServeFault.Link → Rose (K.faults link.old) (K.faults link.new) }
+{
+    give(
+        link,
+        http_status(fault),
+        Kind::Json,
+        http_body(fault),
+        delimited,
+    )
+}
+
+/// Writes why the store refuses a command.
+pub(crate) fn give_refusal<K: Link>(link: &mut K, refusal: Refusal) -> Result<Served, ServeFault>
+    ensures gave { Gave (Some (refused refusal)) true (IsClean (K.faults link.old) (K.faults link.new)) result (K.given link.old) (K.given link.new) }
+    ensures left { K.left link.new ≡ K.left link.old }
+    ensures open { IsOpen result }
+    ensures later { K.faults link.old ≤ K.faults link.new }
+    ensures failed { result ≡ Err ServeFault.Link → Rose (K.faults link.old) (K.faults link.new) }
+{
+    give(
+        link,
+        refusal_status(refusal),
+        Kind::Json,
+        refusal_body(refusal),
+        true,
+    )
+}
+
+/// Writes that there was no room in memory.
+pub(crate) fn decline<K: Link>(link: &mut K, delimited: bool) -> Result<Served, ServeFault>
+    ensures gave { Gave (Some no_memory) delimited (IsClean (K.faults link.old) (K.faults link.new)) result (K.given link.old) (K.given link.new) }
+    ensures left { K.left link.new ≡ K.left link.old }
+    ensures open { IsOpen result }
+    ensures later { K.faults link.old ≤ K.faults link.new }
+    ensures failed { result ≡ Err ServeFault.Link → Rose (K.faults link.old) (K.faults link.new) }
+{
+    let refusal = Refusal::NoMemory;
+    give(
+        link,
+        refusal_status(refusal),
+        Kind::Json,
+        refusal_body(refusal),
+        delimited,
+    )
+}
+
+/// Writes that the disk has failed or is damaged, and answers why.
+pub(crate) fn give_up<K: Link>(link: &mut K, cause: CommitFault) -> Result<Served, ServeFault>
+    ensures result { result ≡ Err (answer_of_fault cause) }
+    ensures gave { Gave (Some (broken cause)) true (IsClean (K.faults link.old) (K.faults link.new)) result (K.given link.old) (K.given link.new) }
+    ensures left { K.left link.new ≡ K.left link.old }
+    ensures later { K.faults link.old ≤ K.faults link.new }
+{
+    let _ = give(link, 500, Kind::Json, commit_body(cause), true);
+    Err(answer_of_fault(cause))
+}

@@ -1,0 +1,95 @@
+//! One request is served. Whoever serves links calls `serve_one`.
+
+ghost use Rattle.std.specs.Prelude.{◌≡◌, ℕ, List, true};
+ghost use Rattle.std.specs.List.{AllByRecursion};
+ghost use Rattle.ix_http.specs.Limits.{KeepsLimits};
+ghost use Rattle.ix_keep.specs.Snapshot.{IsOver};
+ghost use Rattle.ix_machine.specs.Given.{Chooser};
+ghost use Rattle.ix_machine.specs.declared.commands.Order.{Order};
+ghost use Rattle.ix_serve.specs.Answer.{MayBe};
+ghost use Rattle.ix_serve.specs.Entries.{entry};
+ghost use Rattle.ix_serve.specs.Serving.{Answers, Comes, IsClean, IsOpen, IsTold, Serves};
+ghost use Rattle.ix_serve.specs.Taking.{TakesAsks};
+ghost use Rattle.ix_store.specs.Holding.{Holds};
+
+use crate::changes::{serve_begin, serve_block, serve_end};
+use crate::events::serve_events;
+use crate::queries::{serve_acks, serve_buckets};
+use crate::replies::{decline, give_unread};
+use crate::served::{ServeFault, Served};
+use ix_disk::Disk;
+use ix_http::{Ask, Incoming, LinkFault, read_request};
+use ix_link::Link;
+use ix_store::{Memory, Store};
+use std::alloc::Global;
+
+/// Serves what is asked.
+fn serve_ask<K: Link, M: Memory + Drop, D: Disk>(
+    alloc: Global,
+    store: &mut Store<M>,
+    link: &mut K,
+    ask: Ask,
+    moment: i64,
+    disk: &mut D,
+) -> Result<Served, ServeFault>
+    requires over { IsOver D.Disk store.old.keeper disk.old }
+    requires takes { TakesAsks M.takes }
+    requires within { KeepsLimits ask }
+    ensures answers { (choose : Chooser) (history : List Order) (base k : ℕ) → M.is_chooser choose → AllByRecursion M.takes history →
+        Holds D.Disk M.Book.fits M.holds choose history base k store.old disk.old →
+        Answers D.Disk M.Book.fits M.holds (entry choose history base k store.old.run moment)
+        (MayBe (entry choose history base k store.old.run moment) (IsTold D.Disk disk.new) ask result) true (IsClean (K.faults link.old) (K.faults link.new))
+        result (K.given link.old) (K.given link.new) store.new disk.old disk.new }
+    ensures left { K.left link.new ≡ K.left link.old }
+    ensures over { IsOpen result → IsOver D.Disk store.new.keeper disk.new }
+    ensures comes { Comes (K.faults link.old) (K.faults link.new) (D.Disk.faults disk.old) (D.Disk.faults disk.new) result }
+{
+    match ask {
+        Ask::Begin { channel, meta } => serve_begin(
+            alloc, store, link, channel, meta, moment, disk,
+        ),
+        Ask::Block { channel, bytes } => {
+            serve_block(alloc, store, link, channel, bytes, moment, disk)
+        }
+        Ask::End { channel } => serve_end(alloc, store, link, channel, moment, disk),
+        Ask::Acks { run, numbers } => serve_acks(alloc, store, link, run, &numbers, moment, disk),
+        Ask::Buckets => serve_buckets(alloc, store, link),
+        Ask::Events { index, range } => {
+            serve_events(alloc, store, link, &index, range, moment, disk)
+        }
+    }
+}
+
+/// Serves one request: reads it from the link, has the store accept its command, writes the reply, and then commits where that is due, or
+/// where an acknowledgement was asked for that is not there yet. Before the lines of an index all is committed. Want of memory is replied
+/// with 503, and changes nothing. A fault of the disk is replied with 500 where no reply was written yet; it closes the store, which is to be
+/// mounted again.
+pub fn serve_one<K: Link, M: Memory + Drop, D: Disk>(
+    alloc: Global,
+    store: &mut Store<M>,
+    link: &mut K,
+    moment: i64,
+    disk: &mut D,
+) -> Result<Served, ServeFault>
+    requires over { IsOver D.Disk store.old.keeper disk.old }
+    // What requests ask for may be given to the store.
+    requires takes { TakesAsks M.takes }
+    // For every history that store and disk hold, one answer says what is written, what is added and held, and what every image stands for.
+    ensures serves { (choose : Chooser) (history : List Order) (base k : ℕ) → M.is_chooser choose → AllByRecursion M.takes history →
+        Holds D.Disk M.Book.fits M.holds choose history base k store.old disk.old →
+        Serves D.Disk M.Book.fits M.holds (entry choose history base k store.old.run moment) (IsClean (K.faults link.old) (K.faults link.new))
+        result (K.left link.old) (K.left link.new) (K.given link.old) (K.given link.new) store.new disk.old disk.new }
+    // What the next request asks for.
+    ensures over { IsOpen result → IsOver D.Disk store.new.keeper disk.new }
+    // No count falls, and a fault of the link or the disk comes only where its count rose.
+    ensures comes { Comes (K.faults link.old) (K.faults link.new) (D.Disk.faults disk.old) (D.Disk.faults disk.new) result }
+{
+    match read_request(alloc, link) {
+        Ok(Incoming::Ended) => Ok(Served::Ended),
+        Ok(Incoming::Asked { ask }) => serve_ask(alloc, store, link, ask, moment, disk),
+        Ok(Incoming::Refused { fault, delimited }) => give_unread(link, fault, delimited),
+        Err(LinkFault::Failed) => Err(ServeFault::Link),
+        Err(LinkFault::Cut) => Err(ServeFault::Cut),
+        Err(LinkFault::NoMemory { whole }) => decline(link, whole),
+    }
+}
