@@ -1,8 +1,9 @@
-//! The program `indexd`: the real input, output, clock and files, handed to the library that does all the work.
+//! The program `indexd`: the real input, output, clock, files of settings and disk, handed to the library that does all the work.
 #![tactic(auto)]
 
 use indexd_core::{Status, say, top};
 use ix_base::{HostClock, HostTree, StdSink, StdSource, Text};
+use ix_disk::HostDisk;
 use std::io::ErrorKind;
 use std::process::ExitCode;
 use std::rt::Env;
@@ -31,6 +32,7 @@ fn main(rt: HostRuntime) -> ExitCode {
     let mut input = StdSource::new(rt.reader());
     let mut clock = HostClock::new(&rt);
     let mut tree = HostTree::new(&rt);
+    let mut disk = HostDisk::new(&rt);
     let status = top(
         rt.alloc(),
         &words,
@@ -38,6 +40,7 @@ fn main(rt: HostRuntime) -> ExitCode {
         &mut output,
         &mut clock,
         &mut tree,
+        &mut disk,
     );
     ExitCode::from(status.code())
 }

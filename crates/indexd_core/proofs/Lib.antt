@@ -1,3 +1,6 @@
 pub mod PreviewLemmas
 pub mod RunLemmas
 pub mod StopLemmas
+pub mod StoredLemmas
+pub mod NamedLemmas
+pub mod MissedLemmas

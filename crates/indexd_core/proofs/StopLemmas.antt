@@ -56,3 +56,12 @@ unfolding host_in source_in sourcetype_in index_in
 preview-stated words origin store stated here asks =
     let same : Some (shown (Preview origin store)) ≡ Some (preview stated.host stated.source stated.sourcetype stated.index false) = sym here ∙ asks in
     same-parts (stated_of origin) stated (ap host_in same) (ap source_in same) (ap sourcetype_in same) (ap index_in same)
+
+-- so do those that ask for one that is stored
+pub store_stated : (words : List (List ℕ)) (origin : Origin) (store : Bool) (stated : Stated) →
+    asked words ≡ Some (shown (Preview origin store)) →
+    asked words ≡ Some (preview stated.host stated.source stated.sourcetype stated.index true) → stated_of origin ≡ stated
+unfolding host_in source_in sourcetype_in index_in
+store_stated words origin store stated here asks =
+    let same : Some (shown (Preview origin store)) ≡ Some (preview stated.host stated.source stated.sourcetype stated.index true) = sym here ∙ asks in
+    same-parts (stated_of origin) stated (ap host_in same) (ap source_in same) (ap sourcetype_in same) (ap index_in same)

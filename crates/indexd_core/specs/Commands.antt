@@ -1,24 +1,25 @@
--- Which words are commands of the program. The other commands of the table are not built yet.
+-- Which words are commands of the program. `feed`, `serve`, `monitor` and `selftest` are not built yet.
 use Rattle.std.specs.Prelude.{◌≡◌, ℕ, Bool, true, false, List, Option, Some, None, is_some}
 use Rattle.ix_base.specs.Clocks.{Moments}
 use Rattle.indexd_words.specs.Orders.{Asked, preview, btool, feed, serve, monitor, buckets, export, roll, thaw, tick, selftest, asked}
 use Rattle.indexd_settings.specs.Layers.{file_named}
+use Rattle.indexd_store.specs.declared.task.Task.{Task}
+use Rattle.indexd_store.specs.declared.task.Task.TheVariants as tasks
 use Rattle.indexd_core.specs.Prepared.{Stated}
 
 -- the program does what is asked
 abbrev pub is_built : Option Asked → Bool
 is_built None = false
-is_built (Some (preview host source sourcetype index true)) = false
-is_built (Some (preview host source sourcetype index false)) = true
+is_built (Some (preview host source sourcetype index store)) = true
 is_built (Some (btool file)) = is_some (file_named file)
 is_built (Some feed) = false
 is_built (Some (serve port requests)) = false
 is_built (Some (monitor close)) = false
-is_built (Some buckets) = false
-is_built (Some (export index range)) = false
-is_built (Some (roll index)) = false
-is_built (Some (thaw index id)) = false
-is_built (Some tick) = false
+is_built (Some buckets) = true
+is_built (Some (export index range)) = true
+is_built (Some (roll index)) = true
+is_built (Some (thaw index id)) = true
+is_built (Some tick) = true
 is_built (Some (selftest seed count)) = false
 
 abbrev pub is_command : List (List ℕ) → Bool
@@ -31,3 +32,48 @@ AskPreview words stated = asked words ≡ Some (preview stated.host stated.sourc
 -- the words ask for the settings of a file
 abbrev pub AskBtool : List (List ℕ) → List ℕ → Type 0
 AskBtool words file = asked words ≡ Some (btool file)
+
+-- the words ask for a preview that stores its events
+abbrev pub AskStore : List (List ℕ) → Stated → Type 0
+AskStore words stated = asked words ≡ Some (preview stated.host stated.source stated.sourcetype stated.index true)
+
+-- what is asked for by a task over a store
+abbrev pub asked_for : Task → Asked
+asked_for tasks.Buckets = buckets
+asked_for (tasks.Export index range) = export index.now range
+asked_for (tasks.Roll index) = roll index.now
+asked_for (tasks.Thaw index id) = thaw index.now id
+asked_for tasks.Tick = tick
+
+-- a task over a store is asked for
+abbrev pub is_task : Option Asked → Bool
+is_task None = false
+is_task (Some (preview host source sourcetype index store)) = false
+is_task (Some (btool file)) = false
+is_task (Some feed) = false
+is_task (Some (serve port requests)) = false
+is_task (Some (monitor close)) = false
+is_task (Some buckets) = true
+is_task (Some (export index range)) = true
+is_task (Some (roll index)) = true
+is_task (Some (thaw index id)) = true
+is_task (Some tick) = true
+is_task (Some (selftest seed count)) = false
+
+abbrev pub AskTask : List (List ℕ) → Task → Type 0
+AskTask words task = asked words ≡ Some (asked_for task)
+
+-- what is asked for works over a store
+abbrev pub is_stored : Option Asked → Bool
+is_stored None = false
+is_stored (Some (preview host source sourcetype index store)) = store
+is_stored (Some (btool file)) = false
+is_stored (Some feed) = false
+is_stored (Some (serve port requests)) = false
+is_stored (Some (monitor close)) = false
+is_stored (Some buckets) = true
+is_stored (Some (export index range)) = true
+is_stored (Some (roll index)) = true
+is_stored (Some (thaw index id)) = true
+is_stored (Some tick) = true
+is_stored (Some (selftest seed count)) = false

@@ -6,4 +6,5 @@ pub mod Steps
 pub mod Prepared
 pub mod Origins
 pub mod Runs
+pub mod Stored
 pub mod Btool

@@ -12,7 +12,7 @@ use Rattle.indexd_core.specs.declared.prepare.Prepared.{Prepared}
 use Rattle.indexd_core.specs.Sides.{Side, IsAtEnd}
 use Rattle.indexd_core.specs.Texts.{preview_text, status_text, Said}
 use Rattle.indexd_core.specs.declared.status.Status.{Status}
-use Rattle.indexd_core.specs.declared.status.Status.TheVariants.{Done, Memory, Usage, Configuration, Input, Output, NotFound, Endless}
+use Rattle.indexd_core.specs.declared.status.Status.TheVariants.{Done, Memory, Usage, Configuration, Input, DiskFault, Damaged, Output, NotFound, TooManyChannels, Endless, Full}
 
 -- the lines of the events that bytes settle, of a stream that is open (false) or closed
 abbrev pub Text : Type 0
@@ -47,6 +47,10 @@ Wrote Output text taken input input' output output' =
 Wrote NotFound text taken input input' output output' = ⊥
 Wrote Endless text taken input input' output output' =
     (length taken ≡ input_limit) × HasWritten (text taken false) output.told output'.told
+Wrote DiskFault text taken input input' output output' = ⊥
+Wrote Damaged text taken input input' output output' = ⊥
+Wrote TooManyChannels text taken input input' output output' = ⊥
+Wrote Full text taken input input' output output' = ⊥
 
 -- a run, before the line of its status
 pub record Runs (status : Status) (text : Text) (input input' output output' : Side) : Type 0 where
@@ -78,6 +82,10 @@ WroteUnprepared Output stated files failed failed' output output' = ⊥
 WroteUnprepared NotFound stated files failed failed' output output' =
     (index : List ℕ) × IsNotFound stated files index × Said (not_found_line index) output output'
 WroteUnprepared Endless stated files failed failed' output output' = ⊥
+WroteUnprepared DiskFault stated files failed failed' output output' = ⊥
+WroteUnprepared Damaged stated files failed failed' output output' = ⊥
+WroteUnprepared TooManyChannels stated files failed failed' output output' = ⊥
+WroteUnprepared Full stated files failed failed' output output' = ⊥
 
 -- A whole run: it stops before it is prepared, or it runs with the settings that the files have for what is stated.
 pub data Previews (status : Status) (stated : Stated) (files : Option (List TreeFile)) (failed failed' : ℕ)

@@ -16,7 +16,7 @@ use Rattle.ix_parse.specs.Settled.{settled}
 use Rattle.indexd_core.specs.declared.prepare.Prepared.{Prepared}
 use Rattle.indexd_core.specs.Sides.{Side}
 use Rattle.indexd_core.specs.declared.status.Status.{Status}
-use Rattle.indexd_core.specs.declared.status.Status.TheVariants.{Done, Memory, Usage, Configuration, Input, Output, NotFound, Endless}
+use Rattle.indexd_core.specs.declared.status.Status.TheVariants.{Done, Memory, Usage, Configuration, Input, DiskFault, Damaged, Output, NotFound, TooManyChannels, Endless, Full}
 
 -- Where an event of an index is kept, by how it is routed: in the index itself, in the one for events without an index of their own,
 -- or nowhere. The index is the one that the event names once its changes were made.
@@ -55,9 +55,13 @@ status_code Memory = 1
 status_code Usage = 2
 status_code Configuration = 3
 status_code Input = 4
+status_code DiskFault = 5
+status_code Damaged = 6
 status_code Output = 7
 status_code NotFound = 10
+status_code TooManyChannels = 11
 status_code Endless = 13
+status_code Full = 17
 
 -- the line of a status that always has the same one, which stands behind the output
 abbrev pub status_text : Status → List ℕ
@@ -66,9 +70,13 @@ status_text Memory = codes "indexd: want of memory\n"
 status_text Usage = codes "indexd: usage\n"
 status_text Configuration = []
 status_text Input = codes "indexd: input fault\n"
+status_text DiskFault = codes "indexd: disk fault\n"
+status_text Damaged = []
 status_text Output = []
 status_text NotFound = []
+status_text TooManyChannels = codes "indexd: too many channels\n"
 status_text Endless = codes "indexd: endless input\n"
+status_text Full = codes "indexd: store full\n"
 
 -- the text stands behind what stood there, or a front of it where the output failed
 abbrev pub Said : List ℕ → Side → Side → Type 0

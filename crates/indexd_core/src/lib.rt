@@ -2,11 +2,13 @@
 #![tactic(auto)]
 
 mod btool;
+mod ends;
 mod events;
 mod prepare;
 mod preview;
 mod program;
 mod status;
+mod stored;
 
 pub use program::top;
 pub use status::{Status, say};

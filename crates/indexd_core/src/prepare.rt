@@ -11,6 +11,7 @@ ghost use Rattle.indexd_core.specs.Runs.{WroteUnprepared};
 ghost use Rattle.indexd_core.specs.Sides.{side};
 ghost use Rattle.indexd_core.specs.Texts.{Said, status_text};
 ghost use Rattle.indexd_core.specs.Origins.{stated_of};
+ghost use Rattle.indexd_core.specs.Stored.{stated_meta, WroteUnread};
 
 use crate::status::{Status, say};
 use indexd_settings::{Configuration, ConfigurationFault, ConfigurationStop, read_configuration};
@@ -78,13 +79,25 @@ fn copy_some(alloc: Global, text: Option<&str>) -> Result<Option<Bytes>, NoMemor
 }
 
 /// The index that is stated, or the default one.
-fn index_of(alloc: Global, origin: Origin<'_>, limits: &LimitSet) -> Result<Bytes, NoMemory>
+pub fn index_of(alloc: Global, origin: Origin<'_>, limits: &LimitSet) -> Result<Bytes, NoMemory>
     ensures { IfOk result (λ index. index ≡ index_or_default (option_map (λ s. s.now) origin.entry.index) limits.now) }
 {
     match origin.index {
         Some(index) => Bytes::copy_of(alloc, index.as_bytes()),
         None => limits.default_database.copy(),
     }
+}
+
+/// What the words state of bytes that are stored.
+pub fn stated_meta(alloc: Global, origin: Origin<'_>) -> Result<ChannelMeta, NoMemory>
+    ensures { IfOk result (λ meta. meta ≡ stated_meta (stated_of origin.entry)) }
+{
+    Ok(ChannelMeta {
+        host: Bytes::copy_of(alloc, origin.host.as_bytes())?,
+        source: Bytes::copy_of(alloc, origin.source.as_bytes())?,
+        sourcetype: copy_some(alloc, origin.sourcetype)?,
+        index: copy_some(alloc, origin.index)?,
+    })
 }
 
 /// What is known of previewed bytes.
@@ -208,6 +221,29 @@ pub fn say_stop<W: Sink>(alloc: Global, stop: &PrepareStop, output: &mut W) -> S
         PrepareStop::NotFound(index) => {
             let line = not_found_line(alloc, index.as_slice());
             say_line(line, Status::NotFound, output)
+        }
+    }
+}
+
+/// Says why the settings of a run were not read.
+pub fn say_unread<W: Sink>(alloc: Global, stop: &ConfigurationStop, output: &mut W) -> Status
+    ensures said { (files : Option (List TreeFile)) (failed failed' : ℕ) → Stops stop.now failed failed' files →
+        WroteUnread result files failed failed'
+        (side (W.faults output.old) (W.given output.old)) (side (W.faults output.new) (W.given output.new)) }
+    ensures later { W.faults output.old ≤ W.faults output.new }
+{
+    match stop {
+        ConfigurationStop::Memory => {
+            say(Status::Memory, output);
+            Status::Memory
+        }
+        ConfigurationStop::Input => {
+            say(Status::Input, output);
+            Status::Input
+        }
+        ConfigurationStop::Refused(fault) => {
+            let line = fault.line(alloc);
+            say_line(line, Status::Configuration, output)
         }
     }
 }

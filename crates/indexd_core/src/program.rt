@@ -1,24 +1,28 @@
 //! All that the program does.
 
-ghost use Rattle.std.specs.Prelude.{◌≡◌, ◌≢◌, ◌≤◌, ◌⊎◌, ℕ, List, Some, false};
+ghost use Rattle.std.specs.Prelude.{◌≡◌, ◌≢◌, ◌≤◌, ◌⊎◌, ℕ, List, Some, true, false};
 ghost use Rattle.ix_base.specs.Faults.{Rose};
 ghost use Rattle.indexd_settings.specs.Layers.{file_named};
 ghost use Rattle.indexd_settings.specs.declared.layers.SettingsFile.{SettingsFile};
 ghost use Rattle.indexd_words.specs.Orders.{asked};
 ghost use Rattle.indexd_words.specs.Shown.{shown};
 ghost use Rattle.indexd_core.specs.Btool.{Tells};
-ghost use Rattle.indexd_core.specs.Commands.{is_command, AskPreview, AskBtool};
+ghost use Rattle.indexd_core.specs.Commands.{is_command, is_stored, is_task, AskPreview, AskBtool, AskTask, AskStore};
 ghost use Rattle.indexd_core.specs.Prepared.{Stated};
 ghost use Rattle.indexd_core.specs.Runs.{Previews, Refuses};
 ghost use Rattle.indexd_core.specs.Sides.{side};
+ghost use Rattle.indexd_core.specs.Stored.{FromStart, IsUntold, Tasked, Stored};
 ghost use Rattle.indexd_core.specs.Texts.{Said, status_text};
 
 use crate::btool::btool;
 use crate::preview::run_preview;
 use crate::status::{Status, say};
+use crate::stored::{run_stored, store_preview};
 use indexd_settings::SettingsFile;
+use indexd_store::Task;
 use indexd_words::{Order, Refusal, lend_words, read_words};
 use ix_base::{Clock, Sink, Source, Text, Tree};
+use ix_disk::Disk;
 use std::alloc::Global;
 
 /// Writes the line of a status that comes before any command.
@@ -31,25 +35,33 @@ fn stop<W: Sink>(status: Status, output: &mut W) -> Status
     status
 }
 
-/// Does all that the program does, and answers its status. `words` are those of the command line behind the program's
-/// name, `input` and `output` its standard input and output, `tree` the files of the folder that it stands in.
+/// Does all that the program does, and answers its status. `words` are those of the command line behind the program's name, `input` and
+/// `output` its standard input and output, `tree` the files of settings, and `disk` the files of the store.
 ///
 /// `preview --host HOST --source SOURCE [--sourcetype TYPE] [--index INDEX]` reads the input as one closed stream and writes its
 /// events, a line each, by the settings that the files of the tree have for the host, the source and the source type: lines are merged
 /// into events and their dates read unless these settings say otherwise, and events are then changed by `SEDCMD` and transforms. All bytes
 /// arrive at the moment that the clock shows before the input is read. An event that is sent to the null queue, or that no index
-/// keeps, has no line; any other is shown in the index that keeps it. `btool FILE` writes the settings of all layers of a file. Any other
-/// words are `Usage`. `Configuration` comes exactly where the files that the command reads have a fault, `NotFound` exactly where
-/// INDEX is not configured. `Input` comes only where the input of `preview` or the tree has failed, `Output` only where the output
-/// has, `Endless` only where `preview` took 2^40 bytes, and `Memory` where there was no room. The line of the status stands behind
-/// the output.
-pub fn top<S: Source, W: Sink, C: Clock, T: Tree>(
+/// keeps, has no line; any other is shown in the index that keeps it. `btool FILE` writes the settings of all layers of a file.
+///
+/// The other commands work over the store of the disk. They mount it, put the settings of the files in force where others are, and end with
+/// all of their changes committed. `preview .. --store` stores the events of the input and writes nothing. `buckets` lists the indexes and
+/// buckets, `export INDEX [--earliest SECONDS] [--latest SECONDS]` writes the events of an index in the range of times, `roll INDEX` rolls
+/// its hot buckets, `thaw INDEX ID` brings a frozen bucket back from the archive, and `tick` is a turn of housekeeping.
+///
+/// Any other words are `Usage`. `Configuration` comes exactly where the files that the command reads have a fault. `NotFound` comes where
+/// INDEX is not configured, or the bucket is not in the archive; `TooManyChannels` where 256 channels are open, and `Full` where the store
+/// would pass its bounds. `Input` comes only where the input of `preview` or the tree has failed, `Output` only where the output has,
+/// `DiskFault` only where the disk has, `Damaged` where its files hold what was not committed, `Endless` only where `preview` took 2^40
+/// bytes, and `Memory` where there was no room. The line of the status stands behind the output.
+pub fn top<S: Source, W: Sink, C: Clock, T: Tree, D: Disk>(
     alloc: Global,
     words: &[Text],
     input: &mut S,
     output: &mut W,
     clock: &mut C,
     tree: &mut T,
+    disk: &mut D,
 ) -> Status
     // Words that are no command are refused. Then nothing is asked or read, and nothing but the line is written.
     ensures usage { result ≡ Status.Usage → is_command words.now ≡ false }
@@ -70,7 +82,21 @@ pub fn top<S: Source, W: Sink, C: Clock, T: Tree>(
         Tells result file (T.files tree.old) (T.faults tree.old) (T.faults tree.new)
         (side (W.faults output.old) (W.given output.old)) (side (W.faults output.new) (W.given output.new)) }
 
-    // What a command leaves alone: `btool` the input and the clock, and each the files.
+    // A task over a store: at 0 it was given behind what the store had, with the settings of the files in force, its text was written, and every
+    // image at the exit has all commands. At any other status no image has lost what was there, and the status has its cause and its line.
+    ensures task { is_task (asked words.now) ≡ true → (task : Task) × AskTask words.now task ×
+        Tasked result task (T.files tree.old) (T.faults tree.old) (T.faults tree.new) (C.ahead clock.old) (C.ahead clock.new)
+        (side (W.faults output.old) (W.given output.old)) (side (W.faults output.new) (W.given output.new)) D.Disk disk.old disk.new }
+
+    // An input that is stored: at 0 all of it was given to the store as the stream of a channel, and every image at the exit has it.
+    ensures stored { (stated : Stated) → AskStore words.now stated →
+        Stored result stated (T.files tree.old) (T.faults tree.old) (T.faults tree.new) (C.ahead clock.old) (C.ahead clock.new)
+        (side (S.faults input.old) (S.left input.old)) (side (S.faults input.new) (S.left input.new))
+        (side (W.faults output.old) (W.given output.old)) (side (W.faults output.new) (W.given output.new)) D.Disk disk.old disk.new }
+
+    // What a command leaves alone: one that works over no store the disk, a task the input, `btool` the input and the clock, and each the files.
+    ensures untouched { is_stored (asked words.now) ≡ false → disk.new ≡ disk.old }
+    ensures unasked { is_task (asked words.now) ≡ true → (S.left input.new ≡ S.left input.old) × (S.faults input.new ≡ S.faults input.old) }
     ensures unread { (name : List ℕ) → AskBtool words.now name → (S.left input.new ≡ S.left input.old) × (S.faults input.new ≡ S.faults input.old)
         × (C.ahead clock.new ≡ C.ahead clock.old) }
     ensures unchanged { T.files tree.new ≡ T.files tree.old }
@@ -78,6 +104,10 @@ pub fn top<S: Source, W: Sink, C: Clock, T: Tree>(
     // The causes of the other statuses, and that no count of faults falls.
     ensures input { result ≡ Status.Input → Rose (S.faults input.old) (S.faults input.new) ⊎ Rose (T.faults tree.old) (T.faults tree.new) }
     ensures output { result ≡ Status.Output → Rose (W.faults output.old) (W.faults output.new) }
+    ensures disk { result ≡ Status.DiskFault → Rose (D.Disk.faults disk.old) (D.Disk.faults disk.new) }
+    // Where the images at the start stand for some history, a disk that tells what it reads is not damaged.
+    ensures undamaged { result ≡ Status.Damaged → FromStart D.Disk disk.old (λ choose history k. IsUntold D.Disk disk.new) }
+    ensures disk_later { D.Disk.faults disk.old ≤ D.Disk.faults disk.new }
     ensures read_later { S.faults input.old ≤ S.faults input.new }
     ensures written_later { W.faults output.old ≤ W.faults output.new }
     ensures tree_later { T.faults tree.old ≤ T.faults tree.new }
@@ -95,11 +125,31 @@ pub fn top<S: Source, W: Sink, C: Clock, T: Tree>(
                 store: false,
             },
         ) => run_preview(alloc, origin, input, output, clock, tree),
+        Ok(
+            Order::Preview {
+                origin,
+                store: true,
+            },
+        ) => store_preview(alloc, origin, input, output, clock, tree, disk),
         Ok(Order::Btool { file }) => match SettingsFile::named(file) {
             Some(file) => btool(alloc, file, tree, output),
             None => stop(Status::Usage, output),
         },
-        // the other commands are not built yet
-        Ok(_) => stop(Status::Usage, output),
+        Ok(Order::Buckets) => run_stored(alloc, Task::Buckets, output, clock, tree, disk),
+        Ok(Order::Export { index, range }) => {
+            let task = Task::Export { index, range };
+            run_stored(alloc, task, output, clock, tree, disk)
+        }
+        Ok(Order::Roll { index }) => {
+            run_stored(alloc, Task::Roll { index }, output, clock, tree, disk)
+        }
+        Ok(Order::Thaw { index, id }) => {
+            run_stored(alloc, Task::Thaw { index, id }, output, clock, tree, disk)
+        }
+        Ok(Order::Tick) => run_stored(alloc, Task::Tick, output, clock, tree, disk),
+        // these are not built yet
+        Ok(Order::Feed | Order::Serve { .. } | Order::Monitor { .. } | Order::Selftest { .. }) => {
+            stop(Status::Usage, output)
+        }
     }
 }

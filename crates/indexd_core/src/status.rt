@@ -19,12 +19,20 @@ pub enum Status {
     Configuration,
     /// 4: reading the input or the tree of files failed. `indexd: input fault`
     Input,
+    /// 5: the disk of the store failed. `indexd: disk fault`
+    DiskFault,
+    /// 6: a file of the store is damaged. `indexd: damaged: ` and its area, its number and the place
+    Damaged,
     /// 7: writing the output failed.
     Output,
     /// 10: the stated index is not configured. `indexd: not found: ` and its name
     NotFound,
+    /// 11: 256 channels are open, and one more is to be begun. `indexd: too many channels`
+    TooManyChannels,
     /// 13: the input has 2^40 bytes or more. `indexd: endless input`
     Endless,
+    /// 17: the store would pass the bounds of what it can keep. `indexd: store full`
+    Full,
 }
 
 impl Status {
@@ -38,9 +46,13 @@ impl Status {
             Status::Usage => 2,
             Status::Configuration => 3,
             Status::Input => 4,
+            Status::DiskFault => 5,
+            Status::Damaged => 6,
             Status::Output => 7,
             Status::NotFound => 10,
+            Status::TooManyChannels => 11,
             Status::Endless => 13,
+            Status::Full => 17,
         }
     }
 
@@ -49,11 +61,15 @@ impl Status {
         ensures { result.now ≡ status_text self }
     {
         match self {
-            Status::Done | Status::Configuration | Status::Output | Status::NotFound => b"",
+            Status::Done | Status::Configuration | Status::Output => b"",
+            Status::Damaged | Status::NotFound => b"",
             Status::Memory => b"indexd: want of memory\n",
             Status::Usage => b"indexd: usage\n",
             Status::Input => b"indexd: input fault\n",
+            Status::DiskFault => b"indexd: disk fault\n",
+            Status::TooManyChannels => b"indexd: too many channels\n",
             Status::Endless => b"indexd: endless input\n",
+            Status::Full => b"indexd: store full\n",
         }
     }
 }

@@ -4,6 +4,7 @@ use indexd_core::{Status, top};
 use ix_base::{
     Bytes, FailPlan, MemClock, MemSink, MemSource, MemTree, NoMemory, Text, TreeFile, TreeFileList,
 };
+use ix_disk::MemDisk;
 use std::alloc::Global;
 use std::test::Fail;
 
@@ -41,6 +42,7 @@ fn answers(
     let mut output = MemSink::new(alloc, FailPlan::none(alloc));
     let mut clock = MemClock::new(Vec::new(alloc));
     let mut tree = tree_of(alloc, files, failing)?;
+    let mut disk = MemDisk::new(alloc, FailPlan::none(alloc));
     let status = top(
         alloc,
         &words,
@@ -48,6 +50,7 @@ fn answers(
         &mut output,
         &mut clock,
         &mut tree,
+        &mut disk,
     );
     Ok(status == want.0 && output.bytes() == want.1)
 }

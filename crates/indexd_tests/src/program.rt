@@ -3,6 +3,7 @@
 use crate::shows::{tree_of, words_of};
 use indexd_core::{Status, top};
 use ix_base::{Bytes, Clock, FailPlan, Failed, MemClock, MemSink, MemSource, Sink, Source};
+use ix_disk::MemDisk;
 use std::alloc::Global;
 use std::cell::Cell;
 use std::process::Abort;
@@ -34,7 +35,8 @@ fn run<S: Source, W: Sink, C: Clock>(
 ) -> Result<Status, Fail> {
     let words = words_of(alloc, line)?;
     let mut tree = tree_of(alloc, &[("props", "[default]\nSHOULD_LINEMERGE = false")])?;
-    Ok(top(alloc, &words, input, output, clock, &mut tree))
+    let mut disk = MemDisk::new(alloc, FailPlan::none(alloc));
+    Ok(top(alloc, &words, input, output, clock, &mut tree, &mut disk))
 }
 
 fn preview(alloc: Global, input: &mut MemSource, output: &mut MemSink) -> Result<Status, Fail> {

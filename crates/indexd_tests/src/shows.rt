@@ -4,6 +4,7 @@ use indexd_core::top;
 use ix_base::{
     Bytes, FailPlan, MemClock, MemSink, MemSource, MemTree, NoMemory, Text, TreeFile, TreeFileList,
 };
+use ix_disk::MemDisk;
 use std::alloc::Global;
 use std::test::Fail;
 
@@ -66,7 +67,16 @@ pub(crate) fn show(
     let mut source = MemSource::in_pieces(input, most, FailPlan::none(alloc));
     let mut sink = MemSink::new(alloc, FailPlan::none(alloc));
     let mut clock = MemClock::new([run.moment].to_vec(alloc)?);
-    let status = top(alloc, &words, &mut source, &mut sink, &mut clock, &mut tree);
+    let mut disk = MemDisk::new(alloc, FailPlan::none(alloc));
+    let status = top(
+        alloc,
+        &words,
+        &mut source,
+        &mut sink,
+        &mut clock,
+        &mut tree,
+        &mut disk,
+    );
     let text = str::from_utf8(sink.bytes()).unwrap_or("?");
     let _ = write!(shown, "{}: {text}", status.code());
     Ok(())

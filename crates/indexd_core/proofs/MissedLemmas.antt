@@ -1,0 +1,142 @@
+-- An index whose name is too long for one is missed once the store is open.
+use Rattle.std.proofs.Common.{◌≡◌, ◌≤◌, ◌<◌, ℕ, ℤ, Bool, true, false, List, [], ◌∷◌, ◌++◌, map, length, take, refl, sym, ap, ◌∙◌, subst, inr, arith}
+use Rattle.std.specs.Prelude.{Option, Some, None, Err, is_some, is_none, ◌==◌, ◌&&◌, nat_lt, codes, bytes_eq, filter, if◌then◌else◌}
+use Rattle.std.specs.List.{AllByRecursion}
+use Rattle.ix_base.specs.Clocks.{Moments, Answered}
+use Rattle.ix_base.specs.Told.{Told}
+use Rattle.ix_base.specs.declared.events.ChannelMeta.{ChannelMeta}
+use Rattle.ix_book.specs.Book.{Book}
+use Rattle.ix_conf.specs.Value.{is_at, entry_at}
+use Rattle.ix_conf.specs.declared.layers.MergedEntry.{MergedEntry}
+use Rattle.ix_disk.specs.declared.disk.Disk.{Ghosts}
+use Rattle.ix_items.specs.declared.items.Kept.{Kept}
+use Rattle.ix_kept.specs.Configs.{IsConfig}
+use Rattle.ix_life.specs.Limits.{limits_of}
+use Rattle.ix_life.specs.Stanzas.{is_index_stanza}
+use Rattle.ix_life.specs.declared.limits.Limits.{Limits}
+use Rattle.ix_life.specs.declared.sets.LimitSet.{LimitSet}
+use Rattle.ix_machine.proofs.Following.{after_more}
+use Rattle.ix_machine.proofs.Named.{by_test, same_bytes}
+use Rattle.ix_machine.specs.Given.{Chooser, entry, entries, is_configured, limits}
+use Rattle.ix_machine.specs.State.{State, empty}
+use Rattle.ix_machine.specs.Step.{after}
+use Rattle.ix_machine.specs.declared.commands.Config.{Config}
+use Rattle.ix_machine.specs.declared.commands.Order.{Order}
+use Rattle.ix_run.specs.Giving.{given_all}
+use Rattle.ix_snapshot.specs.Shelved.{IsSet}
+use Rattle.ix_store.specs.declared.store.Store.{Store}
+use Rattle.indexd_store.specs.Ends.{same_entry, same_kept}
+use Rattle.indexd_store.specs.Opened as opened
+use Rattle.indexd_store.specs.Opened.{configuring, Configures, HasOpened, HasStopped}
+use Rattle.indexd_store.specs.Previews.{is_missing_in, HasFed, Fed, Misses}
+use Rattle.indexd_store.specs.declared.stop.Stop.TheVariants as stops
+use Rattle.indexd_store.proofs.Feeding.{none_fed}
+use Rattle.indexd_store.proofs.Joining.{fed_when}
+use Rattle.indexd_store.proofs.Tasks.{none_given}
+use Rattle.indexd_core.specs.Stored.{is_long}
+
+both_are : (a b : Bool) → (a && b) ≡ true → (a ≡ true) × (b ≡ true)
+both_are true b e = (refl, e)
+both_are false b e = absurd (cc)
+
+-- ---- settings that are the same
+
+same_numbers : (a b : ℕ) → (a == b) ≡ true → a ≡ b
+same_numbers a b e = grind arith
+
+same_of : (a b : Kept) → same_entry a b ≡ true → a ≡ b
+same_of a b e =
+    let file = both_are (a.file == b.file) _ e in
+    let stanza = both_are (bytes_eq a.stanza b.stanza) _ file.1 in
+    let key = both_are (bytes_eq a.key b.key) (bytes_eq a.value b.value) stanza.1 in
+    let file_is = same_numbers a.file b.file file.0 in
+    let stanza_is = same_bytes a.stanza b.stanza stanza.0 in
+    let key_is = same_bytes a.key b.key key.0 in
+    let value_is = same_bytes a.value b.value key.1 in
+    λ i. record { file = file_is i; stanza = stanza_is i; key = key_is i; value = value_is i }
+
+all_same : (a b : List Kept) → same_kept a b ≡ true → a ≡ b
+all_same [] [] e = refl
+all_same [] (b ∷ bs) e = absurd (cc)
+all_same (a ∷ more) [] e = absurd (cc)
+all_same (a ∷ more) (b ∷ bs) e =
+    let both = both_are (same_entry a b) (same_kept more bs) e in
+    let here = same_of a b both.0 in
+    let behind = all_same more bs both.1 in
+    λ i. here i ∷ behind i
+
+-- the settings of a run that is open are those that it was given
+in_force : (choose : Chooser) (mounted configured : List Order) (config : Config) (is_same : Bool) → opened.is_configured choose mounted config ≡ is_same →
+    Configures is_same config configured → (after choose (given_all choose mounted configured)).force ≡ config.kept
+in_force choose mounted configured config true same none =
+    subst (λ (orders : List Order). (after choose (given_all choose mounted orders)).force ≡ config.kept) (sym none) (all_same (after choose mounted).force config.kept same)
+in_force choose mounted configured config false other one =
+    subst (λ (orders : List Order). (after choose (given_all choose mounted orders)).force ≡ config.kept) (sym one.1)
+    (ap (λ (m : State). m.force) (after_more choose empty mounted (configuring config one.0 ∷ [])))
+
+-- ---- names of indexes are short
+
+abbrev IsBrief : List ℕ → Type 0
+IsBrief name = length name ≤ 1024
+
+abbrev AreBrief : List Kept → Type 0
+AreBrief force = AllByRecursion (λ (kept : Kept). length kept.stanza ≤ 1024) force
+
+abbrev EntriesAreBrief : List MergedEntry → Type 0
+EntriesAreBrief es = AllByRecursion (λ (e : MergedEntry). length e.stanza ≤ 1024) es
+
+some_of : (test : Kept → Bool) (force : List Kept) → AreBrief force → EntriesAreBrief (map entry (filter test force))
+some_of test [] h = tt
+some_of test (k ∷ force) h =
+    by_test (test k)
+    (λ t. rw t (h.0, some_of test force h.1))
+    (λ t. rw t (some_of test force h.1))
+
+entry_brief : (name : List ℕ) (es : List MergedEntry) → EntriesAreBrief es → is_some (entry_at name [] es) ≡ true → IsBrief name
+entry_brief name [] h e = absurd (cc)
+entry_brief name (x ∷ es) h e =
+    by_test (is_at name [] x)
+    (λ t. subst IsBrief (sym (same_bytes name x.stanza (both_are (bytes_eq name x.stanza) (bytes_eq [] x.key) t).0)) h.0)
+    (λ t. entry_brief name es h.1 (rw t at e))
+
+configured_brief : (force : List Kept) (name : List ℕ) → AreBrief force → is_configured force name ≡ true → IsBrief name
+configured_brief force name h e =
+    by_test (bytes_eq name (codes "main"))
+    (λ t. subst IsBrief (sym (same_bytes name (codes "main") t)) (let short : 4 ≤ 1024 = omega arith in short))
+    (λ t. (let both = both_are (is_index_stanza name) (is_some (entry_at name [] (entries force))) (rw t at e) in
+    entry_brief name (entries force) (some_of (λ (kept : Kept). kept.file == 3) force h) both.1))
+
+too_long : (n : ℕ) → nat_lt 1024 n ≡ true → n ≤ 1024 → ⊥
+too_long n long brief = grind arith
+
+unless : (b : Bool) (found : Limits) → (b ≡ true → ⊥) → is_none (if b then Some found else None) ≡ true
+unless true found not = absurd (not refl)
+unless false found not = refl
+
+missing_in : (force : List Kept) (set : LimitSet) (index : Option (List ℕ)) → AreBrief force → IsSet force set → is_long index ≡ true → is_missing_in set index ≡ true
+missing_in force set None brief is long = absurd (cc)
+missing_in force set (Some index) brief is long =
+    subst (λ (found : Option Limits). is_none found ≡ true) (sym (is.limits.limits index))
+    (unless (is_configured force index) (limits force index) (λ there. too_long (length index) long (configured_brief force index brief there)))
+
+-- ---- the run
+
+missed_by : (choose : Chooser) (begun : List Order) (config : Config) (origin : ChannelMeta) → IsConfig config → (after choose begun).force ≡ config.kept →
+    is_long origin.index ≡ true → Misses choose begun origin true
+missed_by choose begun config origin is forced long = record {
+  limits = config.limits;
+  in_force = subst (λ (force : List Kept). IsSet force config.limits) (sym forced) is.limits;
+  answers = missing_in config.kept config.limits origin.index is.stanzas is.limits long;
+}
+
+pub missed : {D : Type 0} (d : Ghosts D) {M : Type 0} (fits : Book → Type 0) (holds : Chooser → List Order → M → Type 0) (choose : Chooser) (history : List Order) (k : ℕ)
+    (config : Config) (store : Store M) (ahead mid ahead' : Option Moments) (first last : D) (origin : ChannelMeta) (left : Option (List ℕ)) (moment : ℤ) →
+    IsConfig config → is_long origin.index ≡ true → HasOpened d fits holds choose history k config store ahead mid first last → Told (Answered moment) mid ahead' →
+    HasStopped stops.NotFound d fits choose history k config ahead ahead' (left ≡ left) (HasFed choose origin (Err stops.NotFound) ahead' left left) first last
+missed d fits holds choose history k config store ahead mid ahead' first last origin left moment is long ready told =
+    let begun : List Order = given_all choose (take ready.count history) ready.configured in
+    let forced : (after choose begun).force ≡ config.kept =
+    in_force choose (take ready.count history) ready.configured config (opened.is_configured choose (take ready.count history) config) refl ready.configures in
+    inr (fed_when d fits holds choose history k config store ahead mid first last last ready store origin moment ahead' told left left (Err stops.NotFound)
+    (none_given d fits holds choose begun ready.count store last (Fed choose ready.count begun origin moment (Err stops.NotFound) left left)
+    (none_fed choose ready.count begun origin moment left (missed_by choose begun config origin is forced long)) ready.hold))

@@ -1,0 +1,231 @@
+-- Runs over a store: their lines, what tasks are given, and a run that misses its index once the store is open.
+use Rattle.std.proofs.Common.{◌≡◌, ◌≤◌, ◌⊎◌, ◌++◌, inl, inr, ℕ, ℤ, Bool, true, false, List, [], ◌∷◌, length, refl, sym, ap, ◌∙◌, subst, append_assoc, arith}
+use Rattle.std.specs.Prelude.{Option, Some, None, Result, Err, IfSome, nat_lt}
+use Rattle.std.specs.List.{AllByRecursion}
+use Rattle.ix_base.specs.Faults.{Rose}
+use Rattle.ix_base.specs.Told.{HasWritten, HasBegun}
+use Rattle.ix_base.proofs.ToldLemmas.{then_written, then_begun, begun_of_more}
+use Rattle.ix_base.specs.Clocks.{Moments}
+use Rattle.ix_base.specs.declared.files.File.{File}
+use Rattle.ix_base.specs.declared.trees.TreeFile.{TreeFile}
+use Rattle.ix_disk.specs.declared.disk.Disk.{Ghosts}
+use Rattle.ix_book.specs.Book.{Book}
+use Rattle.ix_kept.specs.Taken.{IsTaken}
+use Rattle.ix_machine.specs.Given.{Chooser}
+use Rattle.ix_machine.specs.declared.commands.Config.{Config}
+use Rattle.ix_machine.specs.declared.commands.Order.{Order}
+use Rattle.ix_store.specs.declared.fault.MountFault.TheVariants as mounts
+use Rattle.indexd_store.specs.Opened.{Begins, Doing, HasStopped}
+use Rattle.indexd_store.specs.Stops.{is_output, is_input}
+use Rattle.indexd_store.specs.declared.stop.Stop.{Stop}
+use Rattle.indexd_store.specs.declared.stop.Stop.TheVariants as stops
+use Rattle.indexd_store.specs.Tasks.{orders_in}
+use Rattle.indexd_store.specs.declared.task.Task.{Task}
+use Rattle.indexd_store.specs.declared.task.Task.TheVariants as tasks
+use Rattle.indexd_words.specs.Orders.{Asked, preview, btool, feed, serve, monitor, buckets, export, roll, thaw, tick, selftest}
+use Rattle.indexd_core.specs.Commands.{asked_for, is_task, is_stored}
+use Rattle.indexd_core.specs.Sides.{Side}
+use Rattle.indexd_core.specs.Stored.{status_of, named_by, tail_of, is_long, WroteUnread}
+use Rattle.indexd_core.specs.declared.status.Status.{Status}
+use Rattle.indexd_core.specs.declared.status.Status.TheVariants as statuses
+use Rattle.indexd_core.specs.Texts.{Said}
+
+-- ---- lines
+
+in_pieces : (p i s d n : List ℕ) → p ++ i ++ (s ++ d ++ n) ≡ p ++ (i ++ s ++ d) ++ n
+in_pieces p i s d n =
+    append_assoc p i (s ++ d ++ n)
+    ∙ ap (λ (l : List ℕ). p ++ l) (ap (λ (l : List ℕ). i ++ l) (append_assoc s d n) ∙ sym (append_assoc i s (d ++ n)) ∙ sym (append_assoc (i ++ s) d n))
+    ∙ sym (append_assoc p (i ++ s ++ d) n)
+
+pub missing_line : (p index : List ℕ) (id : Option ℕ) → p ++ index ++ tail_of id ≡ p ++ named_by index id ++ (10 ∷ [])
+missing_line p index None = refl
+missing_line p index (Some id) = in_pieces p index (32 ∷ []) _ (10 ∷ [])
+
+-- ---- three pieces
+
+rose_later : (a b c : ℕ) → a ≤ b → Rose b c → Rose a c
+rose_later a b c le rose = grind arith
+
+pub first_failed : (a b c : List ℕ) (output output' : Side) → Rose output.faults output'.faults → HasBegun a output.told output'.told →
+    Said (a ++ b ++ c) output output'
+first_failed a b c output output' rose begun = inr (rose, begun_of_more c (begun_of_more b begun))
+
+pub second_failed : (a b c : List ℕ) (output middle output' : Side) → output.faults ≤ middle.faults → HasWritten a output.told middle.told →
+    Rose middle.faults output'.faults → HasBegun b middle.told output'.told → Said (a ++ b ++ c) output output'
+second_failed a b c output middle output' later written rose begun =
+    inr (rose_later output.faults middle.faults output'.faults later rose, begun_of_more c (then_begun written begun))
+
+pub third_said : (a b c : List ℕ) (output middle output' : Side) → output.faults ≤ middle.faults → HasWritten (a ++ b) output.told middle.told →
+    Said c middle output' → Said (a ++ b ++ c) output output'
+third_said a b c output middle output' later written (inl all) = inl (then_written written all)
+third_said a b c output middle output' later written (inr part) =
+    inr (rose_later output.faults middle.faults output'.faults later part.0, then_begun written part.1)
+
+-- ---- tasks
+
+pub task_taken : (task : Task) (moment : ℤ) → AllByRecursion IsTaken (orders_in task moment)
+task_taken tasks.Buckets moment = tt
+task_taken (tasks.Export index range) moment = tt
+task_taken (tasks.Roll index) moment = (tt, tt)
+task_taken (tasks.Thaw index id) moment = (tt, tt)
+task_taken tasks.Tick moment = (tt, tt)
+
+-- some task is asked for
+pub some_task : (o : Option Asked) → is_task o ≡ true → (task : Task) × (o ≡ Some (asked_for task))
+some_task None is = absurd (cc)
+some_task (Some (preview host source sourcetype index store)) is = absurd (cc)
+some_task (Some (btool file)) is = absurd (cc)
+some_task (Some feed) is = absurd (cc)
+some_task (Some (serve port requests)) is = absurd (cc)
+some_task (Some (monitor close)) is = absurd (cc)
+some_task (Some buckets) is = (tasks.Buckets, refl)
+some_task (Some (export index range)) is = (tasks.Export (record { ref_ptr = (0, 0); now = index }) range, refl)
+some_task (Some (roll index)) is = (tasks.Roll (record { ref_ptr = (0, 0); now = index }), refl)
+some_task (Some (thaw index id)) is = (tasks.Thaw (record { ref_ptr = (0, 0); now = index }) id, refl)
+some_task (Some tick) is = (tasks.Tick, refl)
+some_task (Some (selftest seed count)) is = absurd (cc)
+
+pub no_task : (o o' : Option Asked) → o ≡ o' → is_task o' ≡ false → is_task o ≡ true → ⊥
+no_task o o' same other is =
+    let both : true ≡ false = sym is ∙ (ap is_task same ∙ other) in
+    cc
+
+pub task_is_stored : (task : Task) → is_stored (Some (asked_for task)) ≡ true
+task_is_stored tasks.Buckets = refl
+task_is_stored (tasks.Export index range) = refl
+task_is_stored (tasks.Roll index) = refl
+task_is_stored (tasks.Thaw index id) = refl
+task_is_stored tasks.Tick = refl
+
+pub touched : (o o' : Option Asked) → o ≡ o' → is_stored o' ≡ true → is_stored o ≡ false → ⊥
+touched o o' same is other =
+    let both : true ≡ false = sym is ∙ (sym (ap is_stored same) ∙ other) in
+    cc
+
+-- ---- statuses of stops
+
+of_disk : (stop : Stop) → statuses.DiskFault ≡ status_of stop → stop ≡ stops.Disk
+of_disk stops.Memory is = absurd (cc)
+of_disk stops.Disk is = refl
+of_disk (stops.Damaged file at) is = absurd (cc)
+of_disk stops.Unsound is = absurd (cc)
+of_disk stops.NotFound is = absurd (cc)
+of_disk stops.TooManyChannels is = absurd (cc)
+of_disk stops.Full is = absurd (cc)
+of_disk stops.Output is = absurd (cc)
+of_disk stops.Input is = absurd (cc)
+of_disk stops.Endless is = absurd (cc)
+
+pub disk_stop : (ended : Status) (stop : Stop) → ended ≡ status_of stop → ended ≡ statuses.DiskFault → stop ≡ stops.Disk
+disk_stop ended stop is at = of_disk stop (sym at ∙ is)
+
+of_output : (stop : Stop) → statuses.Output ≡ status_of stop → (is_output stop ≡ true) × (stop ≡ stops.Output)
+of_output stops.Memory is = absurd (cc)
+of_output stops.Disk is = absurd (cc)
+of_output (stops.Damaged file at) is = absurd (cc)
+of_output stops.Unsound is = absurd (cc)
+of_output stops.NotFound is = absurd (cc)
+of_output stops.TooManyChannels is = absurd (cc)
+of_output stops.Full is = absurd (cc)
+of_output stops.Output is = (refl, refl)
+of_output stops.Input is = absurd (cc)
+of_output stops.Endless is = absurd (cc)
+
+pub output_stop : (ended : Status) (stop : Stop) → ended ≡ status_of stop → ended ≡ statuses.Output → (is_output stop ≡ true) × (stop ≡ stops.Output)
+output_stop ended stop is at = of_output stop (sym at ∙ is)
+
+of_input : (stop : Stop) → statuses.Input ≡ status_of stop → (is_input stop ≡ true) × (stop ≡ stops.Input)
+of_input stops.Memory is = absurd (cc)
+of_input stops.Disk is = absurd (cc)
+of_input (stops.Damaged file at) is = absurd (cc)
+of_input stops.Unsound is = absurd (cc)
+of_input stops.NotFound is = absurd (cc)
+of_input stops.TooManyChannels is = absurd (cc)
+of_input stops.Full is = absurd (cc)
+of_input stops.Output is = absurd (cc)
+of_input stops.Input is = (refl, refl)
+of_input stops.Endless is = absurd (cc)
+
+pub input_stop : (ended : Status) (stop : Stop) → ended ≡ status_of stop → ended ≡ statuses.Input → (is_input stop ≡ true) × (stop ≡ stops.Input)
+input_stop ended stop is at = of_input stop (sym at ∙ is)
+
+of_usage : (stop : Stop) → statuses.Usage ≡ status_of stop → ⊥
+of_usage stops.Memory is = cc
+of_usage stops.Disk is = cc
+of_usage (stops.Damaged file at) is = cc
+of_usage stops.Unsound is = cc
+of_usage stops.NotFound is = cc
+of_usage stops.TooManyChannels is = cc
+of_usage stops.Full is = cc
+of_usage stops.Output is = cc
+of_usage stops.Input is = cc
+of_usage stops.Endless is = cc
+
+pub usage_stop : (ended : Status) (stop : Stop) → ended ≡ status_of stop → ended ≡ statuses.Usage → ⊥
+usage_stop ended stop is at = of_usage stop (sym at ∙ is)
+
+of_done : (stop : Stop) → statuses.Done ≡ status_of stop → ⊥
+of_done stops.Memory is = cc
+of_done stops.Disk is = cc
+of_done (stops.Damaged file at) is = cc
+of_done stops.Unsound is = cc
+of_done stops.NotFound is = cc
+of_done stops.TooManyChannels is = cc
+of_done stops.Full is = cc
+of_done stops.Output is = cc
+of_done stops.Input is = cc
+of_done stops.Endless is = cc
+
+pub done_stop : (ended : Status) (stop : Stop) → ended ≡ status_of stop → ended ≡ statuses.Done → ⊥
+done_stop ended stop is at = of_done stop (sym at ∙ is)
+
+-- the log has no history, or a file is blamed
+pub by_blame : (stop : Stop) (P : Type 0) → status_of stop ≡ statuses.Damaged → (stop ≡ stops.Unsound → P) → ((file : File) (at : ℕ) → stop ≡ stops.Damaged file at → P) → P
+by_blame stops.Memory P is unsound damaged = absurd (cc)
+by_blame stops.Disk P is unsound damaged = absurd (cc)
+by_blame (stops.Damaged file at) P is unsound damaged = damaged file at refl
+by_blame stops.Unsound P is unsound damaged = unsound refl
+by_blame stops.NotFound P is unsound damaged = absurd (cc)
+by_blame stops.TooManyChannels P is unsound damaged = absurd (cc)
+by_blame stops.Full P is unsound damaged = absurd (cc)
+by_blame stops.Output P is unsound damaged = absurd (cc)
+by_blame stops.Input P is unsound damaged = absurd (cc)
+by_blame stops.Endless P is unsound damaged = absurd (cc)
+
+pub yes_no : (b : Bool) → b ≡ true → b ≡ false → ⊥
+yes_no b is other = cc
+
+pub err_as : {T E : Type 0} (a b : E) → a ≡ b → ◌≡◌ {A = Result T E} (Err a) (Err b)
+err_as a b same = ap (λ x. Err x) same
+
+-- ---- where the settings are not read
+
+pub unread_at : (ended at : Status) (files : Option (List TreeFile)) (failed failed' : ℕ) (output output' : Side) →
+    WroteUnread ended files failed failed' output output' → ended ≡ at → WroteUnread at files failed failed' output output'
+unread_at ended at files failed failed' output output' wrote is = subst (λ (s : Status). WroteUnread s files failed failed' output output') is wrote
+
+-- ---- nothing is mounted for want of memory
+
+pub unmounted : {D : Type 0} (d : Ghosts D) (fits : Book → Type 0) (choose : Chooser) (history : List Order) (k : ℕ) (config : Config) (ahead : Option Moments)
+    (untouched : Type 0) (may : Doing) (disk : D) → untouched → Begins d fits choose history k disk → d.moment disk ≤ d.moment disk →
+    HasStopped stops.Memory d fits choose history k config ahead ahead untouched may disk disk
+unmounted d fits choose history k config ahead untouched may disk same begins now = inl (
+  inl (record {
+    fault = mounts.NoMemory;
+    stop_is = refl;
+    sound = λ is. cc;
+    not_asked = refl;
+    stood = record { later = now; now = begins; since = λ t image since left. inl left };
+  }),
+  same,
+)
+
+-- ---- a stated index
+
+at_most : (n : ℕ) → nat_lt 1024 n ≡ false → n ≤ 1024
+at_most n short = grind arith
+
+pub brief_index : (index : Option (List ℕ)) → is_long index ≡ false → IfSome index (λ (name : List ℕ). length name ≤ 1024)
+brief_index None short = tt
+brief_index (Some index) short = at_most (length index) short

@@ -1,0 +1,43 @@
+use Rattle.std.proofs.Common.{List, ℕ, ◌∙◌, refl, sym, subst, arith}
+use Rattle.indexd_core.specs.Sides.{side}
+use Rattle.indexd_store.specs.declared.stop.Stop.TheVariants as stops
+use Rattle.indexd_core.specs.Stored.{line_of, done, stopped}
+use Rattle.indexd_core.specs.Texts.{Said}
+use Rattle.indexd_core.proofs.PreviewLemmas.{rose-until}
+use Rattle.indexd_core.proofs.StoredLemmas.{task_taken, disk_stop, output_stop, input_stop, usage_stop, yes_no, err_as, by_blame}
+use Rattle.indexd_core.proofs.stored.run_with.Goals as goal
+
+pub run_task-requires-clause-settings : goal.run_task-requires-clause-settings
+run_task-requires-clause-settings g c = λ moment. c.requires
+
+pub run_task-requires-clause-takes : goal.run_task-requires-clause-takes
+run_task-requires-clause-takes g c = λ moment. task_taken c.args.task moment
+
+pub returns-in-Ok-clause-comes : goal.returns-in-Ok-clause-comes
+returns-in-Ok-clause-comes g c = done refl c.in-Ok.ensures.done
+
+pub returns-in-Err-clause-comes : goal.returns-in-Err-clause-comes
+returns-in-Err-clause-comes g c =
+    stopped c.in-Err.stop (side (g.W.Sink.faults c.run_task.new.output) (g.W.Sink.given c.run_task.new.output)) c.say_stop.ensures.status
+    c.in-Err.ensures.stopped c.in-Err.ensures.quiet
+    (subst (λ (named : List ℕ). Said (line_of named c.in-Err.stop) (side (g.W.Sink.faults c.run_task.new.output) (g.W.Sink.given c.run_task.new.output))
+    (side (g.W.Sink.faults c.say_stop.new.output) (g.W.Sink.given c.say_stop.new.output))) c.named_in.ensures c.say_stop.ensures.said)
+
+pub returns-in-Err-clause-output : goal.returns-in-Err-clause-output
+returns-in-Err-clause-output g c = λ is.
+    rose-until (g.W.Sink.faults c.args.output.now) (g.W.Sink.faults c.run_task.new.output) (g.W.Sink.faults c.say_stop.new.output)
+    (c.in-Err.ensures.output (err_as c.in-Err.stop stops.Output (output_stop c.say_stop.result c.in-Err.stop c.say_stop.ensures.status is).1)) c.say_stop.ensures.later
+
+pub returns-in-Err-clause-input : goal.returns-in-Err-clause-input
+returns-in-Err-clause-input g c = λ is. yes_no _ (input_stop c.say_stop.result c.in-Err.stop c.say_stop.ensures.status is).0 c.in-Err.ensures.unread
+
+pub returns-in-Err-clause-disk : goal.returns-in-Err-clause-disk
+returns-in-Err-clause-disk g c = λ is. c.in-Err.ensures.cause (err_as c.in-Err.stop stops.Disk (disk_stop c.say_stop.result c.in-Err.stop c.say_stop.ensures.status is))
+
+pub returns-in-Err-clause-usage : goal.returns-in-Err-clause-usage
+returns-in-Err-clause-usage g c = λ is. usage_stop c.say_stop.result c.in-Err.stop c.say_stop.ensures.status is
+
+pub returns-in-Err-clause-undamaged : goal.returns-in-Err-clause-undamaged
+returns-in-Err-clause-undamaged g c = λ is. by_blame c.in-Err.stop _ (sym c.say_stop.ensures.status ∙ is)
+    (λ unsound. λ choose history k chooser taken begins image seen later told. c.run_task.ensures.sound (c.in-Err.is ∙ err_as c.in-Err.stop _ unsound) choose history k chooser taken begins image seen)
+    (λ file at damaged. c.run_task.ensures.undamaged file at (c.in-Err.is ∙ err_as c.in-Err.stop _ damaged))

@@ -1,0 +1,196 @@
+-- Runs over a store: what each gives to it and writes, by the status with which it ends.
+use Rattle.std.specs.Prelude.{◌≡◌, ◌≤◌, ◌++◌, nat_lt, ℕ, Bool, true, false, List, length, Option, Some, None, Ok, Err, IfSome, codes, decimal}
+use Rattle.ix_base.specs.Clocks.{Moments}
+use Rattle.ix_base.specs.Faults.{Rose}
+use Rattle.ix_base.specs.declared.events.ChannelMeta.{ChannelMeta}
+use Rattle.ix_base.specs.declared.files.Area.{Area}
+use Rattle.ix_base.specs.declared.files.Area.TheVariants.{Meta, Home, Cold, Frozen, Thawed}
+use Rattle.ix_base.specs.declared.files.File.{File}
+use Rattle.ix_base.specs.declared.trees.TreeFile.{TreeFile}
+use Rattle.ix_disk.specs.Image.{Image}
+use Rattle.ix_disk.specs.declared.disk.Disk.{Ghosts}
+use Rattle.ix_kept.specs.Configs.{IsChooser}
+use Rattle.ix_kept.specs.Taken.{AreGiven}
+use Rattle.ix_machine.specs.Given.{Chooser}
+use Rattle.ix_machine.specs.declared.commands.Config.{Config}
+use Rattle.ix_machine.specs.declared.commands.Order.{Order}
+use Rattle.ix_replay.specs.Fits.{fits}
+use Rattle.indexd_config.specs.Given.{IsConfigOf}
+use Rattle.indexd_settings.specs.Faults.{HasFault}
+use Rattle.indexd_settings.specs.Texts.{fault_line}
+use Rattle.indexd_settings.specs.declared.faults.ConfigurationFault.{ConfigurationFault}
+use Rattle.indexd_store.specs.Opened.{Begins, Doing, WhenOpen, HasRun, HasStopped}
+use Rattle.indexd_store.specs.Previews.{HasFed, HasTaken}
+use Rattle.indexd_store.specs.Tasks.{says, HasDone, HasHalted}
+use Rattle.indexd_store.specs.declared.stop.Stop.{Stop}
+use Rattle.indexd_store.specs.declared.stop.Stop.TheVariants as stops
+use Rattle.indexd_store.specs.declared.task.Task.{Task}
+use Rattle.indexd_store.specs.declared.task.Task.TheVariants as tasks
+use Rattle.indexd_core.specs.Prepared.{Stated, index_or_default, not_found_line}
+use Rattle.indexd_core.specs.Sides.{Side}
+use Rattle.indexd_core.specs.Texts.{status_text, Said}
+use Rattle.indexd_core.specs.declared.ends.Named.{Named}
+use Rattle.indexd_core.specs.declared.status.Status.{Status}
+use Rattle.indexd_core.specs.declared.status.Status.TheVariants.{Done, Memory, Usage, Configuration, Input, DiskFault, Damaged, Output, NotFound, TooManyChannels, Endless, Full}
+
+-- ---- statuses and their lines
+
+-- What the log says and no commands lead to is damage of the log.
+abbrev pub status_of : Stop → Status
+status_of stops.Memory = Memory
+status_of stops.Disk = DiskFault
+status_of (stops.Damaged file at) = Damaged
+status_of stops.Unsound = Damaged
+status_of stops.NotFound = NotFound
+status_of stops.TooManyChannels = TooManyChannels
+status_of stops.Full = Full
+status_of stops.Output = Output
+status_of stops.Input = Input
+status_of stops.Endless = Endless
+
+abbrev pub area_name : Area → List ℕ
+area_name Meta = codes "meta"
+area_name Home = codes "home"
+area_name Cold = codes "cold"
+area_name Frozen = codes "frozen"
+area_name Thawed = codes "thawed"
+
+abbrev pub damaged_line : File → ℕ → List ℕ
+damaged_line file at =
+    codes "indexd: damaged: " ++ area_name file.area ++ codes "/" ++ decimal file.number ++ codes " at " ++ decimal at ++ codes "\n"
+
+-- the file that a store always has
+abbrev pub first_log : File
+first_log = record { area = Meta; number = 1 }
+
+-- The line of a run that stops, where a command names this.
+abbrev pub line_of : List ℕ → Stop → List ℕ
+line_of named stops.Memory = status_text Memory
+line_of named stops.Disk = status_text DiskFault
+line_of named (stops.Damaged file at) = damaged_line file at
+line_of named stops.Unsound = damaged_line first_log 0
+line_of named stops.NotFound = not_found_line named
+line_of named stops.TooManyChannels = status_text TooManyChannels
+line_of named stops.Full = status_text Full
+line_of named stops.Output = status_text Output
+line_of named stops.Input = status_text Input
+line_of named stops.Endless = status_text Endless
+
+-- an index, and perhaps the number of a bucket
+abbrev pub named_by : List ℕ → Option ℕ → List ℕ
+named_by index None = index
+named_by index (Some id) = index ++ codes " " ++ decimal id
+
+abbrev pub named_of : Named → List ℕ
+named_of named = named_by named.index.now named.id
+
+-- what stands behind the index in the line of what was not found
+abbrev pub tail_of : Option ℕ → List ℕ
+tail_of None = codes "\n"
+tail_of (Some id) = codes " " ++ decimal id ++ codes "\n"
+
+-- what a task names
+abbrev pub named_in : Task → List ℕ
+named_in tasks.Buckets = codes ""
+named_in (tasks.Export index range) = index.now
+named_in (tasks.Roll index) = index.now
+named_in (tasks.Thaw index id) = named_by index.now (Some id)
+named_in tasks.Tick = codes ""
+
+-- ---- runs
+
+-- Whatever the images at the start stand for: some history of commands that may be given, of which each has the first k at least, the
+-- settings of channels being those that the kept settings give. The disk tells what it reads.
+abbrev pub FromStart : {D : Type 0} → Ghosts D → D → (Chooser → List Order → ℕ → Type 0) → Type 0
+FromStart d disk comes =
+    (choose : Chooser) (history : List Order) (k : ℕ) → IsChooser choose → AreGiven history →
+    Begins d fits choose history k disk → (image : Image) → d.seen disk ≡ Some image → comes choose history k
+
+-- the disk does not tell what it reads
+abbrev pub IsUntold : {D : Type 0} → Ghosts D → D → Type 0
+IsUntold d disk = (image : Image) → d.seen disk ≡ Some image → ⊥
+
+-- A run with these settings. Done: what was given and written is as `whole` says, and every image at the exit has all commands. Stopped: the
+-- middle is what the output was before the line of the stop; what was given and written is as `part` says, where nothing was given behind the
+-- settings `untouched` holds, and `wrote` in any case; every image at the exit has all commands, or where the disk is at fault those that were
+-- mounted. In neither case has any image lost what was there at the start.
+pub data Comes (status : Status) {D : Type 0} (d : Ghosts D) (config : Config) (named : List ℕ) (ahead ahead' : Option Moments)
+    (whole : Chooser → Doing) (untouched : Side → Type 0) (part : Stop → Side → Chooser → Doing) (wrote : Stop → Side → Type 0)
+    (output' : Side) (disk disk' : D) : Type 0 where
+  done : status ≡ Done →
+      FromStart d disk (λ choose history k. HasRun false d fits choose history k (WhenOpen choose config ahead (whole choose)) disk disk') →
+      Comes status d config named ahead ahead' whole untouched part wrote output' disk disk'
+  stopped : (stop : Stop) (middle : Side) → status ≡ status_of stop →
+      FromStart d disk (λ choose history k. HasStopped stop d fits choose history k config ahead ahead' (untouched middle) (part stop middle choose) disk disk') →
+      wrote stop middle → Said (line_of named stop) middle output' →
+      Comes status d config named ahead ahead' whole untouched part wrote output' disk disk'
+
+-- Nothing was done but to read the settings: at `Configuration` the line of the first fault of the files was written. The two numbers are how
+-- often the tree had failed before and after.
+abbrev pub WroteUnread : Status → Option (List TreeFile) → ℕ → ℕ → Side → Side → Type 0
+WroteUnread Done files failed failed' output output' = ⊥
+WroteUnread Memory files failed failed' output output' = Said (status_text Memory) output output'
+WroteUnread Usage files failed failed' output output' = ⊥
+WroteUnread Configuration files failed failed' output output' =
+    (fault : ConfigurationFault) × HasFault files fault × Said (fault_line fault) output output'
+WroteUnread Input files failed failed' output output' = Rose failed failed' × Said (status_text Input) output output'
+WroteUnread DiskFault files failed failed' output output' = ⊥
+WroteUnread Damaged files failed failed' output output' = ⊥
+WroteUnread Output files failed failed' output output' = ⊥
+WroteUnread NotFound files failed failed' output output' = ⊥
+WroteUnread TooManyChannels files failed failed' output output' = ⊥
+WroteUnread Endless files failed failed' output output' = ⊥
+WroteUnread Full files failed failed' output output' = ⊥
+
+-- A whole run: it stops before the settings are read, where all is `still` but the tree, or it runs with those of the files.
+pub data Whole (status : Status) (files : Option (List TreeFile)) (failed failed' : ℕ) (still : Type 0) (comes : Config → Type 0) (output output' : Side) : Type 0 where
+  unread : still → WroteUnread status files failed failed' output output' → Whole status files failed failed' still comes output output'
+  ran : (config : Config) → IsConfigOf files config → comes config → Whole status files failed failed' still comes output output'
+
+-- ---- tasks
+
+-- A run of a task with these settings. One that stops has written nothing before its line but where `says` allows it.
+abbrev pub TaskComes : Status → {D : Type 0} → Ghosts D → Config → Task → Option Moments → Option Moments → Side → Side → D → D → Type 0
+TaskComes status d config task ahead ahead' output output' disk disk' =
+    Comes status d config (named_in task) ahead ahead' (λ choose. HasDone d choose task ahead' output.told output'.told disk')
+    (λ middle. middle.told ≡ output.told) (λ stop middle choose. HasHalted d choose task stop ahead' output.told middle.told disk')
+    (λ stop middle. says task stop ≡ false → middle.told ≡ output.told) output' disk disk'
+
+abbrev pub Tasked : Status → Task → Option (List TreeFile) → ℕ → ℕ → Option Moments → Option Moments → Side → Side → {D : Type 0} → Ghosts D → D → D → Type 0
+Tasked status task files failed failed' ahead ahead' output output' d disk disk' =
+    Whole status files failed failed' ((ahead' ≡ ahead) × (disk' ≡ disk)) (λ config. TaskComes status d config task ahead ahead' output output' disk disk') output output'
+
+-- ---- an input that is stored
+
+-- the texts of the words have at most 1,024 bytes, but for the index
+pub record AreShort (stated : Stated) : Type 0 where
+  pub host : length stated.host ≤ 1024
+  pub source : length stated.source ≤ 1024
+  pub sourcetype : IfSome stated.sourcetype (λ (name : List ℕ). length name ≤ 1024)
+
+-- an index is stated, and its name is longer than that of any index
+abbrev pub is_long : Option (List ℕ) → Bool
+is_long None = false
+is_long (Some index) = nat_lt 1024 (length index)
+
+-- what is known of it
+abbrev pub stated_meta : Stated → ChannelMeta
+stated_meta stated = record { host = stated.host; source = stated.source; sourcetype = stated.sourcetype; index = stated.index }
+
+-- A run that stores an input with these settings. One that stops writes nothing but its line, and says how much it has read.
+abbrev pub InputComes : Status → {D : Type 0} → Ghosts D → Config → Stated → Option Moments → Option Moments → Side → Side → Side → Side → D → D → Type 0
+InputComes status d config stated ahead ahead' input input' output output' disk disk' =
+    Comes status d config (named_by (index_or_default stated.index config.limits) None) ahead ahead'
+    (λ choose. HasFed choose (stated_meta stated) (Ok tt) ahead' input.told input'.told)
+    (λ middle. input'.told ≡ input.told) (λ stop middle choose. HasFed choose (stated_meta stated) (Err stop) ahead' input.told input'.told)
+    (λ stop middle. (middle ≡ output) × HasTaken (Err stop) input.told input'.told) output' disk disk'
+
+-- One that is done has read the input to its end, and has written nothing.
+pub record Silent (input input' output output' : Side) : Type 0 where
+  pub taken : HasTaken (Ok tt) input.told input'.told
+  pub same : output' ≡ output
+
+abbrev pub Stored : Status → Stated → Option (List TreeFile) → ℕ → ℕ → Option Moments → Option Moments → Side → Side → Side → Side → {D : Type 0} → Ghosts D → D → D → Type 0
+Stored status stated files failed failed' ahead ahead' input input' output output' d disk disk' =
+    Whole status files failed failed' ((ahead' ≡ ahead) × (input' ≡ input) × (disk' ≡ disk))
+    (λ config. InputComes status d config stated ahead ahead' input input' output output' disk disk' × (status ≡ Done → Silent input input' output output')) output output'
