@@ -277,7 +277,7 @@ fn ended(alloc: Global, line: &str, shown: &mut String) -> Result<(), Fail> {
 
 /// Words that are a command which is built, and such as are none.
 #[test]
-fn words_are_those_of_the_two_commands(rt: HostRuntime) -> Result<(), Fail> {
+fn words_are_those_of_the_commands(rt: HostRuntime) -> Result<(), Fail> {
     let alloc = rt.alloc();
     let mut good = String::new(alloc);
     for line in [
@@ -294,10 +294,10 @@ fn words_are_those_of_the_two_commands(rt: HostRuntime) -> Result<(), Fail> {
     for line in [
         "",
         "preview --host h",
-        "preview --host h --source s --store",
+        "thaw main",
         "preview --host  --source s",
         "btool props.conf",
-        "buckets",
+        "buckets main",
         "--help",
     ] {
         ended(alloc, line, &mut bad)?;
@@ -317,13 +317,20 @@ fn statuses_have_their_numbers(rt: HostRuntime) -> Result<(), Fail> {
         Status::Usage,
         Status::Configuration,
         Status::Input,
+        Status::DiskFault,
+        Status::Damaged,
         Status::Output,
         Status::NotFound,
+        Status::TooManyChannels,
         Status::Endless,
+        Status::Full,
     ] {
         let number = format!(in alloc; "{} ", status.code())?;
         numbers.push_str(number.as_str())?;
     }
-    assert!(rt; numbers.as_str() == "0 1 2 3 4 7 10 13 ", "{numbers}");
+    assert!(rt;
+        numbers.as_str() == "0 1 2 3 4 5 6 7 10 11 13 17 ",
+        "{numbers}"
+    );
     Ok(())
 }
