@@ -33,7 +33,7 @@ use Rattle.ix_serve.specs.Answer.{Answer, Found, Says, MayChange, is_whole, says
 use Rattle.ix_serve.specs.Entries.{Entry, state, drawn, order}
 use Rattle.ix_serve.specs.Prefixes.{StandsIn}
 use Rattle.ix_serve.specs.Replies.{Reply, text_of, refused}
-use Rattle.ix_serve.specs.Serving.{Wrote, Gave, IsOpen, IsCut, IsTold, HoldsFrom, Answers, Serves}
+use Rattle.ix_serve.specs.Serving.{Wrote, Gave, IsOpen, IsUndamaged, IsTold, HoldsFrom, Answers, Serves}
 use Rattle.ix_serve.specs.declared.served.Served.{Served}
 use Rattle.ix_serve.specs.declared.served.Served.TheVariants as served
 use Rattle.ix_serve.specs.declared.served.ServeFault.{ServeFault}
@@ -98,8 +98,8 @@ gave_cleaner (Some r) delimited clean clean' result given given' so is = wrote_c
 
 -- ---- faults
 
-pub open_cut : {D : Type 0} (g : Ghosts D) (new : D) (result : Result Served ServeFault) → IsOpen result → IsCut g new result
-open_cut g new result stays file at is image seen = absurd (subst IsOpen is stays)
+pub open_undamaged : {D : Type 0} (g : Ghosts D) (new : D) (result : Result Served ServeFault) → IsOpen result → IsUndamaged g new result
+open_undamaged g new result stays file at is image seen = absurd (subst IsOpen is stays)
 
 -- a store that has failed is not open
 pub closed : (cause : CommitFault) → IsOpen (Err (answer_of_fault cause)) → ⊥
@@ -120,14 +120,14 @@ module _ {D : Type 0} (g : Ghosts D) {M : Type 0} (fits : Book → Type 0) (hold
   -- nothing was added
   pub queried : (may : Answer → Type 0) (delimited : Bool) (clean : Type 0) (result : Result Served ServeFault) (given given' : Option (List ℕ)) (store : Store M) (old new : D) (r : Option Reply) (commits : Bool) →
       (let a : Answer = record { reply = r; more = []; commits = commits } in may a) → Gave r delimited clean result given given' → (IsOpen result → HoldsFrom g fits holds e commits e.history store new) →
-      Always g old new (StandsIn fits e.run e.choose e.history e.kept) → IsCut g new result → Answers g fits holds e may delimited clean result given given' store old new
-  queried may delimited clean result given given' store old new r commits may_be gave held images cut = record {
+      Always g old new (StandsIn fits e.run e.choose e.history e.kept) → IsUndamaged g new result → Answers g fits holds e may delimited clean result given given' store old new
+  queried may delimited clean result given given' store old new r commits may_be gave held images undamaged = record {
     answer = record { reply = r; more = []; commits = commits };
     may_be = may_be;
     gave = gave;
     held = λ stays. subst (λ (l : List Order). HoldsFrom g fits holds e commits l store new) (sym (append-nil e.history)) (held stays);
     images = subst (λ (l : List Order). Always g old new (StandsIn fits e.run e.choose l e.kept)) (sym (append-nil e.history)) images;
-    cut = cut;
+    undamaged = undamaged;
   }
 
   -- nothing was added and the disk left alone
@@ -138,21 +138,21 @@ module _ {D : Type 0} (g : Ghosts D) {M : Type 0} (fits : Book → Type 0) (hold
       queried may delimited clean result given given' store disk disk r false may_be gave
       (λ _. undue_held false e.history store disk refl hold)
       (subst (λ (n : ℕ). Always g disk disk (StandsIn fits n e.choose e.history e.kept)) run (standing g fits holds e.choose e.history e.base e.kept store disk hold))
-      (open_cut g disk result stays)
+      (open_undamaged g disk result stays)
 
   -- a command was accepted
   pub changed : (command : Command) (good : Reply) (clean : Type 0) (result : Result Served ServeFault) (given given' : Option (List ℕ)) (before mid store : Store M) (old new : D) (answer : Accepted) →
       (hold : Holds g fits holds e.choose e.history e.base e.kept before old) → IsAccepted fits holds e.choose e.history e.base e.kept (order e command) before mid hold.old answer →
       Wrote good true clean result given given' → (IsOpen result → HoldsFrom g fits holds e (is_due (drop e.kept (with_order e.choose e.history (order e command)))) (with_order e.choose e.history (order e command)) store new) →
-      Always g old new (StandsIn fits e.run e.choose (with_order e.choose e.history (order e command)) e.kept) → IsCut g new result →
+      Always g old new (StandsIn fits e.run e.choose (with_order e.choose e.history (order e command)) e.kept) → IsUndamaged g new result →
       Answers g fits holds e (MayChange e command good) true clean result given given' store old new
-  changed command good clean result given given' before mid store old new answer hold is gave held images cut = record {
+  changed command good clean result given given' before mid store old new answer hold is gave held images undamaged = record {
     answer = accepted e command good;
     may_be = inl (subst (λ (n : ℕ). IsAllowed e.choose false n (state e) (order e command)) hold.staged.counted.drawn_are is.allowed, refl);
     gave = gave;
     held = held;
     images = images;
-    cut = cut;
+    undamaged = undamaged;
   }
 
   -- store and disk hold it
@@ -184,7 +184,7 @@ module _ {D : Type 0} (g : Ghosts D) {M : Type 0} (fits : Book → Type 0) (hold
     gave = is.gave;
     held = is.held;
     images = is.images;
-    cut = is.cut;
+    undamaged = is.undamaged;
   }
 
   -- the same over a longer time
@@ -196,7 +196,7 @@ module _ {D : Type 0} (g : Ghosts D) {M : Type 0} (fits : Book → Type 0) (hold
     gave = subst (λ (x : Option (List ℕ)). Gave is.answer.reply delimited clean' result x given') same (gave_cleaner is.answer.reply delimited clean clean' result given given' so is.gave);
     held = is.held;
     images = is.images;
-    cut = is.cut;
+    undamaged = is.undamaged;
   }
 
   -- what was read, and what is answered to it

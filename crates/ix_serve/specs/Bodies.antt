@@ -1,5 +1,6 @@
 -- The bodies of replies.
 use Rattle.std.specs.Prelude.{ℕ, Bool, true, false, List, [], ◌∷◌, ◌++◌, codes, decimal}
+use Rattle.std.specs.List.{flat_map}
 use Rattle.ix_http.specs.declared.kinds.HttpFault.{HttpFault}
 use Rattle.ix_http.specs.declared.kinds.HttpFault.TheVariants as http
 use Rattle.ix_keep.specs.declared.fault.CommitFault.{CommitFault}
@@ -19,13 +20,13 @@ abbrev pub value_text : Bool → List ℕ
 value_text true = codes "true"
 value_text false = codes "false"
 
--- values with one comma between two, behind what stands before the first
-abbrev pub values_text : List ℕ → List Bool → List ℕ
-values_text before [] = []
-values_text before (value ∷ values) = before ++ value_text value ++ values_text (codes ",") values
+-- values with one comma between two
+abbrev pub values_text : List Bool → List ℕ
+values_text [] = []
+values_text (value ∷ values) = value_text value ++ flat_map (λ (next : Bool). codes "," ++ value_text next) values
 
 abbrev pub acks_body : List Bool → List ℕ
-acks_body values = codes "{\"acks\":[" ++ values_text [] values ++ codes "]}"
+acks_body values = codes "{\"acks\":[" ++ values_text values ++ codes "]}"
 
 -- ---- of faults
 

@@ -1,8 +1,8 @@
 -- What an export is replied with.
-use Rattle.std.specs.Prelude.{◌≡◌, ◌⊎◌, ℕ, List, length, Some}
+use Rattle.std.specs.Prelude.{◌≡◌, ◌⊎◌, ℕ, List, Some}
 use Rattle.ix_base.specs.declared.events.Range.{Range}
 use Rattle.ix_base.specs.declared.files.File.{File}
-use Rattle.ix_disk.specs.Image.{Image, bytes_in}
+use Rattle.ix_disk.specs.Image.{Image}
 use Rattle.ix_disk.specs.declared.disk.Disk.{Ghosts}
 use Rattle.ix_http.specs.declared.kinds.HttpFault.TheVariants as http
 use Rattle.ix_keep.specs.declared.fault.CommitFault.{CommitFault}
@@ -21,6 +21,6 @@ reply_of (exports.Refused refusal) = refused refusal
 abbrev pub MayReply : Type 0 → Entry → List ℕ → Range → Reply → Type 0
 MayReply told e index range reply = (reply ≡ no_memory) ⊎ IsExport told e index range reply
 
--- damage is named where the file ends, as far as the disk tells
-abbrev pub HasCut : {D : Type 0} → Ghosts D → D → CommitFault → Type 0
-HasCut d disk cause = (file : File) (at : ℕ) → cause ≡ commits.Damaged file at → (image : Image) → d.seen disk ≡ Some image → at ≡ length (bytes_in image file)
+-- the cause is no damage of a disk that tells what it reads
+abbrev pub IsNoDamage : {D : Type 0} → Ghosts D → D → CommitFault → Type 0
+IsNoDamage d disk cause = (file : File) (at : ℕ) → cause ≡ commits.Damaged file at → (image : Image) → d.seen disk ≡ Some image → ⊥

@@ -4,7 +4,7 @@ use Rattle.ix_base.specs.Faults.{Rose}
 use Rattle.ix_base.specs.Told.{Told, HasWritten, HasBegun}
 use Rattle.ix_base.specs.declared.files.File.{File}
 use Rattle.ix_book.specs.Book.{Book}
-use Rattle.ix_disk.specs.Image.{Image, bytes_in}
+use Rattle.ix_disk.specs.Image.{Image}
 use Rattle.ix_disk.specs.Moments.{Always}
 use Rattle.ix_disk.specs.declared.disk.Disk.{Ghosts}
 use Rattle.ix_http.specs.Asked.{Fits}
@@ -70,9 +70,9 @@ pub record IsListed (e : Entry) (clean : Type 0) (result : Result Served ServeFa
 
 -- ---- the whole
 
--- Damage is answered where the named file ends at the named place, as far as the disk tells.
-abbrev pub IsCut : {D : Type 0} → Ghosts D → D → Result Served ServeFault → Type 0
-IsCut d disk result = (file : File) (at : ℕ) → result ≡ Err (fault.Damaged file at) → (image : Image) → d.seen disk ≡ Some image → at ≡ length (bytes_in image file)
+-- No damage is answered of a disk that tells what it reads.
+abbrev pub IsUndamaged : {D : Type 0} → Ghosts D → D → Result Served ServeFault → Type 0
+IsUndamaged d disk result = (file : File) (at : ℕ) → result ≡ Err (fault.Damaged file at) → (image : Image) → d.seen disk ≡ Some image → ⊥
 
 -- One answer that may be given: what was written of it, what is held behind it, and that every image since the start stands for this run
 -- and a prefix of the same history.
@@ -83,7 +83,7 @@ pub record Answers {D : Type 0} (d : Ghosts D) {M : Type 0} (fits : Book → Typ
   pub gave : Gave answer.reply delimited clean result given given'
   pub held : IsOpen result → HoldsFrom d fits holds e answer.commits (e.history ++ answer.more) store new
   pub images : Always d old new (StandsIn fits e.run e.choose (e.history ++ answer.more) e.kept)
-  pub cut : IsCut d new result
+  pub undamaged : IsUndamaged d new result
 
 -- One request: what was read of the bytes of the link, and what was answered to it.
 pub record Serves {D : Type 0} (d : Ghosts D) {M : Type 0} (fits : Book → Type 0) (holds : Chooser → List Order → M → Type 0) (e : Entry) (clean : Type 0)

@@ -13,7 +13,7 @@ ghost use Rattle.ix_machine.specs.Given.{Chooser};
 ghost use Rattle.ix_machine.specs.declared.commands.Order.{Order};
 ghost use Rattle.ix_serve.specs.Answer.{MayBe};
 ghost use Rattle.ix_serve.specs.Entries.{Entry, entry};
-ghost use Rattle.ix_serve.specs.Exports.{reply_of, MayReply, HasCut};
+ghost use Rattle.ix_serve.specs.Exports.{reply_of, MayReply, IsNoDamage};
 ghost use Rattle.ix_serve.specs.Prefixes.{StandsIn};
 ghost use Rattle.ix_serve.specs.Replies.{most_lines};
 ghost use Rattle.ix_serve.specs.Serving.{Answers, Comes, Gave, IsClean, IsOpen, IsTold};
@@ -116,8 +116,8 @@ fn export_lines<M: Memory + Drop, D: Disk>(
         Holds D.Disk M.Book.fits M.holds e.choose e.history e.base (length e.history) store.old disk.old → MayReply (IsTold D.Disk disk.new) e index.now range.now (reply_of exported)) }
     ensures held { (choose : Chooser) (history : List Order) (base k : ℕ) → Holds D.Disk M.Book.fits M.holds choose history base k store.old disk.old →
         OnOk result (Holds D.Disk M.Book.fits M.holds choose history base k store.new disk.new) }
-    ensures cut { IfErr result (λ cause. (choose : Chooser) (history : List Order) (base : ℕ) → M.is_chooser choose → AllByRecursion M.takes history →
-        Holds D.Disk M.Book.fits M.holds choose history base (length history) store.old disk.old → HasCut D.Disk disk.new cause) }
+    ensures undamaged { IfErr result (λ cause. (choose : Chooser) (history : List Order) (base : ℕ) → M.is_chooser choose → AllByRecursion M.takes history →
+        Holds D.Disk M.Book.fits M.holds choose history base (length history) store.old disk.old → IsNoDamage D.Disk disk.new cause) }
     ensures over { IsOver D.Disk store.old.keeper disk.old → IsOver D.Disk store.new.keeper disk.new }
     ensures later { D.Disk.faults disk.old ≤ D.Disk.faults disk.new }
     ensures failed { IfErr result (λ cause. cause ≡ commits.Disk → Rose (D.Disk.faults disk.old) (D.Disk.faults disk.new)) }
@@ -157,8 +157,8 @@ fn committed_lines<M: Memory + Drop, D: Disk>(
         Holds D.Disk M.Book.fits M.holds e.choose e.history e.base e.kept store.old disk.old → MayReply (IsTold D.Disk disk.new) e index.now range.now (reply_of exported)) }
     ensures held { (choose : Chooser) (history : List Order) (base k : ℕ) → Holds D.Disk M.Book.fits M.holds choose history base k store.old disk.old →
         OnOk result (Holds D.Disk M.Book.fits M.holds choose history base (length history) store.new disk.new) }
-    ensures cut { IfErr result (λ cause. (choose : Chooser) (history : List Order) (base k : ℕ) → M.is_chooser choose → AllByRecursion M.takes history →
-        Holds D.Disk M.Book.fits M.holds choose history base k store.old disk.old → HasCut D.Disk disk.new cause) }
+    ensures undamaged { IfErr result (λ cause. (choose : Chooser) (history : List Order) (base k : ℕ) → M.is_chooser choose → AllByRecursion M.takes history →
+        Holds D.Disk M.Book.fits M.holds choose history base k store.old disk.old → IsNoDamage D.Disk disk.new cause) }
     ensures over { OnOk result (IsOver D.Disk store.new.keeper disk.new) }
     ensures later { D.Disk.faults disk.old ≤ D.Disk.faults disk.new }
     ensures failed { IfErr result (λ cause. cause ≡ commits.Disk → Rose (D.Disk.faults disk.old) (D.Disk.faults disk.new)) }

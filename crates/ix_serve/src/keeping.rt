@@ -9,7 +9,7 @@ ghost use Rattle.ix_machine.specs.Given.{Chooser};
 ghost use Rattle.ix_machine.specs.declared.commands.Order.{Order};
 ghost use Rattle.ix_serve.specs.Answer.{answer_of_fault};
 ghost use Rattle.ix_serve.specs.Prefixes.{StandsIn};
-ghost use Rattle.ix_serve.specs.Serving.{IsOpen, IsCut};
+ghost use Rattle.ix_serve.specs.Serving.{IsOpen, IsUndamaged};
 ghost use Rattle.ix_store.specs.Holding.{Holds};
 
 use crate::served::{ServeFault, Served, answer_of_fault};
@@ -32,7 +32,7 @@ pub(crate) fn settle<M: Memory + Drop, D: Disk>(
     ensures over { IsOpen result → IsOver D.Disk store.new.keeper disk.new }
     ensures later { D.Disk.faults disk.old ≤ D.Disk.faults disk.new }
     ensures failed { result ≡ Err ServeFault.Disk → Rose (D.Disk.faults disk.old) (D.Disk.faults disk.new) }
-    ensures cut { IsCut D.Disk disk.new result }
+    ensures undamaged { (choose : Chooser) (history : List Order) (base k : ℕ) → Holds D.Disk M.Book.fits M.holds choose history base k store.old disk.old → IsUndamaged D.Disk disk.new result }
 {
     match store.commit(disk) {
         Ok(()) => came,

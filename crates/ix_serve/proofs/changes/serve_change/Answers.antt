@@ -9,7 +9,7 @@ use Rattle.ix_serve.specs.Entries.{entry, order}
 use Rattle.ix_serve.specs.Prefixes.{StandsIn}
 use Rattle.ix_serve.specs.Replies.{reply}
 use Rattle.ix_serve.specs.Serving.{IsClean}
-use Rattle.ix_serve.proofs.Answering.{changed, held_accepted, run_accepted, refused_so, wrote_settled, open_cut, due_held, undue_held}
+use Rattle.ix_serve.proofs.Answering.{changed, held_accepted, run_accepted, refused_so, wrote_settled, open_undamaged, due_held, undue_held}
 use Rattle.ix_serve.proofs.Standing.{standing}
 use Rattle.ix_serve.proofs.changes.serve_change.Goals as goal
 
@@ -28,7 +28,7 @@ returns-then-due-clause-answers g c = λ choose h base k chooser taken hold.
     (λ stays. due_held g.D.Disk g.M.Book.Replay.fits g.M.Memory.holds e _ h2 c.settle.new.store c.settle.new.disk now.staged.within (c.settle.ensures.done choose h2 base k now stays))
     (subst (λ (run : ℕ). Always g.D.Disk c.args.disk.now c.settle.new.disk (StandsIn g.M.Book.Replay.fits run choose h2 k))
     (run_accepted g.D.Disk g.M.Book.Replay.fits g.M.Memory.holds e c.args.command c.args.store.now c.accept.new.self c.args.disk.now _ hold is) (c.settle.ensures.images choose h2 base k now))
-    c.settle.ensures.cut
+    (c.settle.ensures.undamaged choose h2 base k now)
 
 pub returns-else-due-clause-answers : goal.returns-else-due-clause-answers
 returns-else-due-clause-answers g c = λ choose h base k chooser taken hold.
@@ -44,7 +44,7 @@ returns-else-due-clause-answers g c = λ choose h base k chooser taken hold.
     (subst (λ (run : ℕ). Always g.D.Disk c.args.disk.now c.args.disk.now (StandsIn g.M.Book.Replay.fits run choose h2 k))
     (run_accepted g.D.Disk g.M.Book.Replay.fits g.M.Memory.holds e c.args.command c.args.store.now c.accept.new.self c.args.disk.now _ hold is)
     (standing g.D.Disk g.M.Book.Replay.fits g.M.Memory.holds choose h2 base k c.accept.new.self c.args.disk.now now))
-    (open_cut g.D.Disk c.args.disk.now c.give-came.result c.give-came.ensures.open)
+    (open_undamaged g.D.Disk c.args.disk.now c.give-came.result c.give-came.ensures.open)
 
 pub returns-in-Err-clause-answers : goal.returns-in-Err-clause-answers
 returns-in-Err-clause-answers g c = λ choose h base k chooser taken hold.

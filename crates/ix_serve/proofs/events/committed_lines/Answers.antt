@@ -11,9 +11,9 @@ returns-in-Ok-clause-reply g c =
 pub returns-in-Ok-clause-held : goal.returns-in-Ok-clause-held
 returns-in-Ok-clause-held g c = λ choose h base k hold. c.export_lines.ensures.held choose h base (length h) (c.in-Ok.ensures.done choose h base k hold)
 
-pub returns-in-Ok-clause-cut : goal.returns-in-Ok-clause-cut
-returns-in-Ok-clause-cut g c =
-    if_err c.export_lines.result (λ cause says choose h base k chooser taken hold. says choose h base chooser taken (c.in-Ok.ensures.done choose h base k hold)) c.export_lines.ensures.cut
+pub returns-in-Ok-clause-undamaged : goal.returns-in-Ok-clause-undamaged
+returns-in-Ok-clause-undamaged g c =
+    if_err c.export_lines.result (λ cause says choose h base k chooser taken hold. says choose h base chooser taken (c.in-Ok.ensures.done choose h base k hold)) c.export_lines.ensures.undamaged
 
 pub returns-in-Ok-clause-images : goal.returns-in-Ok-clause-images
 returns-in-Ok-clause-images g c = λ choose h base k hold.
@@ -25,5 +25,5 @@ pub returns-in-Err-clause-images : goal.returns-in-Err-clause-images
 returns-in-Err-clause-images g c = λ choose h base k hold.
     committing g.M.Book.Replay.fits c.args.store.now.run choose h k hold.staged.within g.D.Disk c.args.disk.now c.commit.new.disk (c.commit.ensures.images choose h base k hold)
 
-pub returns-in-Err-clause-cut : goal.returns-in-Err-clause-cut
-returns-in-Err-clause-cut g c = λ choose h base k chooser taken hold file at is image seen. (c.in-Err.ensures.damaged file at (cc)).1 image seen
+pub returns-in-Err-clause-undamaged : goal.returns-in-Err-clause-undamaged
+returns-in-Err-clause-undamaged g c = λ choose h base k chooser taken hold file at is image seen. c.in-Err.ensures.undamaged file at (cc) choose h base k hold image seen

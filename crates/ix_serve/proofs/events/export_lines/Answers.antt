@@ -25,6 +25,6 @@ returns-in-Err-UnknownIndex-clause-reply g c = λ e chooser taken hold.
     of_unseen (IsTold g.D.Disk c.export.new.disk) e c.args.index.now c.args.range.now
     ((c.in-Err-UnknownIndex.ensures.unknown e.choose e.history e.base (length e.history) hold.old hold.staged).0 (cc (c.in-Err-UnknownIndex.field-0-is)))
 
-pub returns-clause-cut : goal.returns-clause-cut
-returns-clause-cut g c = λ choose h base chooser taken hold file at is image seen.
-    absurd (c.in-Err-Damaged.ensures.sound c.in-Err-Damaged.file c.in-Err-Damaged.at (cc (c.in-Err-Damaged.field-0-is)) choose h base image chooser taken hold (sym c.in-Err-Damaged.ensures.same ∙ seen))
+pub returns-clause-undamaged : goal.returns-clause-undamaged
+returns-clause-undamaged g c = λ choose h base chooser taken hold file at is image seen.
+    c.in-Err-Damaged.ensures.sound c.in-Err-Damaged.file c.in-Err-Damaged.at (cc (c.in-Err-Damaged.field-0-is)) choose h base image chooser taken hold (sym c.in-Err-Damaged.ensures.same ∙ seen)

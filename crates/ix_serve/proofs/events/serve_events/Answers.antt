@@ -8,7 +8,7 @@ use Rattle.ix_serve.specs.Exports.{reply_of, MayReply}
 use Rattle.ix_serve.specs.Replies.{Reply, no_memory, broken}
 use Rattle.ix_serve.specs.Serving.{IsClean, IsOpen, IsTold}
 use Rattle.ix_serve.specs.declared.served.ServeFault.TheVariants as fault
-use Rattle.ix_serve.proofs.Answering.{queried, due_held, open_cut, closed, damaged_back}
+use Rattle.ix_serve.proofs.Answering.{queried, due_held, open_undamaged, closed, damaged_back}
 use Rattle.ix_serve.proofs.events.serve_events.Goals as goal
 
 pub returns-in-Ok-clause-answers : goal.returns-in-Ok-clause-answers
@@ -25,11 +25,11 @@ returns-in-Ok-clause-answers g c = λ choose h base k chooser taken hold.
     (λ (none : said ≡ no_memory). queried g.D.Disk g.M.Book.Replay.fits g.M.Memory.holds e may true clean c.give_exported.result (g.K.Link.given c.args.link.now) (g.K.Link.given c.give_exported.new.link)
     c.committed_lines.new.store c.args.disk.now c.committed_lines.new.disk (Some said) false (inr (inl (ap (λ (r : Reply). says false r) none))) c.give_exported.ensures.gave
     (λ stays. due_held g.D.Disk g.M.Book.Replay.fits g.M.Memory.holds e false h c.committed_lines.new.store c.committed_lines.new.disk hold.staged.within now)
-    (c.committed_lines.ensures.images choose h base k hold) (open_cut g.D.Disk c.committed_lines.new.disk c.give_exported.result c.give_exported.ensures.open))
+    (c.committed_lines.ensures.images choose h base k hold) (open_undamaged g.D.Disk c.committed_lines.new.disk c.give_exported.result c.give_exported.ensures.open))
     (λ (is : IsExport told e c.args.index.now c.args.range said). queried g.D.Disk g.M.Book.Replay.fits g.M.Memory.holds e may true clean c.give_exported.result (g.K.Link.given c.args.link.now) (g.K.Link.given c.give_exported.new.link)
     c.committed_lines.new.store c.args.disk.now c.committed_lines.new.disk (Some said) true (inl (said, is, refl)) c.give_exported.ensures.gave
     (λ stays. due_held g.D.Disk g.M.Book.Replay.fits g.M.Memory.holds e true h c.committed_lines.new.store c.committed_lines.new.disk hold.staged.within now)
-    (c.committed_lines.ensures.images choose h base k hold) (open_cut g.D.Disk c.committed_lines.new.disk c.give_exported.result c.give_exported.ensures.open))
+    (c.committed_lines.ensures.images choose h base k hold) (open_undamaged g.D.Disk c.committed_lines.new.disk c.give_exported.result c.give_exported.ensures.open))
     reply
 
 pub returns-in-Err-clause-answers : goal.returns-in-Err-clause-answers
@@ -44,4 +44,4 @@ returns-in-Err-clause-answers g c = λ choose h base k chooser taken hold.
     (c.committed_lines.ensures.images choose h base k hold)
     (λ file at is image seen.
     let same : answer_of_fault c.in-Err.cause ≡ fault.Damaged file at = cc (c.give_up.ensures.result, is) in
-    c.in-Err.ensures.cut choose h base k chooser taken hold file at (damaged_back c.in-Err.cause file at same) image seen)
+    c.in-Err.ensures.undamaged choose h base k chooser taken hold file at (damaged_back c.in-Err.cause file at same) image seen)

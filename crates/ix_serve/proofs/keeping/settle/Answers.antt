@@ -2,7 +2,7 @@ use Rattle.std.proofs.Common.{◌≡◌, ◌∙◌, ℕ, sym, Err}
 use Rattle.ix_serve.specs.Answer.{answer_of_fault}
 use Rattle.ix_serve.specs.declared.served.ServeFault.{ServeFault}
 use Rattle.ix_serve.specs.declared.served.ServeFault.TheVariants as fault
-use Rattle.ix_serve.proofs.Answering.{open_cut, damaged_back}
+use Rattle.ix_serve.proofs.Answering.{open_undamaged, damaged_back}
 use Rattle.ix_serve.proofs.Standing.{committing}
 use Rattle.ix_serve.proofs.keeping.settle.Goals as goal
 
@@ -10,15 +10,15 @@ pub returns-in-Ok-clause-images : goal.returns-in-Ok-clause-images
 returns-in-Ok-clause-images g c = λ choose h base k hold.
     committing g.M.Book.Replay.fits c.args.store.now.run choose h k hold.staged.within g.D.Disk c.args.disk.now c.commit.new.disk (c.commit.ensures.images choose h base k hold)
 
-pub returns-in-Ok-clause-cut : goal.returns-in-Ok-clause-cut
-returns-in-Ok-clause-cut g c = open_cut g.D.Disk c.commit.new.disk c.args.came c.requires.open
+pub returns-in-Ok-clause-undamaged : goal.returns-in-Ok-clause-undamaged
+returns-in-Ok-clause-undamaged g c = λ choose h base k hold. open_undamaged g.D.Disk c.commit.new.disk c.args.came c.requires.open
 
 pub returns-in-Err-clause-images : goal.returns-in-Err-clause-images
 returns-in-Err-clause-images g c = λ choose h base k hold.
     committing g.M.Book.Replay.fits c.args.store.now.run choose h k hold.staged.within g.D.Disk c.args.disk.now c.commit.new.disk (c.commit.ensures.images choose h base k hold)
 
-pub returns-in-Err-clause-cut : goal.returns-in-Err-clause-cut
-returns-in-Err-clause-cut g c = λ file at is image seen.
+pub returns-in-Err-clause-undamaged : goal.returns-in-Err-clause-undamaged
+returns-in-Err-clause-undamaged g c = λ choose h base k hold file at is image seen.
     let same : c.answer_of_fault.result ≡ fault.Damaged file at = cc in
     let e = damaged_back c.in-Err.cause file at (sym c.answer_of_fault.ensures ∙ same) in
-    (c.in-Err.ensures.damaged file at (cc)).1 image seen
+    c.in-Err.ensures.undamaged file at (cc) choose h base k hold image seen

@@ -32,7 +32,7 @@ returns-then-pending-clause-answers g c = λ choose h base k chooser taken hold.
     (λ failed sent. sent (c.give-came.ensures.failed failed)) c.give-came.ensures.gave)
     (λ stays. due_held g.D.Disk g.M.Book.Replay.fits g.M.Memory.holds e true h c.settle.new.store c.settle.new.disk hold.staged.within (c.settle.ensures.done choose h base k hold stays))
     (c.settle.ensures.images choose h base k hold)
-    c.settle.ensures.cut
+    (c.settle.ensures.undamaged choose h base k hold)
 
 pub returns-clause-answers : goal.returns-clause-answers
 returns-clause-answers g c = λ choose h base k chooser taken hold.
