@@ -1,5 +1,5 @@
 -- How answers come about.
-use Rattle.std.proofs.Common.{◌≡◌, ◌≤◌, ◌⊎◌, ◌∙◌, ℕ, Bool, true, false, List, [], length, take, drop, ◌++◌, refl, sym, ap, subst, ⊎_elim, inl, inr, Option, Some, None, Result, Ok, Err, arith}
+use Rattle.std.proofs.Common.{◌≡◌, ◌≤◌, ◌⊎◌, ◌∙◌, ℕ, Bool, true, false, List, [], length, drop, refl, sym, subst, ⊎_elim, inl, inr, Option, Some, None, Result, Ok, Err, arith}
 use Rattle.std.specs.Prelude.{IfOk, IfErr, OnOk}
 use Rattle.std.proofs.lemmas.List.{append-nil}
 use Rattle.std.proofs.lemmas.Bool.{false≢true}
@@ -7,18 +7,15 @@ use Rattle.ix_base.specs.declared.files.File.{File}
 use Rattle.ix_base.specs.Told.{Told, HasWritten, HasBegun}
 use Rattle.ix_base.proofs.ToldLemmas.{written_is_begun}
 use Rattle.ix_book.specs.Book.{Book}
-use Rattle.ix_disk.specs.Image.{Image}
 use Rattle.ix_disk.specs.Moments.{Always}
 use Rattle.ix_disk.specs.declared.disk.Disk.{Ghosts}
 use Rattle.ix_http.specs.Asked.{Fits}
 use Rattle.ix_http.specs.Limits.{IsWithin}
-use Rattle.ix_http.specs.declared.kinds.Ask.{Ask}
 use Rattle.ix_keep.specs.Undo.{HasSameLogs}
 use Rattle.ix_keep.specs.declared.fault.CommitFault.{CommitFault}
 use Rattle.ix_keep.specs.declared.fault.CommitFault.TheVariants as commits
 use Rattle.ix_machine.specs.Bounds.{IsAllowed, IsRefused}
 use Rattle.ix_machine.specs.Given.{Chooser}
-use Rattle.ix_machine.specs.Judged.{adds}
 use Rattle.ix_machine.specs.declared.answers.Accepted.{Accepted}
 use Rattle.ix_machine.specs.declared.answers.Refusal.{Refusal}
 use Rattle.ix_machine.specs.declared.commands.Command.{Command}
@@ -29,8 +26,8 @@ use Rattle.ix_store.specs.Making.{with_order}
 use Rattle.ix_store.specs.declared.store.Store.{Store}
 use Rattle.ix_store.proofs.Joining.{staged_same}
 use Rattle.ix_store.proofs.Lawful.{held_then}
-use Rattle.ix_serve.specs.Answer.{Answer, Found, Says, MayChange, is_whole, says, accepted, answer_of_fault}
-use Rattle.ix_serve.specs.Entries.{Entry, state, drawn, order}
+use Rattle.ix_serve.specs.Answer.{Answer, Found, Says, MayChange, is_whole, accepted, answer_of_fault}
+use Rattle.ix_serve.specs.Entries.{Entry, state, order}
 use Rattle.ix_serve.specs.Prefixes.{StandsIn}
 use Rattle.ix_serve.specs.Replies.{Reply, text_of, refused}
 use Rattle.ix_serve.specs.Serving.{Wrote, Gave, IsOpen, IsUndamaged, IsTold, HoldsFrom, Answers, Serves}

@@ -1,5 +1,5 @@
 -- What is asked of a store.
-use Rattle.std.proofs.Common.{◌≡◌, ◌<◌, ◌≤◌, ◌+◌, ◌||◌, ◌∙◌, ℕ, Bool, true, false, get_or, List, [], ◌∷◌, ◌++◌, map, drop, length, refl, sym, ap, subst, append_assoc, codes, Option, Some, Result}
+use Rattle.std.proofs.Common.{◌≡◌, ◌<◌, ◌≤◌, ◌+◌, ◌||◌, ◌∙◌, ℕ, Bool, true, false, get_or, List, [], ◌∷◌, ◌++◌, map, drop, length, refl, sym, ap, append_assoc, codes, Option, Some, Result}
 use Rattle.std.specs.List.{flat_map, list_any}
 use Rattle.std.proofs.lemmas.List.{drop_all, drop_more, append-nil}
 use Rattle.ix_book.specs.Book.{Book}
@@ -9,7 +9,7 @@ use Rattle.ix_machine.specs.Given.{Chooser}
 use Rattle.ix_machine.specs.declared.commands.Order.{Order}
 use Rattle.ix_store.specs.Holding.{Holds}
 use Rattle.ix_store.specs.declared.store.Store.{Store}
-use Rattle.ix_serve.specs.Answer.{Answer, MayBe, says}
+use Rattle.ix_serve.specs.Answer.{MayBe}
 use Rattle.ix_serve.specs.Bodies.{value_text, values_text}
 use Rattle.ix_serve.specs.Entries.{Entry}
 use Rattle.ix_serve.specs.Serving.{Answers, IsListed, IsOpen, IsTold}

@@ -1,5 +1,5 @@
 -- What an export comes to.
-use Rattle.std.proofs.Common.{◌≡◌, ◌≤◌, ◌⊎◌, ◌∙◌, ℕ, Bool, true, false, cond, List, [], ◌++◌, length, refl, sym, ap, subst, inl, inr, Option, Some, arith, length-append}
+use Rattle.std.proofs.Common.{◌≡◌, ◌∙◌, ℕ, Bool, true, false, cond, List, [], ◌++◌, length, refl, sym, ap, subst, inl, inr, Some, arith, length-append}
 use Rattle.std.specs.Prelude.{nat_le}
 use Rattle.std.proofs.lemmas.Bool.Decides.{nat_tests}
 use Rattle.ix_base.specs.Told.{HasWritten, HasBegun}
@@ -8,10 +8,9 @@ use Rattle.ix_export.specs.Lines.{text}
 use Rattle.ix_http.specs.declared.kinds.HttpFault.TheVariants as http
 use Rattle.ix_machine.specs.declared.answers.Refusal.TheVariants as refusals
 use Rattle.ix_store.specs.Exporting.{is_seen, exported}
-use Rattle.ix_serve.specs.Answer.{IsExport}
 use Rattle.ix_serve.specs.Entries.{Entry, state}
 use Rattle.ix_serve.specs.Exports.{reply_of, MayReply}
-use Rattle.ix_serve.specs.Replies.{Reply, plain, unread, refused, no_memory, lines_reply, events_reply, most_lines}
+use Rattle.ix_serve.specs.Replies.{plain, unread, refused, lines_reply, events_reply, most_lines}
 use Rattle.ix_serve.specs.declared.events.Exported.{Exported}
 use Rattle.ix_serve.specs.declared.events.Exported.TheVariants as exports
 

@@ -15,7 +15,6 @@ use Rattle.ix_life.specs.declared.views.View.{View}
 use Rattle.ix_machine.specs.Bounds.{IsAllowed, IsRefused}
 use Rattle.ix_machine.specs.Judged.{adds}
 use Rattle.ix_machine.specs.declared.answers.Refusal.{Refusal}
-use Rattle.ix_machine.specs.declared.answers.Refusal.TheVariants as refusals
 use Rattle.ix_machine.specs.declared.commands.Command.{Command}
 use Rattle.ix_machine.specs.declared.commands.Command.TheVariants as commands
 use Rattle.ix_machine.specs.declared.commands.Order.{Order}

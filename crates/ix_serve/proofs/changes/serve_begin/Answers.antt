@@ -1,4 +1,4 @@
-use Rattle.std.proofs.Common.{◌≡◌, ◌∙◌, ℕ, List, None, Some, inr, refl, ap, sym, subst, true, rules}
+use Rattle.std.proofs.Common.{◌∙◌, ℕ, List, Some, inr, refl, ap, subst, true, rules}
 use mir.Val.{SFits}
 use Rattle.std.specs.Int.{w64}
 use Rattle.std.proofs.lemmas.Int.{to_z-of_z}
@@ -7,8 +7,8 @@ use Rattle.ix_http.specs.declared.kinds.Kind.TheVariants.{Json}
 use Rattle.ix_machine.specs.declared.answers.Refusal.TheVariants as refusals
 use Rattle.ix_machine.specs.declared.commands.Command.TheVariants as commands
 use Rattle.ix_serve.specs.Answer.{MayBe, MayChange}
-use Rattle.ix_serve.specs.Bodies.{begun_body, acked_body}
-use Rattle.ix_serve.specs.Entries.{entry, drawn}
+use Rattle.ix_serve.specs.Bodies.{begun_body}
+use Rattle.ix_serve.specs.Entries.{entry}
 use Rattle.ix_serve.specs.Replies.{reply, no_memory}
 use Rattle.ix_serve.specs.Serving.{Answers, IsClean, IsTold}
 use Rattle.ix_serve.proofs.Answering.{idle}

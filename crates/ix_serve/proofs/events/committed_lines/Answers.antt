@@ -1,6 +1,6 @@
-use Rattle.std.proofs.Common.{◌≡◌, ◌∙◌, ℕ, List, length, refl, sym}
+use Rattle.std.proofs.Common.{length}
 use Rattle.ix_serve.specs.Prefixes.{StandsIn}
-use Rattle.ix_serve.proofs.Answering.{if_ok, if_err, on_ok_always}
+use Rattle.ix_serve.proofs.Answering.{if_ok, if_err}
 use Rattle.ix_serve.proofs.Standing.{committing, standing_on}
 use Rattle.ix_serve.proofs.events.committed_lines.Goals as goal
 

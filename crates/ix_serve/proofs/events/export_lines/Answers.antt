@@ -1,4 +1,4 @@
-use Rattle.std.proofs.Common.{◌≡◌, ◌∙◌, ℕ, List, length, false, refl, sym}
+use Rattle.std.proofs.Common.{◌∙◌, length, refl, sym}
 use Rattle.ix_machine.specs.Step.{after}
 use Rattle.ix_store.specs.Exporting.{is_seen}
 use Rattle.ix_serve.specs.Serving.{IsTold}

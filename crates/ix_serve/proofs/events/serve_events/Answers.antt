@@ -1,6 +1,4 @@
-use Rattle.std.proofs.Common.{◌≡◌, ◌∙◌, ℕ, List, length, refl, ap, sym, subst, inl, inr, ⊎_elim, Some, true, false, rules}
-use mir.Val.{SFits}
-use Rattle.std.specs.Int.{w64}
+use Rattle.std.proofs.Common.{◌≡◌, ℕ, List, refl, ap, subst, inl, inr, ⊎_elim, Some, true, false}
 use Rattle.ix_http.specs.declared.kinds.Ask.TheVariants as asks
 use Rattle.ix_serve.specs.Answer.{MayBe, IsExport, says, answer_of_fault}
 use Rattle.ix_serve.specs.Entries.{entry}

@@ -1,6 +1,4 @@
-use Rattle.std.proofs.Common.{◌≡◌, ◌∙◌, ℕ, sym, Err}
-use Rattle.ix_serve.specs.Answer.{answer_of_fault}
-use Rattle.ix_serve.specs.declared.served.ServeFault.{ServeFault}
+use Rattle.std.proofs.Common.{◌≡◌, ◌∙◌, sym}
 use Rattle.ix_serve.specs.declared.served.ServeFault.TheVariants as fault
 use Rattle.ix_serve.proofs.Answering.{open_undamaged, damaged_back}
 use Rattle.ix_serve.proofs.Standing.{committing}

@@ -1,4 +1,4 @@
-use Rattle.std.proofs.Common.{◌≡◌, ◌∙◌, ◌≤◌, ◌&&◌, ◌++◌, ℕ, List, [], ◌∷◌, get_or, map, length, refl, ap, sym, codes, nat_lt, arith}
+use Rattle.std.proofs.Common.{◌≡◌, ◌∙◌, ◌≤◌, ◌&&◌, ◌++◌, ℕ, List, [], get_or, map, length, ap, codes, nat_lt, arith}
 use Rattle.std.specs.Prelude.{◌==◌}
 use Rattle.ix_serve.specs.Bodies.{value_text}
 use Rattle.ix_serve.specs.Entries.{committed, is_acked}

@@ -1,5 +1,4 @@
-use Rattle.std.proofs.Common.{◌≡◌, ◌∙◌, ◌≤◌, ℕ, length, sym, arith}
-use Rattle.std.specs.List.{list_any}
+use Rattle.std.proofs.Common.{◌∙◌, ◌≤◌, length, sym, arith}
 use Rattle.ix_serve.specs.Entries.{is_pending}
 use Rattle.ix_serve.proofs.Asking.{any_next, any_here, any_none}
 use Rattle.ix_serve.proofs.queries.has_pending.Goals as goal

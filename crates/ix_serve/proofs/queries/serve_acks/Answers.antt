@@ -1,4 +1,4 @@
-use Rattle.std.proofs.Common.{◌≡◌, ◌∙◌, ℕ, List, Bool, length, map, refl, ap, sym, subst, inl, inr, Some, true, false}
+use Rattle.std.proofs.Common.{◌≡◌, ◌∙◌, ℕ, List, map, refl, ap, sym, inl, inr, Some, true, false}
 use Rattle.std.specs.List.{list_any}
 use Rattle.ix_http.specs.declared.kinds.Ask.TheVariants as asks
 use Rattle.ix_http.specs.declared.kinds.Kind.TheVariants.{Json}

@@ -1,4 +1,4 @@
-use Rattle.std.proofs.Common.{◌≡◌, ◌∙◌, ℕ, List, ap, refl, inl, inr, false}
+use Rattle.std.proofs.Common.{◌∙◌, ℕ, List, ap, refl, inl, inr, false}
 use Rattle.ix_serve.specs.Answer.{says}
 use Rattle.ix_serve.specs.Replies.{plain, no_memory}
 use Rattle.ix_serve.proofs.queries.serve_buckets.Goals as goal

@@ -1,4 +1,4 @@
-use Rattle.std.proofs.Common.{◌≡◌, ℕ, List, Err, sym, subst, true}
+use Rattle.std.proofs.Common.{ℕ, List, Err, sym, subst, true}
 use Rattle.ix_http.specs.declared.kinds.Kind.TheVariants.{Json}
 use Rattle.ix_serve.specs.Answer.{answer_of_fault}
 use Rattle.ix_serve.specs.Replies.{reply, broken}

@@ -1,4 +1,4 @@
-use Rattle.std.proofs.Common.{◌≡◌, ℕ, List, sym, subst}
+use Rattle.std.proofs.Common.{ℕ, List, sym, subst}
 use Rattle.ix_base.specs.Told.{Began}
 use Rattle.ix_base.proofs.ToldLemmas.{began-either}
 use Rattle.ix_serve.proofs.events.LinesSink.put.Goals as goal
