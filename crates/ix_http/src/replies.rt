@@ -1,7 +1,7 @@
 //! A reply is written to a link.
 
 ghost use Rattle.std.specs.Prelude.{◌≡◌, ◌≤◌, ◌<◌, ℕ, [], ◌++◌, length, OnOk, OnErr, decimal, option_map};
-ghost use Rattle.ix_base.specs.Faults.{HasCause};
+ghost use Rattle.ix_base.specs.Faults.{HasCause, Rose};
 ghost use Rattle.ix_base.specs.Told.{HasWritten, HasBegun};
 ghost use Rattle.ix_link.specs.Links.{Goes};
 ghost use Rattle.ix_http.specs.Replies.{reason_of, phrase_of, type_of, status_line, header_lines, reply_text};
@@ -48,6 +48,7 @@ fn put_number<K: Link>(link: &mut K, number: u64) -> Result<(), Failed>
     ensures begun { OnErr result (HasBegun (decimal number) (K.given link.old) (K.given link.new)) }
     ensures left { K.left link.new ≡ K.left link.old }
     ensures goes { Goes (K.standing link.old) (K.standing link.new) }
+    ensures side { OnErr result (Rose (K.standing link.old).writing (K.standing link.new).writing) }
     ensures cause { HasCause (K.faults link.old) (K.faults link.new) result }
 {
     let mut buffer = Buffer::new();
@@ -60,6 +61,7 @@ fn put_code<K: Link>(link: &mut K, status: u16) -> Result<(), Failed>
     ensures begun { OnErr result (HasBegun (decimal status) (K.given link.old) (K.given link.new)) }
     ensures left { K.left link.new ≡ K.left link.old }
     ensures goes { Goes (K.standing link.old) (K.standing link.new) }
+    ensures side { OnErr result (Rose (K.standing link.old).writing (K.standing link.new).writing) }
     ensures cause { HasCause (K.faults link.old) (K.faults link.new) result }
 {
     let mut buffer = Buffer::new();
@@ -72,6 +74,7 @@ fn put_phrase<K: Link>(link: &mut K, status: u16) -> Result<(), Failed>
     ensures begun { OnErr result (HasBegun (phrase_of status) (K.given link.old) (K.given link.new)) }
     ensures left { K.left link.new ≡ K.left link.old }
     ensures goes { Goes (K.standing link.old) (K.standing link.new) }
+    ensures side { OnErr result (Rose (K.standing link.old).writing (K.standing link.new).writing) }
     ensures cause { HasCause (K.faults link.old) (K.faults link.new) result }
 {
     link.put(phrase_of(status).as_bytes())
@@ -83,6 +86,7 @@ fn put_type<K: Link>(link: &mut K, kind: Kind) -> Result<(), Failed>
     ensures begun { OnErr result (HasBegun (type_of kind) (K.given link.old) (K.given link.new)) }
     ensures left { K.left link.new ≡ K.left link.old }
     ensures goes { Goes (K.standing link.old) (K.standing link.new) }
+    ensures side { OnErr result (Rose (K.standing link.old).writing (K.standing link.new).writing) }
     ensures cause { HasCause (K.faults link.old) (K.faults link.new) result }
 {
     link.put(type_of(kind))
@@ -94,6 +98,7 @@ fn put_status<K: Link>(link: &mut K, status: u16) -> Result<(), Failed>
     ensures begun { OnErr result (HasBegun (status_line status) (K.given link.old) (K.given link.new)) }
     ensures left { K.left link.new ≡ K.left link.old }
     ensures goes { Goes (K.standing link.old) (K.standing link.new) }
+    ensures side { OnErr result (Rose (K.standing link.old).writing (K.standing link.new).writing) }
     ensures cause { HasCause (K.faults link.old) (K.faults link.new) result }
 {
     link.put(b"HTTP/1.1 ")?;
@@ -109,6 +114,7 @@ fn put_headers<K: Link>(link: &mut K, length: usize, kind: Kind) -> Result<(), F
     ensures begun { OnErr result (HasBegun (header_lines length kind) (K.given link.old) (K.given link.new)) }
     ensures left { K.left link.new ≡ K.left link.old }
     ensures goes { Goes (K.standing link.old) (K.standing link.new) }
+    ensures side { OnErr result (Rose (K.standing link.old).writing (K.standing link.new).writing) }
     ensures cause { HasCause (K.faults link.old) (K.faults link.new) result }
 {
     link.put(b"\r\nContent-Length: ")?;
@@ -131,6 +137,7 @@ pub fn write_reply<K: Link>(
     ensures begun { OnErr result (HasBegun (reply_text status kind body.now) (K.given link.old) (K.given link.new)) }
     ensures left { K.left link.new ≡ K.left link.old }
     ensures goes { Goes (K.standing link.old) (K.standing link.new) }
+    ensures side { OnErr result (Rose (K.standing link.old).writing (K.standing link.new).writing) }
     ensures cause { HasCause (K.faults link.old) (K.faults link.new) result }
 {
     put_status(link, status)?;

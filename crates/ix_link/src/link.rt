@@ -1,7 +1,7 @@
 //! What a peer is: bytes come from it, and bytes go to it. Requests are read from links and replies written to them.
 
 ghost use Rattle.std.specs.Prelude.{◌≡◌, ◌≤◌, ◌<◌, ℕ, List, [], Option, take, length, IfOk, IfSome, OnOk, OnErr};
-ghost use Rattle.ix_base.specs.Faults.{HasCause};
+ghost use Rattle.ix_base.specs.Faults.{HasCause, Rose};
 ghost use Rattle.ix_base.specs.Told.{Told, Took, HasWritten, HasBegun};
 ghost use Rattle.ix_link.specs.Links.{Standing, Goes};
 
@@ -41,11 +41,12 @@ pub trait Link {
         ensures goes { Goes (standing self.old) (standing self.new) }
         ensures cause { HasCause (faults self.old) (faults self.new) result };
 
-    /// Writes the whole piece; where it fails, a front of it.
+    /// Writes the whole piece; where it fails, a front of it, and the count of this side rises.
     fn put(&mut self, bytes: &[u8]) -> Result<(), Failed>
         ensures written { OnOk result (HasWritten bytes.now (given self.old) (given self.new)) }
         ensures begun { OnErr result (HasBegun bytes.now (given self.old) (given self.new)) }
         ensures left { left self.new ≡ left self.old }
         ensures goes { Goes (standing self.old) (standing self.new) }
+        ensures side { OnErr result (Rose (standing self.old).writing (standing self.new).writing) }
         ensures cause { HasCause (faults self.old) (faults self.new) result };
 }

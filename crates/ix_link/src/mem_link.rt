@@ -156,6 +156,7 @@ impl Link for MemLink {
         ensures begun { OnErr result (HasBegun bytes.now (⟦<MemLink as Link>⟧.given self.old) (⟦<MemLink as Link>⟧.given self.new)) }
         ensures left { ⟦<MemLink as Link>⟧.left self.new ≡ ⟦<MemLink as Link>⟧.left self.old }
         ensures goes { Goes (⟦<MemLink as Link>⟧.standing self.old) (⟦<MemLink as Link>⟧.standing self.new) }
+        ensures side { OnErr result (Rose (⟦<MemLink as Link>⟧.standing self.old).writing (⟦<MemLink as Link>⟧.standing self.new).writing) }
         ensures cause { HasCause (⟦<MemLink as Link>⟧.faults self.old) (⟦<MemLink as Link>⟧.faults self.new) result }
         ensures due { IsTrue (is_due self.old.plan) → IsErr result }
         ensures full { OnErr result (OnFalse (is_due self.old.plan) (⟦<MemLink as Link>⟧.given self.new ≡ ⟦<MemLink as Link>⟧.given self.old)) }

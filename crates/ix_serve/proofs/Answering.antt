@@ -3,17 +3,21 @@ use Rattle.std.proofs.Common.{◌≡◌, ◌≤◌, ◌⊎◌, ◌∙◌, ℕ, B
 use Rattle.std.specs.Prelude.{IfOk, IfErr, OnOk}
 use Rattle.std.proofs.lemmas.List.{append-nil}
 use Rattle.std.proofs.lemmas.Bool.{false≢true}
+use Rattle.ix_base.specs.Faults.{Rose}
 use Rattle.ix_base.specs.declared.files.File.{File}
 use Rattle.ix_base.specs.Told.{Told, HasWritten, HasBegun}
 use Rattle.ix_base.proofs.ToldLemmas.{written_is_begun}
 use Rattle.ix_book.specs.Book.{Book}
+use Rattle.ix_disk.proofs.Runs.{rose_later}
 use Rattle.ix_disk.specs.Moments.{Always}
 use Rattle.ix_disk.specs.declared.disk.Disk.{Ghosts}
 use Rattle.ix_http.specs.Asked.{Fits}
 use Rattle.ix_http.specs.Limits.{IsWithin}
+use Rattle.ix_http.specs.declared.kinds.Kind.{Kind}
 use Rattle.ix_keep.specs.Undo.{HasSameLogs}
 use Rattle.ix_keep.specs.declared.fault.CommitFault.{CommitFault}
 use Rattle.ix_keep.specs.declared.fault.CommitFault.TheVariants as commits
+use Rattle.ix_link.specs.Links.{Standing}
 use Rattle.ix_machine.specs.Bounds.{IsAllowed, IsRefused}
 use Rattle.ix_machine.specs.Given.{Chooser}
 use Rattle.ix_machine.specs.declared.answers.Accepted.{Accepted}
@@ -29,8 +33,8 @@ use Rattle.ix_store.proofs.Lawful.{held_then}
 use Rattle.ix_serve.specs.Answer.{Answer, Found, Says, MayChange, is_whole, accepted, answer_of_fault}
 use Rattle.ix_serve.specs.Entries.{Entry, state, order}
 use Rattle.ix_serve.specs.Prefixes.{StandsIn}
-use Rattle.ix_serve.specs.Replies.{Reply, text_of, refused}
-use Rattle.ix_serve.specs.Serving.{Wrote, Gave, IsOpen, IsUndamaged, IsTold, HoldsFrom, Answers, Serves}
+use Rattle.ix_serve.specs.Replies.{Reply, reply, text_of, refused}
+use Rattle.ix_serve.specs.Serving.{Wrote, Gave, IsClean, IsOpen, IsUndamaged, IsTold, HoldsFrom, Answers, Serves}
 use Rattle.ix_serve.specs.declared.served.Served.{Served}
 use Rattle.ix_serve.specs.declared.served.Served.TheVariants as served
 use Rattle.ix_serve.specs.declared.served.ServeFault.{ServeFault}
@@ -45,18 +49,18 @@ wrote_begun r delimited clean (Ok served.Ended) given given' is = absurd is
 wrote_begun r delimited clean (Ok (served.Reply status whole)) given given' is = written_is_begun is.2
 wrote_begun r delimited clean (Err fault.Disk) given given' is = is.0
 wrote_begun r delimited clean (Err (fault.Damaged file at)) given given' is = is.0
-wrote_begun r delimited clean (Err fault.Link) given given' is = is
+wrote_begun r delimited clean (Err fault.Link) given given' is = is.0
 wrote_begun r delimited clean (Err fault.Cut) given given' is = absurd is
 
 -- where the link is clean it is all of it
-wrote_clean : (r : Reply) (delimited : Bool) (clean : Type 0) (result : Result Served ServeFault) (given given' : Option (List ℕ)) → (result ≡ Err fault.Link → clean → ⊥) →
+pub wrote_clean : (r : Reply) (delimited : Bool) (clean : Type 0) (result : Result Served ServeFault) (given given' : Option (List ℕ)) →
     Wrote r delimited clean result given given' → clean → HasWritten (text_of r) given given'
-wrote_clean r delimited clean (Ok served.Ended) given given' by is sent = absurd is
-wrote_clean r delimited clean (Ok (served.Reply status whole)) given given' by is sent = is.2
-wrote_clean r delimited clean (Err fault.Disk) given given' by is sent = is.1 sent
-wrote_clean r delimited clean (Err (fault.Damaged file at)) given given' by is sent = is.1 sent
-wrote_clean r delimited clean (Err fault.Link) given given' by is sent = absurd (by refl sent)
-wrote_clean r delimited clean (Err fault.Cut) given given' by is sent = absurd is
+wrote_clean r delimited clean (Ok served.Ended) given given' is sent = absurd is
+wrote_clean r delimited clean (Ok (served.Reply status whole)) given given' is sent = is.2
+wrote_clean r delimited clean (Err fault.Disk) given given' is sent = is.1 sent
+wrote_clean r delimited clean (Err (fault.Damaged file at)) given given' is sent = is.1 sent
+wrote_clean r delimited clean (Err fault.Link) given given' is sent = is.1 sent
+wrote_clean r delimited clean (Err fault.Cut) given given' is sent = absurd is
 
 begun_broken : (r : Reply) (delimited : Bool) (clean : Type 0) (cause : CommitFault) (given given' : Option (List ℕ)) → HasBegun (text_of r) given given' → (clean → HasWritten (text_of r) given given') →
     Wrote r delimited clean (Err (answer_of_fault cause)) given given'
@@ -64,19 +68,19 @@ begun_broken r delimited clean commits.Disk given given' is all = (is, all)
 begun_broken r delimited clean (commits.Damaged file at) given given' is all = (is, all)
 
 -- a reply that was written before a fault of the disk is answered
-pub gave_up : (r : Reply) (delimited : Bool) (clean : Type 0) (result : Result Served ServeFault) (cause : CommitFault) (given given' : Option (List ℕ)) → (result ≡ Err fault.Link → clean → ⊥) →
+pub gave_up : (r : Reply) (delimited : Bool) (clean : Type 0) (result : Result Served ServeFault) (cause : CommitFault) (given given' : Option (List ℕ)) →
     Wrote r delimited clean result given given' → Wrote r delimited clean (Err (answer_of_fault cause)) given given'
-gave_up r delimited clean result cause given given' by is =
-    begun_broken r delimited clean cause given given' (wrote_begun r delimited clean result given given' is) (wrote_clean r delimited clean result given given' by is)
+gave_up r delimited clean result cause given given' is =
+    begun_broken r delimited clean cause given given' (wrote_begun r delimited clean result given given' is) (wrote_clean r delimited clean result given given' is)
 
 -- behind a commit, the reply was written as before
 pub wrote_settled : (r : Reply) (delimited : Bool) (clean : Type 0) (came result : Result Served ServeFault) (given given' : Option (List ℕ)) →
-    (result ≡ came) ⊎ ((cause : CommitFault) × (result ≡ Err (answer_of_fault cause))) → (came ≡ Err fault.Link → clean → ⊥) →
+    (result ≡ came) ⊎ ((cause : CommitFault) × (result ≡ Err (answer_of_fault cause))) →
     Wrote r delimited clean came given given' → Wrote r delimited clean result given given'
-wrote_settled r delimited clean came result given given' either by is = ⊎_elim
+wrote_settled r delimited clean came result given given' either is = ⊎_elim
     (λ (same : result ≡ came). subst (λ (x : Result Served ServeFault). Wrote r delimited clean x given given') (sym same) is)
     (λ (w : (cause : CommitFault) × (result ≡ Err (answer_of_fault cause))). subst (λ (x : Result Served ServeFault). Wrote r delimited clean x given given') (sym w.1)
-    (begun_broken r delimited clean w.0 given given' (wrote_begun r delimited clean came given given' is) (wrote_clean r delimited clean came given given' by is)))
+    (begun_broken r delimited clean w.0 given given' (wrote_begun r delimited clean came given given' is) (wrote_clean r delimited clean came given given' is)))
     either
 
 wrote_cleaner : (r : Reply) (delimited : Bool) (clean clean' : Type 0) (result : Result Served ServeFault) (given given' : Option (List ℕ)) → (clean' → clean) →
@@ -85,13 +89,29 @@ wrote_cleaner r delimited clean clean' (Ok served.Ended) given given' so is = is
 wrote_cleaner r delimited clean clean' (Ok (served.Reply status whole)) given given' so is = is
 wrote_cleaner r delimited clean clean' (Err fault.Disk) given given' so is = (is.0, λ c. is.1 (so c))
 wrote_cleaner r delimited clean clean' (Err (fault.Damaged file at)) given given' so is = (is.0, λ c. is.1 (so c))
-wrote_cleaner r delimited clean clean' (Err fault.Link) given given' so is = is
+wrote_cleaner r delimited clean clean' (Err fault.Link) given given' so is = (is.0, λ c. is.1 (so c))
 wrote_cleaner r delimited clean clean' (Err fault.Cut) given given' so is = is
 
 pub gave_cleaner : (r : Option Reply) (delimited : Bool) (clean clean' : Type 0) (result : Result Served ServeFault) (given given' : Option (List ℕ)) → (clean' → clean) →
     Gave r delimited clean result given given' → Gave r delimited clean' result given given'
 gave_cleaner None delimited clean clean' result given given' so is = is
 gave_cleaner (Some r) delimited clean clean' result given given' so is = wrote_cleaner r delimited clean clean' result given given' so is
+
+-- a reply by its status and its body
+pub gave_as : (status status' : ℕ) (kind : Kind) (body body' : List ℕ) (delimited : Bool) (clean : Type 0) (result : Result Served ServeFault) (given given' : Option (List ℕ)) → status ≡ status' → body ≡ body' →
+    Wrote (reply status kind body) delimited clean result given given' → Wrote (reply status' kind body') delimited clean result given given'
+gave_as status status' kind body body' delimited clean result given given' one other is =
+    subst (λ (n : ℕ). Wrote (reply n kind body') delimited clean result given given') one (subst (λ (b : List ℕ). Wrote (reply status kind b) delimited clean result given given') other is)
+
+-- what is clean over a longer time is so over its last part
+pub clean_behind : (first mid last : ℕ) (begun between now : Standing) → first ≤ mid → begun.writing ≤ between.writing → IsClean first last begun now → IsClean mid last between now
+clean_behind first mid last begun between now le less = ⊎_elim
+    (λ sent. inl (λ rose. sent (rose_later first mid last le rose)))
+    (λ sent. inr (λ rose. sent (rose_later begun.writing between.writing now.writing less rose)))
+
+-- where both counts rose it is not clean
+pub not_clean : (before now : ℕ) (begun ended : Standing) → Rose before now → Rose begun.writing ended.writing → IsClean before now begun ended → ⊥
+not_clean before now begun ended rose wrote = ⊎_elim (λ sent. sent rose) (λ sent. sent wrote)
 
 -- ---- faults
 

@@ -1,11 +1,16 @@
 -- How the images of a store stand for prefixes.
-use Rattle.std.proofs.Common.{◌≡◌, ◌≤◌, ◌⊎◌, ℕ, List, length, take, [], ap, sym, subst, ◌∙◌, ⊎_elim, arith}
+use Rattle.std.proofs.Common.{◌≡◌, ◌≤◌, ◌⊎◌, ℕ, List, length, take, [], Option, None, Some, refl, ap, sym, subst, ◌∙◌, ⊎_elim, arith}
+use Rattle.ix_base.specs.Told.{Told}
 use Rattle.ix_book.specs.Book.{Book, run_of, named}
-use Rattle.ix_disk.specs.Image.{Image, Stays}
+use Rattle.ix_disk.specs.Image.{Image, Stays, bytes_in}
 use Rattle.ix_disk.specs.Moments.{Always, Goes}
 use Rattle.ix_disk.specs.declared.disk.Disk.{Ghosts}
 use Rattle.ix_disk.proofs.Runs.{always_begins, always_on, always_still, always_weaker}
-use Rattle.ix_keep.specs.Snapshot.{Snapshot}
+use Rattle.ix_keep.specs.Snapshot.{Snapshot, IsMeasured}
+use Rattle.ix_keep.specs.Undo.{HasSameLogs}
+use Rattle.ix_keep.specs.declared.keeper.Keeper.{Keeper}
+use Rattle.ix_log.specs.Log.{file_of}
+use Rattle.ix_log.specs.declared.log.Log.{Log}
 use Rattle.ix_machine.specs.Given.{Chooser}
 use Rattle.ix_machine.specs.declared.commands.Order.{Order}
 use Rattle.ix_store.specs.Holding.{Holds}
@@ -14,6 +19,7 @@ use Rattle.ix_store.specs.declared.store.Store.{Store}
 use Rattle.ix_store.proofs.Counted.{take_whole}
 use Rattle.ix_store.proofs.Lawful.{held_stands}
 use Rattle.ix_serve.specs.Prefixes.{StandsIn}
+use Rattle.ix_serve.specs.Serving.{IsTold}
 
 -- a snapshot tells its run
 pub same_run : (one other : ℕ) (s a b : Snapshot) → IsOf one s a → IsOf other s b → other ≡ one
@@ -41,3 +47,18 @@ standing g fits holds choose h base k store disk hold = always_begins g disk (St
 -- calls behind, which change nothing
 pub standing_on : {D : Type 0} (g : Ghosts D) (P : Image → Type 0) (old mid new : D) → Always g old mid P → Goes g mid new Stays → Always g old new P
 standing_on g P old mid new first goes = always_on g old mid new P first (always_still g mid new P goes first.now)
+
+some_seen : (step : Image → Image → Type 0) (old new : Option Image) → Told step old new → (image : Image) × (old ≡ Some image) → (image : Image) × (new ≡ Some image)
+some_seen step None None told is = let none : None ≡ Some is.0 = is.1 in absurd cc
+some_seen step None (Some now) told is = absurd told
+some_seen step (Some before) None told is = absurd told
+some_seen step (Some before) (Some now) told is = (now, refl)
+
+-- a disk that tells what it reads goes on telling
+pub tells_on : {D : Type 0} (g : Ghosts D) (step : Image → Image → Type 0) (old new : D) → Told step (g.seen old) (g.seen new) → IsTold g old → IsTold g new
+tells_on g step old new told = some_seen step (g.seen old) (g.seen new) told
+
+-- the keeper knows how long the log is, whatever is staged
+pub measured_same : {D : Type 0} (g : Ghosts D) (before now : Keeper) (disk : D) → HasSameLogs before now → now.bytes ≡ before.bytes → IsMeasured g before disk → IsMeasured g now disk
+measured_same g before now disk logs bytes measured image seen =
+    bytes ∙ measured image seen ∙ ap (λ (log : Log). length (bytes_in image (file_of log))) (sym logs.log)

@@ -1,5 +1,5 @@
 -- One request served.
-use Rattle.std.specs.Prelude.{◌≡◌, ◌≤◌, ℕ, Bool, true, false, List, ◌++◌, length, Option, Some, None, Result, Ok, Err, IfOk}
+use Rattle.std.specs.Prelude.{◌≡◌, ◌≤◌, ◌⊎◌, ℕ, Bool, true, false, List, ◌++◌, length, Option, Some, None, Result, Ok, Err, IfOk}
 use Rattle.ix_base.specs.Faults.{Rose}
 use Rattle.ix_base.specs.Told.{Told, HasWritten, HasBegun}
 use Rattle.ix_base.specs.declared.files.File.{File}
@@ -9,6 +9,7 @@ use Rattle.ix_disk.specs.Moments.{Always}
 use Rattle.ix_disk.specs.declared.disk.Disk.{Ghosts}
 use Rattle.ix_http.specs.Asked.{Fits}
 use Rattle.ix_http.specs.Limits.{IsWithin}
+use Rattle.ix_link.specs.Links.{Standing}
 use Rattle.ix_machine.specs.Given.{Chooser}
 use Rattle.ix_machine.specs.declared.commands.Order.{Order}
 use Rattle.ix_store.specs.Holding.{Holds}
@@ -26,19 +27,19 @@ use Rattle.ix_serve.specs.declared.served.ServeFault.TheVariants as fault
 abbrev pub IsTold : {D : Type 0} → Ghosts D → D → Type 0
 IsTold d disk = (image : Image) × (d.seen disk ≡ Some image)
 
--- the count of a link's faults has not risen
-abbrev pub IsClean : ℕ → ℕ → Type 0
-IsClean faults faults' = Rose faults faults' → ⊥
+-- the count of a link's faults has not risen, or that of the side that is written to
+abbrev pub IsClean : ℕ → ℕ → Standing → Standing → Type 0
+IsClean faults faults' standing standing' = (Rose faults faults' → ⊥) ⊎ (Rose standing.writing standing'.writing → ⊥)
 
 -- ---- what is written
 
--- The reply was written. Where the link failed a front of it was, and where the disk did all of it, if the link is clean.
+-- The reply was written. Where the link or the disk failed a front of it was, and all of it if the link is clean.
 abbrev pub Wrote : Reply → Bool → Type 0 → Result Served ServeFault → Option (List ℕ) → Option (List ℕ) → Type 0
 Wrote r delimited clean (Ok served.Ended) given given' = ⊥
 Wrote r delimited clean (Ok (served.Reply status whole)) given given' = (status ≡ r.status) × (whole ≡ delimited) × HasWritten (text_of r) given given'
 Wrote r delimited clean (Err fault.Disk) given given' = HasBegun (text_of r) given given' × (clean → HasWritten (text_of r) given given')
 Wrote r delimited clean (Err (fault.Damaged file at)) given given' = HasBegun (text_of r) given given' × (clean → HasWritten (text_of r) given given')
-Wrote r delimited clean (Err fault.Link) given given' = HasBegun (text_of r) given given'
+Wrote r delimited clean (Err fault.Link) given given' = HasBegun (text_of r) given given' × (clean → HasWritten (text_of r) given given')
 Wrote r delimited clean (Err fault.Cut) given given' = ⊥
 
 abbrev pub Gave : Option Reply → Bool → Type 0 → Result Served ServeFault → Option (List ℕ) → Option (List ℕ) → Type 0

@@ -7,8 +7,9 @@ ghost use Rattle.ix_base.specs.Told.{HasWritten, HasBegun};
 ghost use Rattle.ix_disk.specs.Image.{Stays};
 ghost use Rattle.ix_disk.specs.Moments.{Always, Goes};
 ghost use Rattle.ix_http.specs.declared.kinds.Ask.TheVariants as asks;
-ghost use Rattle.ix_keep.specs.Snapshot.{IsOver};
+ghost use Rattle.ix_keep.specs.Snapshot.{IsMeasured, IsOver};
 ghost use Rattle.ix_keep.specs.declared.fault.CommitFault.TheVariants as commits;
+ghost use Rattle.ix_link.specs.Links.{Goes as GoesLink};
 ghost use Rattle.ix_machine.specs.Given.{Chooser};
 ghost use Rattle.ix_machine.specs.declared.commands.Order.{Order};
 ghost use Rattle.ix_serve.specs.Answer.{MayBe};
@@ -118,6 +119,9 @@ fn export_lines<M: Memory + Drop, D: Disk>(
         OnOk result (Holds D.Disk M.Book.fits M.holds choose history base k store.new disk.new) }
     ensures undamaged { IfErr result (λ cause. (choose : Chooser) (history : List Order) (base : ℕ) → M.is_chooser choose → AllByRecursion M.takes history →
         Holds D.Disk M.Book.fits M.holds choose history base (length history) store.old disk.old → IsNoDamage D.Disk disk.new cause) }
+    ensures measured { IsMeasured D.Disk store.old.keeper disk.old → IsMeasured D.Disk store.new.keeper disk.new }
+    ensures run { store.new.run ≡ store.old.run }
+    ensures same { D.Disk.seen disk.new ≡ D.Disk.seen disk.old }
     ensures over { IsOver D.Disk store.old.keeper disk.old → IsOver D.Disk store.new.keeper disk.new }
     ensures later { D.Disk.faults disk.old ≤ D.Disk.faults disk.new }
     ensures failed { IfErr result (λ cause. cause ≡ commits.Disk → Rose (D.Disk.faults disk.old) (D.Disk.faults disk.new)) }
@@ -159,6 +163,9 @@ fn committed_lines<M: Memory + Drop, D: Disk>(
         OnOk result (Holds D.Disk M.Book.fits M.holds choose history base (length history) store.new disk.new) }
     ensures undamaged { IfErr result (λ cause. (choose : Chooser) (history : List Order) (base k : ℕ) → M.is_chooser choose → AllByRecursion M.takes history →
         Holds D.Disk M.Book.fits M.holds choose history base k store.old disk.old → IsNoDamage D.Disk disk.new cause) }
+    ensures measured { IsMeasured D.Disk store.old.keeper disk.old → OnOk result (IsMeasured D.Disk store.new.keeper disk.new) }
+    ensures run { store.new.run ≡ store.old.run }
+    ensures told { IsTold D.Disk disk.old → IsTold D.Disk disk.new }
     ensures over { OnOk result (IsOver D.Disk store.new.keeper disk.new) }
     ensures later { D.Disk.faults disk.old ≤ D.Disk.faults disk.new }
     ensures failed { IfErr result (λ cause. cause ≡ commits.Disk → Rose (D.Disk.faults disk.old) (D.Disk.faults disk.new)) }
@@ -173,9 +180,10 @@ fn committed_lines<M: Memory + Drop, D: Disk>(
 
 /// Writes what an export comes to.
 fn give_exported<K: Link>(link: &mut K, exported: &Exported) -> Result<Served, ServeFault>
-    ensures gave { Gave (Some (reply_of exported.now)) true (IsClean (K.faults link.old) (K.faults link.new)) result (K.given link.old) (K.given link.new) }
+    ensures gave { Gave (Some (reply_of exported.now)) true (IsClean (K.faults link.old) (K.faults link.new) (K.standing link.old) (K.standing link.new)) result (K.given link.old) (K.given link.new) }
     ensures left { K.left link.new ≡ K.left link.old }
     ensures open { IsOpen result }
+    ensures goes { GoesLink (K.standing link.old) (K.standing link.new) }
     ensures later { K.faults link.old ≤ K.faults link.new }
     ensures failed { result ≡ Err ServeFault.Link → Rose (K.faults link.old) (K.faults link.new) }
 {
@@ -200,10 +208,14 @@ pub(crate) fn serve_events<K: Link, M: Memory + Drop, D: Disk>(
     ensures answers { (choose : Chooser) (history : List Order) (base k : ℕ) → M.is_chooser choose → AllByRecursion M.takes history →
         Holds D.Disk M.Book.fits M.holds choose history base k store.old disk.old →
         Answers D.Disk M.Book.fits M.holds (entry choose history base k store.old.run moment)
-        (MayBe (entry choose history base k store.old.run moment) (IsTold D.Disk disk.new) (asks.Events index.now range) result) true (IsClean (K.faults link.old) (K.faults link.new))
+        (MayBe (entry choose history base k store.old.run moment) (IsTold D.Disk disk.new) (asks.Events index.now range) result) true (IsClean (K.faults link.old) (K.faults link.new) (K.standing link.old) (K.standing link.new))
         result (K.given link.old) (K.given link.new) store.new disk.old disk.new }
     ensures left { K.left link.new ≡ K.left link.old }
     ensures over { IsOpen result → IsOver D.Disk store.new.keeper disk.new }
+    ensures measured { IsMeasured D.Disk store.old.keeper disk.old → IsOpen result → IsMeasured D.Disk store.new.keeper disk.new }
+    ensures run { store.new.run ≡ store.old.run }
+    ensures told { IsTold D.Disk disk.old → IsTold D.Disk disk.new }
+    ensures goes { GoesLink (K.standing link.old) (K.standing link.new) }
     ensures comes { Comes (K.faults link.old) (K.faults link.new) (D.Disk.faults disk.old) (D.Disk.faults disk.new) result }
 {
     match committed_lines(alloc, store, index.as_slice(), &range, disk) {

@@ -3,13 +3,13 @@
 ghost use Rattle.std.specs.Prelude.{◌≡◌, ◌≤◌, ◌⊎◌, ℕ, List, length, Err};
 ghost use Rattle.ix_base.specs.Faults.{Rose};
 ghost use Rattle.ix_disk.specs.Moments.{Always};
-ghost use Rattle.ix_keep.specs.Snapshot.{IsOver};
+ghost use Rattle.ix_keep.specs.Snapshot.{IsMeasured, IsOver};
 ghost use Rattle.ix_keep.specs.declared.fault.CommitFault.{CommitFault as CommitFaultOf};
 ghost use Rattle.ix_machine.specs.Given.{Chooser};
 ghost use Rattle.ix_machine.specs.declared.commands.Order.{Order};
 ghost use Rattle.ix_serve.specs.Answer.{answer_of_fault};
 ghost use Rattle.ix_serve.specs.Prefixes.{StandsIn};
-ghost use Rattle.ix_serve.specs.Serving.{IsOpen, IsUndamaged};
+ghost use Rattle.ix_serve.specs.Serving.{IsOpen, IsTold, IsUndamaged};
 ghost use Rattle.ix_store.specs.Holding.{Holds};
 
 use crate::served::{ServeFault, Served, answer_of_fault};
@@ -29,6 +29,9 @@ pub(crate) fn settle<M: Memory + Drop, D: Disk>(
     ensures images { (choose : Chooser) (history : List Order) (base k : ℕ) → Holds D.Disk M.Book.fits M.holds choose history base k store.old disk.old →
         Always D.Disk disk.old disk.new (StandsIn M.Book.fits store.old.run choose history k) }
     ensures came { (result ≡ came) ⊎ ((cause : CommitFaultOf) × (result ≡ Err (answer_of_fault cause))) }
+    ensures measured { IsMeasured D.Disk store.old.keeper disk.old → IsOpen result → IsMeasured D.Disk store.new.keeper disk.new }
+    ensures run { store.new.run ≡ store.old.run }
+    ensures told { IsTold D.Disk disk.old → IsTold D.Disk disk.new }
     ensures over { IsOpen result → IsOver D.Disk store.new.keeper disk.new }
     ensures later { D.Disk.faults disk.old ≤ D.Disk.faults disk.new }
     ensures failed { result ≡ Err ServeFault.Disk → Rose (D.Disk.faults disk.old) (D.Disk.faults disk.new) }

@@ -13,4 +13,4 @@ mod serve;
 mod served;
 
 pub use serve::serve_one;
-pub use served::{ServeFault, Served};
+pub use served::{ServeFault, Served, answer_of_fault};

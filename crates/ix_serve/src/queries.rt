@@ -4,7 +4,8 @@ ghost use Rattle.std.specs.Prelude.{◌≡◌, ◌≤◌, ◌&&◌, ℕ, List, m
 ghost use Rattle.std.specs.List.{AllByRecursion, list_any};
 ghost use Rattle.ix_base.specs.Faults.{Rose};
 ghost use Rattle.ix_http.specs.declared.kinds.Ask.TheVariants as asks;
-ghost use Rattle.ix_keep.specs.Snapshot.{Snapshot, IsOver};
+ghost use Rattle.ix_keep.specs.Snapshot.{Snapshot, IsMeasured, IsOver};
+ghost use Rattle.ix_link.specs.Links.{Goes};
 ghost use Rattle.ix_machine.specs.Given.{Chooser};
 ghost use Rattle.ix_machine.specs.declared.commands.Order.{Order};
 ghost use Rattle.ix_serve.specs.Answer.{MayBe};
@@ -87,10 +88,14 @@ pub(crate) fn serve_acks<K: Link, M: Memory + Drop, D: Disk>(
     ensures answers { (choose : Chooser) (history : List Order) (base k : ℕ) → M.is_chooser choose → AllByRecursion M.takes history →
         Holds D.Disk M.Book.fits M.holds choose history base k store.old disk.old →
         Answers D.Disk M.Book.fits M.holds (entry choose history base k store.old.run moment)
-        (MayBe (entry choose history base k store.old.run moment) (IsTold D.Disk disk.new) (asks.Acks run numbers.now) result) true (IsClean (K.faults link.old) (K.faults link.new))
+        (MayBe (entry choose history base k store.old.run moment) (IsTold D.Disk disk.new) (asks.Acks run numbers.now) result) true (IsClean (K.faults link.old) (K.faults link.new) (K.standing link.old) (K.standing link.new))
         result (K.given link.old) (K.given link.new) store.new disk.old disk.new }
     ensures left { K.left link.new ≡ K.left link.old }
     ensures over { IsOpen result → IsOver D.Disk store.new.keeper disk.new }
+    ensures measured { IsMeasured D.Disk store.old.keeper disk.old → IsOpen result → IsMeasured D.Disk store.new.keeper disk.new }
+    ensures run { store.new.run ≡ store.old.run }
+    ensures told { IsTold D.Disk disk.old → IsTold D.Disk disk.new }
+    ensures goes { Goes (K.standing link.old) (K.standing link.new) }
     ensures comes { Comes (K.faults link.old) (K.faults link.new) (D.Disk.faults disk.old) (D.Disk.faults disk.new) result }
 {
     let Ok(body) = acks_body(alloc, store, run, numbers.as_slice()) else {
@@ -112,9 +117,10 @@ pub(crate) fn serve_buckets<K: Link, M: Memory + Drop>(
     link: &mut K,
 ) -> Result<Served, ServeFault>
     ensures lists { (e : Entry) (old : Snapshot) → IsAt M.Book.fits M.holds e store.now old →
-        IsListed e (IsClean (K.faults link.old) (K.faults link.new)) result (K.given link.old) (K.given link.new) }
+        IsListed e (IsClean (K.faults link.old) (K.faults link.new) (K.standing link.old) (K.standing link.new)) result (K.given link.old) (K.given link.new) }
     ensures left { K.left link.new ≡ K.left link.old }
     ensures open { IsOpen result }
+    ensures goes { Goes (K.standing link.old) (K.standing link.new) }
     ensures later { K.faults link.old ≤ K.faults link.new }
     ensures failed { result ≡ Err ServeFault.Link → Rose (K.faults link.old) (K.faults link.new) }
 {

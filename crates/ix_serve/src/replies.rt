@@ -2,6 +2,7 @@
 
 ghost use Rattle.std.specs.Prelude.{◌≡◌, ◌≤◌, Some, Err, true};
 ghost use Rattle.ix_base.specs.Faults.{Rose};
+ghost use Rattle.ix_link.specs.Links.{Goes};
 ghost use Rattle.ix_serve.specs.Answer.{answer_of_fault};
 ghost use Rattle.ix_serve.specs.Replies.{reply, unread, refused, broken, no_memory};
 ghost use Rattle.ix_serve.specs.Serving.{Gave, IsClean, IsOpen};
@@ -21,9 +22,10 @@ pub(crate) fn give<K: Link>(
     body: &[u8],
     delimited: bool,
 ) -> Result<Served, ServeFault>
-    ensures gave { Gave (Some (reply status kind body.now)) delimited (IsClean (K.faults link.old) (K.faults link.new)) result (K.given link.old) (K.given link.new) }
+    ensures gave { Gave (Some (reply status kind body.now)) delimited (IsClean (K.faults link.old) (K.faults link.new) (K.standing link.old) (K.standing link.new)) result (K.given link.old) (K.given link.new) }
     ensures left { K.left link.new ≡ K.left link.old }
     ensures open { IsOpen result }
+    ensures goes { Goes (K.standing link.old) (K.standing link.new) }
     ensures later { K.faults link.old ≤ K.faults link.new }
     ensures failed { result ≡ Err ServeFault.Link → Rose (K.faults link.old) (K.faults link.new) }
 {
@@ -39,9 +41,10 @@ pub(crate) fn give_unread<K: Link>(
     fault: HttpFault,
     delimited: bool,
 ) -> Result<Served, ServeFault>
-    ensures gave { Gave (Some (unread fault)) delimited (IsClean (K.faults link.old) (K.faults link.new)) result (K.given link.old) (K.given link.new) }
+    ensures gave { Gave (Some (unread fault)) delimited (IsClean (K.faults link.old) (K.faults link.new) (K.standing link.old) (K.standing link.new)) result (K.given link.old) (K.given link.new) }
     ensures left { K.left link.new ≡ K.left link.old }
     ensures open { IsOpen result }
+    ensures goes { Goes (K.standing link.old) (K.standing link.new) }
     ensures later { K.faults link.old ≤ K.faults link.new }
     ensures failed { result ≡ Err ServeFault.Link → Rose (K.faults link.old) (K.faults link.new) }
 {
@@ -56,9 +59,10 @@ pub(crate) fn give_unread<K: Link>(
 
 /// Writes why the store refuses a command.
 pub(crate) fn give_refusal<K: Link>(link: &mut K, refusal: Refusal) -> Result<Served, ServeFault>
-    ensures gave { Gave (Some (refused refusal)) true (IsClean (K.faults link.old) (K.faults link.new)) result (K.given link.old) (K.given link.new) }
+    ensures gave { Gave (Some (refused refusal)) true (IsClean (K.faults link.old) (K.faults link.new) (K.standing link.old) (K.standing link.new)) result (K.given link.old) (K.given link.new) }
     ensures left { K.left link.new ≡ K.left link.old }
     ensures open { IsOpen result }
+    ensures goes { Goes (K.standing link.old) (K.standing link.new) }
     ensures later { K.faults link.old ≤ K.faults link.new }
     ensures failed { result ≡ Err ServeFault.Link → Rose (K.faults link.old) (K.faults link.new) }
 {
@@ -73,9 +77,10 @@ pub(crate) fn give_refusal<K: Link>(link: &mut K, refusal: Refusal) -> Result<Se
 
 /// Writes that there was no room in memory.
 pub(crate) fn decline<K: Link>(link: &mut K, delimited: bool) -> Result<Served, ServeFault>
-    ensures gave { Gave (Some no_memory) delimited (IsClean (K.faults link.old) (K.faults link.new)) result (K.given link.old) (K.given link.new) }
+    ensures gave { Gave (Some no_memory) delimited (IsClean (K.faults link.old) (K.faults link.new) (K.standing link.old) (K.standing link.new)) result (K.given link.old) (K.given link.new) }
     ensures left { K.left link.new ≡ K.left link.old }
     ensures open { IsOpen result }
+    ensures goes { Goes (K.standing link.old) (K.standing link.new) }
     ensures later { K.faults link.old ≤ K.faults link.new }
     ensures failed { result ≡ Err ServeFault.Link → Rose (K.faults link.old) (K.faults link.new) }
 {
@@ -92,8 +97,9 @@ pub(crate) fn decline<K: Link>(link: &mut K, delimited: bool) -> Result<Served, 
 /// Writes that the disk has failed or is damaged, and answers why.
 pub(crate) fn give_up<K: Link>(link: &mut K, cause: CommitFault) -> Result<Served, ServeFault>
     ensures result { result ≡ Err (answer_of_fault cause) }
-    ensures gave { Gave (Some (broken cause)) true (IsClean (K.faults link.old) (K.faults link.new)) result (K.given link.old) (K.given link.new) }
+    ensures gave { Gave (Some (broken cause)) true (IsClean (K.faults link.old) (K.faults link.new) (K.standing link.old) (K.standing link.new)) result (K.given link.old) (K.given link.new) }
     ensures left { K.left link.new ≡ K.left link.old }
+    ensures goes { Goes (K.standing link.old) (K.standing link.new) }
     ensures later { K.faults link.old ≤ K.faults link.new }
 {
     let _ = give(link, 500, Kind::Json, commit_body(cause), true);

@@ -3,7 +3,8 @@
 ghost use Rattle.std.specs.Prelude.{◌≡◌, ℕ, List, true};
 ghost use Rattle.std.specs.List.{AllByRecursion};
 ghost use Rattle.ix_http.specs.Limits.{KeepsLimits};
-ghost use Rattle.ix_keep.specs.Snapshot.{IsOver};
+ghost use Rattle.ix_keep.specs.Snapshot.{IsMeasured, IsOver};
+ghost use Rattle.ix_link.specs.Links.{Goes};
 ghost use Rattle.ix_machine.specs.Given.{Chooser};
 ghost use Rattle.ix_machine.specs.declared.commands.Order.{Order};
 ghost use Rattle.ix_serve.specs.Answer.{MayBe};
@@ -38,10 +39,14 @@ fn serve_ask<K: Link, M: Memory + Drop, D: Disk>(
     ensures answers { (choose : Chooser) (history : List Order) (base k : ℕ) → M.is_chooser choose → AllByRecursion M.takes history →
         Holds D.Disk M.Book.fits M.holds choose history base k store.old disk.old →
         Answers D.Disk M.Book.fits M.holds (entry choose history base k store.old.run moment)
-        (MayBe (entry choose history base k store.old.run moment) (IsTold D.Disk disk.new) ask result) true (IsClean (K.faults link.old) (K.faults link.new))
+        (MayBe (entry choose history base k store.old.run moment) (IsTold D.Disk disk.new) ask result) true (IsClean (K.faults link.old) (K.faults link.new) (K.standing link.old) (K.standing link.new))
         result (K.given link.old) (K.given link.new) store.new disk.old disk.new }
     ensures left { K.left link.new ≡ K.left link.old }
     ensures over { IsOpen result → IsOver D.Disk store.new.keeper disk.new }
+    ensures measured { IsMeasured D.Disk store.old.keeper disk.old → IsOpen result → IsMeasured D.Disk store.new.keeper disk.new }
+    ensures run { store.new.run ≡ store.old.run }
+    ensures told { IsTold D.Disk disk.old → IsTold D.Disk disk.new }
+    ensures goes { Goes (K.standing link.old) (K.standing link.new) }
     ensures comes { Comes (K.faults link.old) (K.faults link.new) (D.Disk.faults disk.old) (D.Disk.faults disk.new) result }
 {
     match ask {
@@ -64,6 +69,7 @@ fn serve_ask<K: Link, M: Memory + Drop, D: Disk>(
 /// where an acknowledgement was asked for that is not there yet. Before the lines of an index all is committed. Want of memory is replied
 /// with 503, and changes nothing. A fault of the disk is replied with 500 where no reply was written yet; it closes the store, which is to be
 /// mounted again.
+#[tactic(auto, using(ix_link::proofs::GoesLemmas::goings))]
 pub fn serve_one<K: Link, M: Memory + Drop, D: Disk>(
     alloc: Global,
     store: &mut Store<M>,
@@ -77,10 +83,15 @@ pub fn serve_one<K: Link, M: Memory + Drop, D: Disk>(
     // For every history that store and disk hold, one answer says what is written, what is added and held, and what every image stands for.
     ensures serves { (choose : Chooser) (history : List Order) (base k : ℕ) → M.is_chooser choose → AllByRecursion M.takes history →
         Holds D.Disk M.Book.fits M.holds choose history base k store.old disk.old →
-        Serves D.Disk M.Book.fits M.holds (entry choose history base k store.old.run moment) (IsClean (K.faults link.old) (K.faults link.new))
+        Serves D.Disk M.Book.fits M.holds (entry choose history base k store.old.run moment) (IsClean (K.faults link.old) (K.faults link.new) (K.standing link.old) (K.standing link.new))
         result (K.left link.old) (K.left link.new) (K.given link.old) (K.given link.new) store.new disk.old disk.new }
-    // What the next request asks for.
+    // What the next request, and a checkpoint, ask for.
     ensures over { IsOpen result → IsOver D.Disk store.new.keeper disk.new }
+    ensures measured { IsMeasured D.Disk store.old.keeper disk.old → IsOpen result → IsMeasured D.Disk store.new.keeper disk.new }
+    // The run goes on, a disk that tells what it reads goes on telling, and the link is what it was when it began.
+    ensures run { store.new.run ≡ store.old.run }
+    ensures told { IsTold D.Disk disk.old → IsTold D.Disk disk.new }
+    ensures goes { Goes (K.standing link.old) (K.standing link.new) }
     // No count falls, and a fault of the link or the disk comes only where its count rose.
     ensures comes { Comes (K.faults link.old) (K.faults link.new) (D.Disk.faults disk.old) (D.Disk.faults disk.new) result }
 {

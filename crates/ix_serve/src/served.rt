@@ -33,8 +33,8 @@ pub enum ServeFault {
     Cut,
 }
 
-/// What a fault of the disk is to whoever serves.
-pub(crate) fn answer_of_fault(cause: CommitFault) -> ServeFault
+/// What a fault of a commit is to whoever serves.
+pub fn answer_of_fault(cause: CommitFault) -> ServeFault
     ensures { result ≡ defs.answer_of_fault cause }
 {
     match cause {

@@ -213,6 +213,12 @@ kept_damaged (kept.Damaged f a) file at shown is e = cc
 kept_damaged kept.Full file at shown is e = absurd cc
 kept_damaged kept.NoMemory file at shown is e = absurd cc
 
+pub kept_full : {T : Type 0} (fault : KeptFault) (shown : MountFault) → shown ≡ fault_of fault → ◌≡◌ {A = Result T MountFault} (Err shown) (Err faults.Full) → fault ≡ kept.Full
+kept_full kept.Disk shown is e = absurd cc
+kept_full (kept.Damaged f a) shown is e = absurd cc
+kept_full kept.Full shown is e = refl
+kept_full kept.NoMemory shown is e = absurd cc
+
 pub family_from : (choose : Chooser) (h : List Order) (k : ℕ) → IsFamily (leaves choose h) k (length h)
 family_from choose h k =
     let f = family choose h in

@@ -3,12 +3,15 @@
 ghost use Rattle.std.specs.Prelude.{◌≡◌, ◌≤◌, ◌⊎◌, ℕ, List, length, take, true, false, Some, Ok, Err, IfOk, OnOk, OnErr, IsErrOf};
 ghost use Rattle.std.specs.List.{AllByRecursion};
 ghost use Rattle.ix_base.specs.Faults.{Rose};
+ghost use Rattle.ix_base.specs.Told.{Told};
 ghost use Rattle.ix_base.specs.declared.files.File.{File};
 ghost use Rattle.ix_disk.specs.Image.{Image, bytes_in};
 ghost use Rattle.ix_disk.specs.Moments.{Always};
 ghost use Rattle.ix_keep.specs.Committing.{IsShort};
+ghost use Rattle.ix_keep.specs.Contents.{Anyhow};
 ghost use Rattle.ix_keep.specs.Mounting.{IsBadLog};
-ghost use Rattle.ix_keep.specs.Snapshot.{IsOver, IsIdle};
+ghost use Rattle.ix_keep.specs.Reads.{HasNoRun};
+ghost use Rattle.ix_keep.specs.Snapshot.{IsOver, IsIdle, IsMeasured};
 ghost use Rattle.ix_machine.specs.Given.{Chooser};
 ghost use Rattle.ix_machine.specs.declared.commands.Order.{Order};
 ghost use Rattle.ix_store.specs.Written.{Stands, StandsFrom};
@@ -36,8 +39,11 @@ impl<M: Memory + Drop> Store<M> {
             OnOk result (Holds D.Disk M.Book.fits M.holds choose history base (length history) self.new disk.new) }
         // Where nothing is staged, nothing is done.
         ensures none { IsIdle self.old.keeper → (result ≡ Ok tt) × (disk.new ≡ disk.old) }
-        // What the next commit asks for.
+        // What the next commit and a checkpoint ask for.
         ensures over { OnOk result (IsOver D.Disk self.new.keeper disk.new) }
+        ensures idle { OnOk result (IsIdle self.new.keeper) }
+        ensures measured { (IsIdle self.old.keeper → IsMeasured D.Disk self.old.keeper disk.old) → OnOk result (IsMeasured D.Disk self.new.keeper disk.new) }
+        ensures run { self.new.run ≡ self.old.run }
         ensures closed { OnErr result (self.new.keeper.closed ≡ true) }
         // The named file, a bucket's or an archive's, has so many bytes, fewer than were committed.
         ensures damaged { (file : File) (at : ℕ) → result ≡ Err (CommitFault.Damaged file at) → IsShort self.old.keeper.parts self.old.keeper.copies file at
@@ -45,6 +51,8 @@ impl<M: Memory + Drop> Store<M> {
         // A disk that keeps what was committed is not damaged.
         ensures undamaged { (file : File) (at : ℕ) → result ≡ Err (CommitFault.Damaged file at) → (choose : Chooser) (history : List Order) (base k : ℕ) →
             Holds D.Disk M.Book.fits M.holds choose history base k self.old disk.old → (image : Image) → D.Disk.seen disk.new ≡ Some image → ⊥ }
+        // A disk that tells what it reads goes on telling.
+        ensures told { Told Anyhow (D.Disk.seen disk.old) (D.Disk.seen disk.new) }
         ensures later { D.Disk.faults disk.old ≤ D.Disk.faults disk.new }
         ensures cause { IsErrOf result CommitFault.Disk → Rose (D.Disk.faults disk.old) (D.Disk.faults disk.new) }
     {
@@ -63,8 +71,12 @@ impl<M: Memory + Drop> Store<M> {
         ensures mounted { IfOk result (λ store. (choose : Chooser) (history : List Order) (k : ℕ) → M.is_chooser choose → AllByRecursion M.takes history →
             ((image : Image) → D.Disk.may_leave disk.old image → StandsFrom M.Book.fits choose history k image) → (image : Image) → D.Disk.seen disk.old ≡ Some image →
             IsMounted D.Disk M.Book.fits M.holds choose history k image store disk.new) }
-        // What a commit asks for.
+        // What a commit and a checkpoint ask for.
         ensures over { IfOk result (λ store. IsOver D.Disk store.keeper disk.new) }
+        ensures idle { IfOk result (λ store. IsIdle store.keeper) }
+        ensures measured { IfOk result (λ store. IsMeasured D.Disk store.keeper disk.new) }
+        // A disk that tells what it reads goes on telling.
+        ensures told { Told Anyhow (D.Disk.seen disk.old) (D.Disk.seen disk.new) }
         // It names the gate of the first bad body of the root log or the current one, as the disk reads.
         ensures damaged { (named : File) (at : ℕ) → result ≡ Err (MountFault.Damaged named at) → (image : Image) → D.Disk.seen disk.old ≡ Some image → IsBadLog M.Book.fits named at image }
         // A disk of whose every image some commands may be read is not damaged,
@@ -73,6 +85,8 @@ impl<M: Memory + Drop> Store<M> {
         // and it is sound.
         ensures sound { IsErrOf result MountFault.Unsound → (choose : Chooser) (history : List Order) (k : ℕ) → M.is_chooser choose → AllByRecursion M.takes history →
             ((image : Image) → D.Disk.may_leave disk.old image → StandsFrom M.Book.fits choose history k image) → (image : Image) → D.Disk.seen disk.old ≡ Some image → ⊥ }
+        // Full comes only where no further run has a number, or there is no room for it, as the disk reads.
+        ensures full { IsErrOf result MountFault.Full → (image : Image) → D.Disk.seen disk.old ≡ Some image → HasNoRun M.Book.fits image }
         ensures later { D.Disk.faults disk.old ≤ D.Disk.faults disk.new }
         ensures cause { IsErrOf result MountFault.Disk → Rose (D.Disk.faults disk.old) (D.Disk.faults disk.new) }
     {

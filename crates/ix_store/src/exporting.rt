@@ -10,7 +10,7 @@ ghost use Rattle.ix_disk.specs.Image.{Image, Stays};
 ghost use Rattle.ix_disk.specs.Moments.{Goes};
 ghost use Rattle.ix_export.specs.Lines.{text, number};
 ghost use Rattle.ix_export.specs.Stops.{StopsAt};
-ghost use Rattle.ix_keep.specs.Snapshot.{Snapshot, IsOver};
+ghost use Rattle.ix_keep.specs.Snapshot.{Snapshot, IsOver, IsMeasured};
 ghost use Rattle.ix_keep.specs.Undo.{HasSameLogs};
 ghost use Rattle.ix_life.specs.declared.views.IndexView.{IndexView};
 ghost use Rattle.ix_machine.specs.Given.{Chooser};
@@ -139,6 +139,8 @@ impl<M: Memory + Drop> Store<M> {
         ensures held { closes result ≡ false → (choose : Chooser) (history : List Order) (base k : ℕ) → Holds D.Disk M.Book.fits M.holds choose history base k self.old disk.old →
             Holds D.Disk M.Book.fits M.holds choose history base k self.new disk.new }
         ensures over { IsOver D.Disk self.old.keeper disk.old → IsOver D.Disk self.new.keeper disk.new }
+        ensures measured { IsMeasured D.Disk self.old.keeper disk.old → IsMeasured D.Disk self.new.keeper disk.new }
+        ensures run { self.new.run ≡ self.old.run }
         ensures later { D.Disk.faults disk.old ≤ D.Disk.faults disk.new }
         ensures cause { IsErrOf result ExportFault.Disk → Rose (D.Disk.faults disk.old) (D.Disk.faults disk.new) }
         ensures grown { W.faults out.old ≤ W.faults out.new }

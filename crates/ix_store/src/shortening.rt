@@ -4,6 +4,7 @@
 ghost use Rattle.std.specs.Prelude.{◌≡◌, ◌≤◌, ◌<◌, ◌-◌, ◌+◌, ◌^◌, ◌↔◌, ◌++◌, ℕ, Bool, List, [], ◌∷◌, length, Option, Some, IfOk, OnOk, IsErrOf, IsTrue, true};
 ghost use Rattle.std.specs.List.{AllByRecursion};
 ghost use Rattle.ix_base.specs.Faults.{Rose};
+ghost use Rattle.ix_base.specs.Told.{Told};
 ghost use Rattle.ix_base.specs.declared.files.Area.TheVariants.{Meta};
 ghost use Rattle.ix_base.specs.declared.files.File.{File};
 ghost use Rattle.ix_disk.specs.Moments.{Always};
@@ -12,6 +13,7 @@ ghost use Rattle.ix_items.specs.declared.items.Item.{Item};
 ghost use Rattle.ix_items.specs.declared.items.Item.TheVariants as items;
 ghost use Rattle.ix_book.specs.Book.{empty, replay};
 ghost use Rattle.ix_checkpoint.specs.Whole.{HasTold};
+ghost use Rattle.ix_keep.specs.Contents.{Anyhow};
 ghost use Rattle.ix_keep.specs.Shortening.{IsShortest};
 ghost use Rattle.ix_keep.specs.Snapshot.{IsOver, IsIdle, IsMeasured, IsLong};
 ghost use Rattle.ix_machine.specs.Given.{Chooser};
@@ -132,7 +134,10 @@ impl<M: Listing + Drop> Store<M> {
             Holds D.Disk M.Book.fits M.holds choose history base (length history) self.new disk.new }
         ensures over_still { IsErrOf result CheckpointFault.NoMemory → IsOver D.Disk self.new.keeper disk.new }
         ensures measured_still { IsErrOf result CheckpointFault.NoMemory → IsMeasured D.Disk self.old.keeper disk.old → IsMeasured D.Disk self.new.keeper disk.new }
+        ensures run { self.new.run ≡ self.old.run }
         ensures closed { IsErrOf result CheckpointFault.Disk → self.new.keeper.closed ≡ true }
+        // A disk that tells what it reads goes on telling.
+        ensures told { Told Anyhow (D.Disk.seen disk.old) (D.Disk.seen disk.new) }
         ensures later { D.Disk.faults disk.old ≤ D.Disk.faults disk.new }
         ensures cause { IsErrOf result CheckpointFault.Disk → Rose (D.Disk.faults disk.old) (D.Disk.faults disk.new) }
     {

@@ -93,6 +93,7 @@ fn stage_drafts(
     ensures staged { (old new mid to : Snapshot) → Stages keeper.old old new → LeadsThrough first second old new mid to → OnOk result (Stages keeper.new old to) }
     ensures err { OnErr result (IsSame keeper.old keeper.new) }
     ensures logs { HasSameLogs keeper.old keeper.new }
+    ensures bytes { keeper.new.bytes ≡ keeper.old.bytes }
 {
     match first {
         None => stage(keeper, alloc, second),
@@ -116,6 +117,7 @@ impl<M: Memory + Drop> Store<M> {
         ensures turned { OnOk result (self.new.group.turned ≡ (self.old.group.turned || (turned || is_some made.first))) }
         ensures waiting { OnOk result (self.new.group.waiting ≡ true) }
         ensures same { HasSameRun self.old self.new }
+        ensures bytes { self.new.keeper.bytes ≡ self.old.keeper.bytes }
         ensures err { OnErr result (IsUnchanged self.old self.new) }
     {
         let turned = turned || made.first.is_some();
@@ -173,8 +175,10 @@ impl<M: Memory + Drop> Store<M> {
         ensures err { OnErr result (IsUnchanged self.old self.new) }
         // After a fault of the disk no command is accepted.
         ensures closed { is_closed self.old ≡ true → result ≡ Err Refusal.Closed }
-        // The logs are left alone.
+        // The logs are left alone, and the run goes on.
         ensures logs { HasSameLogs self.old.keeper self.new.keeper }
+        ensures bytes { self.new.keeper.bytes ≡ self.old.keeper.bytes }
+        ensures run { self.new.run ≡ self.old.run }
     {
         if self.is_closed() {
             return Err(Refusal::Closed);

@@ -1,4 +1,5 @@
 use Rattle.std.proofs.Common.{decimal, codes}
+use Rattle.ix_link.proofs.GoesLemmas.{goes_on}
 use Rattle.ix_http.specs.Replies.{phrase_of}
 use Rattle.ix_base.proofs.ToldLemmas.{on_err_always, begun_of_more, then_begun, then_written}
 use Rattle.ix_http.proofs.replies.put_status.Goals as goal
@@ -17,3 +18,6 @@ returns-in_err-put_phrase-clause-begun g c = on_err_always c.from_residual-in_er
 
 pub returns-clause-written : goal.returns-clause-written
 returns-clause-written g c = (then_written (then_written (then_written c.in_ok-put.ensures.written c.in_ok-put_code.ensures.written) c.in_ok-put-2.ensures.written) c.in_ok-put_phrase.ensures.written)
+
+pub returns-in_err-put_phrase-clause-goes : goal.returns-in_err-put_phrase-clause-goes
+returns-in_err-put_phrase-clause-goes g c = goes_on c.put.ensures.goes (goes_on c.put_code.ensures.goes (goes_on c.put-2.ensures.goes c.put_phrase.ensures.goes))

@@ -17,7 +17,7 @@ use Rattle.ix_serve.proofs.changes.serve_block.Goals as goal
 pub returns-in_default-clause-answers : goal.returns-in_default-clause-answers
 returns-in_default-clause-answers g c = λ choose h base k chooser taken hold.
     let e = entry choose h base k c.args.store.now.run c.args.moment in
-    idle g.D.Disk g.M.Book.Replay.fits g.M.Memory.holds e (MayBe e (IsTold g.D.Disk c.args.disk.now) (asks.Block c.args.channel c.args.bytes) c.decline.result) true (IsClean (g.K.Link.faults c.args.link.now) (g.K.Link.faults c.decline.new.link)) c.decline.result
+    idle g.D.Disk g.M.Book.Replay.fits g.M.Memory.holds e (MayBe e (IsTold g.D.Disk c.args.disk.now) (asks.Block c.args.channel c.args.bytes) c.decline.result) true (IsClean (g.K.Link.faults c.args.link.now) (g.K.Link.faults c.decline.new.link) (g.K.Link.standing c.args.link.now) (g.K.Link.standing c.decline.new.link)) c.decline.result
     (g.K.Link.given c.args.link.now) (g.K.Link.given c.decline.new.link) c.args.store.now c.args.disk.now (Some no_memory) (inr (refusals.NoMemory, tt, refl)) c.decline.ensures.gave c.decline.ensures.open refl hold
 
 pub returns-clause-answers : goal.returns-clause-answers
@@ -26,5 +26,5 @@ returns-clause-answers g c = λ choose h base k chooser taken hold.
     let e = entry choose h base k c.args.store.now.run c.args.moment in
     let is = simp to_z-of_z at (c.serve_change.ensures.answers choose h base k chooser taken hold) in
     let body = c.as_slice.ensures ∙ c.in-Ok.ensures ∙ ap (λ (n : ℕ). acked_body n c.run.result) (c.drawn.ensures choose h base k hold.old hold.staged) ∙ ap (λ (n : ℕ). acked_body (drawn e) n) c.run.ensures in
-    subst (λ (body : List ℕ). Answers g.D.Disk g.M.Book.Replay.fits g.M.Memory.holds e (MayChange e (commands.Block c.args.channel c.args.bytes None) (reply 200 Json body)) true (IsClean (g.K.Link.faults c.args.link.now) (g.K.Link.faults c.serve_change.new.link)) c.serve_change.result
+    subst (λ (body : List ℕ). Answers g.D.Disk g.M.Book.Replay.fits g.M.Memory.holds e (MayChange e (commands.Block c.args.channel c.args.bytes None) (reply 200 Json body)) true (IsClean (g.K.Link.faults c.args.link.now) (g.K.Link.faults c.serve_change.new.link) (g.K.Link.standing c.args.link.now) (g.K.Link.standing c.serve_change.new.link)) c.serve_change.result
     (g.K.Link.given c.args.link.now) (g.K.Link.given c.serve_change.new.link) c.serve_change.new.store c.args.disk.now c.serve_change.new.disk) body is

@@ -10,7 +10,7 @@ use Rattle.ix_serve.specs.Prefixes.{StandsIn}
 use Rattle.ix_serve.specs.Replies.{reply}
 use Rattle.ix_serve.specs.Serving.{IsClean}
 use Rattle.ix_serve.proofs.Answering.{changed, held_accepted, run_accepted, refused_so, wrote_settled, open_undamaged, due_held, undue_held}
-use Rattle.ix_serve.proofs.Standing.{standing}
+use Rattle.ix_serve.proofs.Standing.{standing, measured_same}
 use Rattle.ix_serve.proofs.changes.serve_change.Goals as goal
 
 pub returns-then-due-clause-answers : goal.returns-then-due-clause-answers
@@ -20,11 +20,11 @@ returns-then-due-clause-answers g c = λ choose h base k chooser taken hold.
     let is = simp to_z-of_z at (c.in-Ok.ensures.accepted choose h base k hold.old chooser taken hold.staged) in
     let h2 = with_order choose h (order e c.args.command) in
     let now = held_accepted g.D.Disk g.M.Book.Replay.fits g.M.Memory.holds e c.args.command c.args.store.now c.accept.new.self c.args.disk.now _ hold c.accept.ensures.logs is in
-    let clean = IsClean (g.K.Link.faults c.args.link.now) (g.K.Link.faults c.give-came.new.link) in
+    let clean = IsClean (g.K.Link.faults c.args.link.now) (g.K.Link.faults c.give-came.new.link) (g.K.Link.standing c.args.link.now) (g.K.Link.standing c.give-came.new.link) in
     changed g.D.Disk g.M.Book.Replay.fits g.M.Memory.holds e c.args.command (reply c.args.status Json c.args.body.now) clean c.settle.result (g.K.Link.given c.args.link.now) (g.K.Link.given c.give-came.new.link)
     c.args.store.now c.accept.new.self c.settle.new.store c.args.disk.now c.settle.new.disk _ hold is
     (wrote_settled (reply c.args.status Json c.args.body.now) true clean c.give-came.result c.settle.result (g.K.Link.given c.args.link.now) (g.K.Link.given c.give-came.new.link) c.settle.ensures.came
-    (λ failed sent. sent (c.give-came.ensures.failed failed)) c.give-came.ensures.gave)
+    c.give-came.ensures.gave)
     (λ stays. due_held g.D.Disk g.M.Book.Replay.fits g.M.Memory.holds e _ h2 c.settle.new.store c.settle.new.disk now.staged.within (c.settle.ensures.done choose h2 base k now stays))
     (subst (λ (run : ℕ). Always g.D.Disk c.args.disk.now c.settle.new.disk (StandsIn g.M.Book.Replay.fits run choose h2 k))
     (run_accepted g.D.Disk g.M.Book.Replay.fits g.M.Memory.holds e c.args.command c.args.store.now c.accept.new.self c.args.disk.now _ hold is) (c.settle.ensures.images choose h2 base k now))
@@ -37,7 +37,7 @@ returns-else-due-clause-answers g c = λ choose h base k chooser taken hold.
     let is = simp to_z-of_z at (c.in-Ok.ensures.accepted choose h base k hold.old chooser taken hold.staged) in
     let h2 = with_order choose h (order e c.args.command) in
     let now = held_accepted g.D.Disk g.M.Book.Replay.fits g.M.Memory.holds e c.args.command c.args.store.now c.accept.new.self c.args.disk.now _ hold c.accept.ensures.logs is in
-    let clean = IsClean (g.K.Link.faults c.args.link.now) (g.K.Link.faults c.give-came.new.link) in
+    let clean = IsClean (g.K.Link.faults c.args.link.now) (g.K.Link.faults c.give-came.new.link) (g.K.Link.standing c.args.link.now) (g.K.Link.standing c.give-came.new.link) in
     changed g.D.Disk g.M.Book.Replay.fits g.M.Memory.holds e c.args.command (reply c.args.status Json c.args.body.now) clean c.give-came.result (g.K.Link.given c.args.link.now) (g.K.Link.given c.give-came.new.link)
     c.args.store.now c.accept.new.self c.accept.new.self c.args.disk.now c.args.disk.now _ hold is c.give-came.ensures.gave
     (λ stays. undue_held g.D.Disk g.M.Book.Replay.fits g.M.Memory.holds e _ h2 c.accept.new.self c.args.disk.now (sym (c.due.ensures choose h2 base k hold.old is.staged) ∙ c.if-due.false) now)
@@ -51,6 +51,15 @@ returns-in-Err-clause-answers g c = λ choose h base k chooser taken hold.
     let fits : SFits w64 c.args.moment = search rules in
     let e = entry choose h base k c.args.store.now.run c.args.moment in
     let refused = simp to_z-of_z at (c.in-Err.ensures.refused choose h base k hold.old chooser taken hold.staged) in
-    refused_so g.D.Disk g.M.Book.Replay.fits g.M.Memory.holds e c.args.command (reply c.args.status Json c.args.body.now) (IsClean (g.K.Link.faults c.args.link.now) (g.K.Link.faults c.give_refusal.new.link)) c.give_refusal.result
+    refused_so g.D.Disk g.M.Book.Replay.fits g.M.Memory.holds e c.args.command (reply c.args.status Json c.args.body.now) (IsClean (g.K.Link.faults c.args.link.now) (g.K.Link.faults c.give_refusal.new.link) (g.K.Link.standing c.args.link.now) (g.K.Link.standing c.give_refusal.new.link)) c.give_refusal.result
     (g.K.Link.given c.args.link.now) (g.K.Link.given c.give_refusal.new.link) c.args.store.now c.accept.new.self c.args.disk.now c.in-Err.refusal refl hold c.accept.ensures.logs c.in-Err.ensures.err refused
     c.give_refusal.ensures.gave c.give_refusal.ensures.open
+
+pub returns-then-due-clause-measured : goal.returns-then-due-clause-measured
+returns-then-due-clause-measured g c = λ measured. c.settle.ensures.measured (measured_same g.D.Disk c.args.store.now.keeper c.accept.new.self.keeper c.args.disk.now c.accept.ensures.logs c.accept.ensures.bytes measured)
+
+pub returns-else-due-clause-measured : goal.returns-else-due-clause-measured
+returns-else-due-clause-measured g c = λ measured stays. measured_same g.D.Disk c.args.store.now.keeper c.accept.new.self.keeper c.args.disk.now c.accept.ensures.logs c.accept.ensures.bytes measured
+
+pub returns-in-Err-clause-measured : goal.returns-in-Err-clause-measured
+returns-in-Err-clause-measured g c = λ measured stays. measured_same g.D.Disk c.args.store.now.keeper c.accept.new.self.keeper c.args.disk.now c.accept.ensures.logs c.accept.ensures.bytes measured

@@ -1,7 +1,7 @@
-use Rattle.std.proofs.Common.{length}
+use Rattle.std.proofs.Common.{length, ◌∙◌}
 use Rattle.ix_serve.specs.Prefixes.{StandsIn}
-use Rattle.ix_serve.proofs.Answering.{if_ok, if_err}
-use Rattle.ix_serve.proofs.Standing.{committing, standing_on}
+use Rattle.ix_serve.proofs.Answering.{if_ok, if_err, on_ok_always}
+use Rattle.ix_serve.proofs.Standing.{committing, standing_on, tells_on}
 use Rattle.ix_serve.proofs.events.committed_lines.Goals as goal
 
 pub returns-in-Ok-clause-reply : goal.returns-in-Ok-clause-reply
@@ -27,3 +27,12 @@ returns-in-Err-clause-images g c = λ choose h base k hold.
 
 pub returns-in-Err-clause-undamaged : goal.returns-in-Err-clause-undamaged
 returns-in-Err-clause-undamaged g c = λ choose h base k chooser taken hold file at is image seen. c.in-Err.ensures.undamaged file at (cc) choose h base k hold image seen
+
+pub returns-in-Ok-clause-told : goal.returns-in-Ok-clause-told
+returns-in-Ok-clause-told g c = λ told. let mid = tells_on g.D.Disk _ c.args.disk.now c.commit.new.disk c.commit.ensures.told told in (mid.0, c.export_lines.ensures.same ∙ mid.1)
+
+pub returns-in-Err-clause-told : goal.returns-in-Err-clause-told
+returns-in-Err-clause-told g c = tells_on g.D.Disk _ c.args.disk.now c.commit.new.disk c.commit.ensures.told
+
+pub returns-in-Ok-clause-measured : goal.returns-in-Ok-clause-measured
+returns-in-Ok-clause-measured g c = λ measured. on_ok_always c.export_lines.result (c.export_lines.ensures.measured (c.in-Ok.ensures.measured (λ idle. measured)))

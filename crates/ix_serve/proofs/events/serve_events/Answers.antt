@@ -14,7 +14,7 @@ returns-in-Ok-clause-answers g c = λ choose h base k chooser taken hold.
     let e = entry choose h base k c.args.store.now.run c.args.moment in
     let told = IsTold g.D.Disk c.committed_lines.new.disk in
     let may = MayBe e told (asks.Events c.args.index.now c.args.range) c.give_exported.result in
-    let clean = IsClean (g.K.Link.faults c.args.link.now) (g.K.Link.faults c.give_exported.new.link) in
+    let clean = IsClean (g.K.Link.faults c.args.link.now) (g.K.Link.faults c.give_exported.new.link) (g.K.Link.standing c.args.link.now) (g.K.Link.standing c.give_exported.new.link) in
     let said = reply_of c.in-Ok.exported in
     let now = c.in-Ok.ensures.held choose h base k hold in
     let reply : MayReply told e c.args.index.now c.args.range said =
@@ -35,7 +35,7 @@ returns-in-Err-clause-answers g c = λ choose h base k chooser taken hold.
     let e = entry choose h base k c.args.store.now.run c.args.moment in
     let told = IsTold g.D.Disk c.committed_lines.new.disk in
     let may = MayBe e told (asks.Events c.args.index.now c.args.range) c.give_up.result in
-    let clean = IsClean (g.K.Link.faults c.args.link.now) (g.K.Link.faults c.give_up.new.link) in
+    let clean = IsClean (g.K.Link.faults c.args.link.now) (g.K.Link.faults c.give_up.new.link) (g.K.Link.standing c.args.link.now) (g.K.Link.standing c.give_up.new.link) in
     queried g.D.Disk g.M.Book.Replay.fits g.M.Memory.holds e may true clean c.give_up.result (g.K.Link.given c.args.link.now) (g.K.Link.given c.give_up.new.link)
     c.committed_lines.new.store c.args.disk.now c.committed_lines.new.disk (Some (broken c.in-Err.cause)) false (inr (inr (c.in-Err.cause, c.give_up.ensures.result, refl))) c.give_up.ensures.gave
     (λ stays. absurd (closed c.in-Err.cause (subst IsOpen c.give_up.ensures.result stays)))

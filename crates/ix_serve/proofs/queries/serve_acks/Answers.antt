@@ -14,13 +14,13 @@ pub returns-in_default-clause-answers : goal.returns-in_default-clause-answers
 returns-in_default-clause-answers g c = λ choose h base k chooser taken hold.
     let e = entry choose h base k c.args.store.now.run c.args.moment in
     idle g.D.Disk g.M.Book.Replay.fits g.M.Memory.holds e (MayBe e (IsTold g.D.Disk c.args.disk.now) (asks.Acks c.args.run c.args.numbers.now) c.decline.result) true
-    (IsClean (g.K.Link.faults c.args.link.now) (g.K.Link.faults c.decline.new.link)) c.decline.result (g.K.Link.given c.args.link.now) (g.K.Link.given c.decline.new.link) c.args.store.now c.args.disk.now
+    (IsClean (g.K.Link.faults c.args.link.now) (g.K.Link.faults c.decline.new.link) (g.K.Link.standing c.args.link.now) (g.K.Link.standing c.decline.new.link)) c.decline.result (g.K.Link.given c.args.link.now) (g.K.Link.given c.decline.new.link) c.args.store.now c.args.disk.now
     (Some no_memory) (inr refl) c.decline.ensures.gave c.decline.ensures.open refl hold
 
 pub returns-then-pending-clause-answers : goal.returns-then-pending-clause-answers
 returns-then-pending-clause-answers g c = λ choose h base k chooser taken hold.
     let e = entry choose h base k c.args.store.now.run c.args.moment in
-    let clean = IsClean (g.K.Link.faults c.args.link.now) (g.K.Link.faults c.give-came.new.link) in
+    let clean = IsClean (g.K.Link.faults c.args.link.now) (g.K.Link.faults c.give-came.new.link) (g.K.Link.standing c.args.link.now) (g.K.Link.standing c.give-came.new.link) in
     let body : c.as_slice-3.result.now ≡ acks_body (map (is_acked e c.args.run) c.args.numbers.now) =
     c.as_slice-3.ensures ∙ c.in-Ok.ensures e hold.old (refl, hold.staged) ∙ ap (λ (l : List ℕ). acks_body (map (is_acked e c.args.run) l)) c.as_slice.ensures in
     let waits : true ≡ list_any (is_pending e c.args.run) c.args.numbers.now =
@@ -29,7 +29,7 @@ returns-then-pending-clause-answers g c = λ choose h base k chooser taken hold.
     (g.K.Link.given c.args.link.now) (g.K.Link.given c.give-came.new.link) c.settle.new.store c.args.disk.now c.settle.new.disk (Some (reply 200 Json c.as_slice-3.result.now)) true
     (inl (λ i. says (waits i) (reply 200 Json (body i))))
     (wrote_settled (reply 200 Json c.as_slice-3.result.now) true clean c.give-came.result c.settle.result (g.K.Link.given c.args.link.now) (g.K.Link.given c.give-came.new.link) c.settle.ensures.came
-    (λ failed sent. sent (c.give-came.ensures.failed failed)) c.give-came.ensures.gave)
+    c.give-came.ensures.gave)
     (λ stays. due_held g.D.Disk g.M.Book.Replay.fits g.M.Memory.holds e true h c.settle.new.store c.settle.new.disk hold.staged.within (c.settle.ensures.done choose h base k hold stays))
     (c.settle.ensures.images choose h base k hold)
     (c.settle.ensures.undamaged choose h base k hold)
@@ -37,7 +37,7 @@ returns-then-pending-clause-answers g c = λ choose h base k chooser taken hold.
 pub returns-clause-answers : goal.returns-clause-answers
 returns-clause-answers g c = λ choose h base k chooser taken hold.
     let e = entry choose h base k c.args.store.now.run c.args.moment in
-    let clean = IsClean (g.K.Link.faults c.args.link.now) (g.K.Link.faults c.give-came.new.link) in
+    let clean = IsClean (g.K.Link.faults c.args.link.now) (g.K.Link.faults c.give-came.new.link) (g.K.Link.standing c.args.link.now) (g.K.Link.standing c.give-came.new.link) in
     let body : c.as_slice-3.result.now ≡ acks_body (map (is_acked e c.args.run) c.args.numbers.now) =
     c.as_slice-3.ensures ∙ c.in-Ok.ensures e hold.old (refl, hold.staged) ∙ ap (λ (l : List ℕ). acks_body (map (is_acked e c.args.run) l)) c.as_slice.ensures in
     let waits : false ≡ list_any (is_pending e c.args.run) c.args.numbers.now =

@@ -1,5 +1,6 @@
 use Rattle.std.proofs.Common.{refl}
 use Rattle.ix_disk.proofs.Runs.{always_weaker}
+use Rattle.ix_keep.proofs.Reading.{anyhow_same}
 use Rattle.ix_store.proofs.Shortened.{held_both, tells, fit_short, stands_short, stands_still, holds_short, room_for}
 use Rattle.ix_store.proofs.store.Store.checkpoint.Goals as goal
 
@@ -40,3 +41,6 @@ returns-clause-done g c = λ choose h base chooser given hold.
     (tells g.D.Disk _ g.M.Memory.holds choose h base c.args.self.now c.args.disk.now hold idle told listed (g.met.M.Listing.fits_with_log choose h))
     (fit_short g.D.Disk _ g.M.Memory.holds choose h base c.args.self.now c.args.disk.now hold idle told listed (g.met.M.Listing.fits_with_log choose h)))
     c.in_ok-checkpoint.ensures.idle refl refl refl refl refl refl
+
+pub returns-in-Err-TooLong-clause-told : goal.returns-in-Err-TooLong-clause-told
+returns-in-Err-TooLong-clause-told g c = anyhow_same _ _ refl

@@ -3,7 +3,7 @@ use Rattle.std.specs.Prelude.{Err}
 use Rattle.ix_keep.specs.declared.mounting.MountFault.{MountFault as KeptFault}
 use Rattle.ix_snapshot.specs.Snap.{leaves}
 use Rattle.ix_store.specs.declared.memory.BookFault.{BookFault}
-use Rattle.ix_store.proofs.Committed.{family_from, holds_mounted, none_unsound, kept_damaged}
+use Rattle.ix_store.proofs.Committed.{family_from, holds_mounted, none_unsound, kept_damaged, kept_full}
 use Rattle.ix_store.proofs.Undamaged.{keeps_undamaged}
 use Rattle.ix_store.proofs.store.Store.mount.Goals as goal
 
@@ -39,3 +39,7 @@ returns-in-Err-clause-undamaged g c = λ named at is choose h k all image told.
     let bad = c.mount.ensures.damaged named at (c.in-Err.is ∙ ap (λ (f : KeptFault). Err f) (kept_damaged c.in-Err.fault named at c.fault_of.result c.fault_of.ensures is)) image told in
     let stands = all image (g.met.D.Disk.seen_may_stay c.args.disk.now image told) in
     keeps_undamaged _ stands.kept image named at stands.keeps bad
+
+pub returns-in-Err-clause-full : goal.returns-in-Err-clause-full
+returns-in-Err-clause-full g c = λ is.
+    c.mount.ensures.full_as_read (c.in-Err.is ∙ ap (λ (f : KeptFault). Err f) (kept_full c.in-Err.fault c.fault_of.result c.fault_of.ensures is))
