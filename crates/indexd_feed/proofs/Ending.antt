@@ -1,0 +1,166 @@
+-- How a run of requests ends.
+use Rattle.std.proofs.Common.{◌≡◌, ◌∙◌, ◌⊎◌, ℕ, Bool, true, false, List, [], ◌∷◌, refl, sym, subst, inl, inr, arith}
+use Rattle.std.specs.Prelude.{Option, Some, None, Result, Ok, Err, nat_eq, if◌then◌else◌}
+use Rattle.ix_base.specs.declared.files.File.{File}
+use Rattle.ix_feed.specs.Feeding.{Turn, EndsBy, EndsAs, end_of}
+use Rattle.ix_feed.specs.declared.feed.Fed.{Fed}
+use Rattle.ix_feed.specs.declared.feed.Fed.TheVariants as fed
+use Rattle.ix_link.specs.declared.link.Side.{Side}
+use Rattle.ix_link.specs.declared.link.Side.TheVariants as sides
+use Rattle.ix_serve.specs.declared.served.Served.{Served}
+use Rattle.ix_serve.specs.declared.served.Served.TheVariants as served
+use Rattle.ix_serve.specs.declared.served.ServeFault.{ServeFault}
+use Rattle.ix_serve.specs.declared.served.ServeFault.TheVariants as fault
+use Rattle.ix_base.specs.Faults.{Rose}
+use Rattle.ix_link.specs.Links.{Standing, IsCaused, Goes}
+use Rattle.indexd_feed.specs.Sides.{failures}
+use Rattle.indexd_feed.specs.Ends as ends_of
+use Rattle.indexd_feed.specs.Ends.{link_end, fed_of}
+use Rattle.indexd_feed.specs.declared.end.End.{End}
+use Rattle.indexd_feed.specs.declared.end.End.TheVariants as ends
+
+-- ---- no run ends by a cut that is not told with its request
+
+unread : (b : Bool) (request : ℕ) → Some (if b then fed.NoMemory else fed.Unreadable request) ≡ Some (fed.Broken fault.Cut) → ⊥
+unread true request is = cc
+unread false request is = cc
+
+uncut_turn : (n : ℕ) (result : Result Served ServeFault) → end_of n result ≡ Some (fed.Broken fault.Cut) → ⊥
+uncut_turn n (Ok served.Ended) is = cc
+uncut_turn n (Ok (served.Reply status true)) is = cc
+uncut_turn n (Ok (served.Reply status false)) is = unread (nat_eq status 503) n is
+uncut_turn n (Err fault.Disk) is = cc
+uncut_turn n (Err (fault.Damaged file at)) is = cc
+uncut_turn n (Err fault.Link) is = cc
+uncut_turn n (Err fault.Cut) is = cc
+
+uncut_by : {D : Type 0} (turns : List (Turn D)) → EndsBy (fed.Broken fault.Cut) turns → ⊥
+uncut_by [] (inl is) = is
+uncut_by (turn ∷ earlier) (inl is) = uncut_turn _ turn.result is.0
+uncut_by turns (inr is) = let e : fed.Broken fault.Cut ≡ fed.Endless = is.0 in cc
+
+uncut : {D : Type 0} (turns : List (Turn D)) → EndsAs (fed.Broken fault.Cut) turns → ⊥
+uncut turns (inl is) = uncut_by turns is
+uncut turns (inr is) = let e : true ≡ false = is.2 in cc
+
+-- ---- what an end says of the requests
+
+of_link : (failed : Option Side) → fed_of (link_end failed) ≡ fed.Broken fault.Link
+of_link None = refl
+of_link (Some sides.Reading) = refl
+of_link (Some sides.Writing) = refl
+
+-- any end that comes is told as it is
+pub told_end : {D : Type 0} (end : Fed) (failed : Option Side) (turns : List (Turn D)) → EndsAs end turns → fed_of (ends_of.end_of end failed) ≡ end
+told_end fed.Ended failed turns is = refl
+told_end (fed.Unreadable request) failed turns is = refl
+told_end fed.NoMemory failed turns is = refl
+told_end fed.Endless failed turns is = refl
+told_end (fed.Broken fault.Disk) failed turns is = refl
+told_end (fed.Broken (fault.Damaged file at)) failed turns is = refl
+told_end (fed.Broken fault.Link) failed turns is = of_link failed
+told_end (fed.Broken fault.Cut) failed turns is = absurd (uncut turns is)
+
+-- ---- which ends come of a fault
+
+not_link_end : (failed : Option Side) (end : End) → end ≡ ends.Disk → link_end failed ≡ end → ⊥
+not_link_end None end is e = cc
+not_link_end (Some sides.Reading) end is e = cc
+not_link_end (Some sides.Writing) end is e = cc
+
+pub of_disk : (end : Fed) (failed : Option Side) → ends_of.end_of end failed ≡ ends.Disk → end ≡ fed.Broken fault.Disk
+of_disk fed.Ended failed is = absurd (cc)
+of_disk (fed.Unreadable request) failed is = absurd (cc)
+of_disk fed.NoMemory failed is = absurd (cc)
+of_disk fed.Endless failed is = absurd (cc)
+of_disk (fed.Broken fault.Disk) failed is = refl
+of_disk (fed.Broken (fault.Damaged file at)) failed is = absurd (cc)
+of_disk (fed.Broken fault.Link) failed is = absurd (not_link_end failed ends.Disk refl is)
+of_disk (fed.Broken fault.Cut) failed is = absurd (cc)
+
+not_damaged : (failed : Option Side) (file : File) (at : ℕ) → link_end failed ≡ ends.Damaged file at → ⊥
+not_damaged None file at is = cc
+not_damaged (Some sides.Reading) file at is = cc
+not_damaged (Some sides.Writing) file at is = cc
+
+pub of_damaged : (end : Fed) (failed : Option Side) (file : File) (at : ℕ) → ends_of.end_of end failed ≡ ends.Damaged file at → end ≡ fed.Broken (fault.Damaged file at)
+of_damaged fed.Ended failed file at is = absurd (cc)
+of_damaged (fed.Unreadable request) failed file at is = absurd (cc)
+of_damaged fed.NoMemory failed file at is = absurd (cc)
+of_damaged fed.Endless failed file at is = absurd (cc)
+of_damaged (fed.Broken fault.Disk) failed file at is = absurd (cc)
+of_damaged (fed.Broken (fault.Damaged f a)) failed file at is = cc
+of_damaged (fed.Broken fault.Link) failed file at is = absurd (not_damaged failed file at is)
+of_damaged (fed.Broken fault.Cut) failed file at is = absurd (cc)
+
+-- where an input has failed, or an output: the link did, and this side of it
+input_side : (failed : Option Side) → link_end failed ≡ ends.Input → failed ≡ Some sides.Reading
+input_side None is = absurd (cc)
+input_side (Some sides.Reading) is = refl
+input_side (Some sides.Writing) is = absurd (cc)
+
+pub of_input : (end : Fed) (failed : Option Side) → ends_of.end_of end failed ≡ ends.Input → (end ≡ fed.Broken fault.Link) × (failed ≡ Some sides.Reading)
+of_input fed.Ended failed is = absurd (cc)
+of_input (fed.Unreadable request) failed is = absurd (cc)
+of_input fed.NoMemory failed is = absurd (cc)
+of_input fed.Endless failed is = absurd (cc)
+of_input (fed.Broken fault.Disk) failed is = absurd (cc)
+of_input (fed.Broken (fault.Damaged file at)) failed is = absurd (cc)
+of_input (fed.Broken fault.Link) failed is = (refl, input_side failed is)
+of_input (fed.Broken fault.Cut) failed is = absurd (cc)
+
+output_side : (failed : Option Side) → link_end failed ≡ ends.Output → (failed ≡ None) ⊎ (failed ≡ Some sides.Writing)
+output_side None is = inl refl
+output_side (Some sides.Reading) is = absurd (cc)
+output_side (Some sides.Writing) is = inr refl
+
+pub of_output : (end : Fed) (failed : Option Side) → ends_of.end_of end failed ≡ ends.Output → (end ≡ fed.Broken fault.Link) × ((failed ≡ None) ⊎ (failed ≡ Some sides.Writing))
+of_output fed.Ended failed is = absurd (cc)
+of_output (fed.Unreadable request) failed is = absurd (cc)
+of_output fed.NoMemory failed is = absurd (cc)
+of_output fed.Endless failed is = absurd (cc)
+of_output (fed.Broken fault.Disk) failed is = absurd (cc)
+of_output (fed.Broken (fault.Damaged file at)) failed is = absurd (cc)
+of_output (fed.Broken fault.Link) failed is = (refl, output_side failed is)
+of_output (fed.Broken fault.Cut) failed is = absurd (cc)
+
+-- what was answered is this
+pub same_ok : {T E : Type 0} {a b : T} → ◌≡◌ {A = Result T E} (Ok a) (Ok b) → a ≡ b
+same_ok is = cc
+
+pub same_err : {T E : Type 0} {a b : E} → ◌≡◌ {A = Result T E} (Err a) (Err b) → a ≡ b
+same_err is = cc
+
+-- ---- which side has failed
+
+-- a link that had not failed names a side whose count has risen
+read_by : (before after : Standing) → IsCaused before after → before.failed ≡ None → after.failed ≡ Some sides.Reading → Rose before.reading after.reading
+read_by before after (inl same) none is = let e : Some sides.Reading ≡ None = sym is ∙ (same ∙ none) in absurd (cc)
+read_by before after (inr (inl by)) none is = by.1
+read_by before after (inr (inr by)) none is = let e : Some sides.Reading ≡ Some sides.Writing = sym is ∙ by.0 in absurd (cc)
+
+write_by : (before after : Standing) → IsCaused before after → before.failed ≡ None → after.failed ≡ Some sides.Writing → Rose before.writing after.writing
+write_by before after (inl same) none is = let e : Some sides.Writing ≡ None = sym is ∙ (same ∙ none) in absurd (cc)
+write_by before after (inr (inl by)) none is = let e : Some sides.Writing ≡ Some sides.Reading = sym is ∙ by.0 in absurd (cc)
+write_by before after (inr (inr by)) none is = by.1
+
+pub read_failed : {before after : Standing} → Goes before after → before.failed ≡ None → after.failed ≡ Some sides.Reading → Rose before.reading after.reading
+read_failed {before} {after} goes none is = read_by before after goes.side none is
+
+pub write_failed : {before after : Standing} → Goes before after → before.failed ≡ None → after.failed ≡ Some sides.Writing → Rose before.writing after.writing
+write_failed {before} {after} goes none is = write_by before after goes.side none is
+
+-- one whose count has risen names a side
+pub has_failed : (before after : Option Side) → before ≡ None → Rose (failures before) (failures after) → (after ≡ None) ⊎ (after ≡ Some sides.Writing) → after ≡ Some sides.Writing
+has_failed before after none rose (inr is) = is
+has_failed before after none rose (inl is) = absurd (still (subst (λ (x : Option Side). Rose (failures None) (failures x)) is (subst (λ (x : Option Side). Rose (failures x) (failures after)) none rose)))
+  where
+    still : Rose (failures None) (failures None) → ⊥
+    still (inl less) = omega (arith, less)
+    still (inr most) = omega (arith, most)
+
+-- ---- what is said of values is said of those that they are
+
+pub along : {A B : Type 0} (P : A → A → B → B → Type 0) {a a' c c' : A} {b b' e e' : B} → a ≡ c → a' ≡ c' → b ≡ e → b' ≡ e' → P a a' b b' → P c c' e e'
+along P {a} {a'} {c} {c'} {b} {b'} {e} {e'} first second third fourth is =
+    subst (λ (x : _). P c c' e x) fourth (subst (λ (x : _). P c c' x b') third (subst (λ (x : _). P c x b b') second (subst (λ (x : _). P x a' b b') first is)))

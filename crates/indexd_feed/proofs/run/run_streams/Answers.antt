@@ -1,0 +1,44 @@
+use Rattle.std.proofs.Common.{rules, ◌∙◌, inr, ap, sym}
+use Rattle.std.specs.Prelude.{Ok, Err}
+use Rattle.indexd_feed.specs.Ends.{fed_of}
+use Rattle.indexd_feed.specs.Serving.{HasServed}
+use Rattle.indexd_feed.specs.Sides.{IsSound}
+use Rattle.indexd_feed.proofs.Opening.{served_where, served_end}
+use Rattle.indexd_feed.proofs.Ending.{told_end, of_disk, of_damaged, of_input, of_output, same_ok, same_err, read_failed, write_failed, has_failed, along}
+use Rattle.indexd_feed.proofs.run.run_streams.Goals as goal
+
+pub returns-in-Ok-clause-served : goal.returns-in-Ok-clause-served
+returns-in-Ok-clause-served g c = λ choose history k chooser taken begins image seen.
+    let has = c.in-Ok.ensures.served choose history k chooser taken begins image seen in
+    let cleaner = served_where g.D.Disk _ choose history k c.args.config c.in-Ok.fed _ (IsSound (g.W.Sink.faults c.new-link.result.sink.now) (g.W.Sink.faults c.run_feed.new.link.sink.now))
+    _ _ _ _ _ _ _ _ (λ sound. inr sound) has in
+    let told = served_end g.D.Disk _ choose history k c.args.config c.in-Ok.fed (fed_of c.end_of.result) _ _ _ _ _ _ _ _ _
+    (ap fed_of c.end_of.ensures ∙ told_end c.in-Ok.fed c.run_feed.new.link.failed has.requests.turns has.requests.ends) cleaner in
+    along (λ s s' w w'. HasServed g.D.Disk g.M.Book.Replay.fits choose history k c.args.config (fed_of c.end_of.result) (IsSound (g.W.Sink.faults w) (g.W.Sink.faults w'))
+    (g.S.Source.left s) (g.S.Source.left s') (g.C.Clock.ahead c.args.clock.now) (g.C.Clock.ahead c.run_feed.new.clock) (g.W.Sink.given w) (g.W.Sink.given w') c.args.disk.now c.run_feed.new.disk)
+    c.new-link.ensures.read (search rules) c.new-link.ensures.written (search rules) told
+
+pub returns-in-Ok-clause-unbroken : goal.returns-in-Ok-clause-unbroken
+returns-in-Ok-clause-unbroken g c = λ file at is. c.run_feed.ensures.unbroken file at (c.in-Ok.is ∙ ap (λ e. Ok e) (of_damaged c.in-Ok.fed c.run_feed.new.link.failed file at (sym c.end_of.ensures ∙ same_ok is)))
+
+pub returns-in-Ok-clause-disk : goal.returns-in-Ok-clause-disk
+returns-in-Ok-clause-disk g c = λ is. c.run_feed.ensures.disk (c.in-Ok.is ∙ ap (λ e. Ok e) (of_disk c.in-Ok.fed c.run_feed.new.link.failed (sym c.end_of.ensures ∙ same_ok is)))
+
+pub returns-in-Ok-clause-input : goal.returns-in-Ok-clause-input
+returns-in-Ok-clause-input g c = λ is.
+    let at = of_input c.in-Ok.fed c.run_feed.new.link.failed (sym c.end_of.ensures ∙ same_ok is) in
+    let rose = read_failed c.run_feed.ensures.goes c.new-link.ensures.failed at.1 in
+    search (rules, rose)
+
+pub returns-in-Ok-clause-output : goal.returns-in-Ok-clause-output
+returns-in-Ok-clause-output g c = λ is.
+    let at = of_output c.in-Ok.fed c.run_feed.new.link.failed (sym c.end_of.ensures ∙ same_ok is) in
+    let failed = c.run_feed.ensures.link (c.in-Ok.is ∙ ap (λ e. Ok e) at.0) in
+    let rose = write_failed c.run_feed.ensures.goes c.new-link.ensures.failed (has_failed c.new-link.result.failed c.run_feed.new.link.failed c.new-link.ensures.failed failed at.1) in
+    search (rules, rose)
+
+pub returns-in-Err-clause-undamaged : goal.returns-in-Err-clause-undamaged
+returns-in-Err-clause-undamaged g c = λ file at is. c.run_feed.ensures.undamaged file at (c.in-Err.is ∙ ap (λ s. Err s) (same_err is))
+
+pub returns-in-Err-clause-sound : goal.returns-in-Err-clause-sound
+returns-in-Err-clause-sound g c = λ is. c.run_feed.ensures.sound (c.in-Err.is ∙ ap (λ s. Err s) (same_err is))

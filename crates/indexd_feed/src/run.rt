@@ -1,0 +1,76 @@
+//! A run that serves the requests of an input, whose replies go to an output. The program calls `run_streams`.
+
+ghost use Rattle.std.specs.Prelude.{◌≡◌, ◌≤◌, ℕ, ℤ, List, false, Some, Ok, Err, IfOk, IfErr, OnErr, IsErrOf};
+ghost use Rattle.std.specs.List.{AllByRecursion};
+ghost use Rattle.ix_base.specs.Faults.{Rose};
+ghost use Rattle.ix_base.specs.declared.files.File.{File};
+ghost use Rattle.ix_disk.specs.Image.{Image};
+ghost use Rattle.ix_machine.specs.Given.{Chooser};
+ghost use Rattle.ix_machine.specs.declared.commands.Order.{Order};
+ghost use Rattle.ix_serve.specs.Taking.{TakesAsks};
+ghost use Rattle.indexd_store.specs.Opened.{Begins, configuring, HasShut};
+ghost use Rattle.indexd_store.specs.Stops.{is_output, is_input};
+ghost use Rattle.indexd_feed.specs.Ends.{fed_of};
+ghost use Rattle.indexd_feed.specs.Serving.{HasServed};
+ghost use Rattle.indexd_feed.specs.Sides.{IsSound};
+
+use crate::end::{End, end_of};
+use crate::feed::run_feed;
+use crate::streams::Streams;
+use indexd_store::Stop;
+use ix_base::{Clock, Sink, Source};
+use ix_disk::Disk;
+use ix_machine::Config;
+use ix_store::Listing;
+use std::alloc::Global;
+
+/// Opens the store of a disk with these settings, and serves the requests that come one behind the other from the input; the replies go to the
+/// output. All that was accepted is committed at the end, unless the disk is at fault. An error is what stops the run before the first
+/// request, and nothing is read or written then.
+pub fn run_streams<M: Listing + Drop, D: Disk, C: Clock, S: Source, W: Sink>(
+    alloc: Global,
+    disk: &mut D,
+    clock: &mut C,
+    config: Config,
+    input: &mut S,
+    output: &mut W,
+) -> Result<End, Stop>
+    requires settings { (moment : ℤ) → M.takes (configuring config moment) }
+    requires asks { TakesAsks M.takes }
+    // Requests are served over some prefix of what was there, with the settings in force, up to this end. All replies are written, unless the
+    // count of the output has risen.
+    ensures served { IfOk result (λ end. (choose : Chooser) (history : List Order) (k : ℕ) → M.is_chooser choose → AllByRecursion M.takes history →
+        Begins D.Disk M.Book.fits choose history k disk.old → (image : Image) → D.Disk.seen disk.old ≡ Some image →
+        HasServed D.Disk M.Book.fits choose history k config (fed_of end) (IsSound (W.faults output.old) (W.faults output.new)) (S.left input.old) (S.left input.new) (C.ahead clock.old) (C.ahead clock.new)
+        (W.given output.old) (W.given output.new) disk.old disk.new) }
+    // A run that stops before them has lost nothing, has its cause, and leaves the input and the output alone.
+    ensures shut { IfErr result (λ stop. (choose : Chooser) (history : List Order) (k : ℕ) → M.is_chooser choose → AllByRecursion M.takes history →
+        Begins D.Disk M.Book.fits choose history k disk.old → (image : Image) → D.Disk.seen disk.old ≡ Some image →
+        HasShut stop D.Disk M.Book.fits choose history k config (C.ahead clock.old) (C.ahead clock.new) disk.old disk.new) }
+    ensures unread { OnErr result (input.new ≡ input.old) }
+    ensures unwritten { OnErr result (output.new ≡ output.old) }
+    // What is on the disk is not damaged where it keeps what was committed,
+    ensures undamaged { (file : File) (at : ℕ) → result ≡ Err (Stop.Damaged file at) → (choose : Chooser) (history : List Order) (k : ℕ) → M.is_chooser choose → AllByRecursion M.takes history →
+        Begins D.Disk M.Book.fits choose history k disk.old → (image : Image) → D.Disk.seen disk.old ≡ Some image → (later : Image) → D.Disk.seen disk.new ≡ Some later → ⊥ }
+    ensures unbroken { (file : File) (at : ℕ) → result ≡ Ok (End.Damaged file at) → (choose : Chooser) (history : List Order) (k : ℕ) → M.is_chooser choose → AllByRecursion M.takes history →
+        Begins D.Disk M.Book.fits choose history k disk.old → (image : Image) → D.Disk.seen disk.old ≡ Some image → (later : Image) → D.Disk.seen disk.new ≡ Some later → ⊥ }
+    // and it is sound.
+    ensures sound { IsErrOf result Stop.Unsound → (choose : Chooser) (history : List Order) (k : ℕ) → M.is_chooser choose → AllByRecursion M.takes history →
+        Begins D.Disk M.Book.fits choose history k disk.old → (image : Image) → D.Disk.seen disk.old ≡ Some image → ⊥ }
+    ensures quiet { IfErr result (λ stop. is_output stop ≡ false) }
+    ensures still { IfErr result (λ stop. is_input stop ≡ false) }
+    // No count falls, and each fault has its cause.
+    ensures read_later { S.faults input.old ≤ S.faults input.new }
+    ensures written_later { W.faults output.old ≤ W.faults output.new }
+    ensures later { D.Disk.faults disk.old ≤ D.Disk.faults disk.new }
+    ensures cause { IsErrOf result Stop.Disk → Rose (D.Disk.faults disk.old) (D.Disk.faults disk.new) }
+    ensures disk { result ≡ Ok End.Disk → Rose (D.Disk.faults disk.old) (D.Disk.faults disk.new) }
+    ensures input { result ≡ Ok End.Input → Rose (S.faults input.old) (S.faults input.new) }
+    ensures output { result ≡ Ok End.Output → Rose (W.faults output.old) (W.faults output.new) }
+{
+    let mut link = Streams::new(input, output);
+    match run_feed::<M, D, C, Streams<S, W>>(alloc, disk, clock, config, &mut link) {
+        Ok(fed) => Ok(end_of(fed, link.failed)),
+        Err(stop) => Err(stop),
+    }
+}

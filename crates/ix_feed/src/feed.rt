@@ -1,0 +1,155 @@
+//! Requests are served one behind the other over one link. The program calls `run_feed`.
+
+ghost use Rattle.std.specs.Prelude.{◌≡◌, ℕ, List, true, nat_eq, if◌then◌else◌};
+ghost use Rattle.std.specs.List.{AllByRecursion};
+ghost use Rattle.ix_keep.specs.Snapshot.{IsOver, IsIdle, IsMeasured};
+ghost use Rattle.ix_machine.specs.Given.{Chooser};
+ghost use Rattle.ix_machine.specs.declared.commands.Order.{Order};
+ghost use Rattle.ix_feed.specs.Feeding as defs;
+ghost use Rattle.ix_feed.specs.Feeding.{Feeds, Runs};
+ghost use Rattle.ix_link.specs.Links.{Goes};
+ghost use Rattle.ix_serve.specs.Serving.{IsClean, IsTold};
+ghost use Rattle.ix_serve.specs.Taking.{TakesAsks};
+ghost use Rattle.ix_store.specs.Holding.{Holds};
+
+use ix_base::Clock;
+use ix_disk::Disk;
+use ix_link::Link;
+use ix_serve::{ServeFault, Served, answer_of_fault, serve_one};
+use ix_store::{Memory, Store};
+use std::alloc::Global;
+
+/// The most requests that are served in one run.
+const MOST: u64 = 1 << 32;
+
+/// How a run of requests ended.
+#[derive(Clone, Copy, Debug, PartialEq, Eq)]
+pub enum Fed {
+    /// The link had ended behind a request, or before the first.
+    Ended,
+    /// The link ended inside a request, or where the request ends is not known, so that nothing behind it can be read.
+    Unreadable {
+        /// Its number, from 1 on.
+        request: u64,
+    },
+    /// There was no room in memory to read a request, and where it ends is not known.
+    NoMemory,
+    /// 2^32 requests were served.
+    Endless,
+    /// The link has failed, or the disk, or the store is damaged.
+    Broken {
+        fault: ServeFault,
+    },
+}
+
+/// The end of a run behind a request that is refused, and of which it is not known where it ends.
+fn unread_end(request: u64, status: u16) -> Fed
+    ensures { result ≡ (if nat_eq status 503 then Fed.NoMemory else Fed.Unreadable request) }
+{
+    if status == 503 {
+        Fed::NoMemory
+    } else {
+        Fed::Unreadable { request }
+    }
+}
+
+/// The end of a run behind what came of a request, where it ends there.
+fn end_of(request: u64, came: Result<Served, ServeFault>) -> Option<Fed>
+    ensures { result ≡ defs.end_of request came }
+{
+    match came {
+        Ok(Served::Ended) => Some(Fed::Ended),
+        Ok(Served::Reply { status, delimited }) => {
+            if delimited {
+                None
+            } else {
+                Some(unread_end(request, status))
+            }
+        }
+        Err(ServeFault::Cut) => Some(Fed::Unreadable { request }),
+        Err(fault) => Some(Fed::Broken { fault }),
+    }
+}
+
+/// Whether the store is open still.
+fn is_open_end(end: Fed) -> bool
+    ensures { result ≡ defs.is_open_end end }
+{
+    match end {
+        Fed::Broken { fault } => matches!(fault, ServeFault::Link | ServeFault::Cut),
+        Fed::Ended | Fed::Unreadable { .. } | Fed::NoMemory | Fed::Endless => true,
+    }
+}
+
+/// Serves requests until the link ends, or one is not read whole, or the link or the disk fails.
+fn feed_all<K: Link, M: Memory + Drop, C: Clock, D: Disk>(
+    alloc: Global,
+    store: &mut Store<M>,
+    link: &mut K,
+    clock: &mut C,
+    disk: &mut D,
+) -> Fed
+    requires over { IsOver D.Disk store.old.keeper disk.old }
+    requires takes { TakesAsks M.takes }
+    ensures feeds { (choose : Chooser) (history : List Order) (base k : ℕ) → M.is_chooser choose → AllByRecursion M.takes history →
+        Holds D.Disk M.Book.fits M.holds choose history base k store.old disk.old →
+        Feeds D.Disk M.takes M.Book.fits M.holds choose history base k store.old.run result (IsClean (K.faults link.old) (K.faults link.new) (K.standing link.old) (K.standing link.new))
+        (K.left link.old) (K.left link.new) (C.ahead clock.old) (C.ahead clock.new)
+        (K.given link.old) (K.given link.new) store.new disk.old disk.new }
+    ensures run { store.new.run ≡ store.old.run }
+    ensures over { defs.is_open_end result ≡ true → IsOver D.Disk store.new.keeper disk.new }
+    ensures measured { IsMeasured D.Disk store.old.keeper disk.old → defs.is_open_end result ≡ true → IsMeasured D.Disk store.new.keeper disk.new }
+    ensures told { IsTold D.Disk disk.old → IsTold D.Disk disk.new }
+    ensures goes { Goes (K.standing link.old) (K.standing link.new) }
+    ensures comes { defs.Comes (K.faults link.old) (K.faults link.new) (D.Disk.faults disk.old) (D.Disk.faults disk.new) result }
+{
+    for served in 0..MOST {
+        let moment = clock.now();
+        let came = serve_one(alloc, store, link, moment, disk);
+        if let Some(end) = end_of(served + 1, came) {
+            return end;
+        }
+    }
+    Fed::Endless
+}
+
+/// Serves requests that come one behind the other over one link, and makes all that was accepted durable at the end. The clock is asked once
+/// before each.
+pub fn run_feed<K: Link, M: Memory + Drop, C: Clock, D: Disk>(
+    alloc: Global,
+    store: &mut Store<M>,
+    link: &mut K,
+    clock: &mut C,
+    disk: &mut D,
+) -> Fed
+    requires over { IsOver D.Disk store.old.keeper disk.old }
+    requires takes { TakesAsks M.takes }
+    // The replies are those of the requests, one behind the other; every image stands for a prefix of what was there and accepted and has
+    // each acknowledged command; and at the end every image has all, unless the disk is at fault.
+    ensures runs { (choose : Chooser) (history : List Order) (base k : ℕ) → M.is_chooser choose → AllByRecursion M.takes history →
+        Holds D.Disk M.Book.fits M.holds choose history base k store.old disk.old →
+        Runs D.Disk M.takes M.Book.fits M.holds choose history base k store.old.run result (IsClean (K.faults link.old) (K.faults link.new) (K.standing link.old) (K.standing link.new))
+        (K.left link.old) (K.left link.new) (C.ahead clock.old) (C.ahead clock.new)
+        (K.given link.old) (K.given link.new) store.new disk.old disk.new }
+    // What the next request or a checkpoint asks for.
+    ensures over { defs.is_open_end result ≡ true → IsOver D.Disk store.new.keeper disk.new }
+    ensures idle { defs.is_open_end result ≡ true → IsIdle store.new.keeper }
+    ensures measured { IsMeasured D.Disk store.old.keeper disk.old → defs.is_open_end result ≡ true → IsMeasured D.Disk store.new.keeper disk.new }
+    // The run goes on, a disk that tells what it reads goes on telling, and the link is what it was when it began.
+    ensures run { store.new.run ≡ store.old.run }
+    ensures told { IsTold D.Disk disk.old → IsTold D.Disk disk.new }
+    ensures goes { Goes (K.standing link.old) (K.standing link.new) }
+    // No count falls, and a fault of the link or the disk comes only where its count rose.
+    ensures comes { defs.Comes (K.faults link.old) (K.faults link.new) (D.Disk.faults disk.old) (D.Disk.faults disk.new) result }
+{
+    let end = feed_all(alloc, store, link, clock, disk);
+    if !is_open_end(end) {
+        return end;
+    }
+    match store.commit(disk) {
+        Ok(()) => end,
+        Err(cause) => Fed::Broken {
+            fault: answer_of_fault(cause),
+        },
+    }
+}
