@@ -3,6 +3,7 @@ pub mod Undamaged
 pub mod SameKept
 pub mod Joining
 pub mod Tasks
+pub mod Shortening
 pub mod Exports
 pub mod Feeding
 pub mod Causes

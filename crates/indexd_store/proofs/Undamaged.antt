@@ -1,7 +1,6 @@
 -- What a run blames as damaged is what a layer below has found damaged.
-use Rattle.std.proofs.Common.{◌≡◌, ℕ, refl, inl, inr}
+use Rattle.std.proofs.Common.{◌≡◌, ℕ, inl, inr}
 use Rattle.ix_base.specs.declared.files.File.{File}
-use Rattle.ix_keep.specs.declared.fault.CommitFault.{CommitFault}
 use Rattle.ix_keep.specs.declared.fault.CommitFault.TheVariants as commits
 use Rattle.ix_life.specs.declared.views.View.{View}
 use Rattle.ix_machine.specs.declared.answers.Refusal.{Refusal}
@@ -14,9 +13,8 @@ use Rattle.ix_store.specs.declared.fault.ExportFault.{ExportFault}
 use Rattle.ix_store.specs.declared.fault.ExportFault.TheVariants as exports
 use Rattle.ix_store.specs.declared.fault.MountFault.{MountFault}
 use Rattle.ix_store.specs.declared.fault.MountFault.TheVariants as mounts
-use Rattle.indexd_store.specs.Stops.{of_mount, of_refusal, of_commit, of_give, of_export, of_run}
+use Rattle.indexd_store.specs.Stops.{of_mount, of_refusal, of_give, of_export, of_run}
 use Rattle.indexd_store.specs.Tasks.{IsUnsaid}
-use Rattle.indexd_store.specs.declared.stop.Stop.{Stop}
 use Rattle.indexd_store.specs.declared.stop.Stop.TheVariants as stops
 use Rattle.indexd_store.specs.declared.task.Task.{Task}
 

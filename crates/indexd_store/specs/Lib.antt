@@ -1,4 +1,5 @@
 pub mod Stops
+pub mod Shortened
 pub mod Ends
 pub mod Opened
 pub mod Tasks

@@ -1,5 +1,7 @@
 -- Why a run over a store stops.
 use Rattle.std.specs.Prelude.{◌≡◌, ◌⊎◌, ℕ, Bool, true, false, List, Result, Ok, Err}
+use Rattle.ix_checkpoint.specs.declared.fault.CheckpointFault.{CheckpointFault}
+use Rattle.ix_checkpoint.specs.declared.fault.CheckpointFault.TheVariants as checkpoints
 use Rattle.ix_keep.specs.declared.fault.CommitFault.{CommitFault}
 use Rattle.ix_keep.specs.declared.fault.CommitFault.TheVariants as commits
 use Rattle.ix_machine.specs.Bounds.{IsRefused}
@@ -41,6 +43,10 @@ of_refusal refusals.NoMemory = stops.Memory
 abbrev pub of_commit : CommitFault → Stop
 of_commit commits.Disk = stops.Disk
 of_commit (commits.Damaged file at) = stops.Damaged file at
+
+abbrev pub of_checkpoint : CheckpointFault → Stop
+of_checkpoint checkpoints.Disk = stops.Disk
+of_checkpoint checkpoints.NoMemory = stops.Memory
 
 abbrev pub of_give : GiveFault → Stop
 of_give (Refused refusal) = of_refusal refusal

@@ -9,19 +9,22 @@ ghost use Rattle.ix_disk.specs.Image.{Image};
 ghost use Rattle.ix_machine.specs.Given.{Chooser};
 ghost use Rattle.ix_machine.specs.Step.{after};
 ghost use Rattle.ix_machine.specs.declared.commands.Order.{Order};
+ghost use Rattle.ix_run.specs.Resting.{IsAtRest, ReadsShort};
 ghost use Rattle.ix_store.specs.Exporting.{is_seen};
 ghost use Rattle.ix_store.specs.Holding.{Holds};
 ghost use Rattle.indexd_store.specs.Ends.{Ends};
+ghost use Rattle.indexd_store.specs.Shortened.{is_short};
 ghost use Rattle.indexd_store.specs.Stops.{loses_in, is_input};
 ghost use Rattle.indexd_store.specs.Tasks.{HasExported, IsUnexported};
 
+use crate::finish::make_short;
 use crate::stop::{Stop, of_export};
 use ix_base::{Range, Sink};
 use ix_disk::Disk;
-use ix_store::{Memory, Store};
+use ix_store::{Listing, Memory, Store};
 
 /// Writes a line for each event of an index whose time is within the range. Nothing changes on the disk.
-pub(crate) fn export<M: Memory + Drop, D: Disk, W: Sink>(
+fn write_lines<M: Memory + Drop, D: Disk, W: Sink>(
     store: &mut Store<M>,
     disk: &mut D,
     index: &str,
@@ -45,6 +48,7 @@ pub(crate) fn export<M: Memory + Drop, D: Disk, W: Sink>(
     // A disk that keeps what was committed is not damaged.
     ensures undamaged { (file : File) (at : ℕ) → result ≡ Err (Stop.Damaged file at) → (choose : Chooser) (history : List Order) (base : ℕ) → M.is_chooser choose →
         AllByRecursion M.takes history → Holds D.Disk M.Book.fits M.holds choose history base (length history) store.old disk.old → (image : Image) → D.Disk.seen disk.new ≡ Some image → ⊥ }
+    ensures same { D.Disk.seen disk.new ≡ D.Disk.seen disk.old }
     ensures later { D.Disk.faults disk.old ≤ D.Disk.faults disk.new }
     ensures cause { IsErrOf result Stop.Disk → Rose (D.Disk.faults disk.old) (D.Disk.faults disk.new) }
     ensures grown { W.faults output.old ≤ W.faults output.new }
@@ -54,5 +58,46 @@ pub(crate) fn export<M: Memory + Drop, D: Disk, W: Sink>(
     match store.export(disk, index.as_bytes(), range, output) {
         Ok(_) => Ok(()),
         Err(fault) => Err(of_export(fault)),
+    }
+}
+
+/// Makes the log short where it is long, and writes a line for each event of an index whose time is within the range.
+pub(crate) fn export<M: Listing + Drop, D: Disk, W: Sink>(
+    store: &mut Store<M>,
+    disk: &mut D,
+    index: &str,
+    range: &Range,
+    output: &mut W,
+) -> Result<(), Stop>
+    requires { IsAtRest D.Disk store.old.keeper disk.old }
+    ensures ends { (choose : Chooser) (history : List Order) (base : ℕ) → M.is_chooser choose → AllByRecursion M.takes history →
+        Holds D.Disk M.Book.fits M.holds choose history base (length history) store.old disk.old →
+        Ends (loses_in result) D.Disk M.Book.fits M.holds choose history base (λ orders. orders ≡ []) store.new disk.old disk.new }
+    // An index is exported where it is seen, and missed exactly where it is not.
+    ensures fine { OnOk result ((choose : Chooser) (history : List Order) (base : ℕ) → M.is_chooser choose → AllByRecursion M.takes history →
+        Holds D.Disk M.Book.fits M.holds choose history base (length history) store.old disk.old →
+        is_seen (after choose history) index.now ≡ true) }
+    ensures why { IfErr result (λ stop. (choose : Chooser) (history : List Order) (base : ℕ) → M.is_chooser choose → AllByRecursion M.takes history →
+        Holds D.Disk M.Book.fits M.holds choose history base (length history) store.old disk.old →
+        IsUnexported choose history index.now stop) }
+    ensures lines { OnOk result ((choose : Chooser) (history : List Order) (base : ℕ) → M.is_chooser choose → AllByRecursion M.takes history →
+        Holds D.Disk M.Book.fits M.holds choose history base (length history) store.old disk.old →
+        HasExported HasWritten D.Disk choose history index.now range.now disk.new (W.given output.old) (W.given output.new)) }
+    ensures begun { OnErr result ((choose : Chooser) (history : List Order) (base : ℕ) → M.is_chooser choose → AllByRecursion M.takes history →
+        Holds D.Disk M.Book.fits M.holds choose history base (length history) store.old disk.old →
+        HasExported HasBegun D.Disk choose history index.now range.now disk.new (W.given output.old) (W.given output.new)) }
+    // A disk that keeps what was committed is not damaged.
+    ensures undamaged { (file : File) (at : ℕ) → result ≡ Err (Stop.Damaged file at) → (choose : Chooser) (history : List Order) (base : ℕ) → M.is_chooser choose →
+        AllByRecursion M.takes history → Holds D.Disk M.Book.fits M.holds choose history base (length history) store.old disk.old → (image : Image) → D.Disk.seen disk.new ≡ Some image → ⊥ }
+    ensures short { is_short result ≡ true → ReadsShort D.Disk disk.new }
+    ensures later { D.Disk.faults disk.old ≤ D.Disk.faults disk.new }
+    ensures cause { IsErrOf result Stop.Disk → Rose (D.Disk.faults disk.old) (D.Disk.faults disk.new) }
+    ensures grown { W.faults output.old ≤ W.faults output.new }
+    ensures unread { IfErr result (λ stop. is_input stop ≡ false) }
+    ensures output { IsErrOf result Stop.Output → Rose (W.faults output.old) (W.faults output.new) }
+{
+    match make_short(store, disk) {
+        Ok(()) => write_lines(store, disk, index, range, output),
+        Err(stop) => Err(stop),
     }
 }

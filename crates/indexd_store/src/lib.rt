@@ -3,6 +3,7 @@
 #![tactic(auto)]
 
 mod export;
+mod finish;
 mod opening;
 mod preview;
 mod run;
@@ -12,6 +13,7 @@ mod stop;
 mod task;
 mod texts;
 
+pub use finish::stop_run;
 pub use opening::open;
 pub use preview::run_preview;
 pub use run::run_task;

@@ -3,25 +3,31 @@
 ghost use Rattle.std.specs.Prelude.{◌≡◌, ◌≤◌, ℕ, ℤ, List, false, Some, Err, IfOk, IfErr, IsErrOf};
 ghost use Rattle.std.specs.List.{AllByRecursion};
 ghost use Rattle.ix_base.specs.Faults.{Rose};
+ghost use Rattle.ix_base.specs.Told.{Told};
 ghost use Rattle.ix_base.specs.declared.files.File.{File};
 ghost use Rattle.ix_disk.specs.Image.{Image};
+ghost use Rattle.ix_keep.specs.Contents.{Anyhow};
 ghost use Rattle.ix_keep.specs.Snapshot.{IsOver};
 ghost use Rattle.ix_machine.specs.Given.{Chooser};
 ghost use Rattle.ix_machine.specs.declared.commands.Order.{Order};
+ghost use Rattle.ix_run.specs.Resting.{IsAtRest};
 ghost use Rattle.indexd_store.specs.Opened.{Begins, configuring, HasOpened, HasShut};
+ghost use Rattle.indexd_store.specs.Shortened.{StopsShort};
 ghost use Rattle.indexd_store.specs.Stops.{is_output, is_input};
 
+use crate::finish::stop_run;
 use crate::settings::same_kept;
 use crate::single::run_last;
 use crate::stop::{Stop, of_mount};
 use ix_base::Clock;
 use ix_disk::Disk;
 use ix_machine::{Command, Config};
-use ix_store::{Memory, Store};
+use ix_store::{Listing, Store};
 use std::alloc::Global;
 
-/// Mounts the store that a disk keeps, or begins a new one, and puts these settings in force where others are.
-pub fn open<M: Memory + Drop, D: Disk, C: Clock>(
+/// Mounts the store that a disk keeps, or begins a new one, and puts these settings in force where others are. A run that stops once the
+/// store is mounted has made its log short where it is long.
+pub fn open<M: Listing + Drop, D: Disk, C: Clock>(
     alloc: Global,
     disk: &mut D,
     clock: &mut C,
@@ -40,6 +46,11 @@ pub fn open<M: Memory + Drop, D: Disk, C: Clock>(
     ensures undamaged { (file : File) (at : ℕ) → result ≡ Err (Stop.Damaged file at) → (choose : Chooser) (history : List Order) (k : ℕ) → M.is_chooser choose → AllByRecursion M.takes history →
         Begins D.Disk M.Book.fits choose history k disk.old → (image : Image) → D.Disk.seen disk.old ≡ Some image → (later : Image) → D.Disk.seen disk.new ≡ Some later → ⊥ }
     ensures over { IfOk result (λ store. IsOver D.Disk store.keeper disk.new) }
+    // What the end of a run asks for, and what it leaves at a stop.
+    ensures rest { IfOk result (λ store. IsAtRest D.Disk store.keeper disk.new) }
+    ensures short { IfErr result (λ stop. StopsShort D.Disk M.Book.fits stop disk.old disk.new) }
+    // A disk that tells what it reads goes on telling.
+    ensures told { Told Anyhow (D.Disk.seen disk.old) (D.Disk.seen disk.new) }
     ensures later { D.Disk.faults disk.old ≤ D.Disk.faults disk.new }
     ensures cause { IsErrOf result Stop.Disk → Rose (D.Disk.faults disk.old) (D.Disk.faults disk.new) }
     ensures quiet { IfErr result (λ stop. is_output stop ≡ false) }
@@ -55,6 +66,6 @@ pub fn open<M: Memory + Drop, D: Disk, C: Clock>(
     let moment = clock.now();
     match run_last(&mut store, disk, Command::Configure { config }, moment) {
         Ok(_) => Ok(store),
-        Err(stop) => Err(stop),
+        Err(stop) => Err(stop_run(&mut store, disk, stop)),
     }
 }

@@ -1,21 +1,23 @@
 //! A preview whose events are stored: the input is given to the store as the stream of a channel. The program calls `run_preview`.
 
-ghost use Rattle.std.specs.Prelude.{◌≡◌, ◌≤◌, ℕ, ℤ, List, length, false, Some, Err, IfOk, IfErr, OnOk, IsErrOf};
+ghost use Rattle.std.specs.Prelude.{◌≡◌, ◌≤◌, ℕ, ℤ, List, length, true, false, Some, Err, IfOk, IfErr, OnOk, IsErrOf};
 ghost use Rattle.std.specs.List.{AllByRecursion};
 ghost use Rattle.ix_base.specs.Faults.{Rose};
 ghost use Rattle.ix_base.specs.declared.files.File.{File};
 ghost use Rattle.ix_disk.specs.Image.{Image};
-ghost use Rattle.ix_keep.specs.Snapshot.{IsOver};
 ghost use Rattle.ix_machine.specs.Given.{Chooser};
 ghost use Rattle.ix_machine.specs.declared.commands.Order.{Order};
 ghost use Rattle.ix_run.specs.Storing.{begin_order, block_order, end_order, IsBlock};
+ghost use Rattle.ix_run.specs.Resting.{IsAtRest, ReadsShort};
 ghost use Rattle.ix_store.specs.Holding.{Holds};
 ghost use Rattle.indexd_store.specs.Ends.{Ends};
 ghost use Rattle.indexd_store.specs.Opened.{Begins, configuring, WhenOpen, HasRun, HasStopped};
 ghost use Rattle.indexd_store.specs.Previews as defs;
 ghost use Rattle.indexd_store.specs.Previews.{HasTaken, Fed, HasFed};
+ghost use Rattle.indexd_store.specs.Shortened.{is_short, EndsShort};
 ghost use Rattle.indexd_store.specs.Stops.{loses_in, is_output};
 
+use crate::finish::{make_short, stop_run};
 use crate::opening::open;
 use crate::stop::{Stop, of_run};
 use ix_base::{ChannelMeta, Clock, Source};
@@ -23,7 +25,7 @@ use ix_disk::Disk;
 use ix_life::LimitSet;
 use ix_machine::Config;
 use ix_run::{Arrival, store_input};
-use ix_store::{Memory, Store};
+use ix_store::{Listing, Store};
 use std::alloc::Global;
 
 /// Whether an index is stated that is not configured.
@@ -37,17 +39,18 @@ fn is_missing(limits: &LimitSet, origin: &ChannelMeta) -> bool
 }
 
 /// Stores an input in an open store. An index that is stated and not configured is missed before anything is read.
-fn store_preview<M: Memory + Drop, D: Disk, S: Source>(
+fn store_all<M: Listing + Drop, D: Disk, S: Source>(
     alloc: Global,
     store: &mut Store<M>,
     disk: &mut D,
     input: &mut S,
     arrival: Arrival,
 ) -> Result<(), Stop>
-    requires over { IsOver D.Disk store.old.keeper disk.old }
+    requires rest { IsAtRest D.Disk store.old.keeper disk.old }
     requires ends { M.takes (end_order arrival.moment) }
     requires begins { M.takes (begin_order arrival.origin arrival.moment) }
     requires adds { (bytes : List ℕ) → IsBlock bytes → M.takes (block_order arrival.moment bytes) }
+    ensures rest { loses_in result ≡ false → IsAtRest D.Disk store.new.keeper disk.new }
     ensures ends { (choose : Chooser) (history : List Order) (base : ℕ) → M.is_chooser choose → AllByRecursion M.takes history →
         Holds D.Disk M.Book.fits M.holds choose history base (length history) store.old disk.old →
         Ends (loses_in result) D.Disk M.Book.fits M.holds choose history base
@@ -70,9 +73,42 @@ fn store_preview<M: Memory + Drop, D: Disk, S: Source>(
     }
 }
 
+/// Stores an input in an open store, and makes the log short where it is long.
+fn store_preview<M: Listing + Drop, D: Disk, S: Source>(
+    alloc: Global,
+    store: &mut Store<M>,
+    disk: &mut D,
+    input: &mut S,
+    arrival: Arrival,
+) -> Result<(), Stop>
+    requires rest { IsAtRest D.Disk store.old.keeper disk.old }
+    requires ends { M.takes (end_order arrival.moment) }
+    requires begins { M.takes (begin_order arrival.origin arrival.moment) }
+    requires adds { (bytes : List ℕ) → IsBlock bytes → M.takes (block_order arrival.moment bytes) }
+    ensures ends { (choose : Chooser) (history : List Order) (base : ℕ) → M.is_chooser choose → AllByRecursion M.takes history →
+        Holds D.Disk M.Book.fits M.holds choose history base (length history) store.old disk.old →
+        Ends (loses_in result) D.Disk M.Book.fits M.holds choose history base
+        (Fed choose base history arrival.origin arrival.moment result (S.left input.old) (S.left input.new)) store.new disk.old disk.new }
+    ensures read { HasTaken result (S.left input.old) (S.left input.new) }
+    ensures quiet { IfErr result (λ stop. is_output stop ≡ false) }
+    ensures short { is_short result ≡ true → ReadsShort D.Disk disk.new }
+    ensures undamaged { (file : File) (at : ℕ) → result ≡ Err (Stop.Damaged file at) → (choose : Chooser) (history : List Order) (base : ℕ) → M.is_chooser choose →
+        AllByRecursion M.takes history → Holds D.Disk M.Book.fits M.holds choose history base (length history) store.old disk.old → (image : Image) → D.Disk.seen disk.new ≡ Some image → ⊥ }
+    ensures later { D.Disk.faults disk.old ≤ D.Disk.faults disk.new }
+    ensures cause { IsErrOf result Stop.Disk → Rose (D.Disk.faults disk.old) (D.Disk.faults disk.new) }
+    ensures read_later { S.faults input.old ≤ S.faults input.new }
+    ensures input { IsErrOf result Stop.Input → Rose (S.faults input.old) (S.faults input.new) }
+{
+    match store_all(alloc, store, disk, input, arrival) {
+        Ok(()) => make_short(store, disk),
+        Err(stop) => Err(stop_run(store, disk, stop)),
+    }
+}
+
 /// Opens the store of a disk with these settings, and stores an input in it, whose bytes all arrive at the moment that the clock shows before
-/// it is read.
-pub fn run_preview<M: Memory + Drop, D: Disk, C: Clock, S: Source>(
+/// it is read. Behind the last commit, also where it stops, it makes the log short where that is long: for want of memory, or where the disk
+/// fails, it stops for that in place of any other end.
+pub fn run_preview<M: Listing + Drop, D: Disk, C: Clock, S: Source>(
     alloc: Global,
     disk: &mut D,
     clock: &mut C,
@@ -100,6 +136,8 @@ pub fn run_preview<M: Memory + Drop, D: Disk, C: Clock, S: Source>(
     // and it is sound.
     ensures sound { IsErrOf result Stop.Unsound → (choose : Chooser) (history : List Order) (k : ℕ) → M.is_chooser choose → AllByRecursion M.takes history →
         Begins D.Disk M.Book.fits choose history k disk.old → (image : Image) → D.Disk.seen disk.old ≡ Some image → ⊥ }
+    // Its log is not long then, as the disk reads, whatever it stops for; but where memory was short, or the disk has failed or is not sound.
+    ensures short { EndsShort D.Disk M.Book.fits result disk.old disk.new }
     ensures read { HasTaken result (S.left input.old) (S.left input.new) }
     ensures quiet { IfErr result (λ stop. is_output stop ≡ false) }
     ensures later { D.Disk.faults disk.old ≤ D.Disk.faults disk.new }

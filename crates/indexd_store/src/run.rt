@@ -6,18 +6,20 @@ ghost use Rattle.ix_base.specs.Faults.{Rose};
 ghost use Rattle.ix_base.specs.Told.{HasWritten, HasBegun};
 ghost use Rattle.ix_base.specs.declared.files.File.{File};
 ghost use Rattle.ix_disk.specs.Image.{Image};
-ghost use Rattle.ix_keep.specs.Snapshot.{IsOver};
 ghost use Rattle.ix_machine.specs.Given.{Chooser};
 ghost use Rattle.ix_machine.specs.Step.{after};
 ghost use Rattle.ix_machine.specs.declared.commands.Order.{Order};
+ghost use Rattle.ix_run.specs.Resting.{IsAtRest, ReadsShort};
 ghost use Rattle.ix_store.specs.Holding.{Holds};
 ghost use Rattle.indexd_store.specs.Asked.{Asks};
 ghost use Rattle.indexd_store.specs.Ends.{Ends};
 ghost use Rattle.indexd_store.specs.Opened.{Begins, configuring, WhenOpen, HasRun, HasStopped};
+ghost use Rattle.indexd_store.specs.Shortened.{is_short, EndsShort};
 ghost use Rattle.indexd_store.specs.Stops.{loses_in, is_output, is_input};
 ghost use Rattle.indexd_store.specs.Tasks.{command_in, orders_in, Gave, IsWhy, IsFine, moved_by, is_export, says, HasSaid, HasPrinted, HasDone, HasHalted};
 
 use crate::export::export;
+use crate::finish::{make_short, stop_run};
 use crate::opening::open;
 use crate::single::run_last;
 use crate::stop::Stop;
@@ -26,7 +28,7 @@ use crate::texts::say;
 use ix_base::{Clock, Sink};
 use ix_disk::Disk;
 use ix_machine::Config;
-use ix_store::{Memory, Store};
+use ix_store::{Listing, Store};
 use std::alloc::Global;
 
 /// The moment of a task's command: the clock is asked for it. Where there is no command it is not asked.
@@ -40,15 +42,16 @@ fn moment_of<C: Clock>(task: Task<'_>, clock: &mut C) -> i64
 }
 
 /// Gives the store the command of a task, commits it, and answers how many buckets it moved.
-fn give_task<M: Memory + Drop, D: Disk>(
+fn give_command<M: Listing + Drop, D: Disk>(
     alloc: Global,
     store: &mut Store<M>,
     disk: &mut D,
     task: Task<'_>,
     moment: i64,
 ) -> Result<u64, Stop>
-    requires over { IsOver D.Disk store.old.keeper disk.old }
+    requires rest { IsAtRest D.Disk store.old.keeper disk.old }
     requires takes { AllByRecursion M.takes (orders_in task moment) }
+    ensures rest { loses_in result ≡ false → IsAtRest D.Disk store.new.keeper disk.new }
     ensures ends { (choose : Chooser) (history : List Order) (base : ℕ) → M.is_chooser choose → AllByRecursion M.takes history →
         Holds D.Disk M.Book.fits M.holds choose history base (length history) store.old disk.old →
         Ends (loses_in result) D.Disk M.Book.fits M.holds choose history base (Gave result (orders_in task.entry moment)) store.new disk.old disk.new }
@@ -79,8 +82,47 @@ fn give_task<M: Memory + Drop, D: Disk>(
     }
 }
 
+/// Gives the store the command of a task, commits it, makes the log short where it is long, and answers how many buckets it moved.
+fn give_task<M: Listing + Drop, D: Disk>(
+    alloc: Global,
+    store: &mut Store<M>,
+    disk: &mut D,
+    task: Task<'_>,
+    moment: i64,
+) -> Result<u64, Stop>
+    requires rest { IsAtRest D.Disk store.old.keeper disk.old }
+    requires takes { AllByRecursion M.takes (orders_in task moment) }
+    ensures ends { (choose : Chooser) (history : List Order) (base : ℕ) → M.is_chooser choose → AllByRecursion M.takes history →
+        Holds D.Disk M.Book.fits M.holds choose history base (length history) store.old disk.old →
+        Ends (loses_in result) D.Disk M.Book.fits M.holds choose history base (Gave result (orders_in task.entry moment)) store.new disk.old disk.new }
+    ensures moved { IfOk result (λ count. (choose : Chooser) (history : List Order) (base : ℕ) → M.is_chooser choose → AllByRecursion M.takes history →
+        Holds D.Disk M.Book.fits M.holds choose history base (length history) store.old disk.old →
+        count ≡ moved_by (after choose history) (command_in task.entry) moment) }
+    ensures fine { OnOk result (is_export task.entry ≡ false → (choose : Chooser) (history : List Order) (base : ℕ) → M.is_chooser choose → AllByRecursion M.takes history →
+        Holds D.Disk M.Book.fits M.holds choose history base (length history) store.old disk.old →
+        IsFine choose history task.entry moment) }
+    ensures why { IfErr result (λ stop. (choose : Chooser) (history : List Order) (base : ℕ) → M.is_chooser choose → AllByRecursion M.takes history →
+        Holds D.Disk M.Book.fits M.holds choose history base (length history) store.old disk.old →
+        IsWhy choose history task.entry moment stop) }
+    ensures short { is_short result ≡ true → ReadsShort D.Disk disk.new }
+    ensures undamaged { (file : File) (at : ℕ) → result ≡ Err (Stop.Damaged file at) → (choose : Chooser) (history : List Order) (base : ℕ) → M.is_chooser choose →
+        AllByRecursion M.takes history → Holds D.Disk M.Book.fits M.holds choose history base (length history) store.old disk.old → (image : Image) → D.Disk.seen disk.new ≡ Some image → ⊥ }
+    ensures later { D.Disk.faults disk.old ≤ D.Disk.faults disk.new }
+    ensures cause { IsErrOf result Stop.Disk → Rose (D.Disk.faults disk.old) (D.Disk.faults disk.new) }
+    ensures quiet { IfErr result (λ stop. is_output stop ≡ false) }
+    ensures unread { IfErr result (λ stop. is_input stop ≡ false) }
+{
+    match give_command(alloc, store, disk, task, moment) {
+        Ok(count) => match make_short(store, disk) {
+            Ok(()) => Ok(count),
+            Err(stop) => Err(stop),
+        },
+        Err(stop) => Err(stop_run(store, disk, stop)),
+    }
+}
+
 /// Gives the task to an open store, and writes its text.
-fn give_and_say<M: Memory + Drop, D: Disk, W: Sink>(
+fn give_and_say<M: Listing + Drop, D: Disk, W: Sink>(
     alloc: Global,
     store: &mut Store<M>,
     disk: &mut D,
@@ -88,7 +130,7 @@ fn give_and_say<M: Memory + Drop, D: Disk, W: Sink>(
     moment: i64,
     output: &mut W,
 ) -> Result<(), Stop>
-    requires over { IsOver D.Disk store.old.keeper disk.old }
+    requires rest { IsAtRest D.Disk store.old.keeper disk.old }
     requires other { is_export task ≡ false }
     requires takes { AllByRecursion M.takes (orders_in task moment) }
     ensures ends { (choose : Chooser) (history : List Order) (base : ℕ) → M.is_chooser choose → AllByRecursion M.takes history →
@@ -107,6 +149,7 @@ fn give_and_say<M: Memory + Drop, D: Disk, W: Sink>(
     ensures why { IfErr result (λ stop. (choose : Chooser) (history : List Order) (base : ℕ) → M.is_chooser choose → AllByRecursion M.takes history →
         Holds D.Disk M.Book.fits M.holds choose history base (length history) store.old disk.old →
         IsWhy choose history task.entry moment stop) }
+    ensures short { is_short result ≡ true → ReadsShort D.Disk disk.new }
     ensures unread { IfErr result (λ stop. is_input stop ≡ false) }
     ensures undamaged { (file : File) (at : ℕ) → result ≡ Err (Stop.Damaged file at) → (choose : Chooser) (history : List Order) (base : ℕ) → M.is_chooser choose →
         AllByRecursion M.takes history → Holds D.Disk M.Book.fits M.holds choose history base (length history) store.old disk.old → (image : Image) → D.Disk.seen disk.new ≡ Some image → ⊥ }
@@ -122,7 +165,7 @@ fn give_and_say<M: Memory + Drop, D: Disk, W: Sink>(
 }
 
 /// Carries a task out over an open store.
-fn carry_out<M: Memory + Drop, D: Disk, W: Sink>(
+fn carry_out<M: Listing + Drop, D: Disk, W: Sink>(
     alloc: Global,
     store: &mut Store<M>,
     disk: &mut D,
@@ -130,7 +173,7 @@ fn carry_out<M: Memory + Drop, D: Disk, W: Sink>(
     moment: i64,
     output: &mut W,
 ) -> Result<(), Stop>
-    requires over { IsOver D.Disk store.old.keeper disk.old }
+    requires rest { IsAtRest D.Disk store.old.keeper disk.old }
     requires takes { AllByRecursion M.takes (orders_in task moment) }
     ensures ends { (choose : Chooser) (history : List Order) (base : ℕ) → M.is_chooser choose → AllByRecursion M.takes history →
         Holds D.Disk M.Book.fits M.holds choose history base (length history) store.old disk.old →
@@ -148,6 +191,7 @@ fn carry_out<M: Memory + Drop, D: Disk, W: Sink>(
     ensures why { IfErr result (λ stop. (choose : Chooser) (history : List Order) (base : ℕ) → M.is_chooser choose → AllByRecursion M.takes history →
         Holds D.Disk M.Book.fits M.holds choose history base (length history) store.old disk.old →
         IsWhy choose history task.entry moment stop) }
+    ensures short { is_short result ≡ true → ReadsShort D.Disk disk.new }
     ensures unread { IfErr result (λ stop. is_input stop ≡ false) }
     ensures undamaged { (file : File) (at : ℕ) → result ≡ Err (Stop.Damaged file at) → (choose : Chooser) (history : List Order) (base : ℕ) → M.is_chooser choose →
         AllByRecursion M.takes history → Holds D.Disk M.Book.fits M.holds choose history base (length history) store.old disk.old → (image : Image) → D.Disk.seen disk.new ≡ Some image → ⊥ }
@@ -162,8 +206,9 @@ fn carry_out<M: Memory + Drop, D: Disk, W: Sink>(
     }
 }
 
-/// Opens the store of a disk with these settings, gives it the task, and writes the text.
-pub fn run_task<M: Memory + Drop, D: Disk, C: Clock, W: Sink>(
+/// Opens the store of a disk with these settings, gives it the task, and writes the text. Before it writes, and also where it stops, it has made
+/// the log short where that is long: for want of memory, or where the disk fails, it stops for that in place of any other end.
+pub fn run_task<M: Listing + Drop, D: Disk, C: Clock, W: Sink>(
     alloc: Global,
     disk: &mut D,
     clock: &mut C,
@@ -191,6 +236,8 @@ pub fn run_task<M: Memory + Drop, D: Disk, C: Clock, W: Sink>(
     // and it is sound.
     ensures sound { IsErrOf result Stop.Unsound → (choose : Chooser) (history : List Order) (k : ℕ) → M.is_chooser choose → AllByRecursion M.takes history →
         Begins D.Disk M.Book.fits choose history k disk.old → (image : Image) → D.Disk.seen disk.old ≡ Some image → ⊥ }
+    // Its log is not long then, as the disk reads, whatever it stops for; but where memory was short, or the disk has failed or is not sound.
+    ensures short { EndsShort D.Disk M.Book.fits result disk.old disk.new }
     ensures unread { IfErr result (λ stop. is_input stop ≡ false) }
     ensures later { D.Disk.faults disk.old ≤ D.Disk.faults disk.new }
     ensures cause { IsErrOf result Stop.Disk → Rose (D.Disk.faults disk.old) (D.Disk.faults disk.new) }

@@ -3,23 +3,26 @@
 ghost use Rattle.std.specs.Prelude.{◌≡◌, ◌≤◌, ◌+◌, ℕ, List, length, true, false, Some, Err, IfOk, IfErr, OnOk, IsErrOf};
 ghost use Rattle.std.specs.List.{AllByRecursion};
 ghost use Rattle.ix_base.specs.Faults.{Rose};
+ghost use Rattle.ix_base.specs.Told.{Told};
 ghost use Rattle.ix_base.specs.declared.files.File.{File};
 ghost use Rattle.ix_disk.specs.Image.{Image};
+ghost use Rattle.ix_keep.specs.Contents.{Anyhow};
 ghost use Rattle.ix_keep.specs.Snapshot.{IsOver};
 ghost use Rattle.ix_machine.specs.Given.{Chooser};
 ghost use Rattle.ix_machine.specs.declared.commands.Order.{Order};
+ghost use Rattle.ix_run.specs.Resting.{IsAtRest};
 ghost use Rattle.ix_store.specs.Holding.{Holds, IsAnswer};
 ghost use Rattle.indexd_store.specs.Ends.{IsLeft, Ends, Only, AtMost};
-ghost use Rattle.indexd_store.specs.Stops.{loses, is_output, is_input, Caused};
+ghost use Rattle.indexd_store.specs.Stops.{loses, loses_in, is_output, is_input, Caused};
 
 use crate::stop::{Stop, of_give};
 use ix_disk::Disk;
 use ix_machine::{Accepted, Command};
 use ix_run::give_last;
-use ix_store::{Memory, Store};
+use ix_store::{Listing, Store};
 
 /// Gives a command to a store of which all is committed, and commits it.
-pub fn run_last<M: Memory + Drop, D: Disk>(
+pub fn run_last<M: Listing + Drop, D: Disk>(
     store: &mut Store<M>,
     disk: &mut D,
     command: Command,
@@ -43,9 +46,13 @@ pub fn run_last<M: Memory + Drop, D: Disk>(
         Holds D.Disk M.Book.fits M.holds choose history base (length history) store.old disk.old →
         Caused choose store.old.drawn history (record { command = command; moment = moment }) stop) }
     ensures over { OnOk result (IsOver D.Disk store.new.keeper disk.new) }
+    // What the end of a run asks for, unless the disk is at fault.
+    ensures rest { loses_in result ≡ false → IsAtRest D.Disk store.old.keeper disk.old → IsAtRest D.Disk store.new.keeper disk.new }
     // A disk that keeps what was committed is not damaged.
     ensures undamaged { (file : File) (at : ℕ) → result ≡ Err (Stop.Damaged file at) → (choose : Chooser) (history : List Order) (base : ℕ) → M.is_chooser choose →
         AllByRecursion M.takes history → Holds D.Disk M.Book.fits M.holds choose history base (length history) store.old disk.old → (image : Image) → D.Disk.seen disk.new ≡ Some image → ⊥ }
+    // A disk that tells what it reads goes on telling.
+    ensures told { Told Anyhow (D.Disk.seen disk.old) (D.Disk.seen disk.new) }
     ensures later { D.Disk.faults disk.old ≤ D.Disk.faults disk.new }
     ensures cause { IsErrOf result Stop.Disk → Rose (D.Disk.faults disk.old) (D.Disk.faults disk.new) }
     ensures quiet { IfErr result (λ stop. is_output stop ≡ false) }

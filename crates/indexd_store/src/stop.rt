@@ -4,6 +4,7 @@ ghost use Rattle.std.specs.Prelude.{◌≡◌};
 ghost use Rattle.indexd_store.specs.Stops as defs;
 
 use ix_base::{File, NoMemory};
+use ix_checkpoint::CheckpointFault;
 use ix_keep::CommitFault;
 use ix_machine::Refusal;
 use ix_run::{GiveFault, RunFault};
@@ -44,6 +45,18 @@ impl From<NoMemory> for Stop {
     }
 }
 
+/// Whether the disk has failed, or did not keep what was committed. The store is closed then.
+pub(crate) fn loses(stop: Stop) -> bool
+    ensures { result ≡ defs.loses stop }
+{
+    match stop {
+        Stop::Disk | Stop::Damaged { .. } => true,
+        Stop::Memory | Stop::Unsound | Stop::NotFound => false,
+        Stop::TooManyChannels | Stop::Full => false,
+        Stop::Output | Stop::Input | Stop::Endless => false,
+    }
+}
+
 /// Why nothing was mounted.
 pub fn of_mount(fault: MountFault) -> Stop
     ensures { result ≡ defs.of_mount fault }
@@ -79,6 +92,16 @@ pub fn of_commit(fault: CommitFault) -> Stop
     match fault {
         CommitFault::Disk => Stop::Disk,
         CommitFault::Damaged { file, at } => Stop::Damaged { file, at },
+    }
+}
+
+/// Why the log was not made short.
+pub fn of_checkpoint(fault: CheckpointFault) -> Stop
+    ensures { result ≡ defs.of_checkpoint fault }
+{
+    match fault {
+        CheckpointFault::Disk => Stop::Disk,
+        CheckpointFault::NoMemory => Stop::Memory,
     }
 }
 

@@ -103,16 +103,6 @@ module _ {D : Type 0} (g : Ghosts D) {M : Type 0} (fits : Book → Type 0) (hold
     either image (inl stands) = stands_from fits run choose h k k image (omega arith) within stands
     either image (inr stands) = stands_from fits run choose h k (length h) image within (omega arith) (subst (λ (some : List Order). Stands fits run choose some image) (sym (take_whole h)) stands)
 
-  -- a commit of all
-  pub gone_all : (h : List Order) (run base k : ℕ) (store : Store M) (before disk : D) → k ≤ length h → Holds g fits holds choose h base (length h) store disk →
-      Always g before disk (λ (image : Image). Stands fits run choose (take k h) image ⊎ Stands fits run choose h image) → HasGone g fits holds choose h [] base k store before disk
-  gone_all h run base k store before disk within hold always = record {
-    count = length h;
-    kept = within;
-    hold = subst (λ (some : List Order). Holds g fits holds choose some base (length h) store disk) (sym (none_more h)) hold;
-    stood = subst (λ (some : List Order). HasStood g fits choose some k before disk) (sym (none_more h)) (stood_either h run k before disk within always);
-  }
-
   -- what is not committed is not due: it was not before, or nothing is left
   pub settled_none : (h : List Order) (base k : ℕ) (store : Store M) (disk : D) → Holds g fits holds choose h base k store disk → is_due (drop k h) ≡ false → HasSettled g fits holds choose h [] base k store disk disk
   unfolding gone_none
@@ -121,11 +111,24 @@ module _ {D : Type 0} (g : Ghosts D) {M : Type 0} (fits : Book → Type 0) (hold
     not_due = ap (λ (some : List Order). is_due (drop k some)) (none_more h) ∙ rest;
   }
 
-  pub settled_all : (h : List Order) (run base k : ℕ) (store : Store M) (before disk : D) → k ≤ length h → Holds g fits holds choose h base (length h) store disk →
-      Always g before disk (λ (image : Image). Stands fits run choose (take k h) image ⊎ Stands fits run choose h image) → HasSettled g fits holds choose h [] base k store before disk
-  unfolding gone_all
-  settled_all h run base k store before disk within hold always = record {
-    gone = gone_all h run base k store before disk within hold always;
+  -- a commit of all, and then a checkpoint
+  pub stood_short : (h : List Order) (run other k : ℕ) (before mid disk : D) → k ≤ length h →
+      Always g before mid (λ (image : Image). Stands fits run choose (take k h) image ⊎ Stands fits run choose h image) → Always g mid disk (Stands fits other choose h) → HasStood g fits choose h k before disk
+  stood_short h run other k before mid disk within always short =
+      stood_on h k before mid disk (stood_either h run k before mid within always) (always_weaker g mid disk _ _ (λ image. all image) short) where
+        all : (image : Image) → Stands fits other choose h image → StandsFrom fits choose h k image
+        all image stands = stands_from fits other choose h k (length h) image within (omega arith) (subst (λ (some : List Order). Stands fits other choose some image) (sym (take_whole h)) stands)
+
+  pub settled_short : (h : List Order) (run other base k : ℕ) (store : Store M) (before mid disk : D) → k ≤ length h → Holds g fits holds choose h base (length h) store disk →
+      Always g before mid (λ (image : Image). Stands fits run choose (take k h) image ⊎ Stands fits run choose h image) → Always g mid disk (Stands fits other choose h) →
+      HasSettled g fits holds choose h [] base k store before disk
+  settled_short h run other base k store before mid disk within hold always short = record {
+    gone = record {
+      count = length h;
+      kept = within;
+      hold = subst (λ (some : List Order). Holds g fits holds choose some base (length h) store disk) (sym (none_more h)) hold;
+      stood = subst (λ (some : List Order). HasStood g fits choose some k before disk) (sym (none_more h)) (stood_short h run other k before mid disk within always short);
+    };
     not_due = ap (λ (some : List Order). is_due some) (none_left h (length h) refl);
   }
 

@@ -2,3 +2,4 @@ pub mod Gone
 pub mod Given
 pub mod Stored
 pub mod Filled
+pub mod Rested

@@ -1,3 +1,4 @@
 pub mod Running
 pub mod Giving
 pub mod Storing
+pub mod Resting

@@ -5,11 +5,12 @@ ghost use Rattle.std.specs.List.{AllByRecursion};
 ghost use Rattle.ix_base.specs.Faults.{Rose};
 ghost use Rattle.ix_base.specs.declared.files.File.{File};
 ghost use Rattle.ix_disk.specs.Image.{Image};
-ghost use Rattle.ix_keep.specs.Snapshot.{IsOver};
+ghost use Rattle.ix_keep.specs.Snapshot.{IsOver, IsMeasured};
 ghost use Rattle.ix_machine.specs.Given.{Chooser};
 ghost use Rattle.ix_machine.specs.Judged.{is_begun};
 ghost use Rattle.ix_machine.specs.Step.{after};
 ghost use Rattle.ix_machine.specs.declared.commands.Order.{Order};
+ghost use Rattle.ix_run.specs.Resting.{IsAtRest};
 ghost use Rattle.ix_run.specs.Storing.{tilde, begin_order, block_order, end_order, opening, filling, IsBlock, HasRead, Gives, Feeds, Stores, is_cut, is_run_cut};
 ghost use Rattle.ix_store.specs.Holding.{Holds};
 
@@ -18,7 +19,7 @@ use ix_base::{Bytes, ChannelMeta, Source};
 use ix_disk::Disk;
 use ix_keep::CommitFault;
 use ix_machine::{Command, Refusal};
-use ix_store::{Memory, Store};
+use ix_store::{Listing, Store};
 use std::alloc::Global;
 
 /// How many bytes of input are taken at the most.
@@ -53,7 +54,7 @@ struct Stream {
 }
 
 /// Gives a command to the store, and commits all that is accepted where that is due.
-fn give_one<M: Memory + Drop, D: Disk>(
+fn give_one<M: Listing + Drop, D: Disk>(
     store: &mut Store<M>,
     disk: &mut D,
     command: Command,
@@ -65,6 +66,7 @@ fn give_one<M: Memory + Drop, D: Disk>(
         Holds D.Disk M.Book.fits M.holds choose history base k store.old disk.old →
         Gives D.Disk M.Book.fits M.holds choose history base k store.new disk.old disk.new result (record { command = command; moment = moment } ∷ []) }
     ensures over { is_cut result ≡ false → IsOver D.Disk store.new.keeper disk.new }
+    ensures measured { is_cut result ≡ false → IsMeasured D.Disk store.old.keeper disk.old → IsMeasured D.Disk store.new.keeper disk.new }
     ensures undamaged { (file : File) (at : ℕ) → result ≡ Err (GiveFault.Commit (CommitFault.Damaged file at)) → (choose : Chooser) (history : List Order) (base k : ℕ) → M.is_chooser choose →
         AllByRecursion M.takes history → Holds D.Disk M.Book.fits M.holds choose history base k store.old disk.old → (image : Image) → D.Disk.seen disk.new ≡ Some image → ⊥ }
     ensures later { D.Disk.faults disk.old ≤ D.Disk.faults disk.new }
@@ -101,7 +103,7 @@ fn make_room(alloc: Global) -> Result<Vec<u8>, GiveFault>
 
 impl Stream {
     /// Ends the channel.
-    fn end<M: Memory + Drop, D: Disk>(
+    fn end<M: Listing + Drop, D: Disk>(
         self,
         store: &mut Store<M>,
         disk: &mut D,
@@ -112,6 +114,7 @@ impl Stream {
             Holds D.Disk M.Book.fits M.holds choose history base k store.old disk.old →
             Gives D.Disk M.Book.fits M.holds choose history base k store.new disk.old disk.new result (end_order self.moment ∷ []) }
         ensures over { is_cut result ≡ false → IsOver D.Disk store.new.keeper disk.new }
+        ensures measured { is_cut result ≡ false → IsMeasured D.Disk store.old.keeper disk.old → IsMeasured D.Disk store.new.keeper disk.new }
         ensures undamaged { (file : File) (at : ℕ) → result ≡ Err (GiveFault.Commit (CommitFault.Damaged file at)) → (choose : Chooser) (history : List Order) (base k : ℕ) → M.is_chooser choose →
             AllByRecursion M.takes history → Holds D.Disk M.Book.fits M.holds choose history base k store.old disk.old → (image : Image) → D.Disk.seen disk.new ≡ Some image → ⊥ }
         ensures later { D.Disk.faults disk.old ≤ D.Disk.faults disk.new }
@@ -125,7 +128,7 @@ impl Stream {
     }
 
     /// Begins the channel.
-    fn begin<M: Memory + Drop, D: Disk>(
+    fn begin<M: Listing + Drop, D: Disk>(
         self,
         store: &mut Store<M>,
         disk: &mut D,
@@ -137,6 +140,7 @@ impl Stream {
             Holds D.Disk M.Book.fits M.holds choose history base k store.old disk.old →
             Gives D.Disk M.Book.fits M.holds choose history base k store.new disk.old disk.new result (begin_order origin self.moment ∷ []) }
         ensures over { is_cut result ≡ false → IsOver D.Disk store.new.keeper disk.new }
+        ensures measured { is_cut result ≡ false → IsMeasured D.Disk store.old.keeper disk.old → IsMeasured D.Disk store.new.keeper disk.new }
         ensures undamaged { (file : File) (at : ℕ) → result ≡ Err (GiveFault.Commit (CommitFault.Damaged file at)) → (choose : Chooser) (history : List Order) (base k : ℕ) → M.is_chooser choose →
             AllByRecursion M.takes history → Holds D.Disk M.Book.fits M.holds choose history base k store.old disk.old → (image : Image) → D.Disk.seen disk.new ≡ Some image → ⊥ }
         ensures later { D.Disk.faults disk.old ≤ D.Disk.faults disk.new }
@@ -151,7 +155,7 @@ impl Stream {
     }
 
     /// Adds bytes to the stream.
-    fn add<M: Memory + Drop, D: Disk>(
+    fn add<M: Listing + Drop, D: Disk>(
         self,
         store: &mut Store<M>,
         disk: &mut D,
@@ -163,6 +167,7 @@ impl Stream {
             Holds D.Disk M.Book.fits M.holds choose history base k store.old disk.old →
             Gives D.Disk M.Book.fits M.holds choose history base k store.new disk.old disk.new result (block_order self.moment bytes.now ∷ []) }
         ensures over { is_cut result ≡ false → IsOver D.Disk store.new.keeper disk.new }
+        ensures measured { is_cut result ≡ false → IsMeasured D.Disk store.old.keeper disk.old → IsMeasured D.Disk store.new.keeper disk.new }
         ensures undamaged { (file : File) (at : ℕ) → result ≡ Err (GiveFault.Commit (CommitFault.Damaged file at)) → (choose : Chooser) (history : List Order) (base k : ℕ) → M.is_chooser choose →
             AllByRecursion M.takes history → Holds D.Disk M.Book.fits M.holds choose history base k store.old disk.old → (image : Image) → D.Disk.seen disk.new ≡ Some image → ⊥ }
         ensures later { D.Disk.faults disk.old ≤ D.Disk.faults disk.new }
@@ -190,7 +195,7 @@ impl Stream {
     }
 
     /// Ends the channel where it is open, and begins it.
-    fn open<M: Memory + Drop, D: Disk>(
+    fn open<M: Listing + Drop, D: Disk>(
         self,
         store: &mut Store<M>,
         disk: &mut D,
@@ -203,6 +208,7 @@ impl Stream {
             Holds D.Disk M.Book.fits M.holds choose history base k store.old disk.old →
             Gives D.Disk M.Book.fits M.holds choose history base k store.new disk.old disk.new result (opening (is_begun (after choose history) tilde) origin self.moment) }
         ensures over { is_cut result ≡ false → IsOver D.Disk store.new.keeper disk.new }
+        ensures measured { is_cut result ≡ false → IsMeasured D.Disk store.old.keeper disk.old → IsMeasured D.Disk store.new.keeper disk.new }
         ensures undamaged { (file : File) (at : ℕ) → result ≡ Err (GiveFault.Commit (CommitFault.Damaged file at)) → (choose : Chooser) (history : List Order) (base k : ℕ) → M.is_chooser choose →
             AllByRecursion M.takes history → Holds D.Disk M.Book.fits M.holds choose history base k store.old disk.old → (image : Image) → D.Disk.seen disk.new ≡ Some image → ⊥ }
         ensures later { D.Disk.faults disk.old ≤ D.Disk.faults disk.new }
@@ -218,7 +224,7 @@ impl Stream {
     }
 
     /// Adds the bytes of the input to the stream, to its end or up to the limit.
-    fn fill<M: Memory + Drop, D: Disk, S: Source>(
+    fn fill<M: Listing + Drop, D: Disk, S: Source>(
         self,
         store: &mut Store<M>,
         disk: &mut D,
@@ -234,6 +240,7 @@ impl Stream {
             Feeds D.Disk M.Book.fits M.holds choose history base k store.new disk.old disk.new result (map (block_order self.moment) blocks) [])
             (S.left input.old) (S.left input.new) (S.faults input.old) (S.faults input.new) }
         ensures over { is_run_cut result ≡ false → IsOver D.Disk store.new.keeper disk.new }
+        ensures measured { is_run_cut result ≡ false → IsMeasured D.Disk store.old.keeper disk.old → IsMeasured D.Disk store.new.keeper disk.new }
         ensures undamaged { (file : File) (at : ℕ) → result ≡ Err (RunFault.Given (GiveFault.Commit (CommitFault.Damaged file at))) → (choose : Chooser) (history : List Order) (base k : ℕ) → M.is_chooser choose →
             AllByRecursion M.takes history → Holds D.Disk M.Book.fits M.holds choose history base k store.old disk.old → (image : Image) → D.Disk.seen disk.new ≡ Some image → ⊥ }
         ensures later { D.Disk.faults disk.old ≤ D.Disk.faults disk.new }
@@ -261,7 +268,7 @@ impl Stream {
     }
 
     /// Begins the channel, adds the whole input to its stream, and ends it.
-    fn run<M: Memory + Drop, D: Disk, S: Source>(
+    fn run<M: Listing + Drop, D: Disk, S: Source>(
         self,
         store: &mut Store<M>,
         disk: &mut D,
@@ -278,6 +285,7 @@ impl Stream {
             (filling (is_begun (after choose history) tilde) origin self.moment blocks) (end_order self.moment ∷ []))
             (S.left input.old) (S.left input.new) (S.faults input.old) (S.faults input.new) }
         ensures over { is_run_cut result ≡ false → IsOver D.Disk store.new.keeper disk.new }
+        ensures measured { is_run_cut result ≡ false → IsMeasured D.Disk store.old.keeper disk.old → IsMeasured D.Disk store.new.keeper disk.new }
         ensures undamaged { (file : File) (at : ℕ) → result ≡ Err (RunFault.Given (GiveFault.Commit (CommitFault.Damaged file at))) → (choose : Chooser) (history : List Order) (base k : ℕ) → M.is_chooser choose →
             AllByRecursion M.takes history → Holds D.Disk M.Book.fits M.holds choose history base k store.old disk.old → (image : Image) → D.Disk.seen disk.new ≡ Some image → ⊥ }
         ensures later { D.Disk.faults disk.old ≤ D.Disk.faults disk.new }
@@ -316,7 +324,7 @@ fn is_run_cut(stored: &Result<(), RunFault>) -> bool
 
 /// Stores an input: ends the channel `~` where it is still open, begins it, adds the bytes of the input to its stream in blocks, and
 /// ends it. All that the store has accepted is committed then, also behind a fault, but where the disk fails.
-pub fn store_input<M: Memory + Drop, D: Disk, S: Source>(
+pub fn store_input<M: Listing + Drop, D: Disk, S: Source>(
     alloc: Global,
     store: &mut Store<M>,
     disk: &mut D,
@@ -333,6 +341,8 @@ pub fn store_input<M: Memory + Drop, D: Disk, S: Source>(
         (filling (is_begun (after choose history) tilde) arrival.origin arrival.moment blocks) (end_order arrival.moment ∷ []))
         (S.left input.old) (S.left input.new) (S.faults input.old) (S.faults input.new) }
     ensures over { is_run_cut result ≡ false → IsOver D.Disk store.new.keeper disk.new }
+    // What `shorten` asks for.
+    ensures rest { is_run_cut result ≡ false → IsMeasured D.Disk store.old.keeper disk.old → IsAtRest D.Disk store.new.keeper disk.new }
     // A disk that keeps what was committed is not damaged.
     ensures undamaged { (file : File) (at : ℕ) → result ≡ Err (RunFault.Given (GiveFault.Commit (CommitFault.Damaged file at))) → (choose : Chooser) (history : List Order) (base k : ℕ) → M.is_chooser choose →
         AllByRecursion M.takes history → Holds D.Disk M.Book.fits M.holds choose history base k store.old disk.old → (image : Image) → D.Disk.seen disk.new ≡ Some image → ⊥ }

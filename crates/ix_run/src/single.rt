@@ -3,23 +3,27 @@
 ghost use Rattle.std.specs.Prelude.{◌≡◌, ◌≤◌, ℕ, List, [], ◌∷◌, Some, Err, IfOk, IfErr, OnOk};
 ghost use Rattle.std.specs.List.{AllByRecursion};
 ghost use Rattle.ix_base.specs.Faults.{Rose};
+ghost use Rattle.ix_base.specs.Told.{Told};
 ghost use Rattle.ix_base.specs.declared.files.File.{File};
 ghost use Rattle.ix_disk.specs.Image.{Image};
-ghost use Rattle.ix_keep.specs.Snapshot.{IsOver};
+ghost use Rattle.ix_keep.specs.Contents.{Anyhow};
+ghost use Rattle.ix_keep.specs.Snapshot.{IsOver, IsMeasured};
 ghost use Rattle.ix_machine.specs.Given.{Chooser};
+ghost use Rattle.ix_machine.specs.declared.answers.Refusal.{Refusal as Refused};
 ghost use Rattle.ix_machine.specs.declared.commands.Order.{Order};
 ghost use Rattle.ix_run.specs.Giving.{IsKept};
+ghost use Rattle.ix_run.specs.Resting.{IsAtRest};
 ghost use Rattle.ix_run.specs.Running.{IsNotGiven};
-ghost use Rattle.ix_store.specs.Holding.{Holds};
+ghost use Rattle.ix_store.specs.Holding.{Holds, IsUnchanged};
 
 use crate::giving::{GiveFault, commit_all, give};
 use ix_disk::Disk;
 use ix_keep::CommitFault;
 use ix_machine::{Accepted, Command};
-use ix_store::{Memory, Store};
+use ix_store::{Listing, Store};
 
 /// Gives a command to the store, and commits all that is accepted then.
-pub fn give_last<M: Memory + Drop, D: Disk>(
+pub fn give_last<M: Listing + Drop, D: Disk>(
     store: &mut Store<M>,
     disk: &mut D,
     command: Command,
@@ -35,9 +39,14 @@ pub fn give_last<M: Memory + Drop, D: Disk>(
         Holds D.Disk M.Book.fits M.holds choose history base k store.old disk.old →
         IsNotGiven D.Disk M.Book.fits M.holds choose history base k (record { command = command; moment = moment }) store.old fault store.new disk.old disk.new) }
     ensures over { OnOk result (IsOver D.Disk store.new.keeper disk.new) }
+    // What `shorten` asks for. A refused command leaves all as it was.
+    ensures rest { IsMeasured D.Disk store.old.keeper disk.old → OnOk result (IsAtRest D.Disk store.new.keeper disk.new) }
+    ensures unchanged { IfErr result (λ fault. (refusal : Refused) → fault ≡ GiveFault.Refused refusal → IsUnchanged store.old store.new × (disk.new ≡ disk.old)) }
     // A disk that keeps what was committed is not damaged.
     ensures undamaged { (file : File) (at : ℕ) → result ≡ Err (GiveFault.Commit (CommitFault.Damaged file at)) → (choose : Chooser) (history : List Order) (base k : ℕ) → M.is_chooser choose →
         AllByRecursion M.takes history → Holds D.Disk M.Book.fits M.holds choose history base k store.old disk.old → (image : Image) → D.Disk.seen disk.new ≡ Some image → ⊥ }
+    // A disk that tells what it reads goes on telling.
+    ensures told { Told Anyhow (D.Disk.seen disk.old) (D.Disk.seen disk.new) }
     ensures later { D.Disk.faults disk.old ≤ D.Disk.faults disk.new }
     ensures cause { IfErr result (λ fault. fault ≡ GiveFault.Commit CommitFault.Disk → Rose (D.Disk.faults disk.old) (D.Disk.faults disk.new)) }
 {

@@ -3,3 +3,4 @@ mod Pairing
 mod Answering
 mod Refusing
 mod Opened
+mod Following

@@ -2,3 +2,4 @@ pub mod Seen
 pub mod Made
 pub mod Orders
 pub mod Recorded
+pub mod Standing

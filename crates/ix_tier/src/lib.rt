@@ -3,6 +3,7 @@
 #![tactic(auto)]
 
 mod copying;
+mod listing;
 mod making;
 mod measuring;
 mod pairs;

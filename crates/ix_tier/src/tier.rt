@@ -29,7 +29,9 @@ use std::alloc::Global;
 /// The state of a store in memory.
 #[derive(Drop)]
 pub struct Tier {
-    held: Held,
+    pub(crate) held: Held,
+    /// Whether nothing was accepted yet.
+    pub(crate) fresh: bool,
 }
 
 /// What the numbers of a run stay below.
@@ -151,9 +153,8 @@ fn make_order(alloc: Global, held: &Held, order: Order) -> Result<Made<Next>, Re
 impl Memory for Tier {
     ghost use Rattle.ix_kept.specs.Configs.{IsChooser};
     ghost use Rattle.ix_kept.specs.Taken.{IsTaken};
-    ghost use Rattle.ix_state.specs.Held.{Holds};
-    ghost use Rattle.ix_steps.specs.Next.{IsReady};
     ghost use Rattle.ix_tier.specs.Recorded.{events_have_records};
+    ghost use Rattle.ix_tier.specs.Standing.{Stands, WillStand};
 
     type Next = Next;
 
@@ -163,15 +164,15 @@ impl Memory for Tier {
 
     ghost takes = { IsTaken };
 
-    ghost holds = { λ choose history tier. Holds choose history tier.held };
+    ghost holds = { λ choose history tier. Stands choose history tier.held tier.fresh };
 
-    ghost ready = { λ choose history tier next. IsReady choose history tier.held next };
+    ghost ready = { λ choose history tier next. WillStand choose history tier.held next };
 
     ghost has_room = { λ tier next. HasRoom tier.held next };
 
     ghost ticks_are_taken = { λ moment. tt };
 
-    ghost have_records = { λ choose history tier chooser given holds. events_have_records choose history chooser given holds.bounds.times };
+    ghost have_records = { λ choose history tier chooser given stands. events_have_records choose history chooser given stands.state.bounds.times };
 
     fn prepare(&self, alloc: Global, order: Order, drawn: u64) -> Result<Made<Next>, Refusal> {
         if let Some(refusal) = hindrance(&self.held, &order, drawn) {
@@ -182,6 +183,7 @@ impl Memory for Tier {
 
     fn install(&mut self, next: Next) {
         next.install(&mut self.held);
+        self.fresh = false;
     }
 
     fn view(&self) -> &View {
@@ -210,7 +212,7 @@ impl Memory for Tier {
 
     fn from_book(alloc: Global, book: Replayed) -> Result<Tier, BookFault> {
         match recall(alloc, book) {
-            Ok(Recalled { held, .. }) => Ok(Tier { held }),
+            Ok(Recalled { held, fresh }) => Ok(Tier { held, fresh }),
             Err(RecallFault::Unsound) => Err(BookFault::Unsound),
             Err(RecallFault::NoMemory) => Err(BookFault::NoMemory),
         }

@@ -1,48 +1,45 @@
-use Rattle.std.proofs.Common.{◌≡◌, ◌∙◌, ℕ, false, List, subst, refl, sym, length}
-use Rattle.std.specs.Prelude.{Err}
-use Rattle.ix_base.specs.Told.{HasWritten, HasBegun}
-use Rattle.ix_export.specs.Lines.{text}
-use Rattle.ix_machine.specs.Step.{after}
-use Rattle.ix_store.specs.Exporting.{is_seen, exported}
-use Rattle.ix_store.specs.declared.fault.ExportFault.TheVariants as exports
-use Rattle.indexd_store.specs.Stops.{of_export}
-use Rattle.indexd_store.specs.declared.stop.Stop.TheVariants as stops
-use Rattle.indexd_store.proofs.Exports.{left_as_was, stopped_as, unexported, seen_by}
-use Rattle.indexd_store.proofs.Undamaged.{damaged_of_export}
+use Rattle.std.proofs.Common.{true, ◌≡◌, ◌∙◌, [], List, refl, sym}
+use Rattle.ix_machine.specs.declared.commands.Order.{Order}
+use Rattle.ix_run.proofs.Stored.{all_taken}
+use Rattle.indexd_store.specs.Stops.{loses, loses_in}
+use Rattle.indexd_store.proofs.Shortening.{ends_short, short_stood, ends_behind, gave_taken}
+use Rattle.indexd_store.proofs.Tasks.{none_given, on_ok_by, at_ok, if_err_by, at_err, at_stop}
 use Rattle.indexd_store.proofs.export.export.Goals as goal
 
 pub returns-in-Ok-clause-ends : goal.returns-in-Ok-clause-ends
-returns-in-Ok-clause-ends g c = λ choose h base hold.
-    left_as_was g.D.Disk _ g.M.Memory.holds choose h base c.args.store.now c.export.new.self c.args.disk.now c.export.new.disk hold c.in-Ok.ensures.images (c.in-Ok.ensures.held refl choose h base (length h) hold)
-
-pub returns-in-Ok-clause-lines : goal.returns-in-Ok-clause-lines
-returns-in-Ok-clause-lines g c = λ choose h base chooser taken hold image seen.
-    subst (λ (name : List ℕ). HasWritten (text c.args.range.now (exported (after choose h) name)) (g.W.Sink.given c.args.output.now) (g.W.Sink.given c.export.new.out))
-    c.as_bytes.ensures.value (c.in-Ok.ensures.lines choose h base image chooser taken hold (sym c.in-Ok.ensures.same ∙ seen))
+returns-in-Ok-clause-ends g c = λ choose h base chooser taken hold.
+    ends_behind g.D.Disk _ g.M.Memory.holds choose h base c.write_lines.new.store c.args.disk.now c.make_short.new.disk c.write_lines.new.disk (loses_in c.write_lines.result)
+    (short_stood g.D.Disk _ g.M.Memory.holds g.M.Memory.takes choose h base c.args.store.now.run c.args.store.now c.make_short.new.store c.args.disk.now c.args.disk.now c.make_short.new.disk
+    (c.make_short.ensures.images choose h base chooser taken hold))
+    (c.write_lines.ensures.ends choose h base (c.in-Ok.ensures.held refl choose h base chooser taken hold))
 
 pub returns-in-Ok-clause-fine : goal.returns-in-Ok-clause-fine
-returns-in-Ok-clause-fine g c = λ choose h base hold. seen_by (is_seen (after choose h) c.args.index.now)
-    (λ unseen. let e = (c.in-Ok.ensures.unknown choose h base (length h) hold.old hold.staged).1 (cc (unseen, c.as_bytes.ensures.value)) in cc)
+returns-in-Ok-clause-fine g c = on_ok_by c.write_lines.result _ (λ done is. λ choose h base chooser taken hold.
+    at_ok c.write_lines.result done _ is c.write_lines.ensures.fine choose h base (c.in-Ok.ensures.held refl choose h base chooser taken hold))
 
-pub returns-in-Err-clause-begun : goal.returns-in-Err-clause-begun
-returns-in-Err-clause-begun g c = λ choose h base chooser taken hold image seen.
-    subst (λ (name : List ℕ). HasBegun (text c.args.range.now (exported (after choose h) name)) (g.W.Sink.given c.args.output.now) (g.W.Sink.given c.export.new.out))
-    c.as_bytes.ensures.value (c.in-Err.ensures.begun choose h base image chooser taken hold (sym c.in-Err.ensures.same ∙ seen))
+pub returns-in-Ok-clause-why : goal.returns-in-Ok-clause-why
+returns-in-Ok-clause-why g c = if_err_by c.write_lines.result _ (λ stop is. λ choose h base chooser taken hold.
+    at_err c.write_lines.result stop _ is c.write_lines.ensures.why choose h base (c.in-Ok.ensures.held refl choose h base chooser taken hold))
 
-pub returns-in-Err-clause-why : goal.returns-in-Err-clause-why
-returns-in-Err-clause-why g c = λ choose h base hold.
-    unexported g.D.Disk _ g.M.Memory.holds choose h base c.args.store.now c.export.new.self c.args.disk.now c.export.new.disk c.args.index.now c.of_export.result c.in-Err.fault c.of_export.ensures
-    hold (λ is. c.in-Err.ensures.closed.0 (cc (is)))
-    (λ is. subst (λ (name : List ℕ). is_seen (after choose h) name ≡ false) c.as_bytes.ensures.value ((c.in-Err.ensures.unknown choose h base (length h) hold.old hold.staged).0 (cc (is))))
+pub returns-in-Ok-clause-lines : goal.returns-in-Ok-clause-lines
+returns-in-Ok-clause-lines g c = on_ok_by c.write_lines.result _ (λ done is. λ choose h base chooser taken hold.
+    at_ok c.write_lines.result done _ is c.write_lines.ensures.lines choose h base chooser taken (c.in-Ok.ensures.held refl choose h base chooser taken hold))
+
+pub returns-in-Ok-clause-begun : goal.returns-in-Ok-clause-begun
+returns-in-Ok-clause-begun g c = if_err_by c.write_lines.result _ (λ stop is. λ choose h base chooser taken hold.
+    at_stop c.write_lines.result stop _ is c.write_lines.ensures.begun choose h base chooser taken (c.in-Ok.ensures.held refl choose h base chooser taken hold))
+
+pub returns-in-Ok-clause-undamaged : goal.returns-in-Ok-clause-undamaged
+returns-in-Ok-clause-undamaged g c = λ file at is choose h base chooser taken hold.
+    c.write_lines.ensures.undamaged file at is choose h base chooser taken (c.in-Ok.ensures.held refl choose h base chooser taken hold)
+
+pub returns-in-Ok-clause-short : goal.returns-in-Ok-clause-short
+returns-in-Ok-clause-short g c = λ ok image seen. c.in-Ok.ensures.short image (sym c.write_lines.ensures.same ∙ seen)
 
 pub returns-in-Err-clause-ends : goal.returns-in-Err-clause-ends
-returns-in-Err-clause-ends g c = λ choose h base hold.
-    stopped_as g.D.Disk _ g.M.Memory.holds choose h base c.args.store.now c.export.new.self c.args.disk.now c.export.new.disk c.of_export.result c.in-Err.fault c.of_export.ensures
-    hold c.in-Err.ensures.images (λ safe. c.in-Err.ensures.held safe choose h base (length h) hold)
-
-pub returns-in-Err-clause-undamaged : goal.returns-in-Err-clause-undamaged
-returns-in-Err-clause-undamaged g c = λ file at is choose h base chooser taken hold image seen.
-    let stop : of_export c.in-Err.fault ≡ stops.Damaged file at = cc (is, c.of_export.ensures) in
-    let fault = damaged_of_export c.in-Err.fault file at stop in
-    let was : c.export.result ≡ Err (exports.Damaged file at) = cc (fault, c.in-Err.is) in
-    c.export.ensures.sound file at was choose h base image chooser taken hold (sym c.export.ensures.same ∙ seen)
+returns-in-Err-clause-ends g c = λ choose h base chooser taken hold.
+    ends_short g.D.Disk _ g.M.Memory.holds g.M.Memory.takes choose h base c.args.store.now.run c.args.store.now c.make_short.new.store c.args.disk.now c.args.disk.now c.make_short.new.disk
+    (λ now all held. c.make_short.ensures.images choose now base chooser all held) (loses c.in-Err.stop) (λ (orders : List Order). orders ≡ []) (λ (orders : List Order). orders ≡ []) (λ orders is. is)
+    (λ orders is. all_taken g.M.Memory.takes g.met.M.Memory.ticks_are_taken choose h orders taken (gave_taken g.M.Memory.takes true [] orders tt is))
+    (λ kept now all held. c.in-Err.ensures.held kept choose now base chooser all held)
+    (none_given g.D.Disk _ g.M.Memory.holds choose h base c.args.store.now c.args.disk.now (λ (orders : List Order). orders ≡ []) refl hold)

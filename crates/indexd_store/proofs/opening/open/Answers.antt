@@ -1,13 +1,17 @@
-use Rattle.std.proofs.Common.{rules, ◌≡◌, true, false, take, refl, inl, w64, to_z, of_z}
-use Rattle.std.specs.Prelude.{Err}
+use Rattle.std.proofs.Common.{rules, ◌≡◌, ◌∙◌, true, false, take, refl, ap, subst, inl, w64, to_z, of_z}
+use Rattle.std.specs.Prelude.{Err, Some}
 use Rattle.std.proofs.lemmas.Int.{to_z-of_z}
 use mir.Val.{SFits}
 use Rattle.ix_store.specs.declared.fault.MountFault.TheVariants as mounts
-use Rattle.indexd_store.specs.Ends.{same_kept}
-use Rattle.indexd_store.specs.Stops.{of_mount}
+use Rattle.ix_run.proofs.Stored.{all_taken}
+use Rattle.indexd_store.specs.Ends.{AtMost, same_kept}
+use Rattle.indexd_store.specs.Opened.{configuring, IsUnset}
+use Rattle.indexd_store.specs.Stops.{of_mount, loses}
+use Rattle.indexd_store.specs.declared.stop.Stop.{Stop}
 use Rattle.indexd_store.specs.declared.stop.Stop.TheVariants as stops
 use Rattle.indexd_store.proofs.Ending.{unset, unsound_of_mount}
 use Rattle.indexd_store.proofs.Joining.{front_has, committed, configured_as, opened_same, opened_by, stopped_by}
+use Rattle.indexd_store.proofs.Shortening.{by_end, damaged_end, stopped_short, most_taken}
 use Rattle.indexd_store.proofs.Undamaged.{damaged_of_mount}
 use Rattle.indexd_store.proofs.opening.open.Goals as goal
 
@@ -41,11 +45,18 @@ returns-in-Err-run_last-clause-stopped g c = λ choose history k chooser taken b
     let all = committed g.D.Disk _ g.M.Memory.holds choose history k c.args.config image c.in-Ok.store c.mount.new.disk is in
     let front = front_has g.M.Memory.takes is.count history taken in
     let caused = simp to_z-of_z at (c.in-Err-run_last.ensures.caused choose (take is.count history) is.count chooser front all) in
+    let order = configuring c.args.config c.now-moment.result in
     let ends = simp to_z-of_z at (c.in-Err-run_last.ensures.stopped choose (take is.count history) is.count chooser front all) in
-    stopped_by g.D.Disk _ g.M.Memory.holds choose history k c.args.config image c.in-Ok.store c.run_last.new.store c.args.disk.now c.mount.new.disk c.run_last.new.disk
+    let short = stopped_short g.D.Disk _ g.M.Memory.holds g.M.Memory.takes choose (take is.count history) is.count c.run_last.new.store.run c.run_last.new.store c.stop_run.new.store c.mount.new.disk c.run_last.new.disk c.stop_run.new.disk
+    c.in-Err-run_last.stop c.stop_run.result (AtMost order) (AtMost order) (λ orders at_most. at_most)
+    (λ orders at_most. all_taken g.M.Memory.takes g.met.M.Memory.ticks_are_taken choose (take is.count history) orders front (most_taken g.M.Memory.takes order orders (c.requires c.now-moment.result) at_most))
+    c.stop_run.ensures.closed (λ kept now given held. c.stop_run.ensures.images kept choose now is.count chooser given held) (λ kept also now given held. c.stop_run.ensures.held kept also choose now is.count chooser given held) ends in
+    stopped_by g.D.Disk _ g.M.Memory.holds choose history k c.args.config image c.in-Ok.store c.stop_run.new.store c.args.disk.now c.mount.new.disk c.stop_run.new.disk
     (g.C.Clock.ahead c.args.clock.now) (g.C.Clock.ahead c.now-moment.new.self) is (c.in-Ok.ensures.images choose history k begins)
     (configured_as g.D.Disk _ g.M.Memory.holds choose history k c.args.config image c.in-Ok.store c.mount.new.disk is c.kept.result.now c.kept.ensures c.same_kept.result false same c.if-same_kept.false)
-    c.now-moment.result c.now-moment.ensures c.in-Err-run_last.stop (unset choose c.in-Ok.store.drawn (take is.count history) c.args.config c.now-moment.result c.in-Err-run_last.stop caused) ends
+    c.now-moment.result c.now-moment.ensures c.stop_run.result
+    (by_end (λ (stop : Stop). IsUnset choose (take is.count history) order stop) c.in-Err-run_last.stop c.stop_run.result
+    (unset choose c.in-Ok.store.drawn (take is.count history) c.args.config c.now-moment.result c.in-Err-run_last.stop caused) tt tt c.stop_run.ensures.why) short
 
 pub returns-in-Err-clause-stopped : goal.returns-in-Err-clause-stopped
 returns-in-Err-clause-stopped g c = λ choose history k chooser taken begins image seen. inl (record {
@@ -70,5 +81,10 @@ pub returns-in-Err-run_last-clause-undamaged : goal.returns-in-Err-run_last-clau
 returns-in-Err-run_last-clause-undamaged g c = λ file at is choose history k chooser taken begins image seen later told.
     let found = c.in-Ok.ensures.mounted choose history k chooser taken begins image seen in
     let all = committed g.D.Disk _ g.M.Memory.holds choose history k c.args.config image c.in-Ok.store c.mount.new.disk found in
-    let was : c.run_last.result ≡ Err (stops.Damaged file at) = cc (is, c.in-Err-run_last.is) in
-    c.run_last.ensures.undamaged file at was choose (take found.count history) found.count chooser (front_has g.M.Memory.takes found.count history taken) all later told
+    let blamed = damaged_end c.in-Err-run_last.stop c.stop_run.result file at c.stop_run.ensures.why is in
+    let same = c.stop_run.ensures.closed (ap loses blamed) in
+    c.run_last.ensures.undamaged file at (c.in-Err-run_last.is ∙ ap (λ (s : Stop). Err s) blamed) choose (take found.count history) found.count chooser (front_has g.M.Memory.takes found.count history taken) all later
+    (subst (λ d. g.D.Disk.seen d ≡ Some later) same.1.1 told)
+
+pub returns-in-Err-run_last-clause-short : goal.returns-in-Err-run_last-clause-short
+returns-in-Err-run_last-clause-short g c = λ ok. inl (c.stop_run.ensures.short ok)

@@ -9,6 +9,7 @@ use Rattle.indexd_store.specs.Stops.{loses_in}
 use Rattle.indexd_store.specs.declared.stop.Stop.TheVariants as stops
 use Rattle.indexd_store.proofs.Feeding.{none_taken, fed_sound}
 use Rattle.indexd_store.proofs.Joining.{front_has, begun_taken, fed_when, shut_sound}
+use Rattle.indexd_store.proofs.Shortening.{ends_as}
 use Rattle.indexd_store.proofs.Tasks.{on_ok_by, if_err_by}
 use Rattle.indexd_store.proofs.preview.run_preview.Goals as goal
 
@@ -66,3 +67,6 @@ returns-clause-undamaged g c = λ file at is choose history k chooser taken begi
     let taken_now = begun_taken g.M.Memory.takes g.met.M.Memory.ticks_are_taken choose (take opened.count history) c.args.config (is_configured choose (take opened.count history) c.args.config) opened.configured
     c.requires.settings (front_has g.M.Memory.takes opened.count history taken) opened.configures in
     c.store_preview.ensures.undamaged file at is choose (given_all choose (take opened.count history) opened.configured) opened.count chooser taken_now opened.hold
+
+pub returns-clause-short : goal.returns-clause-short
+returns-clause-short g c = ends_as g.D.Disk _ c.store_preview.result c.args.disk.now c.store_preview.new.disk c.store_preview.ensures.short

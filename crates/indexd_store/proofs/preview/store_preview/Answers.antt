@@ -1,53 +1,41 @@
-use Rattle.std.proofs.Common.{◌≡◌, length, refl}
-use Rattle.std.specs.Prelude.{Err}
-use Rattle.ix_keep.specs.declared.fault.CommitFault.TheVariants as commits
-use Rattle.ix_run.specs.Storing.{joined}
-use Rattle.ix_run.specs.declared.giving.GiveFault.TheVariants.{Commit}
-use Rattle.ix_run.specs.declared.input.RunFault.TheVariants as runs
-use Rattle.indexd_store.specs.Stops.{of_run}
+use Rattle.std.proofs.Common.{◌≡◌, ◌∙◌, Ok, Err, ap, subst}
+use Rattle.std.specs.Prelude.{Some}
+use Rattle.ix_run.proofs.Stored.{all_taken}
 use Rattle.indexd_store.specs.Previews.{Fed}
-use Rattle.indexd_store.specs.declared.stop.Stop.TheVariants as stops
-use Rattle.indexd_store.proofs.Feeding.{none_fed, none_taken, feeds, read_as, unfed_as}
-use Rattle.indexd_store.proofs.Tasks.{none_given}
-use Rattle.indexd_store.proofs.Undamaged.{damaged_of_run}
+use Rattle.indexd_store.specs.Stops.{loses, loses_in}
+use Rattle.indexd_store.specs.declared.stop.Stop.{Stop}
+use Rattle.indexd_store.proofs.Shortening.{damaged_end, short_end, ends_short, stopped_short, fed_taken, fed_end, fed_stop}
 use Rattle.indexd_store.proofs.preview.store_preview.Goals as goal
-
-pub returns-then-is_missing-clause-ends : goal.returns-then-is_missing-clause-ends
-returns-then-is_missing-clause-ends g c = λ choose h base chooser taken hold.
-    none_given g.D.Disk _ g.M.Memory.holds choose h base c.args.store.now c.args.disk.now
-    (Fed choose base h c.args.arrival.origin c.args.arrival.moment (Err stops.NotFound) (g.S.Source.left c.args.input.now) (g.S.Source.left c.args.input.now))
-    (none_fed choose base h c.args.arrival.origin c.args.arrival.moment (g.S.Source.left c.args.input.now)
-    (record { limits = c.limits.result.now; in_force = c.limits.ensures choose h base (length h) hold.old hold.staged; answers = cc (c.is_missing.ensures, c.if-is_missing.true) })) hold
 
 pub returns-in-Ok-clause-ends : goal.returns-in-Ok-clause-ends
 returns-in-Ok-clause-ends g c = λ choose h base chooser taken hold.
-    let read = c.in-Ok.ensures.stored in
-    feeds g.D.Disk _ g.M.Memory.holds choose h base c.store_input.new.store c.args.disk.now c.store_input.new.disk c.args.arrival.origin c.args.arrival.moment
-    (g.S.Source.left c.args.input.now) (g.S.Source.left c.store_input.new.input) read.pieces (g.S.Source.faults c.args.input.now) (g.S.Source.faults c.store_input.new.input) read.sizes read.took read.read
-    (record { limits = c.limits.result.now; in_force = c.limits.ensures choose h base (length h) hold.old hold.staged; answers = cc (c.is_missing.ensures, c.if-is_missing.false) })
-    (read.done choose h base (length h) chooser taken hold)
+    ends_short g.D.Disk _ g.M.Memory.holds g.M.Memory.takes choose h base c.store_all.new.store.run c.store_all.new.store c.make_short.new.store c.args.disk.now c.store_all.new.disk c.make_short.new.disk
+    (λ now all held. c.make_short.ensures.images choose now base chooser all held) (loses_in c.make_short.result)
+    (Fed choose base h c.args.arrival.origin c.args.arrival.moment (Ok tt) (g.S.Source.left c.args.input.now) (g.S.Source.left c.store_all.new.input))
+    (Fed choose base h c.args.arrival.origin c.args.arrival.moment c.make_short.result (g.S.Source.left c.args.input.now) (g.S.Source.left c.store_all.new.input))
+    (λ orders fed. fed_end choose base h c.args.arrival.origin c.args.arrival.moment c.make_short.result _ _ orders c.make_short.ensures.faults fed)
+    (λ orders fed. all_taken g.M.Memory.takes g.met.M.Memory.ticks_are_taken choose h orders taken
+    (fed_taken g.M.Memory.takes choose base h c.args.arrival.origin c.args.arrival.moment (Ok tt) _ _ orders c.requires.ends c.requires.begins c.requires.adds fed))
+    (λ kept now all held. c.make_short.ensures.held kept choose now base chooser all held) (c.in-Ok.ensures.ends choose h base chooser taken hold)
+
+pub returns-in-Ok-clause-short : goal.returns-in-Ok-clause-short
+returns-in-Ok-clause-short g c = λ ok. short_end c.make_short.result _ ok c.make_short.ensures.faults c.make_short.ensures.short
 
 pub returns-in-Err-clause-ends : goal.returns-in-Err-clause-ends
 returns-in-Err-clause-ends g c = λ choose h base chooser taken hold.
-    let read = c.in-Err.ensures.stored in
-    unfed_as g.D.Disk _ g.M.Memory.holds choose h base c.store_input.new.store c.args.disk.now c.store_input.new.disk c.args.arrival.origin c.args.arrival.moment
-    (g.S.Source.left c.args.input.now) (g.S.Source.left c.store_input.new.input) read.pieces (g.S.Source.faults c.args.input.now) (g.S.Source.faults c.store_input.new.input) read.sizes read.took c.in-Err.fault c.of_run.result c.of_run.ensures read.read
-    (read.done choose h base (length h) chooser taken hold)
-
-pub returns-then-is_missing-clause-read : goal.returns-then-is_missing-clause-read
-returns-then-is_missing-clause-read g c = none_taken stops.NotFound (g.S.Source.left c.args.input.now) refl
-
-pub returns-in-Ok-clause-read : goal.returns-in-Ok-clause-read
-returns-in-Ok-clause-read g c = let read = c.in-Ok.ensures.stored in record { taken = joined read.pieces; took = read.took; read = read.read }
-
-pub returns-in-Err-clause-read : goal.returns-in-Err-clause-read
-returns-in-Err-clause-read g c =
-    let read = c.in-Err.ensures.stored in
-    record { taken = joined read.pieces; took = read.took; read = read_as c.in-Err.fault c.of_run.result (length (joined read.pieces)) (g.S.Source.left c.store_input.new.input) (g.S.Source.faults c.args.input.now) (g.S.Source.faults c.store_input.new.input) c.of_run.ensures read.read }
+    stopped_short g.D.Disk _ g.M.Memory.holds g.M.Memory.takes choose h base c.store_all.new.store.run c.store_all.new.store c.stop_run.new.store c.args.disk.now c.store_all.new.disk c.stop_run.new.disk
+    c.in-Err.stop c.stop_run.result
+    (Fed choose base h c.args.arrival.origin c.args.arrival.moment (Err c.in-Err.stop) (g.S.Source.left c.args.input.now) (g.S.Source.left c.store_all.new.input))
+    (Fed choose base h c.args.arrival.origin c.args.arrival.moment (Err c.stop_run.result) (g.S.Source.left c.args.input.now) (g.S.Source.left c.store_all.new.input))
+    (λ orders fed. fed_stop choose base h c.args.arrival.origin c.args.arrival.moment c.in-Err.stop c.stop_run.result _ _ orders c.stop_run.ensures.why fed)
+    (λ orders fed. all_taken g.M.Memory.takes g.met.M.Memory.ticks_are_taken choose h orders taken
+    (fed_taken g.M.Memory.takes choose base h c.args.arrival.origin c.args.arrival.moment (Err c.in-Err.stop) _ _ orders c.requires.ends c.requires.begins c.requires.adds fed))
+    c.stop_run.ensures.closed (λ kept now all held. c.stop_run.ensures.images kept choose now base chooser all held) (λ kept also now all held. c.stop_run.ensures.held kept also choose now base chooser all held)
+    (c.in-Err.ensures.ends choose h base chooser taken hold)
 
 pub returns-in-Err-clause-undamaged : goal.returns-in-Err-clause-undamaged
-returns-in-Err-clause-undamaged g c = λ file at is choose h base chooser taken hold.
-    let stop : of_run c.in-Err.fault ≡ stops.Damaged file at = cc (is, c.of_run.ensures) in
-    let fault = damaged_of_run c.in-Err.fault file at stop in
-    let was : c.store_input.result ≡ Err (runs.Given (Commit (commits.Damaged file at))) = cc (fault, c.in-Err.is) in
-    c.store_input.ensures.undamaged file at was choose h base (length h) chooser taken hold
+returns-in-Err-clause-undamaged g c = λ file at is choose h base chooser taken hold image seen.
+    let blamed = damaged_end c.in-Err.stop c.stop_run.result file at c.stop_run.ensures.why is in
+    let same = c.stop_run.ensures.closed (ap loses blamed) in
+    c.store_all.ensures.undamaged file at (c.in-Err.is ∙ ap (λ (s : Stop). Err s) blamed) choose h base chooser taken hold image
+    (subst (λ d. g.D.Disk.seen d ≡ Some image) same.1.1 seen)

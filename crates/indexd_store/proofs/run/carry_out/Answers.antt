@@ -14,7 +14,7 @@ pub returns-in-Export-clause-ends : goal.returns-in-Export-clause-ends
 returns-in-Export-clause-ends g c = λ choose h base chooser taken hold.
     ends_weaker g.D.Disk _ g.M.Memory.holds choose h base c.export.new.store c.args.disk.now c.export.new.disk (loses_in c.export.result) (λ (orders : List Order). orders ≡ []) (Gave c.export.result (orders_in c.args.task c.args.moment))
     (λ orders. gave_none c.export.result (orders_in c.args.task c.args.moment) orders (ap (λ (task : Task). orders_in task c.args.moment) c.in-Export.is))
-    (c.export.ensures.ends choose h base hold)
+    (c.export.ensures.ends choose h base chooser taken hold)
 
 pub returns-in-Export-clause-printed : goal.returns-in-Export-clause-printed
 returns-in-Export-clause-printed g c = on_ok_by c.export.result _ (λ done is. λ choose h base chooser taken hold.
@@ -24,7 +24,7 @@ returns-in-Export-clause-printed g c = on_ok_by c.export.result _ (λ done is. �
 pub returns-in-Export-clause-fine : goal.returns-in-Export-clause-fine
 returns-in-Export-clause-fine g c = on_ok_by c.export.result _ (λ done is. λ choose h base chooser taken hold.
     let fine = at_ok c.export.result done _ is c.export.ensures.fine in
-    subst (λ (task : Task). IsFine choose h task c.args.moment) (sym c.in-Export.is) (fine choose h base hold))
+    subst (λ (task : Task). IsFine choose h task c.args.moment) (sym c.in-Export.is) (fine choose h base chooser taken hold))
 
 pub returns-in-Export-clause-begun : goal.returns-in-Export-clause-begun
 returns-in-Export-clause-begun g c = if_err_by c.export.result _ (λ stop is. λ says choose h base chooser taken hold.
@@ -37,7 +37,7 @@ returns-in-Export-clause-quiet g c = if_err_by c.export.result _ (λ stop is. λ
 pub returns-in-Export-clause-why : goal.returns-in-Export-clause-why
 returns-in-Export-clause-why g c = if_err_by c.export.result _ (λ stop is. λ choose h base chooser taken hold.
     let why = at_err c.export.result stop _ is c.export.ensures.why in
-    why_unexported choose h c.in-Export.index.now c.args.task c.args.moment stop (λ unseen. subst (λ (task : Task). IsUnseen choose h task) (sym c.in-Export.is) unseen) (why choose h base hold))
+    why_unexported choose h c.in-Export.index.now c.args.task c.args.moment stop (λ unseen. subst (λ (task : Task). IsUnseen choose h task) (sym c.in-Export.is) unseen) (why choose h base chooser taken hold))
 
 pub give_and_say-requires-clause-other : goal.give_and_say-requires-clause-other
 give_and_say-requires-clause-other g c = not_export c.args.task c.in_default.not-Export
@@ -66,6 +66,7 @@ returns-in_default g c =
       why = if_err_by c.give_and_say.result _ (λ stop is. λ choose h base chooser taken hold.
           let why = at_err c.give_and_say.result stop _ is c.give_and_say.ensures.why in
           subst (λ (moment : ℤ). IsWhy choose h c.args.task moment stop) moment_is (why choose h base chooser taken hold));
+      short = c.give_and_say.ensures.short;
       unread = c.give_and_say.ensures.unread;
       undamaged = c.give_and_say.ensures.undamaged;
       later = c.give_and_say.ensures.later;

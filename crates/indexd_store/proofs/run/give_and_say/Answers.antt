@@ -1,4 +1,4 @@
-use Rattle.std.proofs.Common.{rules, ◌≡◌, ℕ, List, length, subst, w64}
+use Rattle.std.proofs.Common.{rules, ◌≡◌, ℕ, List, length, refl, subst, w64}
 use Rattle.std.specs.Prelude.{Err}
 use Rattle.std.proofs.lemmas.Int.{to_z-of_z}
 use mir.Val.{SFits}
@@ -80,3 +80,6 @@ pub returns-in-Err-clause-undamaged : goal.returns-in-Err-clause-undamaged
 returns-in-Err-clause-undamaged g c = λ file at is.
     let was : c.give_task.result ≡ Err (stops.Damaged file at) = cc (is, c.in-Err.is) in
     c.give_task.ensures.undamaged file at was
+
+pub returns-in-Ok-clause-short : goal.returns-in-Ok-clause-short
+returns-in-Ok-clause-short g c = λ ok. c.in-Ok.ensures.short refl

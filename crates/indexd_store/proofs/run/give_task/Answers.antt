@@ -1,76 +1,66 @@
-use Rattle.std.proofs.Common.{rules, ◌≡◌, ℕ, Option, Some, None, Ok, Err, drop, refl, ap, ◌∙◌, inl, w64}
+use Rattle.std.proofs.Common.{rules, ◌≡◌, ◌∙◌, ℕ, true, false, Ok, Err, ap, subst, w64}
+use Rattle.std.specs.Prelude.{Some}
 use Rattle.std.proofs.lemmas.Int.{to_z-of_z}
 use mir.Val.{SFits}
-use Rattle.ix_machine.specs.Step.{after}
-use Rattle.ix_store.specs.Counting.{numbers}
-use Rattle.ix_machine.specs.declared.commands.Command.{Command}
-use Rattle.indexd_store.specs.Ends.{Only, AtMost}
-use Rattle.indexd_store.specs.Stops.{loses}
-use Rattle.indexd_store.specs.Tasks.{command_in, orders_by, orders_in, Gave, moved_by}
-use Rattle.indexd_store.specs.declared.stop.Stop.TheVariants as stops
-use Rattle.indexd_store.proofs.Causes.{fine_none, fine_by, why_not}
-use Rattle.indexd_store.proofs.Tasks.{none_given, left_weaker, ends_weaker, partly, allowed_one}
+use Rattle.ix_run.proofs.Stored.{all_taken}
+use Rattle.indexd_store.specs.Stops.{loses, is_output}
+use Rattle.indexd_store.specs.Tasks.{orders_in, Gave, IsWhy}
+use Rattle.indexd_store.specs.declared.stop.Stop.{Stop}
+use Rattle.indexd_store.proofs.Shortening.{by_end, damaged_end, ends_short, stopped_short, gave_taken, gave_other}
+use Rattle.indexd_store.proofs.Tasks.{gave_whole}
 use Rattle.indexd_store.proofs.run.give_task.Goals as goal
 
-pub returns-in-Ok-None-clause-ends : goal.returns-in-Ok-None-clause-ends
-returns-in-Ok-None-clause-ends g c = λ choose h base chooser taken hold.
-    let is : ◌≡◌ {A = Option Command} None (command_in c.args.task) = cc (c.in-Ok-None.ensures, c.in-Ok-None.field-0-is) in
-    none_given g.D.Disk _ g.M.Memory.holds choose h base c.args.store.now c.args.disk.now (Gave {T = ℕ} (Ok 0) (orders_in c.args.task c.args.moment))
-    (ap (λ (o : Option Command). orders_by o c.args.moment) is) hold
+pub returns-in-Ok-make_short-clause-ends : goal.returns-in-Ok-make_short-clause-ends
+returns-in-Ok-make_short-clause-ends g c = λ choose h base chooser taken hold.
+    let fits : SFits w64 c.args.moment = search rules in
+    let left = simp to_z-of_z at (c.in-Ok.ensures.ends choose h base chooser taken hold) in
+    ends_short g.D.Disk _ g.M.Memory.holds g.M.Memory.takes choose h base c.give_command.new.store.run c.give_command.new.store c.make_short.new.store c.args.disk.now c.give_command.new.disk c.make_short.new.disk
+    (λ now all held. c.make_short.ensures.images choose now base chooser all held) false
+    (Gave {T = ℕ} (Ok c.in-Ok.count) (orders_in c.args.task c.args.moment)) (Gave {T = ℕ} (Ok c.in-Ok.count) (orders_in c.args.task c.args.moment)) (λ orders is. is)
+    (λ orders is. all_taken g.M.Memory.takes g.met.M.Memory.ticks_are_taken choose h orders taken (gave_taken g.M.Memory.takes true (orders_in c.args.task c.args.moment) orders c.requires.takes is))
+    (λ kept now all held. c.in-Ok-make_short.ensures.held kept choose now base chooser all held) left
+
+pub returns-in-Ok-make_short-clause-moved : goal.returns-in-Ok-make_short-clause-moved
+returns-in-Ok-make_short-clause-moved g c = λ choose h base chooser taken hold.
+    let fits : SFits w64 c.args.moment = search rules in
+    simp to_z-of_z at (c.in-Ok.ensures.moved choose h base chooser taken hold)
+
+pub returns-in-Ok-make_short-clause-fine : goal.returns-in-Ok-make_short-clause-fine
+returns-in-Ok-make_short-clause-fine g c = λ not choose h base chooser taken hold.
+    let fits : SFits w64 c.args.moment = search rules in
+    simp to_z-of_z at (c.in-Ok.ensures.fine not choose h base chooser taken hold)
+
+pub returns-in-Err-make_short-clause-ends : goal.returns-in-Err-make_short-clause-ends
+returns-in-Err-make_short-clause-ends g c = λ choose h base chooser taken hold.
+    let fits : SFits w64 c.args.moment = search rules in
+    let left = simp to_z-of_z at (c.in-Ok.ensures.ends choose h base chooser taken hold) in
+    ends_short g.D.Disk _ g.M.Memory.holds g.M.Memory.takes choose h base c.give_command.new.store.run c.give_command.new.store c.make_short.new.store c.args.disk.now c.give_command.new.disk c.make_short.new.disk
+    (λ now all held. c.make_short.ensures.images choose now base chooser all held) (loses c.in-Err-make_short.stop)
+    (Gave {T = ℕ} (Ok c.in-Ok.count) (orders_in c.args.task c.args.moment)) (Gave {T = ℕ} (Err c.in-Err-make_short.stop) (orders_in c.args.task c.args.moment))
+    (λ orders is. gave_whole (is_output c.in-Err-make_short.stop) (orders_in c.args.task c.args.moment) orders is)
+    (λ orders is. all_taken g.M.Memory.takes g.met.M.Memory.ticks_are_taken choose h orders taken (gave_taken g.M.Memory.takes true (orders_in c.args.task c.args.moment) orders c.requires.takes is))
+    (λ kept now all held. c.in-Err-make_short.ensures.held kept choose now base chooser all held) left
 
 pub returns-in-Err-clause-ends : goal.returns-in-Err-clause-ends
 returns-in-Err-clause-ends g c = λ choose h base chooser taken hold.
-    none_given g.D.Disk _ g.M.Memory.holds choose h base c.args.store.now c.args.disk.now (Gave {T = ℕ} (Err stops.Memory) (orders_in c.args.task c.args.moment)) (inl refl) hold
-
-pub returns-in-Ok-clause-ends : goal.returns-in-Ok-clause-ends
-returns-in-Ok-clause-ends g c = λ choose h base chooser taken hold.
     let fits : SFits w64 c.args.moment = search rules in
-    let is : ◌≡◌ {A = Option Command} (Some c.in-Ok-Some.command) (command_in c.args.task) = cc (c.in-Ok-Some.ensures, c.in-Ok-Some.field-0-is) in
-    let left = simp to_z-of_z at (c.in-Ok.ensures.left choose h base chooser taken hold) in
-    left_weaker g.D.Disk _ g.M.Memory.holds choose h base c.run_last.new.store c.args.disk.now c.run_last.new.disk
-    (Only (record { command = c.in-Ok-Some.command; moment = c.args.moment })) (Gave {T = ℕ} (Ok c.in-Ok.answer.moved) (orders_in c.args.task c.args.moment))
-    (λ orders one. one ∙ ap (λ (o : Option Command). orders_by o c.args.moment) is) left
-
-pub returns-in-Ok-clause-moved : goal.returns-in-Ok-clause-moved
-returns-in-Ok-clause-moved g c = λ choose h base chooser taken hold.
-    let fits : SFits w64 c.args.moment = search rules in
-    let is : ◌≡◌ {A = Option Command} (Some c.in-Ok-Some.command) (command_in c.args.task) = cc (c.in-Ok-Some.ensures, c.in-Ok-Some.field-0-is) in
-    let answers = simp to_z-of_z at (c.in-Ok.ensures.answers choose h base chooser taken hold) in
-    answers.moved_are ∙ ap (λ (o : Option Command). moved_by (after choose h) o c.args.moment) is
-
-pub returns-in-Err-run_last-clause-ends : goal.returns-in-Err-run_last-clause-ends
-returns-in-Err-run_last-clause-ends g c = λ choose h base chooser taken hold.
-    let fits : SFits w64 c.args.moment = search rules in
-    let is : ◌≡◌ {A = Option Command} (Some c.in-Ok-Some.command) (command_in c.args.task) = cc (c.in-Ok-Some.ensures, c.in-Ok-Some.field-0-is) in
-    let ends = simp to_z-of_z at (c.in-Err-run_last.ensures.stopped choose h base chooser taken hold) in
-    ends_weaker g.D.Disk _ g.M.Memory.holds choose h base c.run_last.new.store c.args.disk.now c.run_last.new.disk (loses c.in-Err-run_last.stop)
-    (AtMost (record { command = c.in-Ok-Some.command; moment = c.args.moment })) (Gave {T = ℕ} (Err c.in-Err-run_last.stop) (orders_in c.args.task c.args.moment))
-    (λ orders. partly c.in-Err-run_last.stop (record { command = c.in-Ok-Some.command; moment = c.args.moment }) (orders_in c.args.task c.args.moment) orders c.in-Err-run_last.ensures.quiet (ap (λ (o : Option Command). orders_by o c.args.moment) is)) ends
-
-pub returns-in-Ok-None-clause-fine : goal.returns-in-Ok-None-clause-fine
-returns-in-Ok-None-clause-fine g c = λ not choose h base chooser taken hold.
-    let is : ◌≡◌ {A = Option Command} (command_in c.args.task) None = cc (c.in-Ok-None.ensures, c.in-Ok-None.field-0-is) in
-    fine_none choose h c.args.task c.args.moment not is
-
-pub returns-in-Ok-clause-fine : goal.returns-in-Ok-clause-fine
-returns-in-Ok-clause-fine g c = λ not choose h base chooser taken hold.
-    let fits : SFits w64 c.args.moment = search rules in
-    let is : ◌≡◌ {A = Option Command} (command_in c.args.task) (Some c.in-Ok-Some.command) = cc (c.in-Ok-Some.ensures, c.in-Ok-Some.field-0-is) in
-    let left = simp to_z-of_z at (c.in-Ok.ensures.left choose h base chooser taken hold) in
-    fine_by choose h c.args.task c.in-Ok-Some.command c.args.moment (numbers (drop base h)) is
-    (allowed_one choose base h (record { command = c.in-Ok-Some.command; moment = c.args.moment }) left.orders left.allowed left.all.allowed)
+    let ends = simp to_z-of_z at (c.in-Err.ensures.ends choose h base chooser taken hold) in
+    stopped_short g.D.Disk _ g.M.Memory.holds g.M.Memory.takes choose h base c.give_command.new.store.run c.give_command.new.store c.stop_run.new.store c.args.disk.now c.give_command.new.disk c.stop_run.new.disk
+    c.in-Err.stop c.stop_run.result (Gave {T = ℕ} (Err c.in-Err.stop) (orders_in c.args.task c.args.moment)) (Gave {T = ℕ} (Err c.stop_run.result) (orders_in c.args.task c.args.moment))
+    (λ orders is. gave_other c.in-Err.stop c.stop_run.result (orders_in c.args.task c.args.moment) orders c.stop_run.ensures.why is)
+    (λ orders is. all_taken g.M.Memory.takes g.met.M.Memory.ticks_are_taken choose h orders taken
+    (gave_taken g.M.Memory.takes (is_output c.in-Err.stop) (orders_in c.args.task c.args.moment) orders c.requires.takes is))
+    c.stop_run.ensures.closed (λ kept now all held. c.stop_run.ensures.images kept choose now base chooser all held) (λ kept also now all held. c.stop_run.ensures.held kept also choose now base chooser all held) ends
 
 pub returns-in-Err-clause-why : goal.returns-in-Err-clause-why
-returns-in-Err-clause-why g c = λ choose h base chooser taken hold. tt
-
-pub returns-in-Err-run_last-clause-why : goal.returns-in-Err-run_last-clause-why
-returns-in-Err-run_last-clause-why g c = λ choose h base chooser taken hold.
+returns-in-Err-clause-why g c = λ choose h base chooser taken hold.
     let fits : SFits w64 c.args.moment = search rules in
-    let is : ◌≡◌ {A = Option Command} (command_in c.args.task) (Some c.in-Ok-Some.command) = cc (c.in-Ok-Some.ensures, c.in-Ok-Some.field-0-is) in
-    let caused = simp to_z-of_z at (c.in-Err-run_last.ensures.caused choose h base chooser taken hold) in
-    why_not choose h c.args.task c.in-Ok-Some.command c.args.moment is c.args.store.now.drawn c.in-Err-run_last.stop caused
+    by_end (λ (stop : Stop). IsWhy choose h c.args.task c.args.moment stop) c.in-Err.stop c.stop_run.result
+    (simp to_z-of_z at (c.in-Err.ensures.why choose h base chooser taken hold)) tt tt c.stop_run.ensures.why
 
-pub returns-in-Err-run_last-clause-undamaged : goal.returns-in-Err-run_last-clause-undamaged
-returns-in-Err-run_last-clause-undamaged g c = λ file at is.
-    let was : c.run_last.result ≡ Err (stops.Damaged file at) = cc (is, c.in-Err-run_last.is) in
-    c.run_last.ensures.undamaged file at was
+pub returns-in-Err-clause-undamaged : goal.returns-in-Err-clause-undamaged
+returns-in-Err-clause-undamaged g c = λ file at is choose h base chooser taken hold image seen.
+    let blamed = damaged_end c.in-Err.stop c.stop_run.result file at c.stop_run.ensures.why is in
+    let same = c.stop_run.ensures.closed (ap loses blamed) in
+    c.give_command.ensures.undamaged file at (c.in-Err.is ∙ ap (λ (s : Stop). Err s) blamed) choose h base chooser taken hold image
+    (subst (λ d. g.D.Disk.seen d ≡ Some image) same.1.1 seen)

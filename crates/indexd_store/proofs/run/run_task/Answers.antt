@@ -6,6 +6,7 @@ use Rattle.ix_run.specs.Giving.{given_all}
 use Rattle.indexd_store.specs.Opened.{is_configured}
 use Rattle.indexd_store.specs.declared.stop.Stop.TheVariants as stops
 use Rattle.indexd_store.proofs.Joining.{front_has, begun_taken, done_when, halted_when, shut_sound}
+use Rattle.indexd_store.proofs.Shortening.{ends_as}
 use Rattle.indexd_store.proofs.Tasks.{on_ok_by, at_ok, if_err_by, at_err}
 use Rattle.indexd_store.proofs.run.run_task.Goals as goal
 
@@ -62,3 +63,6 @@ returns-clause-undamaged g c = λ file at is choose history k chooser taken begi
     let taken_now = begun_taken g.M.Memory.takes g.met.M.Memory.ticks_are_taken choose (take opened.count history) c.args.config (is_configured choose (take opened.count history) c.args.config) opened.configured
     c.requires.settings (front_has g.M.Memory.takes opened.count history taken) opened.configures in
     c.carry_out.ensures.undamaged file at is choose (given_all choose (take opened.count history) opened.configured) opened.count chooser taken_now opened.hold
+
+pub returns-clause-short : goal.returns-clause-short
+returns-clause-short g c = ends_as g.D.Disk _ c.carry_out.result c.args.disk.now c.carry_out.new.disk c.carry_out.ensures.short

@@ -4,7 +4,7 @@ use Rattle.ix_keep.specs.declared.fault.CommitFault.TheVariants as commits
 use Rattle.std.proofs.lemmas.Int.{to_z-of_z}
 use mir.Val.{SFits}
 use Rattle.std.specs.Int.{w64}
-use Rattle.ix_store.proofs.Joining.{staged_same}
+use Rattle.ix_store.proofs.Joining.{more_taken, staged_same}
 use Rattle.ix_store.proofs.Lawful.{held_then}
 use Rattle.ix_run.proofs.Gone.{gone_none, given, given_stood}
 use Rattle.ix_run.proofs.giving.give.Goals as goal
@@ -22,14 +22,14 @@ returns-in-Ok-commit_due-clause-given g c = λ choose h base k chooser taken hol
     let fits : SFits w64 c.args.moment = search rules in
     let is = simp to_z-of_z at (c.in-Ok.ensures.accepted choose h base k hold.old chooser taken hold.staged) in
     given g.D.Disk _ g.M.Memory.holds choose h base k (record { command = c.args.command; moment = c.args.moment }) c.args.store.now c.accept.new.self c.commit_due.new.store c.args.disk.now c.commit_due.new.disk c.in-Ok.answer hold c.accept.ensures.logs is
-    (c.in-Ok-commit_due.ensures.gone choose _ base k)
+    (c.in-Ok-commit_due.ensures.gone choose _ base k chooser (more_taken g.M.Memory.takes g.met.M.Memory.ticks_are_taken choose h (record { command = c.args.command; moment = c.args.moment }) taken c.requires.takes))
 
 pub returns-in-Err-commit_due-clause-fault : goal.returns-in-Err-commit_due-clause-fault
 returns-in-Err-commit_due-clause-fault g c = λ choose h base k chooser taken hold.
     let fits : SFits w64 c.args.moment = search rules in
     let is = simp to_z-of_z at (c.in-Ok.ensures.accepted choose h base k hold.old chooser taken hold.staged) in
     given_stood g.D.Disk _ g.M.Memory.holds choose h base k (record { command = c.args.command; moment = c.args.moment }) c.args.store.now c.accept.new.self c.args.disk.now c.commit_due.new.disk c.in-Ok.answer hold c.accept.ensures.logs is
-    (c.commit_due.ensures.stood choose _ base k)
+    (c.commit_due.ensures.stood choose _ base k chooser (more_taken g.M.Memory.takes g.met.M.Memory.ticks_are_taken choose h (record { command = c.args.command; moment = c.args.moment }) taken c.requires.takes))
 
 pub returns-in-Err-commit_due-clause-undamaged : goal.returns-in-Err-commit_due-clause-undamaged
 returns-in-Err-commit_due-clause-undamaged g c = λ file at is choose h base k chooser taken hold.

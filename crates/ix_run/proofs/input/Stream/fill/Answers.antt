@@ -21,6 +21,7 @@ loop-taken-init g c = record {
   took = took_none (g.S.Source.left c.args.input.now);
   given = λ choose h base k chooser taken hold. given_none g.D.Disk g.M.Book.Replay.fits g.M.Memory.holds choose h base k c.args.store.now c.args.disk.now hold;
   over = c.requires.over;
+  measured = λ measured. measured;
   later = omega arith;
   read_later = omega arith;
 }
@@ -94,6 +95,7 @@ loop-taken-preserved g c =
           (all_taken g.M.Memory.takes g.met.M.Memory.ticks_are_taken choose h (map (block_order c.args.self.moment) c.loop-taken.invariant.pieces) taken
           (blocks_taken g.M.Memory.takes c.args.self.moment c.requires.takes c.loop-taken.invariant.pieces c.loop-taken.invariant.sizes)) one.hold);
       over = c.in-Ok-add.ensures.over refl;
+      measured = λ measured. c.in-Ok-add.ensures.measured refl (c.loop-taken.invariant.measured measured);
       later = omega (arith, c.loop-taken.invariant.later, c.add.ensures.later);
       read_later = omega (arith, c.loop-taken.invariant.read_later, c.read.ensures.cause.later);
     }

@@ -1,4 +1,4 @@
-use Rattle.std.proofs.Common.{◌≡◌, [], ◌∷◌, ◌++◌, arith, map}
+use Rattle.std.proofs.Common.{◌≡◌, [], ◌∷◌, ◌++◌, arith, map, refl}
 use Rattle.std.specs.Prelude.{Ok, Err}
 use Rattle.ix_keep.specs.declared.fault.CommitFault.TheVariants as commits
 use Rattle.ix_machine.specs.Judged.{is_begun}
@@ -118,3 +118,9 @@ pub returns-in-Err-open-clause-undamaged : goal.returns-in-Err-open-clause-undam
 returns-in-Err-open-clause-undamaged g c = λ file at is.
     let was : c.open.result ≡ Err (faults.Commit (commits.Damaged file at)) = cc (is, c.in-Err-open.is) in
     c.open.ensures.undamaged file at was
+
+pub returns-in-Ok-end-clause-measured : goal.returns-in-Ok-end-clause-measured
+returns-in-Ok-end-clause-measured g c = λ uncut measured. c.in-Ok-end.ensures.measured refl (c.in-Ok-fill.ensures.measured refl (c.in-Ok-open.ensures.measured refl measured))
+
+pub returns-clause-measured : goal.returns-clause-measured
+returns-clause-measured g c = λ uncut measured. c.in-Err-end.ensures.measured uncut (c.in-Ok-fill.ensures.measured refl (c.in-Ok-open.ensures.measured refl measured))

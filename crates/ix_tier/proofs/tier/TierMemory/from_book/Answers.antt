@@ -2,5 +2,11 @@ use Rattle.std.proofs.Common.{ap}
 use Rattle.std.specs.Prelude.{Err}
 use Rattle.ix_tier.proofs.tier.TierMemory.from_book.Goals as goal
 
+pub returns-in-Ok-clause-held : goal.returns-in-Ok-clause-held
+returns-in-Ok-clause-held c = λ choose history run removed chooser given fit is. record {
+  state = c.in-Ok.ensures.done choose history run removed chooser given fit is;
+  first = c.in-Ok.ensures.fresh choose history run removed is;
+}
+
 pub returns-in-Err-Unsound-clause-sound : goal.returns-in-Err-Unsound-clause-sound
 returns-in-Err-Unsound-clause-sound c = λ is. c.in-Err-Unsound.ensures.sound (ap (λ e. Err e) c.in-Err-Unsound.field-0-is)

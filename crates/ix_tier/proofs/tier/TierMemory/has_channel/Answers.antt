@@ -9,4 +9,4 @@ use Rattle.ix_tier.proofs.tier.TierMemory.has_channel.Goals as goal
 pub returns : goal.returns
 returns c = λ choose history h.
     c.has_open.ensures ∙ (ap (λ (opens : List Open). list_any (has_name c.args.channel.now) opens) c.as_slice.ensures.value
-    ∙ open_is (after choose history).channels c.args.self.now.held.channels.items c.args.channel.now h.channels.channels)
+    ∙ open_is (after choose history).channels c.args.self.now.held.channels.items c.args.channel.now h.state.channels.channels)

@@ -6,4 +6,4 @@ use Rattle.ix_tier.proofs.tier.TierMemory.spot.Goals as goal
 
 pub returns : goal.returns
 returns c = λ choose history h.
-    c.find_spot.ensures ∙ ap (λ (spots : List Spot). find spot_path c.args.path.now spots) (c.as_slice.ensures.value ∙ h.channels.spots)
+    c.find_spot.ensures ∙ ap (λ (spots : List Spot). find spot_path c.args.path.now spots) (c.as_slice.ensures.value ∙ h.state.channels.spots)

@@ -1,0 +1,9 @@
+mod Putting
+mod Carried
+mod Said
+mod Resting
+mod Found
+mod Held
+mod Brief
+mod Written
+mod Sound
