@@ -1,9 +1,10 @@
-//! The program `indexd`: the real input, output, clock, files of settings and disk, handed to the library that does all the work.
+//! The program `indexd`: the real input, output, clock, files of settings, disk and listener, handed to the library that does all the work.
 #![tactic(auto)]
 
 use indexd_core::{Status, say, top};
 use ix_base::{HostClock, HostTree, StdSink, StdSource, Text};
 use ix_disk::HostDisk;
+use ix_link::TcpListen;
 use std::io::ErrorKind;
 use std::process::ExitCode;
 use std::rt::Env;
@@ -33,6 +34,7 @@ fn main(rt: HostRuntime) -> ExitCode {
     let mut clock = HostClock::new(&rt);
     let mut tree = HostTree::new(&rt);
     let mut disk = HostDisk::new(&rt);
+    let mut listener = TcpListen::new(&rt);
     let status = top(
         rt.alloc(),
         &words,
@@ -41,6 +43,7 @@ fn main(rt: HostRuntime) -> ExitCode {
         &mut clock,
         &mut tree,
         &mut disk,
+        &mut listener,
     );
     ExitCode::from(status.code())
 }

@@ -2,5 +2,6 @@ pub mod PreviewLemmas
 pub mod RunLemmas
 pub mod StopLemmas
 pub mod StoredLemmas
+pub mod FeedLemmas
 pub mod NamedLemmas
 pub mod MissedLemmas

@@ -111,6 +111,11 @@ pub not-usage : (ended : Status) (text : Text) (input input' output output' : Si
 not-usage ended text input input' output output' r is =
     subst (λ (s : Status). Wrote s text r.taken input input' output output') is r.outcome
 
+pub not-heard : (ended : Status) (text : Text) (input input' output output' : Side) →
+    Runs ended text input input' output output' → ended ≡ status.ListenerFault → ⊥
+not-heard ended text input input' output output' r is =
+    subst (λ (s : Status). Wrote s text r.taken input input' output output') is r.outcome
+
 pub input-rose : (ended : Status) (text : Text) (input input' output output' : Side) →
     Runs ended text input input' output output' → ended ≡ status.Input → Rose input.faults input'.faults
 input-rose ended text input input' output output' r is =
@@ -131,6 +136,14 @@ previews-not-usage {stated = stated} {files = files} {failed = failed} {failed' 
     subst (λ (s : Status). WroteUnprepared s stated files failed failed' output output') is w
 previews-not-usage {ended = ended} {input = input} {input' = input'} {output = output} (ran p q r) is =
     not-usage ended (text_of p r.shown) input input' output r.middle r.lines is
+
+pub previews-not-heard : {ended : Status} {stated : Stated} {files : Option (List TreeFile)} {failed failed' : ℕ} {ahead ahead' : Option Moments}
+    {input input' output output' : Side} →
+    Previews ended stated files failed failed' ahead ahead' input input' output output' → ended ≡ status.ListenerFault → ⊥
+previews-not-heard {stated = stated} {files = files} {failed = failed} {failed' = failed'} {output = output} {output' = output'} (unprepared a i w) is =
+    subst (λ (s : Status). WroteUnprepared s stated files failed failed' output output') is w
+previews-not-heard {ended = ended} {input = input} {input' = input'} {output = output} (ran p q r) is =
+    not-heard ended (text_of p r.shown) input input' output r.middle r.lines is
 
 pub previews-input : {ended : Status} {stated : Stated} {files : Option (List TreeFile)} {failed failed' : ℕ} {ahead ahead' : Option Moments}
     {input input' output output' : Side} →

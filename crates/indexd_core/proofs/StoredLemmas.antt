@@ -165,6 +165,21 @@ of_usage stops.Endless is = cc
 pub usage_stop : (ended : Status) (stop : Stop) → ended ≡ status_of stop → ended ≡ statuses.Usage → ⊥
 usage_stop ended stop is at = of_usage stop (sym at ∙ is)
 
+of_listener : (stop : Stop) → statuses.ListenerFault ≡ status_of stop → ⊥
+of_listener stops.Memory is = cc
+of_listener stops.Disk is = cc
+of_listener (stops.Damaged file at) is = cc
+of_listener stops.Unsound is = cc
+of_listener stops.NotFound is = cc
+of_listener stops.TooManyChannels is = cc
+of_listener stops.Full is = cc
+of_listener stops.Output is = cc
+of_listener stops.Input is = cc
+of_listener stops.Endless is = cc
+
+pub listener_stop : (ended : Status) (stop : Stop) → ended ≡ status_of stop → ended ≡ statuses.ListenerFault → ⊥
+listener_stop ended stop is at = of_listener stop (sym at ∙ is)
+
 of_done : (stop : Stop) → statuses.Done ≡ status_of stop → ⊥
 of_done stops.Memory is = cc
 of_done stops.Disk is = cc

@@ -13,7 +13,7 @@ use Rattle.indexd_core.specs.Texts.{status_text, Said}
 use Rattle.indexd_settings.specs.declared.layers.SettingsFile.{SettingsFile}
 use Rattle.indexd_settings.specs.declared.layers.Refusal.{Refusal}
 use Rattle.indexd_core.specs.declared.status.Status.{Status}
-use Rattle.indexd_core.specs.declared.status.Status.TheVariants.{Done, Memory, Usage, Configuration, Input, DiskFault, Damaged, Output, NotFound, TooManyChannels, Endless, Full}
+use Rattle.indexd_core.specs.declared.status.Status.TheVariants.{Done, Memory, Usage, Configuration, Input, DiskFault, Damaged, Output, ListenerFault, NotFound, TooManyChannels, Unreadable, Endless, Full}
 
 -- the listing of layers
 pub record Lists (layers : List Layer) (text : List ℕ) : Type 0 where
@@ -44,7 +44,9 @@ Tells NotFound file files failed failed' output output' = ⊥
 Tells Endless file files failed failed' output output' = ⊥
 Tells DiskFault file files failed failed' output output' = ⊥
 Tells Damaged file files failed failed' output output' = ⊥
+Tells ListenerFault file files failed failed' output output' = ⊥
 Tells TooManyChannels file files failed failed' output output' = ⊥
+Tells Unreadable file files failed failed' output output' = ⊥
 Tells Full file files failed failed' output output' = ⊥
 
 -- the line of a fault was written, or there was no room for it
@@ -59,5 +61,7 @@ RefusalSaid NotFound file refusal output output' = ⊥
 RefusalSaid Endless file refusal output output' = ⊥
 RefusalSaid DiskFault file refusal output output' = ⊥
 RefusalSaid Damaged file refusal output output' = ⊥
+RefusalSaid ListenerFault file refusal output output' = ⊥
 RefusalSaid TooManyChannels file refusal output output' = ⊥
+RefusalSaid Unreadable file refusal output output' = ⊥
 RefusalSaid Full file refusal output output' = ⊥

@@ -1,4 +1,4 @@
--- Which words are commands of the program. `feed`, `serve`, `monitor` and `selftest` are not built yet.
+-- Which words are commands of the program. `serve`, `monitor` and `selftest` are not built yet.
 use Rattle.std.specs.Prelude.{◌≡◌, ℕ, Bool, true, false, List, Option, Some, None, is_some}
 use Rattle.ix_base.specs.Clocks.{Moments}
 use Rattle.indexd_words.specs.Orders.{Asked, preview, btool, feed, serve, monitor, buckets, export, roll, thaw, tick, selftest, asked}
@@ -12,7 +12,7 @@ abbrev pub is_built : Option Asked → Bool
 is_built None = false
 is_built (Some (preview host source sourcetype index store)) = true
 is_built (Some (btool file)) = is_some (file_named file)
-is_built (Some feed) = false
+is_built (Some feed) = true
 is_built (Some (serve port requests)) = false
 is_built (Some (monitor close)) = false
 is_built (Some buckets) = true
@@ -36,6 +36,10 @@ AskBtool words file = asked words ≡ Some (btool file)
 -- the words ask for a preview that stores its events
 abbrev pub AskStore : List (List ℕ) → Stated → Type 0
 AskStore words stated = asked words ≡ Some (preview stated.host stated.source stated.sourcetype stated.index true)
+
+-- the words ask for requests to be served from the input
+abbrev pub AskFeed : List (List ℕ) → Type 0
+AskFeed words = asked words ≡ Some feed
 
 -- what is asked for by a task over a store
 abbrev pub asked_for : Task → Asked
@@ -68,7 +72,7 @@ abbrev pub is_stored : Option Asked → Bool
 is_stored None = false
 is_stored (Some (preview host source sourcetype index store)) = store
 is_stored (Some (btool file)) = false
-is_stored (Some feed) = false
+is_stored (Some feed) = true
 is_stored (Some (serve port requests)) = false
 is_stored (Some (monitor close)) = false
 is_stored (Some buckets) = true
@@ -77,3 +81,18 @@ is_stored (Some (roll index)) = true
 is_stored (Some (thaw index id)) = true
 is_stored (Some tick) = true
 is_stored (Some (selftest seed count)) = false
+
+-- what is asked for hears a listener
+abbrev pub is_heard : Option Asked → Bool
+is_heard None = false
+is_heard (Some (preview host source sourcetype index store)) = false
+is_heard (Some (btool file)) = false
+is_heard (Some feed) = false
+is_heard (Some (serve port requests)) = true
+is_heard (Some (monitor close)) = false
+is_heard (Some buckets) = false
+is_heard (Some (export index range)) = false
+is_heard (Some (roll index)) = false
+is_heard (Some (thaw index id)) = false
+is_heard (Some tick) = false
+is_heard (Some (selftest seed count)) = false

@@ -7,4 +7,5 @@ pub mod Prepared
 pub mod Origins
 pub mod Runs
 pub mod Stored
+pub mod Feeds
 pub mod Btool

@@ -12,7 +12,7 @@ use Rattle.indexd_core.specs.declared.prepare.Prepared.{Prepared}
 use Rattle.indexd_core.specs.Sides.{Side, IsAtEnd}
 use Rattle.indexd_core.specs.Texts.{preview_text, status_text, Said}
 use Rattle.indexd_core.specs.declared.status.Status.{Status}
-use Rattle.indexd_core.specs.declared.status.Status.TheVariants.{Done, Memory, Usage, Configuration, Input, DiskFault, Damaged, Output, NotFound, TooManyChannels, Endless, Full}
+use Rattle.indexd_core.specs.declared.status.Status.TheVariants.{Done, Memory, Usage, Configuration, Input, DiskFault, Damaged, Output, ListenerFault, NotFound, TooManyChannels, Unreadable, Endless, Full}
 
 -- the lines of the events that bytes settle, of a stream that is open (false) or closed
 abbrev pub Text : Type 0
@@ -49,7 +49,9 @@ Wrote Endless text taken input input' output output' =
     (length taken ≡ input_limit) × HasWritten (text taken false) output.told output'.told
 Wrote DiskFault text taken input input' output output' = ⊥
 Wrote Damaged text taken input input' output output' = ⊥
+Wrote ListenerFault text taken input input' output output' = ⊥
 Wrote TooManyChannels text taken input input' output output' = ⊥
+Wrote Unreadable text taken input input' output output' = ⊥
 Wrote Full text taken input input' output output' = ⊥
 
 -- a run, before the line of its status
@@ -84,7 +86,9 @@ WroteUnprepared NotFound stated files failed failed' output output' =
 WroteUnprepared Endless stated files failed failed' output output' = ⊥
 WroteUnprepared DiskFault stated files failed failed' output output' = ⊥
 WroteUnprepared Damaged stated files failed failed' output output' = ⊥
+WroteUnprepared ListenerFault stated files failed failed' output output' = ⊥
 WroteUnprepared TooManyChannels stated files failed failed' output output' = ⊥
+WroteUnprepared Unreadable stated files failed failed' output output' = ⊥
 WroteUnprepared Full stated files failed failed' output output' = ⊥
 
 -- A whole run: it stops before it is prepared, or it runs with the settings that the files have for what is stated.

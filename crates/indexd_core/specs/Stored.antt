@@ -31,7 +31,7 @@ use Rattle.indexd_core.specs.Sides.{Side}
 use Rattle.indexd_core.specs.Texts.{status_text, Said}
 use Rattle.indexd_core.specs.declared.ends.Named.{Named}
 use Rattle.indexd_core.specs.declared.status.Status.{Status}
-use Rattle.indexd_core.specs.declared.status.Status.TheVariants.{Done, Memory, Usage, Configuration, Input, DiskFault, Damaged, Output, NotFound, TooManyChannels, Endless, Full}
+use Rattle.indexd_core.specs.declared.status.Status.TheVariants.{Done, Memory, Usage, Configuration, Input, DiskFault, Damaged, Output, ListenerFault, NotFound, TooManyChannels, Unreadable, Endless, Full}
 
 -- ---- statuses and their lines
 
@@ -137,8 +137,10 @@ WroteUnread Input files failed failed' output output' = Rose failed failed' × S
 WroteUnread DiskFault files failed failed' output output' = ⊥
 WroteUnread Damaged files failed failed' output output' = ⊥
 WroteUnread Output files failed failed' output output' = ⊥
+WroteUnread ListenerFault files failed failed' output output' = ⊥
 WroteUnread NotFound files failed failed' output output' = ⊥
 WroteUnread TooManyChannels files failed failed' output output' = ⊥
+WroteUnread Unreadable files failed failed' output output' = ⊥
 WroteUnread Endless files failed failed' output output' = ⊥
 WroteUnread Full files failed failed' output output' = ⊥
 

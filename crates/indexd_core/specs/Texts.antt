@@ -16,7 +16,7 @@ use Rattle.ix_parse.specs.Settled.{settled}
 use Rattle.indexd_core.specs.declared.prepare.Prepared.{Prepared}
 use Rattle.indexd_core.specs.Sides.{Side}
 use Rattle.indexd_core.specs.declared.status.Status.{Status}
-use Rattle.indexd_core.specs.declared.status.Status.TheVariants.{Done, Memory, Usage, Configuration, Input, DiskFault, Damaged, Output, NotFound, TooManyChannels, Endless, Full}
+use Rattle.indexd_core.specs.declared.status.Status.TheVariants.{Done, Memory, Usage, Configuration, Input, DiskFault, Damaged, Output, ListenerFault, NotFound, TooManyChannels, Unreadable, Endless, Full}
 
 -- Where an event of an index is kept, by how it is routed: in the index itself, in the one for events without an index of their own,
 -- or nowhere. The index is the one that the event names once its changes were made.
@@ -58,8 +58,10 @@ status_code Input = 4
 status_code DiskFault = 5
 status_code Damaged = 6
 status_code Output = 7
+status_code ListenerFault = 9
 status_code NotFound = 10
 status_code TooManyChannels = 11
+status_code Unreadable = 12
 status_code Endless = 13
 status_code Full = 17
 
@@ -73,8 +75,10 @@ status_text Input = codes "indexd: input fault\n"
 status_text DiskFault = codes "indexd: disk fault\n"
 status_text Damaged = []
 status_text Output = []
+status_text ListenerFault = codes "indexd: listener fault\n"
 status_text NotFound = []
 status_text TooManyChannels = codes "indexd: too many channels\n"
+status_text Unreadable = []
 status_text Endless = codes "indexd: endless input\n"
 status_text Full = codes "indexd: store full\n"
 

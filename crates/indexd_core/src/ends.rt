@@ -1,4 +1,5 @@
-//! How a run over a store that stops is told: its status, and its line. None of it takes memory. `stored.rt` calls `say_stop`.
+//! How a run over a store that stops is told: its status, and its line. None of it takes memory. `stored.rt` and `feed.rt` call
+//! `say_stop`.
 
 ghost use Rattle.std.specs.Prelude.{◌≡◌, ◌≤◌, ◌++◌, length};
 ghost use Rattle.indexd_core.specs.Prepared as prepared;
@@ -85,7 +86,7 @@ fn damaged_line(file: File, at: u64) -> ArrayString<80>
 }
 
 /// Writes the line of a damaged file.
-fn say_damaged<W: Sink>(file: File, at: u64, output: &mut W)
+pub fn say_damaged<W: Sink>(file: File, at: u64, output: &mut W)
     ensures said { Said (defs.damaged_line file at) (side (W.faults output.old) (W.given output.old)) (side (W.faults output.new) (W.given output.new)) }
     ensures later { W.faults output.old ≤ W.faults output.new }
 {

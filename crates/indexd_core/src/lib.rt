@@ -4,6 +4,7 @@
 mod btool;
 mod ends;
 mod events;
+mod feed;
 mod prepare;
 mod preview;
 mod program;

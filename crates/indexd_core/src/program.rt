@@ -7,7 +7,8 @@ ghost use Rattle.indexd_settings.specs.declared.layers.SettingsFile.{SettingsFil
 ghost use Rattle.indexd_words.specs.Orders.{asked};
 ghost use Rattle.indexd_words.specs.Shown.{shown};
 ghost use Rattle.indexd_core.specs.Btool.{Tells};
-ghost use Rattle.indexd_core.specs.Commands.{is_command, is_stored, is_task, AskPreview, AskBtool, AskTask, AskStore};
+ghost use Rattle.indexd_core.specs.Commands.{is_command, is_stored, is_task, is_heard, AskPreview, AskBtool, AskTask, AskStore, AskFeed};
+ghost use Rattle.indexd_core.specs.Feeds.{Feeds};
 ghost use Rattle.indexd_core.specs.Prepared.{Stated};
 ghost use Rattle.indexd_core.specs.Runs.{Previews, Refuses};
 ghost use Rattle.indexd_core.specs.Sides.{side};
@@ -15,6 +16,7 @@ ghost use Rattle.indexd_core.specs.Stored.{FromStart, IsUntold, Tasked, Stored};
 ghost use Rattle.indexd_core.specs.Texts.{Said, status_text};
 
 use crate::btool::btool;
+use crate::feed::feed;
 use crate::preview::run_preview;
 use crate::status::{Status, say};
 use crate::stored::{run_stored, store_preview};
@@ -23,6 +25,7 @@ use indexd_store::Task;
 use indexd_words::{Order, Refusal, lend_words, read_words};
 use ix_base::{Clock, Sink, Source, Text, Tree};
 use ix_disk::Disk;
+use ix_link::Listener;
 use std::alloc::Global;
 
 /// Writes the line of a status that comes before any command.
@@ -36,7 +39,7 @@ fn stop<W: Sink>(status: Status, output: &mut W) -> Status
 }
 
 /// Does all that the program does, and answers its status. `words` are those of the command line behind the program's name, `input` and
-/// `output` its standard input and output, `tree` the files of settings, and `disk` the files of the store.
+/// `output` its standard input and output, `tree` the files of settings, `disk` the files of the store, and `listener` what accepts connections.
 ///
 /// `preview --host HOST --source SOURCE [--sourcetype TYPE] [--index INDEX]` reads the input as one closed stream and writes its
 /// events, a line each, by the settings that the files of the tree have for the host, the source and the source type: lines are merged
@@ -47,14 +50,16 @@ fn stop<W: Sink>(status: Status, output: &mut W) -> Status
 /// The other commands work over the store of the disk. They mount it, put the settings of the files in force where others are, and end with
 /// all of their changes committed. `preview .. --store` stores the events of the input and writes nothing. `buckets` lists the indexes and
 /// buckets, `export INDEX [--earliest SECONDS] [--latest SECONDS]` writes the events of an index in the range of times, `roll INDEX` rolls
-/// its hot buckets, `thaw INDEX ID` brings a frozen bucket back from the archive, and `tick` is a turn of housekeeping.
+/// its hot buckets, `thaw INDEX ID` brings a frozen bucket back from the archive, and `tick` is a turn of housekeeping. `feed` serves the
+/// requests that come one behind the other from the input, and writes the replies.
 ///
 /// Any other words are `Usage`. `Configuration` comes exactly where the files that the command reads have a fault. `NotFound` comes where
 /// INDEX is not configured, or the bucket is not in the archive; `TooManyChannels` where 256 channels are open, and `Full` where the store
 /// would pass its bounds. `Input` comes only where the input of `preview` or the tree has failed, `Output` only where the output has,
-/// `DiskFault` only where the disk has, `Damaged` where its files hold what was not committed, `Endless` only where `preview` took 2^40
-/// bytes, and `Memory` where there was no room. The line of the status stands behind the output.
-pub fn top<S: Source, W: Sink, C: Clock, T: Tree, D: Disk>(
+/// `DiskFault` only where the disk has, `ListenerFault` only where the listener has, `Damaged` where the files of the disk hold what was not
+/// committed, `Unreadable` where a request of `feed` was cut or it is not known where it ends, `Endless` only where `preview` took 2^40 bytes or
+/// `feed` served 2^32 requests, and `Memory` where there was no room. The line of the status stands behind the output.
+pub fn top<S: Source, W: Sink, C: Clock, T: Tree, D: Disk, L: Listener>(
     alloc: Global,
     words: &[Text],
     input: &mut S,
@@ -62,6 +67,7 @@ pub fn top<S: Source, W: Sink, C: Clock, T: Tree, D: Disk>(
     clock: &mut C,
     tree: &mut T,
     disk: &mut D,
+    listener: &mut L,
 ) -> Status
     // Words that are no command are refused. Then nothing is asked or read, and nothing but the line is written.
     ensures usage { result ≡ Status.Usage → is_command words.now ≡ false }
@@ -94,20 +100,31 @@ pub fn top<S: Source, W: Sink, C: Clock, T: Tree, D: Disk>(
         (side (S.faults input.old) (S.left input.old)) (side (S.faults input.new) (S.left input.new))
         (side (W.faults output.old) (W.given output.old)) (side (W.faults output.new) (W.given output.new)) D.Disk disk.old disk.new }
 
-    // What a command leaves alone: one that works over no store the disk, a task the input, `btool` the input and the clock, and each the files.
+    // Requests of the input: they were served one behind the other, over what the store had, up to where the run ended. The replies stand in the
+    // output, and then the line of the status; at every end but a fault of the disk each image has all commands that were accepted.
+    ensures fed { AskFeed words.now →
+        Feeds result (T.files tree.old) (T.faults tree.old) (T.faults tree.new) (C.ahead clock.old) (C.ahead clock.new)
+        (side (S.faults input.old) (S.left input.old)) (side (S.faults input.new) (S.left input.new))
+        (side (W.faults output.old) (W.given output.old)) (side (W.faults output.new) (W.given output.new)) D.Disk disk.old disk.new }
+
+    // What a command leaves alone: one that works over no store the disk, a task the input, `btool` the input and the clock, one that hears no
+    // listener the listener, and each the files.
     ensures untouched { is_stored (asked words.now) ≡ false → disk.new ≡ disk.old }
     ensures unasked { is_task (asked words.now) ≡ true → (S.left input.new ≡ S.left input.old) × (S.faults input.new ≡ S.faults input.old) }
     ensures unread { (name : List ℕ) → AskBtool words.now name → (S.left input.new ≡ S.left input.old) × (S.faults input.new ≡ S.faults input.old)
         × (C.ahead clock.new ≡ C.ahead clock.old) }
+    ensures unheard { is_heard (asked words.now) ≡ false → listener.new ≡ listener.old }
     ensures unchanged { T.files tree.new ≡ T.files tree.old }
 
     // The causes of the other statuses, and that no count of faults falls.
     ensures input { result ≡ Status.Input → Rose (S.faults input.old) (S.faults input.new) ⊎ Rose (T.faults tree.old) (T.faults tree.new) }
     ensures output { result ≡ Status.Output → Rose (W.faults output.old) (W.faults output.new) }
     ensures disk { result ≡ Status.DiskFault → Rose (D.Disk.faults disk.old) (D.Disk.faults disk.new) }
+    ensures listener { result ≡ Status.ListenerFault → Rose (L.faults listener.old) (L.faults listener.new) }
     // Where the images at the start stand for some history, a disk that tells what it reads is not damaged.
     ensures undamaged { result ≡ Status.Damaged → FromStart D.Disk disk.old (λ choose history k. IsUntold D.Disk disk.new) }
     ensures disk_later { D.Disk.faults disk.old ≤ D.Disk.faults disk.new }
+    ensures heard_later { L.faults listener.old ≤ L.faults listener.new }
     ensures read_later { S.faults input.old ≤ S.faults input.new }
     ensures written_later { W.faults output.old ≤ W.faults output.new }
     ensures tree_later { T.faults tree.old ≤ T.faults tree.new }
@@ -147,8 +164,9 @@ pub fn top<S: Source, W: Sink, C: Clock, T: Tree, D: Disk>(
             run_stored(alloc, Task::Thaw { index, id }, output, clock, tree, disk)
         }
         Ok(Order::Tick) => run_stored(alloc, Task::Tick, output, clock, tree, disk),
+        Ok(Order::Feed) => feed(alloc, input, output, clock, tree, disk),
         // these are not built yet
-        Ok(Order::Feed | Order::Serve { .. } | Order::Monitor { .. } | Order::Selftest { .. }) => {
+        Ok(Order::Serve { .. } | Order::Monitor { .. } | Order::Selftest { .. }) => {
             stop(Status::Usage, output)
         }
     }

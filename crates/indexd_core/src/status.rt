@@ -25,11 +25,15 @@ pub enum Status {
     Damaged,
     /// 7: writing the output failed.
     Output,
+    /// 9: the listener failed. `indexd: listener fault`
+    ListenerFault,
     /// 10: the stated index is not configured. `indexd: not found: ` and its name
     NotFound,
     /// 11: 256 channels are open, and one more is to be begun. `indexd: too many channels`
     TooManyChannels,
-    /// 13: the input has 2^40 bytes or more. `indexd: endless input`
+    /// 12: a request was cut, or it is not known where it ends. `indexd: request ` and its number, ` cannot be read`
+    Unreadable,
+    /// 13: the input has 2^40 bytes or more, or 2^32 requests were served. `indexd: endless input`
     Endless,
     /// 17: the store would pass the bounds of what it can keep. `indexd: store full`
     Full,
@@ -49,8 +53,10 @@ impl Status {
             Status::DiskFault => 5,
             Status::Damaged => 6,
             Status::Output => 7,
+            Status::ListenerFault => 9,
             Status::NotFound => 10,
             Status::TooManyChannels => 11,
+            Status::Unreadable => 12,
             Status::Endless => 13,
             Status::Full => 17,
         }
@@ -62,11 +68,12 @@ impl Status {
     {
         match self {
             Status::Done | Status::Configuration | Status::Output => b"",
-            Status::Damaged | Status::NotFound => b"",
+            Status::Damaged | Status::NotFound | Status::Unreadable => b"",
             Status::Memory => b"indexd: want of memory\n",
             Status::Usage => b"indexd: usage\n",
             Status::Input => b"indexd: input fault\n",
             Status::DiskFault => b"indexd: disk fault\n",
+            Status::ListenerFault => b"indexd: listener fault\n",
             Status::TooManyChannels => b"indexd: too many channels\n",
             Status::Endless => b"indexd: endless input\n",
             Status::Full => b"indexd: store full\n",

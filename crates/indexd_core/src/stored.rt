@@ -56,6 +56,7 @@ fn run_with<W: Sink, C: Clock, D: Disk>(
     ensures disk { result ≡ Status.DiskFault → Rose (D.Disk.faults disk.old) (D.Disk.faults disk.new) }
     ensures undamaged { result ≡ Status.Damaged → FromStart D.Disk disk.old (λ choose history k. IsUntold D.Disk disk.new) }
     ensures usage { result ≡ Status.Usage → ⊥ }
+    ensures listener { result ≡ Status.ListenerFault → ⊥ }
 {
     match run_task::<Tier, D, C, W>(alloc, disk, clock, config, task, output) {
         Ok(()) => Status::Done,
@@ -82,6 +83,7 @@ pub fn run_stored<W: Sink, C: Clock, T: Tree, D: Disk>(
     // A disk that keeps what was committed, and tells what it reads, is not damaged.
     ensures undamaged { result ≡ Status.Damaged → FromStart D.Disk disk.old (λ choose history k. IsUntold D.Disk disk.new) }
     ensures usage { result ≡ Status.Usage → ⊥ }
+    ensures listener { result ≡ Status.ListenerFault → ⊥ }
     ensures same { T.files tree.new ≡ T.files tree.old }
     ensures tree_later { T.faults tree.old ≤ T.faults tree.new }
     ensures missing_later { T.missing tree.old ≤ T.missing tree.new }
@@ -206,6 +208,7 @@ fn store_with<S: Source, W: Sink, C: Clock, D: Disk>(
     ensures disk { result ≡ Status.DiskFault → Rose (D.Disk.faults disk.old) (D.Disk.faults disk.new) }
     ensures undamaged { result ≡ Status.Damaged → FromStart D.Disk disk.old (λ choose history k. IsUntold D.Disk disk.new) }
     ensures usage { result ≡ Status.Usage → ⊥ }
+    ensures listener { result ≡ Status.ListenerFault → ⊥ }
 {
     let Ok((meta, index)) = stated(alloc, origin, &config.limits) else {
         say(Status::Memory, output);
@@ -241,6 +244,7 @@ pub fn store_preview<S: Source, W: Sink, C: Clock, T: Tree, D: Disk>(
     // A disk that keeps what was committed, and tells what it reads, is not damaged.
     ensures undamaged { result ≡ Status.Damaged → FromStart D.Disk disk.old (λ choose history k. IsUntold D.Disk disk.new) }
     ensures usage { result ≡ Status.Usage → ⊥ }
+    ensures listener { result ≡ Status.ListenerFault → ⊥ }
     ensures same { T.files tree.new ≡ T.files tree.old }
     ensures tree_later { T.faults tree.old ≤ T.faults tree.new }
     ensures missing_later { T.missing tree.old ≤ T.missing tree.new }

@@ -4,7 +4,7 @@ use Rattle.indexd_store.specs.declared.stop.Stop.TheVariants as stops
 use Rattle.indexd_core.specs.Stored.{line_of, done, stopped}
 use Rattle.indexd_core.specs.Texts.{Said}
 use Rattle.indexd_core.proofs.PreviewLemmas.{rose-until}
-use Rattle.indexd_core.proofs.StoredLemmas.{task_taken, disk_stop, output_stop, input_stop, usage_stop, yes_no, err_as, by_blame}
+use Rattle.indexd_core.proofs.StoredLemmas.{task_taken, disk_stop, output_stop, input_stop, usage_stop, listener_stop, yes_no, err_as, by_blame}
 use Rattle.indexd_core.proofs.stored.run_with.Goals as goal
 
 pub run_task-requires-clause-settings : goal.run_task-requires-clause-settings
@@ -36,6 +36,9 @@ returns-in-Err-clause-disk g c = λ is. c.in-Err.ensures.cause (err_as c.in-Err.
 
 pub returns-in-Err-clause-usage : goal.returns-in-Err-clause-usage
 returns-in-Err-clause-usage g c = λ is. usage_stop c.say_stop.result c.in-Err.stop c.say_stop.ensures.status is
+
+pub returns-in-Err-clause-listener : goal.returns-in-Err-clause-listener
+returns-in-Err-clause-listener g c = λ is. listener_stop c.say_stop.result c.in-Err.stop c.say_stop.ensures.status is
 
 pub returns-in-Err-clause-undamaged : goal.returns-in-Err-clause-undamaged
 returns-in-Err-clause-undamaged g c = λ is. by_blame c.in-Err.stop _ (sym c.say_stop.ensures.status ∙ is)

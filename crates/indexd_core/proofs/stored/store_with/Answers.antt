@@ -11,7 +11,7 @@ use Rattle.indexd_core.specs.Prepared.{index_or_default}
 use Rattle.indexd_core.specs.Sides.{side}
 use Rattle.indexd_core.specs.Stored.{FromStart, done, stopped, line_of, named_of}
 use Rattle.indexd_core.specs.Texts.{Said}
-use Rattle.indexd_core.proofs.StoredLemmas.{unmounted, disk_stop, output_stop, input_stop, usage_stop, done_stop, yes_no, err_as}
+use Rattle.indexd_core.proofs.StoredLemmas.{unmounted, disk_stop, output_stop, input_stop, usage_stop, listener_stop, done_stop, yes_no, err_as}
 use Rattle.indexd_core.proofs.stored.store_with.Goals as goal
 
 pub returns-in_default-clause-comes : goal.returns-in_default-clause-comes
@@ -55,6 +55,9 @@ returns-clause-disk g c = λ is. c.in-Err.ensures.cause (err_as c.in-Err.stop st
 
 pub returns-clause-usage : goal.returns-clause-usage
 returns-clause-usage g c = λ is. usage_stop c.say_stop.result c.in-Err.stop c.say_stop.ensures.status is
+
+pub returns-clause-listener : goal.returns-clause-listener
+returns-clause-listener g c = λ is. listener_stop c.say_stop.result c.in-Err.stop c.say_stop.ensures.status is
 
 pub returns-clause-undamaged : goal.returns-clause-undamaged
 returns-clause-undamaged g c = λ is. c.in-Err.ensures.undamaged (sym c.say_stop.ensures.status ∙ is)

@@ -1,0 +1,65 @@
+-- Requests that are served one behind the other from the input: `feed`.
+use Rattle.std.specs.Prelude.{◌≡◌, ◌≤◌, ◌++◌, ℕ, List, [], codes, decimal, Option}
+use Rattle.ix_base.specs.Clocks.{Moments}
+use Rattle.ix_base.specs.declared.trees.TreeFile.{TreeFile}
+use Rattle.ix_disk.specs.declared.disk.Disk.{Ghosts}
+use Rattle.ix_machine.specs.declared.commands.Config.{Config}
+use Rattle.ix_replay.specs.Fits.{fits}
+use Rattle.indexd_feed.specs.Ends.{fed_of}
+use Rattle.indexd_feed.specs.Serving.{HasServed}
+use Rattle.indexd_feed.specs.Sides.{IsSound}
+use Rattle.indexd_feed.specs.declared.end.End.{End}
+use Rattle.indexd_feed.specs.declared.end.End.TheVariants as ends
+use Rattle.indexd_store.specs.Opened.{HasShut}
+use Rattle.indexd_store.specs.declared.stop.Stop.{Stop}
+use Rattle.indexd_core.specs.Sides.{Side}
+use Rattle.indexd_core.specs.Stored.{status_of, line_of, damaged_line, FromStart, Whole}
+use Rattle.indexd_core.specs.Texts.{status_text, Said}
+use Rattle.indexd_core.specs.declared.status.Status.{Status}
+use Rattle.indexd_core.specs.declared.status.Status.TheVariants.{Done, Memory, Input, DiskFault, Damaged, Output, Unreadable, Endless}
+
+-- ---- statuses and their lines
+
+abbrev pub end_status : End → Status
+end_status ends.Ended = Done
+end_status (ends.Unreadable request) = Unreadable
+end_status ends.Memory = Memory
+end_status ends.Endless = Endless
+end_status ends.Disk = DiskFault
+end_status (ends.Damaged file at) = Damaged
+end_status ends.Input = Input
+end_status ends.Output = Output
+
+abbrev pub unreadable_line : ℕ → List ℕ
+unreadable_line request = codes "indexd: request " ++ decimal request ++ codes " cannot be read\n"
+
+abbrev pub end_line : End → List ℕ
+end_line ends.Ended = status_text Done
+end_line (ends.Unreadable request) = unreadable_line request
+end_line ends.Memory = status_text Memory
+end_line ends.Endless = status_text Endless
+end_line ends.Disk = status_text DiskFault
+end_line (ends.Damaged file at) = damaged_line file at
+end_line ends.Input = status_text Input
+end_line ends.Output = status_text Output
+
+-- ---- runs
+
+-- A run of requests with these settings. Shut: it stopped before the first request, read nothing, and wrote the line of that. Served: requests
+-- were served up to this end, and behind their replies, where the output is at the middle, stands the line of the status. All replies were
+-- written, unless the output has failed.
+pub data FeedComes (status : Status) {D : Type 0} (d : Ghosts D) (config : Config) (ahead ahead' : Option Moments) (input input' output output' : Side) (disk disk' : D) : Type 0 where
+  shut : (stop : Stop) → status ≡ status_of stop →
+      FromStart d disk (λ choose history k. HasShut stop d fits choose history k config ahead ahead' disk disk') →
+      input' ≡ input → Said (line_of [] stop) output output' →
+      FeedComes status d config ahead ahead' input input' output output' disk disk'
+  served : (end : End) (middle : Side) → status ≡ end_status end → output.faults ≤ middle.faults → middle.faults ≤ output'.faults →
+      FromStart d disk (λ choose history k.
+      HasServed d fits choose history k config (fed_of end) (IsSound output.faults middle.faults) input.told input'.told ahead ahead' output.told middle.told disk disk') →
+      Said (end_line end) middle output' →
+      FeedComes status d config ahead ahead' input input' output output' disk disk'
+
+abbrev pub Feeds : Status → Option (List TreeFile) → ℕ → ℕ → Option Moments → Option Moments → Side → Side → Side → Side → {D : Type 0} → Ghosts D → D → D → Type 0
+Feeds status files failed failed' ahead ahead' input input' output output' d disk disk' =
+    Whole status files failed failed' ((ahead' ≡ ahead) × (input' ≡ input) × (disk' ≡ disk))
+    (λ config. FeedComes status d config ahead ahead' input input' output output' disk disk') output output'
