@@ -1,8 +1,8 @@
 //! Worked examples: the runs of each, one behind the other over one disk.
 
 use crate::runs::{Files, LATER, NOON, Run, shown};
-use ix_base::FailPlan;
-use ix_disk::MemDisk;
+use ix_base::{Area, FailPlan, File};
+use ix_disk::{Disk, MemDisk};
 use std::alloc::Global;
 use std::process::Abort;
 use std::test::Fail;
@@ -88,9 +88,17 @@ fn at(
 
 /// Runs over one disk, each with its status and text; the first that differs is told.
 fn hold(rt: &impl Abort, alloc: Global, runs: &[Run]) -> Result<(), Fail> {
-    let mut disk = MemDisk::new(alloc, FailPlan::none(alloc));
+    hold_over(
+        rt,
+        alloc,
+        &mut MemDisk::new(alloc, FailPlan::none(alloc)),
+        runs,
+    )
+}
+
+fn hold_over(rt: &impl Abort, alloc: Global, disk: &mut MemDisk, runs: &[Run]) -> Result<(), Fail> {
     for &run in runs {
-        let shown = shown(alloc, &mut disk, run)?;
+        let shown = shown(alloc, disk, run)?;
         assert!(rt; shown.as_str() == run.want, "{}: {shown}", run.line);
     }
     Ok(())
@@ -214,7 +222,25 @@ fn buckets_age(rt: HostRuntime) -> Result<(), Fail> {
             "10: indexd: not found: main 0\n",
         ),
     ];
-    hold(&rt, alloc, &archived)?;
+    hold(&rt, alloc, &archived)
+}
+
+/// The file of the first bucket of a store, and the one that it is copied to.
+const FIRST: File = File {
+    area: Area::Home,
+    number: 1,
+};
+
+const COPY: File = File {
+    area: Area::Cold,
+    number: 2,
+};
+
+/// A bucket that cools is copied, and its first file goes.
+#[test]
+fn cold_buckets_are_copied(rt: HostRuntime) -> Result<(), Fail> {
+    let alloc = rt.alloc();
+    let mut disk = MemDisk::new(alloc, FailPlan::none(alloc));
     let cold = [
         run(STORE, COLD, "a", "0: "),
         run("roll main", COLD, "", "0: rolled 1\n"),
@@ -226,7 +252,11 @@ fn buckets_age(rt: HostRuntime) -> Result<(), Fail> {
             "0: index main stored 1 bytes 58 frozen 0\nbucket main db_1700000000_1700000000_0 cold 1 58\nevents settled 1 nulled 0 dropped 0\n",
         ),
     ];
-    hold(&rt, alloc, &cold)
+    hold_over(&rt, alloc, &mut disk, &cold)?;
+    let copied = disk.length(COPY).unwrap_or(u64::MAX);
+    let left = disk.length(FIRST).unwrap_or(u64::MAX);
+    assert!(rt; copied == 58 && left == 0, "{copied} {left}");
+    Ok(())
 }
 
 /// Events are masked, dropped and routed as they are stored, and settings that change hold from then on.

@@ -1,4 +1,4 @@
-//! Tests of the commands over a store, by `top` alone, over a disk in memory.
+//! Tests of the commands over a store, by `top`, over a disk in memory; and of a checkpoint, which the store is asked for.
 #![tactic(auto)]
 
 #[cfg(test)]
@@ -7,5 +7,7 @@ mod damage;
 mod examples;
 #[cfg(test)]
 mod runs;
+#[cfg(test)]
+mod shortened;
 #[cfg(test)]
 mod stops;

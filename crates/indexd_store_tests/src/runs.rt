@@ -5,6 +5,7 @@ use ix_base::{
     Bytes, FailPlan, MemClock, MemSink, MemSource, MemTree, NoMemory, Text, TreeFile, TreeFileList,
 };
 use ix_disk::Disk;
+use ix_link::{MemLinkList, MemListener};
 use std::alloc::Global;
 use std::test::Fail;
 
@@ -74,6 +75,7 @@ pub(crate) fn shown<D: Disk>(alloc: Global, disk: &mut D, run: Run) -> Result<St
     let mut source = source_of(alloc, run)?;
     let mut sink = MemSink::new(alloc, FailPlan::none(alloc));
     let mut clock = MemClock::new([run.moment].to_vec(alloc)?);
+    let mut listener = MemListener::new(alloc, MemLinkList::new(alloc), FailPlan::none(alloc));
     let status = top(
         alloc,
         &words,
@@ -82,6 +84,7 @@ pub(crate) fn shown<D: Disk>(alloc: Global, disk: &mut D, run: Run) -> Result<St
         &mut clock,
         &mut tree,
         disk,
+        &mut listener,
     );
     let text = str::from_utf8(sink.bytes()).unwrap_or("?");
     let mut shown = String::new(alloc);

@@ -281,3 +281,28 @@ fn a_stop_while_settings_change(rt: HostRuntime) -> Result<(), Fail> {
     let change = (0, run(NOON, CHANGED, "buckets", ""));
     check_stops(&rt, alloc, &disk, change, known, (0, u64::MAX))
 }
+
+/// A channel is begun, and a block of two whole lines and a begun one is sent.
+const REQUESTS: &str =
+    "PUT /channels/c HTTP/1.1\r\nContent-Length: 25\r\n\r\n{\"host\":\"h\",\"source\":\"s\"}POST /channels/c/blocks HTTP/1.1\r\nContent-Length: 5\r\n\r\nx\ny\nz";
+
+const SERVED: &[&str] = &[
+    "0: 0: index main stored 0 bytes 0 frozen 0\nevents settled 0 nulled 0 dropped 0\n",
+    "0: main\t1700000000.000000\th\ts\tunknown\t\tx\nmain\t1700000000.000000\th\ts\tunknown\t\ty\n0: index main stored 2 bytes 116 frozen 0\nbucket main hot_v1_0 hot 2 116\nevents settled 2 nulled 0 dropped 0\n",
+];
+
+/// A stop leaves both events of a block, or none.
+#[test]
+fn a_stop_while_a_block_is_served(rt: HostRuntime) -> Result<(), Fail> {
+    let alloc = rt.alloc();
+    let known = Known {
+        runs: [
+            run(NOON, PLAIN, "export main", ""),
+            run(NOON, PLAIN, "buckets", ""),
+        ],
+        shown: SERVED,
+    };
+    let disk = MemDisk::new(alloc, FailPlan::none(alloc));
+    let feed = (0, run(NOON, PLAIN, "feed", REQUESTS));
+    check_stops(&rt, alloc, &disk, feed, known, (0, u64::MAX))
+}

@@ -5,6 +5,7 @@ use ix_base::{
     Bytes, FailPlan, MemClock, MemSink, MemSource, MemTree, NoMemory, Text, TreeFile, TreeFileList,
 };
 use ix_disk::MemDisk;
+use ix_link::{MemLinkList, MemListener};
 use std::alloc::Global;
 use std::test::Fail;
 
@@ -43,6 +44,7 @@ fn answers(
     let mut clock = MemClock::new(Vec::new(alloc));
     let mut tree = tree_of(alloc, files, failing)?;
     let mut disk = MemDisk::new(alloc, FailPlan::none(alloc));
+    let mut listener = MemListener::new(alloc, MemLinkList::new(alloc), FailPlan::none(alloc));
     let status = top(
         alloc,
         &words,
@@ -51,6 +53,7 @@ fn answers(
         &mut clock,
         &mut tree,
         &mut disk,
+        &mut listener,
     );
     Ok(status == want.0 && output.bytes() == want.1)
 }

@@ -4,6 +4,7 @@ use crate::shows::{tree_of, words_of};
 use indexd_core::{Status, top};
 use ix_base::{Bytes, Clock, FailPlan, Failed, MemClock, MemSink, MemSource, Sink, Source};
 use ix_disk::MemDisk;
+use ix_link::{MemLinkList, MemListener};
 use std::alloc::Global;
 use std::cell::Cell;
 use std::process::Abort;
@@ -36,7 +37,18 @@ fn run<S: Source, W: Sink, C: Clock>(
     let words = words_of(alloc, line)?;
     let mut tree = tree_of(alloc, &[("props", "[default]\nSHOULD_LINEMERGE = false")])?;
     let mut disk = MemDisk::new(alloc, FailPlan::none(alloc));
-    Ok(top(alloc, &words, input, output, clock, &mut tree, &mut disk))
+    let mut listener = MemListener::new(alloc, MemLinkList::new(alloc), FailPlan::none(alloc));
+    let status = top(
+        alloc,
+        &words,
+        input,
+        output,
+        clock,
+        &mut tree,
+        &mut disk,
+        &mut listener,
+    );
+    Ok(status)
 }
 
 fn preview(alloc: Global, input: &mut MemSource, output: &mut MemSink) -> Result<Status, Fail> {
@@ -320,8 +332,10 @@ fn statuses_have_their_numbers(rt: HostRuntime) -> Result<(), Fail> {
         Status::DiskFault,
         Status::Damaged,
         Status::Output,
+        Status::ListenerFault,
         Status::NotFound,
         Status::TooManyChannels,
+        Status::Unreadable,
         Status::Endless,
         Status::Full,
     ] {
@@ -329,7 +343,7 @@ fn statuses_have_their_numbers(rt: HostRuntime) -> Result<(), Fail> {
         numbers.push_str(number.as_str())?;
     }
     assert!(rt;
-        numbers.as_str() == "0 1 2 3 4 5 6 7 10 11 13 17 ",
+        numbers.as_str() == "0 1 2 3 4 5 6 7 9 10 11 12 13 17 ",
         "{numbers}"
     );
     Ok(())

@@ -5,6 +5,7 @@ use ix_base::{
     Bytes, FailPlan, MemClock, MemSink, MemSource, MemTree, NoMemory, Text, TreeFile, TreeFileList,
 };
 use ix_disk::MemDisk;
+use ix_link::{MemLinkList, MemListener};
 use std::alloc::Global;
 use std::test::Fail;
 
@@ -68,6 +69,7 @@ pub(crate) fn show(
     let mut sink = MemSink::new(alloc, FailPlan::none(alloc));
     let mut clock = MemClock::new([run.moment].to_vec(alloc)?);
     let mut disk = MemDisk::new(alloc, FailPlan::none(alloc));
+    let mut listener = MemListener::new(alloc, MemLinkList::new(alloc), FailPlan::none(alloc));
     let status = top(
         alloc,
         &words,
@@ -76,6 +78,7 @@ pub(crate) fn show(
         &mut clock,
         &mut tree,
         &mut disk,
+        &mut listener,
     );
     let text = str::from_utf8(sink.bytes()).unwrap_or("?");
     let _ = write!(shown, "{}: {text}", status.code());
