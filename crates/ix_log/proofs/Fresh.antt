@@ -1,5 +1,5 @@
 -- The run of calls that makes a file an empty log.
-use Rattle.std.proofs.Common.{◌≡◌, ◌≢◌, ℕ, List, [], ◌∷◌, Option, refl, ap, ◌∙◌, arith}
+use Rattle.std.proofs.Common.{◌≡◌, ℕ, List, [], ◌∷◌, Option, refl, ap, ◌∙◌, arith}
 use Rattle.ix_base.specs.declared.files.File.{File}
 use Rattle.ix_base.specs.Told.{Told}
 use Rattle.ix_disk.specs.Image.{Image, MayWrite, Writes, MayRemove, Removes, Stays, Apart, overwritten}

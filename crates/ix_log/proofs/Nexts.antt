@@ -1,5 +1,5 @@
 -- What reading one body more gives.
-use Rattle.std.proofs.Common.{◌≡◌, ◌^◌, ◌≤◌, ◌<◌, ◌+◌, ℕ, List, [], ◌∷◌, ◌++◌, length, take, drop, Bool, Result, Err, refl, sym, ◌∙◌, ap, arith, append_assoc, length-append, length-take, length-drop, take-append-drop}
+use Rattle.std.proofs.Common.{◌≡◌, ◌^◌, ◌≤◌, ◌<◌, ◌+◌, ◌-◌, ℕ, List, [], ◌∷◌, ◌++◌, length, take, drop, Bool, Result, Err, refl, sym, ◌∙◌, ap, arith, append_assoc, length-append, length-take, length-drop, take-append-drop}
 use Rattle.std.proofs.lemmas.List.{take_at, drop_at, drop-drop}
 use Rattle.std.specs.Int.{to_be_bytes, from_be_bytes, w32}
 use Rattle.std.proofs.lemmas.Nat.{from_be_bytes-to_be_bytes_4}
@@ -27,6 +27,12 @@ rest_is bodies size at file on place = ap (λ (l : List ℕ). drop at l) on.spel
 
 pub rest_left : (bodies : List (List ℕ)) (size at : ℕ) (file : List ℕ) → ReadOn bodies size file → at ≡ length (blocks bodies) → 1 < size → 0 < length (drop at file)
 rest_left bodies size at file on place more = omega (arith, on.goes_on (omega (arith, on.measured)), ap length (rest_is bodies size at file on place))
+
+-- how much of the file is left
+pub left_is : (bodies : List (List ℕ)) (size at : ℕ) (file : List ℕ) → ReadOn bodies size file → at ≡ length (blocks bodies) → 1 < size → (left : ℕ) → left ≡ size - at → (left ≡ length (drop at file)) × (0 < left)
+left_is bodies size at file on place more left is =
+    let same : left ≡ length (drop at file) = omega (arith, is, on.measured, length-drop at file) in
+    (same, omega (arith, same, rest_left bodies size at file on place more))
 
 pub gated_here : (bodies : List (List ℕ)) (size at : ℕ) (file : List ℕ) → ReadOn bodies size file → at ≡ length (blocks bodies) → IsHead End (drop at file) → Gated bodies file
 gated_here bodies size at file on place head = record {

@@ -7,6 +7,7 @@ use Rattle.ix_disk.specs.Image.{Image, bytes_in}
 use Rattle.ix_disk.specs.Moments.{Holds, Reads}
 use Rattle.ix_disk.specs.declared.disk.Disk.{Ghosts}
 use Rattle.ix_log.specs.declared.log.Log.{Log}
+use Rattle.ix_log.specs.Window.{IsWindowOn}
 
 -- the log's file
 abbrev pub file_of : Log → File
@@ -131,6 +132,7 @@ pub record IsReading {D : Type 0} (g : Ghosts D) (log : Log) (disk : D) (bodies 
   pub fresh : log.closed ≡ false
   pub settled : IsAsRead g disk log.file
   pub reads : Reads g disk log.file (ReadOn bodies log.size)
+  pub ahead : Reads g disk log.file (IsWindowOn log.window)
 
 -- the first where it is true, else the second
 abbrev pub OnMore : Bool → Type 0 → Type 0 → Type 0

@@ -5,6 +5,7 @@
 mod head;
 mod laws;
 mod log;
+mod window;
 
 pub use laws::one_list;
 pub use log::{BeginFault, Log, LogFault};

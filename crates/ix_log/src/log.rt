@@ -4,11 +4,14 @@ ghost use Rattle.std.specs.Prelude.{◌≡◌, ◌<◌, ◌≤◌, ◌+◌, ◌^
 ghost use Rattle.ix_base.specs.Faults.{HasCause, Rose};
 ghost use Rattle.ix_base.specs.Told.{Told};
 ghost use Rattle.ix_disk.specs.Image.{Image, bytes_in, Stays, Apart};
-ghost use Rattle.ix_disk.specs.Moments.{Goes, InFile, Holds};
+ghost use Rattle.ix_disk.specs.Moments.{Goes, InFile, Holds, Reads};
+ghost use Rattle.ix_log.specs.Head.{IsHead, IsWithin};
+ghost use Rattle.ix_log.specs.Window.{IsWindowOn};
 ghost use Rattle.ix_log.specs.declared.log.BeginFault.TheVariants as begins;
 ghost use Rattle.ix_log.specs.declared.log.LogFault.TheVariants as faults;
 
 use crate::head::{Head, head_of};
+use crate::window::Window;
 use ix_base::{Bytes, Failed, File};
 use ix_disk::Disk;
 use std::alloc::Global;
@@ -50,36 +53,28 @@ impl From<Failed> for BeginFault {
     }
 }
 
-/// Reads the body of so many bytes behind a gate into `out`, in place of what stood there.
-fn fill<D: Disk>(
+/// What stands at a gate behind which so many bytes of the file are left, itself included.
+fn head_at<D: Disk>(
     disk: &mut D,
+    window: &mut Window,
     file: File,
-    gate: u64,
-    len: u32,
-    out: &mut Bytes,
-) -> Result<(), LogFault>
-    requires { gate < 2 ^ 63 }
-    ensures filled { OnOk result ((image : Image) → D.Disk.seen disk.old ≡ Some image → gate + 5 + len ≤ length (bytes_in image file) → out.new ≡ take len (drop (gate + 5) (bytes_in image file))) }
-    ensures sized { OnOk result (length out.new ≡ len) }
-    ensures damaged { (at : ℕ) → result ≡ Err (LogFault.Damaged at) → (image : Image) → D.Disk.seen disk.old ≡ Some image → length (bytes_in image file) < gate + 5 + len }
+    at: u64,
+    left: u64,
+) -> Result<Head, Failed>
+    requires { at < 2 ^ 63 }
+    ensures head { Reads D.Disk disk.old file (IsWindowOn window.old) → (image : Image) → D.Disk.seen disk.old ≡ Some image →
+        left ≡ length (drop at (bytes_in image file)) → 0 < left → IfOk result (λ head. IsHead head (drop at (bytes_in image file))) }
+    ensures within { IfOk result (λ head. IsWithin head left) }
+    ensures shows { Reads D.Disk disk.old file (IsWindowOn window.old) → OnOk result (Reads D.Disk disk.new file (IsWindowOn window.new)) }
     ensures same { D.Disk.seen disk.new ≡ D.Disk.seen disk.old }
     ensures images { Goes D.Disk disk.old disk.new Stays }
-    ensures later { D.Disk.faults disk.old ≤ D.Disk.faults disk.new }
-    ensures cause { IsErrOf result LogFault.Disk → Rose (D.Disk.faults disk.old) (D.Disk.faults disk.new) }
+    ensures cause { HasCause (D.Disk.faults disk.old) (D.Disk.faults disk.new) result }
 {
-    let len = len as usize;
-    let own = out.empty();
-    let mut bytes = mem::replace(out, own).into_vec();
-    bytes.clear();
-    if bytes.resize(len, 0).is_err() {
-        return Err(LogFault::NoMemory);
-    }
-    let n = disk.read(file, gate + 5, bytes.as_mut_slice())?;
-    if n < len {
-        return Err(LogFault::Damaged { at: gate });
-    }
-    *out = Bytes::from_vec(bytes);
-    Ok(())
+    window.reach(disk, file, at, left)?;
+    let mut head = [0u8; 5];
+    let room = left.min(5) as usize;
+    let n = window.read(disk, file, at, &mut head[..room])?;
+    Ok(head_of(&head, n, left))
 }
 
 /// A log of bodies in a file of a disk. It is mounted, read to its end, and then further bodies are put.
@@ -96,6 +91,8 @@ pub struct Log {
     begun: bool,
     /// Whether a gate stands at the place that is not open.
     closed: bool,
+    /// What was read ahead of the file, until the list has ended.
+    window: Window,
     ghost in_range: { (at < 2 ^ 63) × (len < 2 ^ 32) × (size < 2 ^ 63) },
 }
 
@@ -114,7 +111,6 @@ impl Log {
         ensures later { D.Disk.faults disk.old ≤ D.Disk.faults disk.new }
         ensures cause { OnErr result ((result ≡ Err LogFault.Disk) × Rose (D.Disk.faults disk.old) (D.Disk.faults disk.new)) }
     {
-        let _ = alloc;
         disk.sync(file)?;
         let size = disk.length(file)?;
         Ok(Log {
@@ -124,6 +120,7 @@ impl Log {
             len: 0,
             begun: false,
             closed: false,
+            window: Window::new(alloc),
         })
     }
 
@@ -143,7 +140,6 @@ impl Log {
         ensures later { D.Disk.faults disk.old ≤ D.Disk.faults disk.new }
         ensures cause { OnErr result ((result ≡ Err BeginFault.Disk) × Rose (D.Disk.faults disk.old) (D.Disk.faults disk.new)) }
     {
-        let _ = alloc;
         disk.remove(file)?;
         disk.write_at(file, 0, &[0])?;
         disk.sync(file)?;
@@ -154,13 +150,44 @@ impl Log {
             len: 0,
             begun: false,
             closed: true,
+            window: Window::new(alloc),
         })
+    }
+
+    /// Reads the body of so many bytes at the log's gate into `out`, in place of what stood there.
+    fn body<D: Disk>(&self, disk: &mut D, len: u32, out: &mut Bytes) -> Result<(), LogFault>
+        ensures read { Reads D.Disk disk.old self.now.file (IsWindowOn self.now.window) → (image : Image) → D.Disk.seen disk.old ≡ Some image →
+            OnOk result (self.now.at + 5 + len ≤ length (bytes_in image self.now.file) → out.new ≡ take len (drop (self.now.at + 5) (bytes_in image self.now.file))) }
+        ensures sized { OnOk result (length out.new ≡ len) }
+        ensures damaged { Reads D.Disk disk.old self.now.file (IsWindowOn self.now.window) → (image : Image) → D.Disk.seen disk.old ≡ Some image →
+            (at : ℕ) → result ≡ Err (LogFault.Damaged at) → length (bytes_in image self.now.file) < self.now.at + 5 + len }
+        ensures same { D.Disk.seen disk.new ≡ D.Disk.seen disk.old }
+        ensures images { Goes D.Disk disk.old disk.new Stays }
+        ensures later { D.Disk.faults disk.old ≤ D.Disk.faults disk.new }
+        ensures cause { IsErrOf result LogFault.Disk → Rose (D.Disk.faults disk.old) (D.Disk.faults disk.new) }
+    {
+        let len = len as usize;
+        let own = out.empty();
+        let mut bytes = mem::replace(out, own).into_vec();
+        bytes.clear();
+        if bytes.resize(len, 0).is_err() {
+            return Err(LogFault::NoMemory);
+        }
+        let buf = bytes.as_mut_slice();
+        let n = self.window.read(disk, self.file, self.at + 5, buf)?;
+        if n < len {
+            return Err(LogFault::Damaged { at: self.at });
+        }
+        *out = Bytes::from_vec(bytes);
+        Ok(())
     }
 
     /// Reads the next body into `out`, in place of what stood there, and answers true. At the end of the list it answers
     /// false, and leaves `out` as it was. After a fault it is open what stands in `out`. It is `Damaged` exactly where an
     /// open gate stands, and behind it no whole body with at least one byte more; `at` is the place of the gate. It takes
-    /// no more memory than the body that stands there.
+    /// no more memory than the body that stands there and a window on what is left of the file, of at most 256 KiB,
+    /// through which it is read in large pieces. Where there is no room for the window it does without, and at the end of
+    /// the list it gives the window back.
     pub fn next<D: Disk>(&mut self, disk: &mut D, out: &mut Bytes) -> Result<bool, LogFault>
         requires { IsMounted D.Disk self.old disk.old }
         ensures mounted { IfOk result (λ more. more ≡ true → IsMounted D.Disk self.new disk.new) }
@@ -184,17 +211,16 @@ impl Log {
         if self.size <= 1 {
             return Ok(false);
         }
-        let mut head = [0u8; 5];
-        let n = disk.read(self.file, self.at, &mut head)?;
         let left = self.size.saturating_sub(self.at);
-        match head_of(&head, n, left) {
+        match head_at(disk, &mut self.window, self.file, self.at, left)? {
             Head::End => {
                 self.closed = true;
+                self.window.close();
                 Ok(false)
             }
             Head::Cut => Err(LogFault::Damaged { at: self.at }),
             Head::Body(len) => {
-                fill(disk, self.file, self.at, len, out)?;
+                self.body(disk, len, out)?;
                 self.at += 5 + len as u64;
                 Ok(true)
             }

@@ -229,6 +229,57 @@ fn bodies_are_kept_in_a_real_file(rt: HostRuntime) -> Result<(), Fail> {
     Ok(())
 }
 
+/// Sizes of bodies. The log is read in pieces of 262,144 bytes: the first one ends with the third body, the fourth body is
+/// longer than one, and the third piece ends within the head behind the sixth body.
+static SIZES: [u32; 7] = [0, 5, 262_124, 300_000, 5, 262_126, 7];
+
+/// A body of so many bytes, which tell their places.
+fn body_of(alloc: Global, size: u32) -> Result<Bytes, NoMemory>
+    ensures { IfOk result (λ body. length body ≡ size) }
+{
+    let mut body = Bytes::new(alloc);
+    for at in 0..size {
+        body.push((at % 251) as u8)?;
+    }
+    Ok(body)
+}
+
+/// Adds a body of so many bytes.
+fn add_sized<D: Disk>(alloc: Global, disk: &mut D, size: u32) -> Result<(), Fail> {
+    let body = body_of(alloc, size)?;
+    let mut log = read_to_end(alloc, disk)?;
+    log.put(disk, body.as_slice())?;
+    log.finish(disk)?;
+    Ok(())
+}
+
+/// Whether the log has bodies of these sizes, and no others.
+fn has_sizes<D: Disk>(alloc: Global, disk: &mut D) -> Result<bool, Fail> {
+    let mut out = Bytes::new(alloc);
+    let mut log = Log::mount(alloc, disk, LOG)?;
+    for size in SIZES {
+        let want = body_of(alloc, size)?;
+        if !log.next(disk, &mut out)? || out.as_slice() != want.as_slice() {
+            return Ok(false);
+        }
+    }
+    Ok(!log.next(disk, &mut out)?)
+}
+
+#[test]
+fn a_log_is_read_in_pieces(rt: HostRuntime) -> Result<(), Fail> {
+    let mut disk = MemDisk::new(rt.alloc(), FailPlan::none(rt.alloc()));
+    for size in SIZES {
+        add_sized(rt.alloc(), &mut disk, size)?;
+    }
+    let before = disk.asked(LOG);
+    assert!(rt; has_sizes(rt.alloc(), &mut disk)?);
+    // The length, four pieces, and the rest of the fourth body.
+    let asked = disk.asked(LOG).saturating_sub(before);
+    assert!(rt; asked == 6, "{asked}");
+    Ok(())
+}
+
 /// A log of one body, and what an earlier try left behind its gate.
 const ONE: &[u8] = b"\x01\x00\x00\x00\x02ab\x00\xEE\xEE";
 
@@ -237,8 +288,8 @@ const OLD: &[u8] = b"ab. None 7";
 
 const MORE: &[u8] = b"ab.cd. None 14";
 
-/// A sync and the length, three reads, three writes of the body, and five calls for its gate.
-const CALLS: u64 = 13;
+/// A sync and the length, one read, three writes of the body, and five calls for its gate.
+const CALLS: u64 = 11;
 
 /// Whether a second body is put where the disk stops before a call, and what a crash leaves then.
 fn stopped(alloc: Global, calls: u64, torn: bool) -> Result<(bool, MemDisk), Fail> {

@@ -1,115 +1,82 @@
-use Rattle.std.proofs.Common.{refl, inl, rules, take, Err, ◌≡◌, ◌<◌, ◌+◌, min, [], ◌∷◌, ◌++◌, length, drop, Some, sym, ◌∙◌, arith, length-drop}
-use Rattle.ix_disk.specs.Image.{bytes_in}
-use Rattle.ix_disk.proofs.Runs.{settles}
-use Rattle.ix_log.specs.Log.{Gated}
-use Rattle.ix_log.proofs.Blocks.{length-blocks_push}
-use Rattle.ix_log.proofs.Nexts.{as_read_still, gated_here, rest_left, room_for, body_here, cut_here, not_cut, damaged_is}
+use Rattle.std.proofs.Common.{◌≡◌, ◌<◌, ◌+◌, [], ◌∷◌, ◌++◌, take, drop, Some, Err, refl, sym, subst, rules, ◌∙◌, arith}
 use Rattle.std.proofs.lemmas.Result.{err_from_is_err_and}
+use Rattle.ix_disk.specs.Image.{bytes_in}
+use Rattle.ix_log.specs.Head.{IsHead}
+use Rattle.ix_log.specs.declared.head.Head.{Head}
+use Rattle.ix_log.specs.declared.head.Head.TheVariants.{Body, Cut}
 use Rattle.ix_log.specs.declared.log.LogFault.TheVariants.{Damaged}
+use Rattle.ix_log.proofs.Blocks.{length-blocks_push}
+use Rattle.ix_log.proofs.Nexts.{as_read_still, left_is, room_for, body_here, cut_here, not_cut, damaged_is}
 use Rattle.ix_log.proofs.log.Log.next.Goals as goal
 
-pub returns-in_ok-fill-in-Body-clause-next : goal.returns-in_ok-fill-in-Body-clause-next
-returns-in_ok-fill-in-Body-clause-next g c = λ bodies h.
+pub returns-in_ok-body-in-Body-clause-next : goal.returns-in_ok-body-in-Body-clause-next
+returns-in_ok-body-in-Body-clause-next g c = λ bodies h.
     let len_fits : c.in-Body.len < 4294967296 = search rules in
     let log = c.args.self.now in
-    let mid = c.read.new.self in
+    let mid = c.head_at.new.disk in
+    let shows = c.in_ok-head_at.ensures.shows h.ahead in
     record {
-      place = omega (arith, h.place, c.in_ok-fill-in-Body.ensures.sized, length-blocks_push bodies c.fill.new.out);
+      place = omega (arith, h.place, c.in_ok-body-in-Body.ensures.sized, length-blocks_push bodies c.body.new.out);
       idle = h.idle;
       none_put = h.none_put;
       fresh = h.fresh;
-      settled = as_read_still g.D.Disk mid c.fill.new.disk log.file c.fill.ensures.images c.fill.ensures.same (as_read_still g.D.Disk c.args.disk.now mid log.file c.read.ensures.images c.read.ensures.same h.settled);
+      settled = as_read_still g.D.Disk mid c.body.new.disk log.file c.body.ensures.images c.body.ensures.same (as_read_still g.D.Disk c.args.disk.now mid log.file c.head_at.ensures.images c.head_at.ensures.same h.settled);
       reads = λ image is.
-          let at_mid : g.D.Disk.seen mid ≡ Some image = sym c.fill.ensures.same ∙ is in
-          let at_old : g.D.Disk.seen c.args.disk.now ≡ Some image = sym c.read.ensures.same ∙ at_mid in
+          let at_mid : g.D.Disk.seen mid ≡ Some image = sym c.body.ensures.same ∙ is in
+          let at_old : g.D.Disk.seen c.args.disk.now ≡ Some image = sym c.head_at.ensures.same ∙ at_mid in
           let l = bytes_in image log.file in
           let on = h.reads image at_old in
-          let told = c.in_ok-n.ensures.bytes image at_old in
           let more : 1 < log.size = omega arith in
-          let size : c.in_ok-n.n ≡ min 5 (length (drop log.at l)) = omega (arith, told.0, length-drop log.at l) in
-          let left : c.saturating_sub-left.result ≡ length (drop log.at l) = omega (arith, c.saturating_sub-left.ensures, length-drop log.at l, on.measured) in
-          let head = c.in-Body.ensures.head (drop log.at l) _ told.1 size left (rest_left bodies log.size log.at l on h.place more) in
-          let filled = c.in_ok-fill-in-Body.ensures.filled image at_mid (room_for bodies log.size log.at c.in-Body.len l on h.place more head len_fits) in
-          (body_here bodies log.size log.at c.in-Body.len l on h.place more head len_fits c.fill.new.out filled).1;
+          let left = left_is bodies log.size log.at l on h.place more _ c.saturating_sub-left.ensures in
+          let head : IsHead (Body c.in-Body.len) (drop log.at l) = subst (λ (x : Head). IsHead x (drop log.at l)) c.in-Body.is (c.in_ok-head_at.ensures.head h.ahead image at_old left.0 left.1) in
+          let read = c.in_ok-body-in-Body.ensures.read shows image at_mid (room_for bodies log.size log.at c.in-Body.len l on h.place more head len_fits) in
+          (body_here bodies log.size log.at c.in-Body.len l on h.place more head len_fits c.body.new.out read).1;
+      ahead = λ image is. shows image (sym c.body.ensures.same ∙ is);
     }
 
-pub returns-in_ok-fill-in-Body-clause-mounted : goal.returns-in_ok-fill-in-Body-clause-mounted
-returns-in_ok-fill-in-Body-clause-mounted g c = λ is. record {
-  bodies = c.requires.bodies ++ c.fill.new.out ∷ [];
-  reading = returns-in_ok-fill-in-Body-clause-next g c c.requires.bodies c.requires.reading;
+pub returns-in_ok-body-in-Body-clause-mounted : goal.returns-in_ok-body-in-Body-clause-mounted
+returns-in_ok-body-in-Body-clause-mounted g c = λ is. record {
+  bodies = c.requires.bodies ++ c.body.new.out ∷ [];
+  reading = returns-in_ok-body-in-Body-clause-next g c c.requires.bodies c.requires.reading;
 }
 
-pub returns-in-End-clause-usable : goal.returns-in-End-clause-usable
-returns-in-End-clause-usable g c =
-    let h = c.requires.reading in
-    let bodies = c.requires.bodies in
-    let log = c.args.self.now in
-    let settled = as_read_still g.D.Disk c.args.disk.now c.read.new.self log.file c.read.ensures.images c.read.ensures.same h.settled in
-    record {
-      bodies = bodies;
-      body = [];
-      ready = inl (
-        record {
-          place = h.place;
-          idle = h.idle;
-          none_put = h.none_put;
-          images = settles g.D.Disk c.read.new.self log.file (Gated bodies) settled (λ image is.
-              let at_old : g.D.Disk.seen c.args.disk.now ≡ Some image = sym c.read.ensures.same ∙ is in
-              let l = bytes_in image log.file in
-              let on = h.reads image at_old in
-              let told = c.in_ok-n.ensures.bytes image at_old in
-              let more : 1 < log.size = omega arith in
-              let size : c.in_ok-n.n ≡ min 5 (length (drop log.at l)) = omega (arith, told.0, length-drop log.at l) in
-              let left : c.saturating_sub-left.result ≡ length (drop log.at l) = omega (arith, c.saturating_sub-left.ensures, length-drop log.at l, on.measured) in
-              gated_here bodies log.size log.at l on h.place (c.in-End.ensures.head (drop log.at l) _ told.1 size left (rest_left bodies log.size log.at l on h.place more)));
-        },
-        refl,
-      );
-    }
-
 pub returns-in-Cut-clause-damaged : goal.returns-in-Cut-clause-damaged
-returns-in-Cut-clause-damaged g c = λ bodies h at is image told_is.
+returns-in-Cut-clause-damaged g c = λ bodies h at is image told.
     let log = c.args.self.now in
     let l = bytes_in image log.file in
-    let on = h.reads image told_is in
-    let told = c.in_ok-n.ensures.bytes image told_is in
+    let on = h.reads image told in
     let more : 1 < log.size = omega arith in
-    let size : c.in_ok-n.n ≡ min 5 (length (drop log.at l)) = omega (arith, told.0, length-drop log.at l) in
-    let left : c.saturating_sub-left.result ≡ length (drop log.at l) = omega (arith, c.saturating_sub-left.ensures, length-drop log.at l, on.measured) in
-    let head = c.in-Cut.ensures.head (drop log.at l) _ told.1 size left (rest_left bodies log.size log.at l on h.place more) in
+    let left = left_is bodies log.size log.at l on h.place more _ c.saturating_sub-left.ensures in
+    let head : IsHead Cut (drop log.at l) = subst (λ (x : Head). IsHead x (drop log.at l)) c.in-Cut.is (c.in_ok-head_at.ensures.head h.ahead image told left.0 left.1) in
     (damaged_is log.at at is ∙ h.place, cut_here bodies log.size log.at l on h.place more head)
 
-pub returns-in_err-fill-in-Body-clause-memory : goal.returns-in_err-fill-in-Body-clause-memory
-returns-in_err-fill-in-Body-clause-memory g c = λ bodies h is image told_is cut.
+pub returns-in_err-body-in-Body-clause-memory : goal.returns-in_err-body-in-Body-clause-memory
+returns-in_err-body-in-Body-clause-memory g c = λ bodies h is image told cut.
     let len_fits : c.in-Body.len < 4294967296 = search rules in
     let log = c.args.self.now in
     let l = bytes_in image log.file in
-    let on = h.reads image told_is in
-    let told = c.in_ok-n.ensures.bytes image told_is in
+    let on = h.reads image told in
     let more : 1 < log.size = omega arith in
-    let size : c.in_ok-n.n ≡ min 5 (length (drop log.at l)) = omega (arith, told.0, length-drop log.at l) in
-    let left : c.saturating_sub-left.result ≡ length (drop log.at l) = omega (arith, c.saturating_sub-left.ensures, length-drop log.at l, on.measured) in
-    let head = c.in-Body.ensures.head (drop log.at l) _ told.1 size left (rest_left bodies log.size log.at l on h.place more) in
+    let left = left_is bodies log.size log.at l on h.place more _ c.saturating_sub-left.ensures in
+    let head : IsHead (Body c.in-Body.len) (drop log.at l) = subst (λ (x : Head). IsHead x (drop log.at l)) c.in-Body.is (c.in_ok-head_at.ensures.head h.ahead image told left.0 left.1) in
     let body = take c.in-Body.len (drop (log.at + 5) l) in
     let here = body_here bodies log.size log.at c.in-Body.len l on h.place more head len_fits body refl in
     not_cut bodies body l log.size here.1 more (omega (arith, here.0, len_fits)) cut
 
-pub returns-in_err-fill-in-Body-clause-damaged : goal.returns-in_err-fill-in-Body-clause-damaged
-returns-in_err-fill-in-Body-clause-damaged g c = λ bodies h at is image told_is.
+pub returns-in_err-body-in-Body-clause-damaged : goal.returns-in_err-body-in-Body-clause-damaged
+returns-in_err-body-in-Body-clause-damaged g c = λ bodies h at is image told.
     let len_fits : c.in-Body.len < 4294967296 = search rules in
     let log = c.args.self.now in
     let l = bytes_in image log.file in
-    let on = h.reads image told_is in
-    let told = c.in_ok-n.ensures.bytes image told_is in
+    let on = h.reads image told in
     let more : 1 < log.size = omega arith in
-    let size : c.in_ok-n.n ≡ min 5 (length (drop log.at l)) = omega (arith, told.0, length-drop log.at l) in
-    let left : c.saturating_sub-left.result ≡ length (drop log.at l) = omega (arith, c.saturating_sub-left.ensures, length-drop log.at l, on.measured) in
-    let head = c.in-Body.ensures.head (drop log.at l) _ told.1 size left (rest_left bodies log.size log.at l on h.place more) in
+    let left = left_is bodies log.size log.at l on h.place more _ c.saturating_sub-left.ensures in
+    let head : IsHead (Body c.in-Body.len) (drop log.at l) = subst (λ (x : Head). IsHead x (drop log.at l)) c.in-Body.is (c.in_ok-head_at.ensures.head h.ahead image told left.0 left.1) in
     let room = room_for bodies log.size log.at c.in-Body.len l on h.place more head len_fits in
-    let p = err_from_is_err_and c.from_residual-in_err-fill-in-Body.result c.from_residual-in_err-fill-in-Body.ensures.1 in
+    let p = err_from_is_err_and c.from_residual-in_err-body-in-Body.result c.from_residual-in_err-body-in-Body.ensures.1 in
     let p1 = p.1 in
     let p2 = p.2 in
-    let w : c.fill.result ≡ Err c.in_err-fill-in-Body.field-0.0 = c.in_err-fill-in-Body.was in
-    let was : c.fill.result ≡ Err (Damaged at) = cc in
-    let less = c.fill.ensures.damaged at was image (c.read.ensures.same ∙ told_is) in
+    let w : c.body.result ≡ Err c.in_err-body-in-Body.field-0.0 = c.in_err-body-in-Body.was in
+    let was : c.body.result ≡ Err (Damaged at) = cc in
+    let less = c.body.ensures.damaged (c.in_ok-head_at.ensures.shows h.ahead) image (c.head_at.ensures.same ∙ told) at was in
     absurd (omega (arith, room, less))

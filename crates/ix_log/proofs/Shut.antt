@@ -1,0 +1,37 @@
+-- The run of calls that puts a shut gate into a file that has no room for a body.
+use Rattle.std.proofs.Common.{◌≡◌, ◌∙◌, ℕ, List, [], ◌∷◌, length, Some, Bool, false, inr, subst, sym, ap}
+use Rattle.ix_disk.specs.Image.{Image, Torn, MayWrite, Writes, Stays, overwritten}
+use Rattle.ix_base.specs.Told.{Told}
+use Rattle.ix_disk.specs.Moments.{Goes, InFile, Holds, Reads}
+use Rattle.ix_disk.proofs.Runs.{write_first, write_holds, write_reads, stay_on, holds_reads}
+use Rattle.ix_disk.specs.declared.disk.Disk.{Ghosts}
+use Rattle.ix_log.specs.Log.{blocks, HasBodies, Gated, AtEnd, IsAtEnd}
+use Rattle.ix_log.specs.declared.log.Log.{Log}
+use Rattle.ix_log.proofs.Bytes.{short_torn, short_written}
+
+torn_short : (bodies : List (List ℕ)) (at : ℕ) (a b : List ℕ) → at ≡ length (blocks bodies) → AtEnd false bodies a → Torn at 1 a b → HasBodies bodies b
+torn_short bodies at a b place short torn =
+    let start : at ≡ 0 = place ∙ ap (λ (l : List (List ℕ)). length (blocks l)) short.0 in
+    inr (short.0, short_torn a b short.1 (subst (λ (n : ℕ). Torn n 1 a b) start torn))
+
+written_short : (bodies : List (List ℕ)) (at : ℕ) (a : List ℕ) → at ≡ length (blocks bodies) → AtEnd false bodies a → Gated bodies (overwritten at (0 ∷ []) a)
+written_short bodies at a place short =
+    let start : at ≡ 0 = place ∙ ap (λ (l : List (List ℕ)). length (blocks l)) short.0 in
+    subst (λ (n : ℕ). Gated bodies (overwritten n (0 ∷ []) a)) (sym start) (subst (λ (l : List (List ℕ)). Gated l (overwritten 0 (0 ∷ []) a)) (sym short.0) (short_written a short.1))
+
+module _ {D : Type 0} (g : Ghosts D) (old mid : D) (bodies : List (List ℕ)) (log : Log) (end : IsAtEnd g log old bodies) (open_still : log.closed ≡ false) (write : Goes g old mid (MayWrite log.file log.at 1)) where
+  short_holds : Holds g old log.file (AtEnd false bodies)
+  short_holds = subst (λ (b : Bool). Holds g old log.file (AtEnd b bodies)) open_still end.images
+
+  pub shut_first : Goes g old mid (InFile log.file (HasBodies bodies))
+  shut_first = write_first g old mid log.file log.at 1 (AtEnd false bodies) (HasBodies bodies) write short_holds (λ a b short torn. torn_short bodies log.at a b end.place short torn)
+
+  shut_holds : Holds g mid log.file (HasBodies bodies)
+  shut_holds = write_holds g old mid log.file log.at 1 (AtEnd false bodies) (HasBodies bodies) write short_holds (λ a b short torn. torn_short bodies log.at a b end.place short torn)
+
+  pub shut_second : (new : D) → Goes g mid new Stays → Goes g old new (InFile log.file (HasBodies bodies))
+  shut_second new stays = stay_on g old mid new log.file (HasBodies bodies) shut_first stays shut_holds
+
+  pub shut_reads : ((image : Image) (disk : D) → g.seen disk ≡ Some image → g.may_leave disk image) → Told (Writes log.file log.at (0 ∷ [])) (g.seen old) (g.seen mid) → Reads g mid log.file (Gated bodies)
+  shut_reads may_stay sees = write_reads g old mid log.file log.at (0 ∷ []) (AtEnd false bodies) (Gated bodies) sees (holds_reads g may_stay old log.file (AtEnd false bodies) short_holds)
+      (λ a short. written_short bodies log.at a end.place short)

@@ -1,0 +1,70 @@
+-- What a window gives of its file.
+use Rattle.std.proofs.Common.{◌≡◌, ◌≢◌, ◌≤◌, ◌+◌, ◌-◌, ℕ, min, List, [], ◌++◌, length, take, drop, refl, sym, ◌∙◌, ap, arith, append_assoc, length-append, length-take, length-drop, take-append-drop}
+use Rattle.std.proofs.lemmas.List.{take_at, take_rest, take-append-le, drop_at, drop-drop, drop-append-le, append-nil, drop_all}
+use Rattle.std.proofs.Math.Seq.{take-add}
+use Rattle.ix_base.specs.Told.{IsFrontOf}
+use Rattle.ix_log.specs.declared.window.Window.{Window}
+use Rattle.ix_log.specs.Window.{IsWindowOn}
+
+pub empty_on : (window : Window) (file : List ℕ) → window.held.items ≡ [] → IsWindowOn window file
+empty_on window file none = record { rest = drop window.start file; whole_is = rw none refl }
+
+-- what was read into a buffer, cut to its count
+pub read_on : (n : ℕ) (l rest buf : List ℕ) → n ≤ length l → buf ≡ take n l ++ rest → IsFrontOf (take n buf) l
+read_on n l rest buf le is =
+    let same : take n buf ≡ take n l = ap (take n) is ∙ take_at (take n l) rest n (omega (arith, length-take n l)) in
+    record { rest = drop n l; whole_is = sym (take-append-drop n l) ∙ ap (λ (x : List ℕ). x ++ drop n l) (sym same) }
+
+pub none_on : (l : List ℕ) → IsFrontOf [] l
+none_on l = record { rest = l; whole_is = refl }
+
+-- what it holds from a place on
+pub ahead_on : (window : Window) (at : ℕ) (file : List ℕ) → window.start ≤ at → at - window.start ≤ length window.held.items → IsWindowOn window file
+    → IsFrontOf (drop (at - window.start) window.held.items) (drop at file)
+ahead_on window at file le within on =
+    let skip = at - window.start in
+    let place : window.start + skip ≡ at = omega arith in
+    record {
+      rest = on.rest;
+      whole_is = sym (drop-drop skip window.start file ∙ ap (λ (k : ℕ). drop k file) place)
+          ∙ ap (drop skip) on.whole_is ∙ drop-append-le skip window.held.items on.rest within;
+    }
+
+module _ (at : ℕ) (file ahead : List ℕ) (front : IsFrontOf ahead (drop at file)) where
+  front_size : length ahead + length front.rest ≡ length file - at
+  front_size = omega (arith, ap length front.whole_is, length-append ahead front.rest, length-drop at file)
+
+  front_take : (n : ℕ) → n ≤ length ahead → take n (drop at file) ≡ take n ahead
+  front_take n le = ap (take n) front.whole_is ∙ take-append-le n ahead front.rest le
+
+  -- the bytes at hand are enough
+  pub read_held : (n : ℕ) (buf copied : List ℕ) → n ≡ min (length ahead) (length buf) → n ≡ length (copied ++ drop n buf) → copied ≡ take n ahead
+      → (n ≡ min (length buf) (length file - at)) × (copied ++ drop n buf ≡ take n (drop at file) ++ drop n buf)
+  read_held n buf copied least all is =
+      let size : length copied ≡ n = omega (arith, ap length is, length-take n ahead, least) in (
+        omega (arith, front_size, least, all, size, length-append copied (drop n buf), length-drop n buf),
+        ap (λ (l : List ℕ). l ++ drop n buf) (is ∙ sym (front_take n (omega (arith, least)))),
+      )
+
+  -- the rest is read behind them
+  pub read_rest : (n more : ℕ) (buf copied behind : List ℕ) → n ≡ min (length ahead) (length buf) → n ≢ length (copied ++ drop n buf) → copied ≡ take n ahead
+      → (let mid = copied ++ drop n buf in let part = take (length mid - n) (drop n mid) in (more ≡ min (length part) (length file - (at + n))) × (behind ≡ take more (drop (at + n) file) ++ drop more part))
+      → (let mid = copied ++ drop n buf in (n + more ≡ min (length buf) (length file - at)) × (take n mid ++ (behind ++ drop (length mid - n) (drop n mid)) ≡ take (n + more) (drop at file) ++ drop (n + more) buf))
+  read_rest n more buf copied behind least some is read =
+      let mid = copied ++ drop n buf in
+      let size : length copied ≡ n = omega (arith, ap length is, length-take n ahead, least) in
+      let size_mid : length mid ≡ length buf = omega (arith, size, least, length-append copied (drop n buf), length-drop n buf) in
+      let front : take n mid ≡ copied = take_at copied (drop n buf) n size in
+      let back : drop n mid ≡ drop n buf = drop_at copied (drop n buf) n size in
+      let part : take (length mid - n) (drop n mid) ≡ drop n buf = take_rest mid n ∙ back in
+      let none : drop (length mid - n) (drop n mid) ≡ [] = drop_all (length mid - n) (drop n mid) (omega (arith, length-drop n mid)) in
+      let all : n ≡ length ahead = omega (arith, least, some, size_mid) in
+      let two : take (n + more) (drop at file) ≡ copied ++ take more (drop (at + n) file) =
+      take-add n more (drop at file) ∙ ap (λ (l : List ℕ). l ++ take more (drop n (drop at file))) (front_take n (omega (arith, all)) ∙ sym is) ∙ ap (λ (l : List ℕ). copied ++ take more l) (drop-drop n at file) in (
+        omega (arith, read.0, front_size, length-drop n buf, ap length part, all),
+        ap (λ (l : List ℕ). l ++ (behind ++ drop (length mid - n) (drop n mid))) front
+            ∙ ap (λ (l : List ℕ). copied ++ (behind ++ l)) none ∙ ap (λ (l : List ℕ). copied ++ l) (append-nil behind ∙ read.1)
+            ∙ ap (λ (l : List ℕ). copied ++ (take more (drop (at + n) file) ++ l)) (ap (drop more) part ∙ drop-drop more n buf)
+            ∙ sym (append_assoc copied (take more (drop (at + n) file)) (drop (n + more) buf))
+            ∙ ap (λ (l : List ℕ). l ++ drop (n + more) buf) (sym two),
+      )
