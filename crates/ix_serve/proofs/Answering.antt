@@ -46,7 +46,7 @@ use Rattle.ix_serve.proofs.Standing.{same_run, standing}
 -- it is a front of the reply at least
 pub wrote_begun : (r : Reply) (delimited : Bool) (clean : Type 0) (result : Result Served ServeFault) (given given' : Option (List ℕ)) → Wrote r delimited clean result given given' → HasBegun (text_of r) given given'
 wrote_begun r delimited clean (Ok served.Ended) given given' is = absurd is
-wrote_begun r delimited clean (Ok (served.Reply status whole)) given given' is = written_is_begun is.2
+wrote_begun r delimited clean (Ok (served.Reply status whole unshortened)) given given' is = written_is_begun is.2
 wrote_begun r delimited clean (Err fault.Disk) given given' is = is.0
 wrote_begun r delimited clean (Err (fault.Damaged file at)) given given' is = is.0
 wrote_begun r delimited clean (Err fault.Link) given given' is = is.0
@@ -56,7 +56,7 @@ wrote_begun r delimited clean (Err fault.Cut) given given' is = absurd is
 pub wrote_clean : (r : Reply) (delimited : Bool) (clean : Type 0) (result : Result Served ServeFault) (given given' : Option (List ℕ)) →
     Wrote r delimited clean result given given' → clean → HasWritten (text_of r) given given'
 wrote_clean r delimited clean (Ok served.Ended) given given' is sent = absurd is
-wrote_clean r delimited clean (Ok (served.Reply status whole)) given given' is sent = is.2
+wrote_clean r delimited clean (Ok (served.Reply status whole unshortened)) given given' is sent = is.2
 wrote_clean r delimited clean (Err fault.Disk) given given' is sent = is.1 sent
 wrote_clean r delimited clean (Err (fault.Damaged file at)) given given' is sent = is.1 sent
 wrote_clean r delimited clean (Err fault.Link) given given' is sent = is.1 sent
@@ -86,7 +86,7 @@ wrote_settled r delimited clean came result given given' either is = ⊎_elim
 wrote_cleaner : (r : Reply) (delimited : Bool) (clean clean' : Type 0) (result : Result Served ServeFault) (given given' : Option (List ℕ)) → (clean' → clean) →
     Wrote r delimited clean result given given' → Wrote r delimited clean' result given given'
 wrote_cleaner r delimited clean clean' (Ok served.Ended) given given' so is = is
-wrote_cleaner r delimited clean clean' (Ok (served.Reply status whole)) given given' so is = is
+wrote_cleaner r delimited clean clean' (Ok (served.Reply status whole unshortened)) given given' so is = is
 wrote_cleaner r delimited clean clean' (Err fault.Disk) given given' so is = (is.0, λ c. is.1 (so c))
 wrote_cleaner r delimited clean clean' (Err (fault.Damaged file at)) given given' so is = (is.0, λ c. is.1 (so c))
 wrote_cleaner r delimited clean clean' (Err fault.Link) given given' so is = (is.0, λ c. is.1 (so c))

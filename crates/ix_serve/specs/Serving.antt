@@ -9,6 +9,8 @@ use Rattle.ix_disk.specs.Moments.{Always}
 use Rattle.ix_disk.specs.declared.disk.Disk.{Ghosts}
 use Rattle.ix_http.specs.Asked.{Fits}
 use Rattle.ix_http.specs.Limits.{IsWithin}
+use Rattle.ix_keep.specs.Snapshot.{IsLong}
+use Rattle.ix_keep.specs.declared.keeper.Keeper.{Keeper}
 use Rattle.ix_link.specs.Links.{Standing}
 use Rattle.ix_machine.specs.Given.{Chooser}
 use Rattle.ix_machine.specs.declared.commands.Order.{Order}
@@ -36,7 +38,7 @@ IsClean faults faults' standing standing' = (Rose faults faults' → ⊥) ⊎ (R
 -- The reply was written. Where the link or the disk failed a front of it was, and all of it if the link is clean.
 abbrev pub Wrote : Reply → Bool → Type 0 → Result Served ServeFault → Option (List ℕ) → Option (List ℕ) → Type 0
 Wrote r delimited clean (Ok served.Ended) given given' = ⊥
-Wrote r delimited clean (Ok (served.Reply status whole)) given given' = (status ≡ r.status) × (whole ≡ delimited) × HasWritten (text_of r) given given'
+Wrote r delimited clean (Ok (served.Reply status whole unshortened)) given given' = (status ≡ r.status) × (whole ≡ delimited) × HasWritten (text_of r) given given'
 Wrote r delimited clean (Err fault.Disk) given given' = HasBegun (text_of r) given given' × (clean → HasWritten (text_of r) given given')
 Wrote r delimited clean (Err (fault.Damaged file at)) given given' = HasBegun (text_of r) given given' × (clean → HasWritten (text_of r) given given')
 Wrote r delimited clean (Err fault.Link) given given' = HasBegun (text_of r) given given' × (clean → HasWritten (text_of r) given given')
@@ -68,6 +70,24 @@ pub record IsListed (e : Entry) (clean : Type 0) (result : Result Served ServeFa
   pub reply : Reply
   pub may_be : MayList e (says false reply)
   pub gave : Wrote reply true clean result given given'
+
+-- ---- how long the log is
+
+-- A command is staged, or the log is not long, or it is told that there was no room for a checkpoint.
+abbrev pub IsShort : Bool → Keeper → Bool → Type 0
+IsShort staged keeper unshortened = (staged ≡ true) ⊎ (IsLong keeper.bytes keeper.first → ⊥) ⊎ (unshortened ≡ true)
+
+-- so it is behind a reply
+abbrev pub IsShortBehind : Result Served ServeFault → Bool → Keeper → Type 0
+IsShortBehind (Ok served.Ended) staged keeper = Unit {0}
+IsShortBehind (Ok (served.Reply status whole unshortened)) staged keeper = IsShort staged keeper unshortened
+IsShortBehind (Err cause) staged keeper = Unit {0}
+
+-- that there was no room is told only where the log is long
+abbrev pub IsLongStill : Result Served ServeFault → Keeper → Type 0
+IsLongStill (Ok served.Ended) keeper = Unit {0}
+IsLongStill (Ok (served.Reply status whole unshortened)) keeper = unshortened ≡ true → IsLong keeper.bytes keeper.first
+IsLongStill (Err cause) keeper = Unit {0}
 
 -- ---- the whole
 

@@ -30,7 +30,11 @@ pub(crate) fn give<K: Link>(
     ensures failed { result ≡ Err ServeFault.Link → Rose (K.faults link.old) (K.faults link.new) }
 {
     match write_reply(link, status, kind, body) {
-        Ok(()) => Ok(Served::Reply { status, delimited }),
+        Ok(()) => Ok(Served::Reply {
+            status,
+            delimited,
+            unshortened: false,
+        }),
         Err(_) => Err(ServeFault::Link),
     }
 }

@@ -1,6 +1,6 @@
 //! One request is served. Whoever serves links calls `serve_one`.
 
-ghost use Rattle.std.specs.Prelude.{◌≡◌, ℕ, List, true};
+ghost use Rattle.std.specs.Prelude.{◌≡◌, ℕ, List, length, nat_lt, true};
 ghost use Rattle.std.specs.List.{AllByRecursion};
 ghost use Rattle.ix_http.specs.Limits.{KeepsLimits};
 ghost use Rattle.ix_keep.specs.Snapshot.{IsMeasured, IsOver};
@@ -9,19 +9,20 @@ ghost use Rattle.ix_machine.specs.Given.{Chooser};
 ghost use Rattle.ix_machine.specs.declared.commands.Order.{Order};
 ghost use Rattle.ix_serve.specs.Answer.{MayBe};
 ghost use Rattle.ix_serve.specs.Entries.{entry};
-ghost use Rattle.ix_serve.specs.Serving.{Answers, Comes, IsClean, IsOpen, IsTold, Serves};
+ghost use Rattle.ix_serve.specs.Serving.{Answers, Comes, IsClean, IsLongStill, IsOpen, IsShortBehind, IsTold, Serves};
 ghost use Rattle.ix_serve.specs.Taking.{TakesAsks};
 ghost use Rattle.ix_store.specs.Holding.{Holds};
 
 use crate::changes::{serve_begin, serve_block, serve_end};
 use crate::events::serve_events;
+use crate::keeping::shorten_behind;
 use crate::queries::{serve_acks, serve_buckets};
 use crate::replies::{decline, give_unread};
 use crate::served::{ServeFault, Served};
 use ix_disk::Disk;
 use ix_http::{Ask, Incoming, LinkFault, read_request};
 use ix_link::Link;
-use ix_store::{Memory, Store};
+use ix_store::{Listing, Memory, Store};
 use std::alloc::Global;
 
 /// Serves what is asked.
@@ -65,12 +66,44 @@ fn serve_ask<K: Link, M: Memory + Drop, D: Disk>(
     }
 }
 
+/// Reads a request from the link, serves what it asks, and commits where that is due. The log stays as long as it is.
+#[tactic(auto, using(ix_link::proofs::GoesLemmas::goings))]
+fn serve_request<K: Link, M: Memory + Drop, D: Disk>(
+    alloc: Global,
+    store: &mut Store<M>,
+    link: &mut K,
+    moment: i64,
+    disk: &mut D,
+) -> Result<Served, ServeFault>
+    requires over { IsOver D.Disk store.old.keeper disk.old }
+    requires takes { TakesAsks M.takes }
+    ensures serves { (choose : Chooser) (history : List Order) (base k : ℕ) → M.is_chooser choose → AllByRecursion M.takes history →
+        Holds D.Disk M.Book.fits M.holds choose history base k store.old disk.old →
+        Serves D.Disk M.Book.fits M.holds (entry choose history base k store.old.run moment) (IsClean (K.faults link.old) (K.faults link.new) (K.standing link.old) (K.standing link.new))
+        result (K.left link.old) (K.left link.new) (K.given link.old) (K.given link.new) store.new disk.old disk.new }
+    ensures over { IsOpen result → IsOver D.Disk store.new.keeper disk.new }
+    ensures measured { IsMeasured D.Disk store.old.keeper disk.old → IsOpen result → IsMeasured D.Disk store.new.keeper disk.new }
+    ensures run { store.new.run ≡ store.old.run }
+    ensures told { IsTold D.Disk disk.old → IsTold D.Disk disk.new }
+    ensures goes { Goes (K.standing link.old) (K.standing link.new) }
+    ensures comes { Comes (K.faults link.old) (K.faults link.new) (D.Disk.faults disk.old) (D.Disk.faults disk.new) result }
+{
+    match read_request(alloc, link) {
+        Ok(Incoming::Ended) => Ok(Served::Ended),
+        Ok(Incoming::Asked { ask }) => serve_ask(alloc, store, link, ask, moment, disk),
+        Ok(Incoming::Refused { fault, delimited }) => give_unread(link, fault, delimited),
+        Err(LinkFault::Failed) => Err(ServeFault::Link),
+        Err(LinkFault::Cut) => Err(ServeFault::Cut),
+        Err(LinkFault::NoMemory { whole }) => decline(link, whole),
+    }
+}
+
 /// Serves one request: reads it from the link, has the store accept its command, writes the reply, and then commits where that is due, or
 /// where an acknowledgement was asked for that is not there yet. Before the lines of an index all is committed. Want of memory is replied
 /// with 503, and changes nothing. A fault of the disk is replied with 500 where no reply was written yet; it closes the store, which is to be
-/// mounted again.
+/// mounted again. Last, behind a reply, the log is made short by a checkpoint where it is long and nothing is staged.
 #[tactic(auto, using(ix_link::proofs::GoesLemmas::goings))]
-pub fn serve_one<K: Link, M: Memory + Drop, D: Disk>(
+pub fn serve_one<K: Link, M: Listing + Drop, D: Disk>(
     alloc: Global,
     store: &mut Store<M>,
     link: &mut K,
@@ -85,6 +118,10 @@ pub fn serve_one<K: Link, M: Memory + Drop, D: Disk>(
         Holds D.Disk M.Book.fits M.holds choose history base k store.old disk.old →
         Serves D.Disk M.Book.fits M.holds (entry choose history base k store.old.run moment) (IsClean (K.faults link.old) (K.faults link.new) (K.standing link.old) (K.standing link.new))
         result (K.left link.old) (K.left link.new) (K.given link.old) (K.given link.new) store.new disk.old disk.new }
+    // Behind a reply the log is not long, unless a command is staged, or the reply comes with `unshortened`; and then it is long.
+    ensures short { (choose : Chooser) (history : List Order) (base k : ℕ) → Holds D.Disk M.Book.fits M.holds choose history base k store.new disk.new →
+        IsShortBehind result (nat_lt k (length history)) store.new.keeper }
+    ensures long { IsLongStill result store.new.keeper }
     // What the next request, and a checkpoint, ask for.
     ensures over { IsOpen result → IsOver D.Disk store.new.keeper disk.new }
     ensures measured { IsMeasured D.Disk store.old.keeper disk.old → IsOpen result → IsMeasured D.Disk store.new.keeper disk.new }
@@ -95,12 +132,22 @@ pub fn serve_one<K: Link, M: Memory + Drop, D: Disk>(
     // No count falls, and a fault of the link or the disk comes only where its count rose.
     ensures comes { Comes (K.faults link.old) (K.faults link.new) (D.Disk.faults disk.old) (D.Disk.faults disk.new) result }
 {
-    match read_request(alloc, link) {
-        Ok(Incoming::Ended) => Ok(Served::Ended),
-        Ok(Incoming::Asked { ask }) => serve_ask(alloc, store, link, ask, moment, disk),
-        Ok(Incoming::Refused { fault, delimited }) => give_unread(link, fault, delimited),
-        Err(LinkFault::Failed) => Err(ServeFault::Link),
-        Err(LinkFault::Cut) => Err(ServeFault::Cut),
-        Err(LinkFault::NoMemory { whole }) => decline(link, whole),
+    match serve_request(alloc, store, link, moment, disk) {
+        Ok(
+            Served::Reply {
+                status,
+                delimited,
+                ..
+            },
+        ) => match shorten_behind(store, disk) {
+            Ok(unshortened) => Ok(Served::Reply {
+                status,
+                delimited,
+                unshortened,
+            }),
+            Err(fault) => Err(fault),
+        },
+        Ok(Served::Ended) => Ok(Served::Ended),
+        Err(fault) => Err(fault),
     }
 }

@@ -17,6 +17,9 @@ pub enum Served {
         status: u16,
         /// Whether it is known where the request ends and all of it was read. Then another one may follow.
         delimited: bool,
+        /// Whether the log is long still, since there was no room in memory for a checkpoint. The store is as it was before that, and
+        /// goes on.
+        unshortened: bool,
     },
 }
 

@@ -116,3 +116,6 @@ returns-in-Err-add-clause-undamaged g c = λ file at is choose h base k chooser 
     c.add.ensures.undamaged file at was choose (given_all choose h (map (block_order c.args.self.moment) c.loop-taken.invariant.pieces)) base one.count chooser
     (all_taken g.M.Memory.takes g.met.M.Memory.ticks_are_taken choose h (map (block_order c.args.self.moment) c.loop-taken.invariant.pieces) taken
     (blocks_taken g.M.Memory.takes c.args.self.moment c.requires.takes c.loop-taken.invariant.pieces c.loop-taken.invariant.sizes)) one.hold
+
+pub returns-in-Err-add-clause-measured : goal.returns-in-Err-add-clause-measured
+returns-in-Err-add-clause-measured g c = λ whole before. c.in-Err-add.ensures.measured whole (c.loop-taken.invariant.measured before)
