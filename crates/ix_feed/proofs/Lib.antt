@@ -1,3 +1,3 @@
-pub mod Taking
 pub mod Growing
 pub mod Turning
+pub mod Visiting

@@ -53,7 +53,7 @@ IsExact (Err fault.Cut) = Unit {0}
 
 wrote_whole : (r : Reply) (delimited : Bool) (clean : Type 0) (result : Result Served ServeFault) (given given' : Option (List ℕ)) → IsExact result → Wrote r delimited clean result given given' → HasWritten (text_of r) given given'
 wrote_whole r delimited clean (Ok served.Ended) given given' whole is = absurd is
-wrote_whole r delimited clean (Ok (served.Reply status d)) given given' whole is = is.2
+wrote_whole r delimited clean (Ok (served.Reply status d unshortened)) given given' whole is = is.2
 wrote_whole r delimited clean (Err fault.Disk) given given' whole is = absurd whole
 wrote_whole r delimited clean (Err (fault.Damaged file at)) given given' whole is = absurd whole
 wrote_whole r delimited clean (Err fault.Link) given given' whole is = absurd whole
@@ -103,8 +103,8 @@ unread_end false n f is = cc
 -- a run that ends by damage does so in its last turn
 pub damaged_turn : (n : ℕ) (result : Result Served ServeFault) (file : File) (at : ℕ) → end_of n result ≡ Some (fed.Broken (fault.Damaged file at)) → result ≡ Err (fault.Damaged file at)
 damaged_turn n (Ok served.Ended) file at is = absurd (cc)
-damaged_turn n (Ok (served.Reply status true)) file at is = absurd (cc)
-damaged_turn n (Ok (served.Reply status false)) file at is = absurd (unread_end (nat_eq status 503) n (fault.Damaged file at) (some_is _ _ is))
+damaged_turn n (Ok (served.Reply status true unshortened)) file at is = absurd (cc)
+damaged_turn n (Ok (served.Reply status false unshortened)) file at is = absurd (unread_end (nat_eq status 503) n (fault.Damaged file at) (some_is _ _ is))
 damaged_turn n (Err fault.Disk) file at is = absurd (cc)
 damaged_turn n (Err (fault.Damaged f a)) file at is = cc
 damaged_turn n (Err fault.Link) file at is = absurd (cc)

@@ -19,7 +19,7 @@ use Rattle.ix_serve.specs.Answer.{Answer, Found, Says}
 use Rattle.ix_serve.specs.Entries.{entry}
 use Rattle.ix_serve.specs.Prefixes.{StandsIn}
 use Rattle.ix_serve.specs.Replies.{Reply, text_of}
-use Rattle.ix_serve.specs.Serving.{IsOpen, IsTold}
+use Rattle.ix_serve.specs.Serving.{IsTold}
 use Rattle.ix_feed.specs.declared.feed.Fed.{Fed}
 use Rattle.ix_feed.specs.declared.feed.Fed.TheVariants as fed
 use Rattle.ix_serve.specs.declared.served.Served.{Served}
@@ -35,8 +35,8 @@ most_requests = 4294967296
 -- the end of a run behind a request, where it ends there
 abbrev pub end_of : ℕ → Result Served ServeFault → Option Fed
 end_of request (Ok served.Ended) = Some fed.Ended
-end_of request (Ok (served.Reply status true)) = None
-end_of request (Ok (served.Reply status false)) = Some (if nat_eq status 503 then fed.NoMemory else fed.Unreadable request)
+end_of request (Ok (served.Reply status true unshortened)) = None
+end_of request (Ok (served.Reply status false unshortened)) = Some (if nat_eq status 503 then fed.NoMemory else fed.Unreadable request)
 end_of request (Err fault.Disk) = Some (fed.Broken fault.Disk)
 end_of request (Err (fault.Damaged file at)) = Some (fed.Broken (fault.Damaged file at))
 end_of request (Err fault.Link) = Some (fed.Broken fault.Link)

@@ -16,7 +16,7 @@ use ix_base::Clock;
 use ix_disk::Disk;
 use ix_link::Link;
 use ix_serve::{ServeFault, Served, answer_of_fault, serve_one};
-use ix_store::{Memory, Store};
+use ix_store::{Listing, Store};
 use std::alloc::Global;
 
 /// The most requests that are served in one run.
@@ -53,13 +53,20 @@ fn unread_end(request: u64, status: u16) -> Fed
     }
 }
 
-/// The end of a run behind what came of a request, where it ends there.
+/// The end of a run behind what came of a request, where it ends there. A log that stays long, since there was no room to make it short, ends
+/// nothing.
 fn end_of(request: u64, came: Result<Served, ServeFault>) -> Option<Fed>
     ensures { result ≡ defs.end_of request came }
 {
     match came {
         Ok(Served::Ended) => Some(Fed::Ended),
-        Ok(Served::Reply { status, delimited }) => {
+        Ok(
+            Served::Reply {
+                status,
+                delimited,
+                ..
+            },
+        ) => {
             if delimited {
                 None
             } else {
@@ -82,7 +89,7 @@ fn is_open_end(end: Fed) -> bool
 }
 
 /// Serves requests until the link ends, or one is not read whole, or the link or the disk fails.
-fn feed_all<K: Link, M: Memory + Drop, C: Clock, D: Disk>(
+fn feed_all<K: Link, M: Listing + Drop, C: Clock, D: Disk>(
     alloc: Global,
     store: &mut Store<M>,
     link: &mut K,
@@ -114,8 +121,8 @@ fn feed_all<K: Link, M: Memory + Drop, C: Clock, D: Disk>(
 }
 
 /// Serves requests that come one behind the other over one link, and makes all that was accepted durable at the end. The clock is asked once
-/// before each.
-pub fn run_feed<K: Link, M: Memory + Drop, C: Clock, D: Disk>(
+/// before each. Behind a reply the log is made short where it is long and nothing is staged; where there is no room for that the run goes on.
+pub fn run_feed<K: Link, M: Listing + Drop, C: Clock, D: Disk>(
     alloc: Global,
     store: &mut Store<M>,
     link: &mut K,

@@ -2,5 +2,7 @@
 #![tactic(auto)]
 
 mod feed;
+mod serve;
 
 pub use feed::{Fed, run_feed};
+pub use serve::{Heard, run_serve};

@@ -1,4 +1,4 @@
-use Rattle.std.proofs.Common.{ℕ, ℤ, [], refl, sym, ◌∙◌, arith, rules}
+use Rattle.std.proofs.Common.{ℤ, [], refl, sym, ◌∙◌, arith, rules}
 use mir.Val.{SFits}
 use Rattle.std.specs.Int.{w64}
 use Rattle.std.proofs.lemmas.Int.{to_z-of_z}
@@ -9,7 +9,7 @@ use Rattle.ix_serve.specs.Serving.{IsClean, IsTold}
 use Rattle.ix_serve.proofs.Answering.{clean_behind}
 use Rattle.ix_serve.proofs.Standing.{standing}
 use Rattle.ix_feed.specs.Feeding.{history_after}
-use Rattle.ix_feed.proofs.Taking.{says_taken}
+use Rattle.ix_serve.proofs.Taking.{says_taken}
 use Rattle.ix_feed.proofs.Turning.{reach_on, feeds_on, feeds_all, stays_open, open_end}
 use Rattle.ix_feed.proofs.feed.feed_all.Goals as goal
 

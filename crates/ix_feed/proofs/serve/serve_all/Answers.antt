@@ -1,0 +1,108 @@
+use Rattle.std.proofs.Common.{[], refl, sym, ap, ◌∙◌, arith}
+use Rattle.ix_feed.specs.Connections.{turns_of}
+use Rattle.ix_feed.specs.Feeding.{history_after}
+use Rattle.ix_feed.proofs.Visiting.{visits_on, hears_broken, hears_all, hears_stopped, stays_open, none_taken, none_handed, over_still, measured_still}
+use Rattle.ix_serve.proofs.Standing.{standing}
+use Rattle.ix_feed.proofs.serve.serve_all.Goals as goal
+
+pub loop-served-init : goal.loop-served-init
+loop-served-init g c = record {
+  over = c.requires.over;
+  run = refl;
+  listener_later = omega arith;
+  disk_later = omega arith;
+  out = refl;
+  measured = λ is. is;
+  told = λ is. is;
+  visits = λ choose h base k chooser taken hold. record {
+    visits = [];
+    are = refl;
+    made = refl;
+    on = tt;
+    waits = none_taken (g.L.Listener.waiting c.args.listener.now);
+    backs = none_handed (g.L.Listener.handed c.args.listener.now);
+    taken = taken;
+    kept = k;
+    least = omega arith;
+    knows = omega arith;
+    hold = hold;
+    images = standing g.D.Disk g.M.Book.Replay.fits g.M.Memory.holds choose h base k c.args.store.now c.args.disk.now hold;
+    told = λ is. (is, tt);
+  };
+}
+
+pub returns-in-Some-clause-hears : goal.returns-in-Some-clause-hears
+returns-in-Some-clause-hears g c = λ choose h base k chooser taken hold.
+    let l = c.loop-served in
+    let visited = l.invariant.visits choose h base k chooser taken hold in
+    hears_broken g.D.Disk g.M.Memory.takes g.M.Book.Replay.fits g.M.Memory.holds choose h base k c.args.store.now.run l._served
+    (g.L.Listener.waiting c.args.listener.now) (g.L.Listener.waiting l.listener) (g.L.Listener.waiting c.serve_next.new.listener)
+    (g.L.Listener.handed c.args.listener.now) (g.L.Listener.handed l.listener) (g.L.Listener.handed c.serve_next.new.listener)
+    (g.C.Clock.ahead c.args.clock.now) (g.C.Clock.ahead l.clock) (g.C.Clock.ahead c.serve_next.new.clock)
+    l.store c.serve_next.new.store c.args.disk.now l.disk c.serve_next.new.disk c.in-Ok.came l.invariant.run visited
+    (c.in-Ok.ensures.attends choose (history_after h (turns_of visited.visits)) base visited.kept chooser visited.taken visited.hold) c.serve_next.ensures.told
+    c.args.requests c.in-Some.cause (omega arith) (sym c.break_of.ensures ∙ c.in-Some.is)
+
+pub returns-in-Some-clause-run : goal.returns-in-Some-clause-run
+returns-in-Some-clause-run g c = c.serve_next.ensures.run ∙ c.loop-served.invariant.run
+
+pub returns-in-Some-clause-told : goal.returns-in-Some-clause-told
+returns-in-Some-clause-told g c = λ is. c.serve_next.ensures.told (c.loop-served.invariant.told is)
+
+pub returns-in-Some-clause-out : goal.returns-in-Some-clause-out
+returns-in-Some-clause-out g c = c.serve_next.ensures.out ∙ c.loop-served.invariant.out
+
+pub returns-in-Err-clause-hears : goal.returns-in-Err-clause-hears
+returns-in-Err-clause-hears g c = λ choose h base k chooser taken hold.
+    let l = c.loop-served in
+    hears_stopped g.D.Disk g.M.Memory.takes g.M.Book.Replay.fits g.M.Memory.holds choose h base k c.args.store.now.run l._served
+    (g.L.Listener.waiting c.args.listener.now) (g.L.Listener.waiting l.listener) (g.L.Listener.handed c.args.listener.now) (g.L.Listener.handed l.listener)
+    (g.C.Clock.ahead c.args.clock.now) (g.C.Clock.ahead l.clock) l.store c.args.disk.now l.disk l.invariant.run (l.invariant.visits choose h base k chooser taken hold)
+    c.args.requests (omega arith) (g.L.Listener.waiting c.serve_next.new.listener) (g.L.Listener.handed c.serve_next.new.listener) (g.C.Clock.ahead c.serve_next.new.clock)
+    c.serve_next.new.store c.serve_next.new.disk c.in-Err.ensures.waiting c.in-Err.ensures.handed (ap g.C.Clock.ahead c.in-Err.ensures.unasked) c.in-Err.ensures.store c.in-Err.ensures.left
+
+pub returns-in-Err-clause-over : goal.returns-in-Err-clause-over
+returns-in-Err-clause-over g c = λ up.
+    over_still g.D.Disk c.loop-served.store c.serve_next.new.store c.loop-served.disk c.serve_next.new.disk c.in-Err.ensures.store c.in-Err.ensures.left c.loop-served.invariant.over
+
+pub returns-in-Err-clause-measured : goal.returns-in-Err-clause-measured
+returns-in-Err-clause-measured g c = λ is up.
+    measured_still g.D.Disk c.loop-served.store c.serve_next.new.store c.loop-served.disk c.serve_next.new.disk c.in-Err.ensures.store c.in-Err.ensures.left (c.loop-served.invariant.measured is)
+
+pub returns-in-Err-clause-run : goal.returns-in-Err-clause-run
+returns-in-Err-clause-run g c = c.serve_next.ensures.run ∙ c.loop-served.invariant.run
+
+pub returns-in-Err-clause-told : goal.returns-in-Err-clause-told
+returns-in-Err-clause-told g c = λ is. c.serve_next.ensures.told (c.loop-served.invariant.told is)
+
+pub returns-in-Err-clause-out : goal.returns-in-Err-clause-out
+returns-in-Err-clause-out g c = c.serve_next.ensures.out ∙ c.loop-served.invariant.out
+
+pub loop-served-preserved : goal.loop-served-preserved
+loop-served-preserved g c =
+    let l = c.loop-served in
+    let none = sym c.break_of.ensures ∙ c.in_default.is in
+    record {
+      over = c.in-Ok.ensures.over (stays_open c.in-Ok.came none);
+      run = c.serve_next.ensures.run ∙ l.invariant.run;
+      listener_later = omega (arith, l.invariant.listener_later, c.serve_next.ensures.cause.later);
+      disk_later = omega (arith, l.invariant.disk_later, c.serve_next.ensures.later);
+      out = c.serve_next.ensures.out ∙ l.invariant.out;
+      measured = λ is. c.in-Ok.ensures.measured (l.invariant.measured is) (stays_open c.in-Ok.came none);
+      told = λ is. c.serve_next.ensures.told (l.invariant.told is);
+      visits = λ choose h base k chooser taken hold.
+          let visited = l.invariant.visits choose h base k chooser taken hold in
+          visits_on g.D.Disk g.M.Memory.takes g.M.Book.Replay.fits g.M.Memory.holds choose h base k c.args.store.now.run l._served
+          (g.L.Listener.waiting c.args.listener.now) (g.L.Listener.waiting l.listener) (g.L.Listener.waiting c.serve_next.new.listener)
+          (g.L.Listener.handed c.args.listener.now) (g.L.Listener.handed l.listener) (g.L.Listener.handed c.serve_next.new.listener)
+          (g.C.Clock.ahead c.args.clock.now) (g.C.Clock.ahead l.clock) (g.C.Clock.ahead c.serve_next.new.clock)
+          l.store c.serve_next.new.store c.args.disk.now l.disk c.serve_next.new.disk c.in-Ok.came l.invariant.run visited
+          (c.in-Ok.ensures.attends choose (history_after h (turns_of visited.visits)) base visited.kept chooser visited.taken visited.hold) c.serve_next.ensures.told none;
+    }
+
+pub returns-clause-hears : goal.returns-clause-hears
+returns-clause-hears g c = λ choose h base k chooser taken hold.
+    let l = c.loop-served in
+    hears_all g.D.Disk g.M.Memory.takes g.M.Book.Replay.fits g.M.Memory.holds choose h base k c.args.store.now.run l._served
+    (g.L.Listener.waiting c.args.listener.now) (g.L.Listener.waiting l.listener) (g.L.Listener.handed c.args.listener.now) (g.L.Listener.handed l.listener)
+    (g.C.Clock.ahead c.args.clock.now) (g.C.Clock.ahead l.clock) l.store c.args.disk.now l.disk l.invariant.run (l.invariant.visits choose h base k chooser taken hold) c.args.requests (omega arith)

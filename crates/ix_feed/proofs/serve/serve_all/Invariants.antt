@@ -1,0 +1,25 @@
+use Rattle.std.proofs.Common.{◌≡◌, ◌≤◌, ℕ, List}
+use Rattle.std.specs.List.{AllByRecursion}
+use Rattle.ix_keep.specs.Snapshot.{IsOver, IsMeasured}
+use Rattle.ix_machine.specs.Given.{Chooser}
+use Rattle.ix_machine.specs.declared.commands.Order.{Order}
+use Rattle.ix_store.specs.Holding.{Holds}
+use Rattle.ix_serve.specs.Serving.{IsTold}
+use Rattle.ix_feed.specs.Connections.{Visits}
+use Rattle.ix_feed.proofs.serve.serve_all.Given as goal
+
+abbrev pub invariant-loop-served : goal.invariant-loop-served
+invariant-loop-served g l = record {
+  over : IsOver g.D.Disk l.store.keeper l.disk;
+  run : l.store.run ≡ l.fn.store.run;
+  listener_later : g.L.Listener.faults l.fn.listener ≤ g.L.Listener.faults l.listener;
+  disk_later : g.D.Disk.faults l.fn.disk ≤ g.D.Disk.faults l.disk;
+  out : g.L.Listener.out l.listener ≡ g.L.Listener.out l.fn.listener;
+  measured : IsMeasured g.D.Disk l.fn.store.keeper l.fn.disk → IsMeasured g.D.Disk l.store.keeper l.disk;
+  told : IsTold g.D.Disk l.fn.disk → IsTold g.D.Disk l.disk;
+  visits : (choose : Chooser) (h : List Order) (base k : ℕ) → g.M.Memory.is_chooser choose → AllByRecursion g.M.Memory.takes h →
+      Holds g.D.Disk g.M.Book.Replay.fits g.M.Memory.holds choose h base k l.fn.store l.fn.disk →
+      Visits g.D.Disk g.M.Memory.takes g.M.Book.Replay.fits g.M.Memory.holds choose h base k l.fn.store.run l._served
+      (g.L.Listener.waiting l.fn.listener) (g.L.Listener.waiting l.listener) (g.L.Listener.handed l.fn.listener) (g.L.Listener.handed l.listener)
+      (g.C.Clock.ahead l.fn.clock) (g.C.Clock.ahead l.clock) l.store l.fn.disk l.disk;
+}
