@@ -5,3 +5,5 @@ pub mod StoredLemmas
 pub mod FeedLemmas
 pub mod NamedLemmas
 pub mod MissedLemmas
+pub mod ShortLemmas
+pub mod ServeLemmas

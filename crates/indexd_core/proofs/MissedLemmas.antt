@@ -1,5 +1,5 @@
 -- An index whose name is too long for one is missed once the store is open.
-use Rattle.std.proofs.Common.{◌≡◌, ◌≤◌, ◌<◌, ℕ, ℤ, Bool, true, false, List, [], ◌∷◌, ◌++◌, map, length, take, refl, sym, ap, ◌∙◌, subst, inr, arith}
+use Rattle.std.proofs.Common.{◌≡◌, ◌≤◌, ◌<◌, ℕ, ℤ, Bool, true, false, List, [], ◌∷◌, ◌++◌, map, length, take, refl, sym, ap, ◌∙◌, subst, inl, inr, ◌⊎◌, arith}
 use Rattle.std.specs.Prelude.{Option, Some, None, Err, is_some, is_none, ◌==◌, ◌&&◌, nat_lt, codes, bytes_eq, filter, if◌then◌else◌}
 use Rattle.std.specs.List.{AllByRecursion}
 use Rattle.ix_base.specs.Clocks.{Moments, Answered}
@@ -8,9 +8,11 @@ use Rattle.ix_base.specs.declared.events.ChannelMeta.{ChannelMeta}
 use Rattle.ix_book.specs.Book.{Book}
 use Rattle.ix_conf.specs.Value.{is_at, entry_at}
 use Rattle.ix_conf.specs.declared.layers.MergedEntry.{MergedEntry}
+use Rattle.ix_disk.specs.Moments.{Always}
 use Rattle.ix_disk.specs.declared.disk.Disk.{Ghosts}
 use Rattle.ix_items.specs.declared.items.Kept.{Kept}
 use Rattle.ix_kept.specs.Configs.{IsConfig}
+use Rattle.ix_kept.specs.Taken.{IsTaken, AreGiven}
 use Rattle.ix_life.specs.Limits.{limits_of}
 use Rattle.ix_life.specs.Stanzas.{is_index_stanza}
 use Rattle.ix_life.specs.declared.limits.Limits.{Limits}
@@ -24,14 +26,20 @@ use Rattle.ix_machine.specs.declared.commands.Config.{Config}
 use Rattle.ix_machine.specs.declared.commands.Order.{Order}
 use Rattle.ix_run.specs.Giving.{given_all}
 use Rattle.ix_snapshot.specs.Shelved.{IsSet}
+use Rattle.ix_store.specs.Holding.{Holds}
+use Rattle.ix_store.specs.Written.{Stands}
 use Rattle.ix_store.specs.declared.store.Store.{Store}
 use Rattle.indexd_store.specs.Ends.{same_entry, same_kept}
 use Rattle.indexd_store.specs.Opened as opened
 use Rattle.indexd_store.specs.Opened.{configuring, Configures, HasOpened, HasStopped}
 use Rattle.indexd_store.specs.Previews.{is_missing_in, HasFed, Fed, Misses}
+use Rattle.indexd_store.specs.Shortened.{IsOfCheckpoint}
+use Rattle.indexd_store.specs.Stops.{loses}
+use Rattle.indexd_store.specs.declared.stop.Stop.{Stop}
 use Rattle.indexd_store.specs.declared.stop.Stop.TheVariants as stops
 use Rattle.indexd_store.proofs.Feeding.{none_fed}
-use Rattle.indexd_store.proofs.Joining.{fed_when}
+use Rattle.indexd_store.proofs.Joining.{front_has, begun_taken, fed_when}
+use Rattle.indexd_store.proofs.Shortening.{stopped_short, fed_stop}
 use Rattle.indexd_store.proofs.Tasks.{none_given}
 use Rattle.indexd_core.specs.Stored.{is_long}
 
@@ -129,14 +137,29 @@ missed_by choose begun config origin is forced long = record {
   answers = missing_in config.kept config.limits origin.index is.stanzas is.limits long;
 }
 
+-- it ends so, or its checkpoint stops it
 pub missed : {D : Type 0} (d : Ghosts D) {M : Type 0} (fits : Book → Type 0) (holds : Chooser → List Order → M → Type 0) (choose : Chooser) (history : List Order) (k : ℕ)
-    (config : Config) (store : Store M) (ahead mid ahead' : Option Moments) (first last : D) (origin : ChannelMeta) (left : Option (List ℕ)) (moment : ℤ) →
-    IsConfig config → is_long origin.index ≡ true → HasOpened d fits holds choose history k config store ahead mid first last → Told (Answered moment) mid ahead' →
-    HasStopped stops.NotFound d fits choose history k config ahead ahead' (left ≡ left) (HasFed choose origin (Err stops.NotFound) ahead' left left) first last
-missed d fits holds choose history k config store ahead mid ahead' first last origin left moment is long ready told =
+    (config : Config) (store later : Store M) (ahead mid ahead' : Option Moments) (first at last : D) (origin : ChannelMeta) (left : Option (List ℕ)) (moment : ℤ) (other : Stop) →
+    IsConfig config → is_long origin.index ≡ true → AreGiven history → HasOpened d fits holds choose history k config store ahead mid first at → Told (Answered moment) mid ahead' →
+    (other ≡ stops.NotFound) ⊎ IsOfCheckpoint other →
+    ((now : List Order) (base : ℕ) → AreGiven now → Holds d fits holds choose now base (length now) store at → Always d at last (Stands fits store.run choose now)) →
+    (loses other ≡ false → (now : List Order) (base : ℕ) → AreGiven now → Holds d fits holds choose now base (length now) store at → Holds d fits holds choose now base (length now) later last) →
+    HasStopped other d fits choose history k config ahead ahead' (left ≡ left) (HasFed choose origin (Err other) ahead' left left) first last
+missed d fits holds choose history k config store later ahead mid ahead' first at last origin left moment other is long given ready told why images held =
     let begun : List Order = given_all choose (take ready.count history) ready.configured in
     let forced : (after choose begun).force ≡ config.kept =
     in_force choose (take ready.count history) ready.configured config (opened.is_configured choose (take ready.count history) config) refl ready.configures in
-    inr (fed_when d fits holds choose history k config store ahead mid first last last ready store origin moment ahead' told left left (Err stops.NotFound)
-    (none_given d fits holds choose begun ready.count store last (Fed choose ready.count begun origin moment (Err stops.NotFound) left left)
-    (none_fed choose ready.count begun origin moment left (missed_by choose begun config origin is forced long)) ready.hold))
+    let all : AreGiven begun = begun_taken IsTaken (λ moment. tt) choose (take ready.count history) config (opened.is_configured choose (take ready.count history) config) ready.configured (λ moment. is)
+    (front_has IsTaken ready.count history given) ready.configures in
+    let fed = none_fed choose ready.count begun origin moment left (missed_by choose begun config origin is forced long) in
+    inr (fed_when d fits holds choose history k config store ahead mid first at last ready later origin moment ahead' told left left (Err other)
+    (stopped_short d fits holds IsTaken choose begun ready.count store.run store later at at last stops.NotFound other (λ orders. orders ≡ []) (Fed choose ready.count begun origin moment (Err other) left left)
+    (λ orders none. subst (λ (os : List Order). Fed choose ready.count begun origin moment (Err other) left left os) (sym none) (fed_stop choose ready.count begun origin moment stops.NotFound other left left [] why fed))
+    (λ orders none. subst (λ (os : List Order). AreGiven (given_all choose begun os)) (sym none) all)
+    (λ lost. absurd (cc)) (λ kept now taken hold. images now ready.count taken hold) (λ kept also now taken hold. held also now ready.count taken hold)
+    (none_given d fits holds choose begun ready.count store at (λ orders. orders ≡ []) refl ready.hold)))
+
+-- only the disk is at fault where it says so
+pub by_disk : (P : Type 0) → (stops.NotFound ≡ stops.Disk) ⊎ P → P
+by_disk P (inl is) = absurd (cc)
+by_disk P (inr rose) = rose

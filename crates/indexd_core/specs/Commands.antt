@@ -1,4 +1,4 @@
--- Which words are commands of the program. `serve`, `monitor` and `selftest` are not built yet.
+-- Which words are commands of the program. `monitor` and `selftest` are not built yet.
 use Rattle.std.specs.Prelude.{◌≡◌, ℕ, Bool, true, false, List, Option, Some, None, is_some}
 use Rattle.ix_base.specs.Clocks.{Moments}
 use Rattle.indexd_words.specs.Orders.{Asked, preview, btool, feed, serve, monitor, buckets, export, roll, thaw, tick, selftest, asked}
@@ -13,7 +13,7 @@ is_built None = false
 is_built (Some (preview host source sourcetype index store)) = true
 is_built (Some (btool file)) = is_some (file_named file)
 is_built (Some feed) = true
-is_built (Some (serve port requests)) = false
+is_built (Some (serve port requests)) = true
 is_built (Some (monitor close)) = false
 is_built (Some buckets) = true
 is_built (Some (export index range)) = true
@@ -40,6 +40,10 @@ AskStore words stated = asked words ≡ Some (preview stated.host stated.source 
 -- the words ask for requests to be served from the input
 abbrev pub AskFeed : List (List ℕ) → Type 0
 AskFeed words = asked words ≡ Some feed
+
+-- the words ask for so many connections to be served on a port
+abbrev pub AskServe : List (List ℕ) → ℕ → ℕ → Type 0
+AskServe words port requests = asked words ≡ Some (serve port requests)
 
 -- what is asked for by a task over a store
 abbrev pub asked_for : Task → Asked
@@ -73,7 +77,7 @@ is_stored None = false
 is_stored (Some (preview host source sourcetype index store)) = store
 is_stored (Some (btool file)) = false
 is_stored (Some feed) = true
-is_stored (Some (serve port requests)) = false
+is_stored (Some (serve port requests)) = true
 is_stored (Some (monitor close)) = false
 is_stored (Some buckets) = true
 is_stored (Some (export index range)) = true

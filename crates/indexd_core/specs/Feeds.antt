@@ -6,7 +6,7 @@ use Rattle.ix_disk.specs.declared.disk.Disk.{Ghosts}
 use Rattle.ix_machine.specs.declared.commands.Config.{Config}
 use Rattle.ix_replay.specs.Fits.{fits}
 use Rattle.indexd_feed.specs.Ends.{fed_of}
-use Rattle.indexd_feed.specs.Serving.{HasServed}
+use Rattle.indexd_feed.specs.Serving.{HasServed, Requests}
 use Rattle.indexd_feed.specs.Sides.{IsSound}
 use Rattle.indexd_feed.specs.declared.end.End.{End}
 use Rattle.indexd_feed.specs.declared.end.End.TheVariants as ends
@@ -55,7 +55,8 @@ pub data FeedComes (status : Status) {D : Type 0} (d : Ghosts D) (config : Confi
       FeedComes status d config ahead ahead' input input' output output' disk disk'
   served : (end : End) (middle : Side) → status ≡ end_status end → output.faults ≤ middle.faults → middle.faults ≤ output'.faults →
       FromStart d disk (λ choose history k.
-      HasServed d fits choose history k config (fed_of end) (IsSound output.faults middle.faults) input.told input'.told ahead ahead' output.told middle.told disk disk') →
+      HasServed d fits choose history k config ahead
+      (Requests d fits choose (fed_of end) (IsSound output.faults middle.faults) input.told input'.told ahead' output.told middle.told disk') disk disk') →
       Said (end_line end) middle output' →
       FeedComes status d config ahead ahead' input input' output output' disk disk'
 

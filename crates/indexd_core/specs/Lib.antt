@@ -7,5 +7,7 @@ pub mod Prepared
 pub mod Origins
 pub mod Runs
 pub mod Stored
+pub mod Shortened
 pub mod Feeds
+pub mod Serves
 pub mod Btool

@@ -6,6 +6,7 @@ ghost use Rattle.ix_base.specs.Faults.{Rose};
 ghost use Rattle.ix_kept.specs.Configs.{IsConfig};
 ghost use Rattle.indexd_core.specs.Feeds as defs;
 ghost use Rattle.indexd_core.specs.Feeds.{FeedComes, Feeds};
+ghost use Rattle.indexd_core.specs.Shortened.{LeavesShort};
 ghost use Rattle.indexd_core.specs.Sides.{side};
 ghost use Rattle.indexd_core.specs.Stored.{FromStart, IsUntold};
 ghost use Rattle.indexd_core.specs.Texts.{Said};
@@ -87,6 +88,7 @@ fn feed_with<S: Source, W: Sink, C: Clock, D: Disk>(
     ensures comes { FeedComes result D.Disk config (C.ahead clock.old) (C.ahead clock.new)
         (side (S.faults input.old) (S.left input.old)) (side (S.faults input.new) (S.left input.new))
         (side (W.faults output.old) (W.given output.old)) (side (W.faults output.new) (W.given output.new)) disk.old disk.new }
+    ensures short { LeavesShort result D.Disk disk.old disk.new }
     ensures output { result ≡ Status.Output → Rose (W.faults output.old) (W.faults output.new) }
     ensures input { result ≡ Status.Input → Rose (S.faults input.old) (S.faults input.new) }
     ensures read_later { S.faults input.old ≤ S.faults input.new }
@@ -116,6 +118,7 @@ pub fn feed<S: Source, W: Sink, C: Clock, T: Tree, D: Disk>(
     ensures feeds { Feeds result (T.files tree.old) (T.faults tree.old) (T.faults tree.new) (C.ahead clock.old) (C.ahead clock.new)
         (side (S.faults input.old) (S.left input.old)) (side (S.faults input.new) (S.left input.new))
         (side (W.faults output.old) (W.given output.old)) (side (W.faults output.new) (W.given output.new)) D.Disk disk.old disk.new }
+    ensures short { LeavesShort result D.Disk disk.old disk.new }
     ensures output { result ≡ Status.Output → Rose (W.faults output.old) (W.faults output.new) }
     ensures input { result ≡ Status.Input → Rose (S.faults input.old) (S.faults input.new) ⊎ Rose (T.faults tree.old) (T.faults tree.new) }
     ensures read_later { S.faults input.old ≤ S.faults input.new }

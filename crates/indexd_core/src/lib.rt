@@ -8,6 +8,7 @@ mod feed;
 mod prepare;
 mod preview;
 mod program;
+mod serve;
 mod status;
 mod stored;
 

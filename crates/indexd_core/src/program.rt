@@ -7,10 +7,12 @@ ghost use Rattle.indexd_settings.specs.declared.layers.SettingsFile.{SettingsFil
 ghost use Rattle.indexd_words.specs.Orders.{asked};
 ghost use Rattle.indexd_words.specs.Shown.{shown};
 ghost use Rattle.indexd_core.specs.Btool.{Tells};
-ghost use Rattle.indexd_core.specs.Commands.{is_command, is_stored, is_task, is_heard, AskPreview, AskBtool, AskTask, AskStore, AskFeed};
+ghost use Rattle.indexd_core.specs.Commands.{is_command, is_stored, is_task, is_heard, AskPreview, AskBtool, AskTask, AskStore, AskFeed, AskServe};
 ghost use Rattle.indexd_core.specs.Feeds.{Feeds};
 ghost use Rattle.indexd_core.specs.Prepared.{Stated};
 ghost use Rattle.indexd_core.specs.Runs.{Previews, Refuses};
+ghost use Rattle.indexd_core.specs.Serves.{Serves, ear};
+ghost use Rattle.indexd_core.specs.Shortened.{LeavesShort};
 ghost use Rattle.indexd_core.specs.Sides.{side};
 ghost use Rattle.indexd_core.specs.Stored.{FromStart, IsUntold, Tasked, Stored};
 ghost use Rattle.indexd_core.specs.Texts.{Said, status_text};
@@ -18,6 +20,7 @@ ghost use Rattle.indexd_core.specs.Texts.{Said, status_text};
 use crate::btool::btool;
 use crate::feed::feed;
 use crate::preview::run_preview;
+use crate::serve::{Serving, serve};
 use crate::status::{Status, say};
 use crate::stored::{run_stored, store_preview};
 use indexd_settings::SettingsFile;
@@ -51,12 +54,15 @@ fn stop<W: Sink>(status: Status, output: &mut W) -> Status
 /// all of their changes committed. `preview .. --store` stores the events of the input and writes nothing. `buckets` lists the indexes and
 /// buckets, `export INDEX [--earliest SECONDS] [--latest SECONDS]` writes the events of an index in the range of times, `roll INDEX` rolls
 /// its hot buckets, `thaw INDEX ID` brings a frozen bucket back from the archive, and `tick` is a turn of housekeeping. `feed` serves the
-/// requests that come one behind the other from the input, and writes the replies.
+/// requests that come one behind the other from the input, and writes the replies. `serve --port PORT --requests COUNT` takes the port of the
+/// machine itself, serves so many connections, one request each, whose replies go back on them, and writes `served COUNT`. The port is taken
+/// before the store is touched. Each of these commands, once it has mounted the store, makes the log short where it is long, whatever it ends
+/// with: for want of memory, or where the disk fails at it, it ends with `Memory` or `DiskFault` in place of any other status.
 ///
 /// Any other words are `Usage`. `Configuration` comes exactly where the files that the command reads have a fault. `NotFound` comes where
 /// INDEX is not configured, or the bucket is not in the archive; `TooManyChannels` where 256 channels are open, and `Full` where the store
 /// would pass its bounds. `Input` comes only where the input of `preview` or the tree has failed, `Output` only where the output has,
-/// `DiskFault` only where the disk has, `ListenerFault` only where the listener has, `Damaged` where the files of the disk hold what was not
+/// `DiskFault` only where the disk has, `ListenerFault` only where the listener has, also where it does not get its port, `Damaged` where the files of the disk hold what was not
 /// committed, `Unreadable` where a request of `feed` was cut or it is not known where it ends, `Endless` only where `preview` took 2^40 bytes or
 /// `feed` served 2^32 requests, and `Memory` where there was no room. The line of the status stands behind the output.
 pub fn top<S: Source, W: Sink, C: Clock, T: Tree, D: Disk, L: Listener>(
@@ -107,12 +113,25 @@ pub fn top<S: Source, W: Sink, C: Clock, T: Tree, D: Disk, L: Listener>(
         (side (S.faults input.old) (S.left input.old)) (side (S.faults input.new) (S.left input.new))
         (side (W.faults output.old) (W.given output.old)) (side (W.faults output.new) (W.given output.new)) D.Disk disk.old disk.new }
 
-    // What a command leaves alone: one that works over no store the disk, a task the input, `btool` the input and the clock, one that hears no
-    // listener the listener, and each the files.
+    // Connections of the listener: so many were served, one request each, over what the store had, and at 0 the output tells how many. On each
+    // stands the reply to what it held; at every end but a fault of the disk each image has all commands that were accepted.
+    ensures served { (port requests : ℕ) → AskServe words.now port requests →
+        Serves result requests (T.files tree.old) (T.faults tree.old) (T.faults tree.new) (C.ahead clock.old) (C.ahead clock.new)
+        (ear (L.waiting listener.old) (L.handed listener.old)) (ear (L.waiting listener.new) (L.handed listener.new))
+        (side (W.faults output.old) (W.given output.old)) (side (W.faults output.new) (W.given output.new)) D.Disk disk.old disk.new }
+
+    // Behind a command that has mounted the store the current log is not long, as the disk reads, unless there was no room in memory, or the
+    // disk has failed or is damaged.
+    ensures short { LeavesShort result D.Disk disk.old disk.new }
+
+    // What a command leaves alone: one that works over no store the disk, a task and `serve` the input, `btool` the input and the clock, one that
+    // hears no listener the listener, and each the files. As many connections are out as before.
     ensures untouched { is_stored (asked words.now) ≡ false → disk.new ≡ disk.old }
     ensures unasked { is_task (asked words.now) ≡ true → (S.left input.new ≡ S.left input.old) × (S.faults input.new ≡ S.faults input.old) }
     ensures unread { (name : List ℕ) → AskBtool words.now name → (S.left input.new ≡ S.left input.old) × (S.faults input.new ≡ S.faults input.old)
         × (C.ahead clock.new ≡ C.ahead clock.old) }
+    ensures unfed { (port requests : ℕ) → AskServe words.now port requests → (S.left input.new ≡ S.left input.old) × (S.faults input.new ≡ S.faults input.old) }
+    ensures out { L.out listener.new ≡ L.out listener.old }
     ensures unheard { is_heard (asked words.now) ≡ false → listener.new ≡ listener.old }
     ensures unchanged { T.files tree.new ≡ T.files tree.old }
 
@@ -165,9 +184,11 @@ pub fn top<S: Source, W: Sink, C: Clock, T: Tree, D: Disk, L: Listener>(
         }
         Ok(Order::Tick) => run_stored(alloc, Task::Tick, output, clock, tree, disk),
         Ok(Order::Feed) => feed(alloc, input, output, clock, tree, disk),
-        // these are not built yet
-        Ok(Order::Serve { .. } | Order::Monitor { .. } | Order::Selftest { .. }) => {
-            stop(Status::Usage, output)
+        Ok(Order::Serve { port, requests }) => {
+            let serving = Serving { port, requests };
+            serve(alloc, serving, output, clock, tree, disk, listener)
         }
+        // these are not built yet
+        Ok(Order::Monitor { .. } | Order::Selftest { .. }) => stop(Status::Usage, output),
     }
 }

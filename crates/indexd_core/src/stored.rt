@@ -7,9 +7,11 @@ ghost use Rattle.ix_kept.specs.Configs.{IsConfig};
 ghost use Rattle.ix_replay.specs.Fits.{fits};
 ghost use Rattle.indexd_store.specs.Opened.{HasRun, HasStopped, WhenOpen};
 ghost use Rattle.indexd_store.specs.Previews.{HasFed, HasTaken};
+ghost use Rattle.indexd_store.specs.Shortened.{EndsShort, StopsShort};
 ghost use Rattle.indexd_store.specs.Stops.{is_output, is_input};
 ghost use Rattle.indexd_core.specs.Origins.{stated_of};
 ghost use Rattle.indexd_core.specs.Prepared.{index_or_default};
+ghost use Rattle.indexd_core.specs.Shortened.{LeavesShort};
 ghost use Rattle.indexd_core.specs.Sides.{side};
 ghost use Rattle.indexd_core.specs.Stored as defs;
 ghost use Rattle.indexd_core.specs.Stored.{AreShort, FromStart, InputComes, IsUntold, Silent, Stored, TaskComes, Tasked};
@@ -18,7 +20,7 @@ use crate::ends::{Named, say_stop};
 use crate::prepare::{index_of, say_unread, stated_meta};
 use crate::status::{Status, say};
 use indexd_config::read_config;
-use indexd_store::{Stop, Task, open, run_preview, run_task};
+use indexd_store::{Stop, Task, open, run_preview, run_task, stop_run};
 use indexd_words::Origin;
 use ix_base::{Bytes, ChannelMeta, Clock, NoMemory, Sink, Source, Tree};
 use ix_disk::Disk;
@@ -49,6 +51,7 @@ fn run_with<W: Sink, C: Clock, D: Disk>(
 ) -> Status
     requires { IsConfig config }
     ensures comes { TaskComes result D.Disk config task.entry (C.ahead clock.old) (C.ahead clock.new) (side (W.faults output.old) (W.given output.old)) (side (W.faults output.new) (W.given output.new)) disk.old disk.new }
+    ensures short { LeavesShort result D.Disk disk.old disk.new }
     ensures output { result ≡ Status.Output → Rose (W.faults output.old) (W.faults output.new) }
     ensures input { result ≡ Status.Input → ⊥ }
     ensures written_later { W.faults output.old ≤ W.faults output.new }
@@ -75,6 +78,7 @@ pub fn run_stored<W: Sink, C: Clock, T: Tree, D: Disk>(
 ) -> Status
     ensures tasked { Tasked result task.entry (T.files tree.old) (T.faults tree.old) (T.faults tree.new) (C.ahead clock.old) (C.ahead clock.new)
         (side (W.faults output.old) (W.given output.old)) (side (W.faults output.new) (W.given output.new)) D.Disk disk.old disk.new }
+    ensures short { LeavesShort result D.Disk disk.old disk.new }
     ensures output { result ≡ Status.Output → Rose (W.faults output.old) (W.faults output.new) }
     ensures input { result ≡ Status.Input → Rose (T.faults tree.old) (T.faults tree.new) }
     ensures written_later { W.faults output.old ≤ W.faults output.new }
@@ -108,7 +112,7 @@ fn is_long(origin: &ChannelMeta) -> bool
 }
 
 /// Opens the store of a disk with these settings, and misses the stated index, whose name is too long for one. The clock is asked as it
-/// is for any input.
+/// is for any input, and the log is made short where it is long.
 fn miss<C: Clock, D: Disk>(
     alloc: Global,
     config: Config,
@@ -121,18 +125,19 @@ fn miss<C: Clock, D: Disk>(
     ensures stopped { (left : Option (List ℕ)) → FromStart D.Disk disk.old (λ choose history k. HasStopped result D.Disk fits choose history k config
         (C.ahead clock.old) (C.ahead clock.new) (left ≡ left)
         (HasFed choose origin.now (Err result) (C.ahead clock.new) left left) disk.old disk.new) }
+    ensures short { StopsShort D.Disk fits result disk.old disk.new }
     ensures later { D.Disk.faults disk.old ≤ D.Disk.faults disk.new }
     ensures cause { result ≡ Stop.Disk → Rose (D.Disk.faults disk.old) (D.Disk.faults disk.new) }
     ensures undamaged { defs.status_of result ≡ Status.Damaged → FromStart D.Disk disk.old (λ choose history k. IsUntold D.Disk disk.new) }
     ensures quiet { is_output result ≡ false }
     ensures unread { is_input result ≡ false }
 {
-    let _opened = match open::<Tier, D, C>(alloc, disk, clock, config) {
+    let mut store = match open::<Tier, D, C>(alloc, disk, clock, config) {
         Ok(store) => store,
         Err(stop) => return stop,
     };
     let _moment = clock.now();
-    Stop::NotFound
+    stop_run(&mut store, disk, Stop::NotFound)
 }
 
 /// Stores an input in the store of a disk. An index whose name is too long is configured nowhere: it is missed, as others that are not
@@ -154,6 +159,7 @@ fn store_input<C: Clock, S: Source, D: Disk>(
     ensures stopped { IfErr result (λ stop. FromStart D.Disk disk.old (λ choose history k. HasStopped stop D.Disk fits choose history k config
         (C.ahead clock.old) (C.ahead clock.new) (S.left input.new ≡ S.left input.old)
         (HasFed choose origin result (C.ahead clock.new) (S.left input.old) (S.left input.new)) disk.old disk.new)) }
+    ensures short { EndsShort D.Disk fits result disk.old disk.new }
     ensures later { D.Disk.faults disk.old ≤ D.Disk.faults disk.new }
     ensures cause { IsErrOf result Stop.Disk → Rose (D.Disk.faults disk.old) (D.Disk.faults disk.new) }
     ensures read_later { S.faults input.old ≤ S.faults input.new }
@@ -200,6 +206,7 @@ fn store_with<S: Source, W: Sink, C: Clock, D: Disk>(
     ensures silent { result ≡ Status.Done → Silent
         (side (S.faults input.old) (S.left input.old)) (side (S.faults input.new) (S.left input.new))
         (side (W.faults output.old) (W.given output.old)) (side (W.faults output.new) (W.given output.new)) }
+    ensures short { LeavesShort result D.Disk disk.old disk.new }
     ensures output { result ≡ Status.Output → ⊥ }
     ensures input { result ≡ Status.Input → Rose (S.faults input.old) (S.faults input.new) }
     ensures read_later { S.faults input.old ≤ S.faults input.new }
@@ -235,6 +242,7 @@ pub fn store_preview<S: Source, W: Sink, C: Clock, T: Tree, D: Disk>(
     ensures stored { Stored result (stated_of origin.entry) (T.files tree.old) (T.faults tree.old) (T.faults tree.new) (C.ahead clock.old) (C.ahead clock.new)
         (side (S.faults input.old) (S.left input.old)) (side (S.faults input.new) (S.left input.new))
         (side (W.faults output.old) (W.given output.old)) (side (W.faults output.new) (W.given output.new)) D.Disk disk.old disk.new }
+    ensures short { LeavesShort result D.Disk disk.old disk.new }
     ensures output { result ≡ Status.Output → ⊥ }
     ensures input { result ≡ Status.Input → Rose (S.faults input.old) (S.faults input.new) ⊎ Rose (T.faults tree.old) (T.faults tree.new) }
     ensures read_later { S.faults input.old ≤ S.faults input.new }

@@ -15,7 +15,7 @@ use Rattle.ix_base.specs.Faults.{Rose}
 use Rattle.ix_link.specs.Links.{Standing, IsCaused, Goes}
 use Rattle.indexd_feed.specs.Sides.{failures}
 use Rattle.indexd_feed.specs.Ends as ends_of
-use Rattle.indexd_feed.specs.Ends.{link_end, fed_of}
+use Rattle.indexd_feed.specs.Ends.{FedBehind, is_short, link_end, fed_of}
 use Rattle.indexd_feed.specs.declared.end.End.{End}
 use Rattle.indexd_feed.specs.declared.end.End.TheVariants as ends
 
@@ -27,8 +27,8 @@ unread false request is = cc
 
 uncut_turn : (n : ℕ) (result : Result Served ServeFault) → end_of n result ≡ Some (fed.Broken fault.Cut) → ⊥
 uncut_turn n (Ok served.Ended) is = cc
-uncut_turn n (Ok (served.Reply status true)) is = cc
-uncut_turn n (Ok (served.Reply status false)) is = unread (nat_eq status 503) n is
+uncut_turn n (Ok (served.Reply status true unshortened)) is = cc
+uncut_turn n (Ok (served.Reply status false unshortened)) is = unread (nat_eq status 503) n is
 uncut_turn n (Err fault.Disk) is = cc
 uncut_turn n (Err (fault.Damaged file at)) is = cc
 uncut_turn n (Err fault.Link) is = cc
@@ -50,16 +50,32 @@ of_link None = refl
 of_link (Some sides.Reading) = refl
 of_link (Some sides.Writing) = refl
 
+uncut_behind : {D : Type 0} (first end : Fed) (turns : List (Turn D)) → EndsAs first turns → FedBehind first end → end ≡ fed.Broken fault.Cut → ⊥
+uncut_behind first end turns ends (inl same) is = uncut turns (subst (λ (e : Fed). EndsAs e turns) (sym same ∙ is) ends)
+uncut_behind first end turns ends (inr (up, inl memory)) is = let e : fed.NoMemory ≡ fed.Broken fault.Cut = sym memory ∙ is in cc
+uncut_behind first end turns ends (inr (up, inr disk)) is = let e : fed.Broken fault.Disk ≡ fed.Broken fault.Cut = sym disk ∙ is in cc
+
 -- any end that comes is told as it is
-pub told_end : {D : Type 0} (end : Fed) (failed : Option Side) (turns : List (Turn D)) → EndsAs end turns → fed_of (ends_of.end_of end failed) ≡ end
-told_end fed.Ended failed turns is = refl
-told_end (fed.Unreadable request) failed turns is = refl
-told_end fed.NoMemory failed turns is = refl
-told_end fed.Endless failed turns is = refl
-told_end (fed.Broken fault.Disk) failed turns is = refl
-told_end (fed.Broken (fault.Damaged file at)) failed turns is = refl
-told_end (fed.Broken fault.Link) failed turns is = of_link failed
-told_end (fed.Broken fault.Cut) failed turns is = absurd (uncut turns is)
+pub told_end : {D : Type 0} (end : Fed) (failed : Option Side) (first : Fed) (turns : List (Turn D)) → EndsAs first turns → FedBehind first end → fed_of (ends_of.end_of end failed) ≡ end
+told_end fed.Ended failed first turns is behind = refl
+told_end (fed.Unreadable request) failed first turns is behind = refl
+told_end fed.NoMemory failed first turns is behind = refl
+told_end fed.Endless failed first turns is behind = refl
+told_end (fed.Broken fault.Disk) failed first turns is behind = refl
+told_end (fed.Broken (fault.Damaged file at)) failed first turns is behind = refl
+told_end (fed.Broken fault.Link) failed first turns is behind = of_link failed
+told_end (fed.Broken fault.Cut) failed first turns is behind = absurd (uncut_behind first (fed.Broken fault.Cut) turns is behind refl)
+
+-- and tells of a short log where it did
+pub short_told : (end : Fed) (failed : Option Side) → is_short (fed_of (ends_of.end_of end failed)) ≡ true → is_short end ≡ true
+short_told fed.Ended failed is = is
+short_told (fed.Unreadable request) failed is = is
+short_told fed.NoMemory failed is = is
+short_told fed.Endless failed is = is
+short_told (fed.Broken fault.Disk) failed is = is
+short_told (fed.Broken (fault.Damaged file at)) failed is = is
+short_told (fed.Broken fault.Link) failed is = refl
+short_told (fed.Broken fault.Cut) failed is = refl
 
 -- ---- which ends come of a fault
 

@@ -1,10 +1,15 @@
-//! How a run of requests ended. `run` makes it of what served them and of the side of the link that failed.
+//! How a run of requests ended: by what served them, by the side of the link that failed, and by what came of making the log short behind
+//! them. `feed`, `serve` and `run` make these ends.
 
 ghost use Rattle.std.specs.Prelude.{◌≡◌};
+ghost use Rattle.ix_feed.specs.Connections as connections;
+ghost use Rattle.ix_feed.specs.Feeding as feeding;
 ghost use Rattle.indexd_feed.specs.Ends as defs;
 
 use ix_base::File;
-use ix_feed::Fed;
+use ix_checkpoint::CheckpointFault;
+use ix_feed::{Fed, Heard};
+use ix_keep::CommitFault;
 use ix_link::Side;
 use ix_serve::ServeFault;
 
@@ -18,7 +23,8 @@ pub enum End {
         /// Its number, from 1 on.
         request: u64,
     },
-    /// There was no room in memory to read a request, and it is not known where it ends.
+    /// There was no room in memory to read a request, and it is not known where it ends; or none to make the log short behind all of them,
+    /// however they ended. What was accepted is committed.
     Memory,
     /// 2^32 requests were served.
     Endless,
@@ -33,6 +39,44 @@ pub enum End {
     Input,
     /// Writing the output failed.
     Output,
+}
+
+/// How a run of connections ended.
+#[derive(Clone, Copy, Debug, PartialEq, Eq)]
+pub enum ServeEnd {
+    /// As many connections were served as were to be.
+    Done,
+    /// The listener has failed.
+    Listener,
+    /// There was no room in memory to make the log short behind the connections, however they ended. What was accepted is committed.
+    Memory,
+    /// The disk has failed.
+    Disk,
+    /// In this file, from this place on, does not stand what was committed.
+    Damaged { file: File, at: u64 },
+}
+
+/// Whether the store is open still behind requests of a link that ended so.
+pub(crate) fn is_open_fed(end: Fed) -> bool
+    ensures { result ≡ feeding.is_open_end end }
+{
+    match end {
+        Fed::Broken { fault } => matches!(fault, ServeFault::Link | ServeFault::Cut),
+        Fed::Ended | Fed::Unreadable { .. } | Fed::NoMemory | Fed::Endless => true,
+    }
+}
+
+/// The end of a run whose requests ended so, by what came of making the log short behind them.
+pub(crate) fn fed_behind(end: Fed, shortened: Result<(), CheckpointFault>) -> Fed
+    ensures { result ≡ defs.fed_behind end shortened }
+{
+    match shortened {
+        Ok(()) => end,
+        Err(CheckpointFault::Disk) => Fed::Broken {
+            fault: ServeFault::Disk,
+        },
+        Err(CheckpointFault::NoMemory) => Fed::NoMemory,
+    }
 }
 
 /// The end where the link failed, by the side that did.
@@ -60,5 +104,40 @@ pub(crate) fn end_of(fed: Fed, failed: Option<Side>) -> End
             ServeFault::Link => link_end(failed),
             ServeFault::Cut => End::Unreadable { request: 0 },
         },
+    }
+}
+
+/// Whether the store is open still behind connections that ended so.
+pub(crate) fn is_open_heard(end: Heard) -> bool
+    ensures { result ≡ connections.is_open_end end }
+{
+    match end {
+        Heard::Done | Heard::Listener => true,
+        Heard::Broken { .. } => false,
+    }
+}
+
+/// The end of a run whose connections ended so.
+pub(crate) fn heard_end(end: Heard) -> ServeEnd
+    ensures { result ≡ defs.heard_end end }
+{
+    match end {
+        Heard::Done => ServeEnd::Done,
+        Heard::Listener => ServeEnd::Listener,
+        Heard::Broken { cause } => match cause {
+            CommitFault::Disk => ServeEnd::Disk,
+            CommitFault::Damaged { file, at } => ServeEnd::Damaged { file, at },
+        },
+    }
+}
+
+/// The end of a run whose connections ended so, by what came of making the log short behind them.
+pub(crate) fn heard_behind(end: Heard, shortened: Result<(), CheckpointFault>) -> ServeEnd
+    ensures { result ≡ defs.heard_behind end shortened }
+{
+    match shortened {
+        Ok(()) => heard_end(end),
+        Err(CheckpointFault::Disk) => ServeEnd::Disk,
+        Err(CheckpointFault::NoMemory) => ServeEnd::Memory,
     }
 }

@@ -1,32 +1,69 @@
-//! A run that serves requests over a link: the store is opened, and the requests are served one behind the other. `run` calls it.
+//! A run that serves requests over a link: the store is opened, the requests are served one behind the other, and the log is made short where
+//! it is long. `run` calls it.
 
-ghost use Rattle.std.specs.Prelude.{◌≡◌, ◌≤◌, ℕ, ℤ, List, false, Some, Ok, Err, IfOk, IfErr, OnErr, IsErrOf};
+ghost use Rattle.std.specs.Prelude.{◌≡◌, ◌≤◌, ℕ, ℤ, List, length, true, false, Some, Ok, Err, IfOk, IfErr, OnErr, IsErrOf};
 ghost use Rattle.std.specs.List.{AllByRecursion};
 ghost use Rattle.ix_base.specs.Faults.{Rose};
 ghost use Rattle.ix_base.specs.declared.files.File.{File};
 ghost use Rattle.ix_disk.specs.Image.{Image};
+ghost use Rattle.ix_feed.specs.Feeding.{Comes};
 ghost use Rattle.ix_link.specs.Links.{Goes};
 ghost use Rattle.ix_machine.specs.Given.{Chooser};
 ghost use Rattle.ix_machine.specs.declared.commands.Order.{Order};
+ghost use Rattle.ix_run.specs.Resting.{IsAtRest, ReadsShort};
 ghost use Rattle.ix_serve.specs.Serving.{IsClean};
 ghost use Rattle.ix_serve.specs.Taking.{TakesAsks};
+ghost use Rattle.ix_store.specs.Holding.{Holds};
 ghost use Rattle.indexd_store.specs.Opened.{Begins, configuring, HasShut};
+ghost use Rattle.indexd_store.specs.Shortened.{StopsShort};
 ghost use Rattle.indexd_store.specs.Stops.{is_output, is_input};
-ghost use Rattle.indexd_feed.specs.Serving.{HasServed};
+ghost use Rattle.indexd_feed.specs.Ends as ends;
+ghost use Rattle.indexd_feed.specs.Serving.{HasServed, Requests};
 
+use crate::end::{fed_behind, is_open_fed};
 use indexd_store::{Stop, open};
 use ix_base::Clock;
 use ix_disk::Disk;
 use ix_feed::{Fed, run_feed as feed_store};
 use ix_link::Link;
 use ix_machine::Config;
+use ix_run::shorten;
 use ix_serve::ServeFault;
 use ix_store::{Listing, Store};
 use std::alloc::Global;
 
+/// Serves the requests of a link over an open store, and makes the log short behind them where it is long, unless the store is closed.
+fn feed_open<M: Listing + Drop, D: Disk, C: Clock, K: Link>(
+    alloc: Global,
+    store: &mut Store<M>,
+    link: &mut K,
+    clock: &mut C,
+    disk: &mut D,
+) -> Fed
+    requires rest { IsAtRest D.Disk store.old.keeper disk.old }
+    requires asks { TakesAsks M.takes }
+    ensures requests { (choose : Chooser) (history : List Order) (base : ℕ) → M.is_chooser choose → AllByRecursion M.takes history →
+        Holds D.Disk M.Book.fits M.holds choose history base (length history) store.old disk.old →
+        (now : List Order) × Requests D.Disk M.Book.fits choose result (IsClean (K.faults link.old) (K.faults link.new) (K.standing link.old) (K.standing link.new))
+        (K.left link.old) (K.left link.new) (C.ahead clock.new) (K.given link.old) (K.given link.new) disk.new base store.old.run (C.ahead clock.old) disk.old history now }
+    ensures unbroken { (file : File) (at : ℕ) → result ≡ Fed.Broken (ServeFault.Damaged file at) → (choose : Chooser) (history : List Order) (base : ℕ) → M.is_chooser choose →
+        AllByRecursion M.takes history → Holds D.Disk M.Book.fits M.holds choose history base (length history) store.old disk.old → (later : Image) → D.Disk.seen disk.new ≡ Some later → ⊥ }
+    ensures short { ends.is_short result ≡ true → ReadsShort D.Disk disk.new }
+    ensures goes { Goes (K.standing link.old) (K.standing link.new) }
+    ensures comes { Comes (K.faults link.old) (K.faults link.new) (D.Disk.faults disk.old) (D.Disk.faults disk.new) result }
+{
+    let end = feed_store(alloc, store, link, clock, disk);
+    if !is_open_fed(end) {
+        return end;
+    }
+    let shortened = shorten(store, disk);
+    fed_behind(end, shortened)
+}
+
 /// Opens the store of a disk with these settings, and serves the requests that come one behind the other over a link, until it ends or one of
-/// them ends the run. All that was accepted is committed at the end, unless the disk is at fault. An error is what stops the run before the
-/// first request, and nothing is read or written then.
+/// them ends the run. All that was accepted is committed at the end, and the log is made short where it is long, unless the disk is at fault:
+/// where there is no room in memory for that the end is `NoMemory` in place of any other, and where the disk fails at it `Broken`. An error is
+/// what stops the run before the first request, and nothing is read or written then.
 pub fn run_feed<M: Listing + Drop, D: Disk, C: Clock, K: Link>(
     alloc: Global,
     disk: &mut D,
@@ -40,13 +77,18 @@ pub fn run_feed<M: Listing + Drop, D: Disk, C: Clock, K: Link>(
     // count of the link has risen, and that of its writing side.
     ensures served { IfOk result (λ end. (choose : Chooser) (history : List Order) (k : ℕ) → M.is_chooser choose → AllByRecursion M.takes history →
         Begins D.Disk M.Book.fits choose history k disk.old → (image : Image) → D.Disk.seen disk.old ≡ Some image →
-        HasServed D.Disk M.Book.fits choose history k config end (IsClean (K.faults link.old) (K.faults link.new) (K.standing link.old) (K.standing link.new))
-        (K.left link.old) (K.left link.new) (C.ahead clock.old) (C.ahead clock.new) (K.given link.old) (K.given link.new) disk.old disk.new) }
+        HasServed D.Disk M.Book.fits choose history k config (C.ahead clock.old)
+        (Requests D.Disk M.Book.fits choose end (IsClean (K.faults link.old) (K.faults link.new) (K.standing link.old) (K.standing link.new))
+        (K.left link.old) (K.left link.new) (C.ahead clock.new) (K.given link.old) (K.given link.new) disk.new) disk.old disk.new) }
     // A run that stops before them has lost nothing, has its cause, and leaves the link alone.
     ensures shut { IfErr result (λ stop. (choose : Chooser) (history : List Order) (k : ℕ) → M.is_chooser choose → AllByRecursion M.takes history →
         Begins D.Disk M.Book.fits choose history k disk.old → (image : Image) → D.Disk.seen disk.old ≡ Some image →
         HasShut stop D.Disk M.Book.fits choose history k config (C.ahead clock.old) (C.ahead clock.new) disk.old disk.new) }
     ensures untouched { OnErr result (link.new ≡ link.old) }
+    // Behind the run the current log is not long, as the disk reads; but for want of memory, where the disk is at fault, or where nothing was
+    // mounted.
+    ensures short { IfOk result (λ end. ends.is_short end ≡ true → ReadsShort D.Disk disk.new) }
+    ensures stopped_short { IfErr result (λ stop. StopsShort D.Disk M.Book.fits stop disk.old disk.new) }
     // What is on the disk is not damaged where it keeps what was committed,
     ensures undamaged { (file : File) (at : ℕ) → result ≡ Err (Stop.Damaged file at) → (choose : Chooser) (history : List Order) (k : ℕ) → M.is_chooser choose → AllByRecursion M.takes history →
         Begins D.Disk M.Book.fits choose history k disk.old → (image : Image) → D.Disk.seen disk.old ≡ Some image → (later : Image) → D.Disk.seen disk.new ≡ Some later → ⊥ }
@@ -69,5 +111,5 @@ pub fn run_feed<M: Listing + Drop, D: Disk, C: Clock, K: Link>(
         Ok(store) => store,
         Err(stop) => return Err(stop),
     };
-    Ok(feed_store(alloc, &mut store, link, clock, disk))
+    Ok(feed_open(alloc, &mut store, link, clock, disk))
 }

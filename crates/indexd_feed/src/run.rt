@@ -1,17 +1,19 @@
 //! A run that serves the requests of an input, whose replies go to an output. The program calls `run_streams`.
 
-ghost use Rattle.std.specs.Prelude.{◌≡◌, ◌≤◌, ℕ, ℤ, List, false, Some, Ok, Err, IfOk, IfErr, OnErr, IsErrOf};
+ghost use Rattle.std.specs.Prelude.{◌≡◌, ◌≤◌, ℕ, ℤ, List, true, false, Some, Ok, Err, IfOk, IfErr, OnErr, IsErrOf};
 ghost use Rattle.std.specs.List.{AllByRecursion};
 ghost use Rattle.ix_base.specs.Faults.{Rose};
 ghost use Rattle.ix_base.specs.declared.files.File.{File};
 ghost use Rattle.ix_disk.specs.Image.{Image};
 ghost use Rattle.ix_machine.specs.Given.{Chooser};
 ghost use Rattle.ix_machine.specs.declared.commands.Order.{Order};
+ghost use Rattle.ix_run.specs.Resting.{ReadsShort};
 ghost use Rattle.ix_serve.specs.Taking.{TakesAsks};
 ghost use Rattle.indexd_store.specs.Opened.{Begins, configuring, HasShut};
+ghost use Rattle.indexd_store.specs.Shortened.{StopsShort};
 ghost use Rattle.indexd_store.specs.Stops.{is_output, is_input};
-ghost use Rattle.indexd_feed.specs.Ends.{fed_of};
-ghost use Rattle.indexd_feed.specs.Serving.{HasServed};
+ghost use Rattle.indexd_feed.specs.Ends.{fed_of, is_short};
+ghost use Rattle.indexd_feed.specs.Serving.{HasServed, Requests};
 ghost use Rattle.indexd_feed.specs.Sides.{IsSound};
 
 use crate::end::{End, end_of};
@@ -25,8 +27,9 @@ use ix_store::Listing;
 use std::alloc::Global;
 
 /// Opens the store of a disk with these settings, and serves the requests that come one behind the other from the input; the replies go to the
-/// output. All that was accepted is committed at the end, unless the disk is at fault. An error is what stops the run before the first
-/// request, and nothing is read or written then.
+/// output. All that was accepted is committed at the end, and the log is made short where it is long, unless the disk is at fault: where there
+/// is no room in memory for that the end is `Memory` in place of any other, and where the disk fails at it `Disk`. An error is what stops the
+/// run before the first request, and nothing is read or written then.
 pub fn run_streams<M: Listing + Drop, D: Disk, C: Clock, S: Source, W: Sink>(
     alloc: Global,
     disk: &mut D,
@@ -41,14 +44,19 @@ pub fn run_streams<M: Listing + Drop, D: Disk, C: Clock, S: Source, W: Sink>(
     // count of the output has risen.
     ensures served { IfOk result (λ end. (choose : Chooser) (history : List Order) (k : ℕ) → M.is_chooser choose → AllByRecursion M.takes history →
         Begins D.Disk M.Book.fits choose history k disk.old → (image : Image) → D.Disk.seen disk.old ≡ Some image →
-        HasServed D.Disk M.Book.fits choose history k config (fed_of end) (IsSound (W.faults output.old) (W.faults output.new)) (S.left input.old) (S.left input.new) (C.ahead clock.old) (C.ahead clock.new)
-        (W.given output.old) (W.given output.new) disk.old disk.new) }
+        HasServed D.Disk M.Book.fits choose history k config (C.ahead clock.old)
+        (Requests D.Disk M.Book.fits choose (fed_of end) (IsSound (W.faults output.old) (W.faults output.new)) (S.left input.old) (S.left input.new) (C.ahead clock.new)
+        (W.given output.old) (W.given output.new) disk.new) disk.old disk.new) }
     // A run that stops before them has lost nothing, has its cause, and leaves the input and the output alone.
     ensures shut { IfErr result (λ stop. (choose : Chooser) (history : List Order) (k : ℕ) → M.is_chooser choose → AllByRecursion M.takes history →
         Begins D.Disk M.Book.fits choose history k disk.old → (image : Image) → D.Disk.seen disk.old ≡ Some image →
         HasShut stop D.Disk M.Book.fits choose history k config (C.ahead clock.old) (C.ahead clock.new) disk.old disk.new) }
     ensures unread { OnErr result (input.new ≡ input.old) }
     ensures unwritten { OnErr result (output.new ≡ output.old) }
+    // Behind the run the current log is not long, as the disk reads; but for want of memory, where the disk is at fault, or where nothing was
+    // mounted.
+    ensures short { IfOk result (λ end. is_short (fed_of end) ≡ true → ReadsShort D.Disk disk.new) }
+    ensures stopped_short { IfErr result (λ stop. StopsShort D.Disk M.Book.fits stop disk.old disk.new) }
     // What is on the disk is not damaged where it keeps what was committed,
     ensures undamaged { (file : File) (at : ℕ) → result ≡ Err (Stop.Damaged file at) → (choose : Chooser) (history : List Order) (k : ℕ) → M.is_chooser choose → AllByRecursion M.takes history →
         Begins D.Disk M.Book.fits choose history k disk.old → (image : Image) → D.Disk.seen disk.old ≡ Some image → (later : Image) → D.Disk.seen disk.new ≡ Some later → ⊥ }

@@ -44,3 +44,6 @@ pub returns-in-Err-clause-undamaged : goal.returns-in-Err-clause-undamaged
 returns-in-Err-clause-undamaged g c = λ is. absurd (unread_at c.say_unread.result statuses.Damaged (g.T.Tree.files c.args.tree.now) (g.T.Tree.faults c.args.tree.now) (g.T.Tree.faults c.read_config.new.tree)
     (side (g.W.Sink.faults c.args.output.now) (g.W.Sink.given c.args.output.now)) (side (g.W.Sink.faults c.say_unread.new.output) (g.W.Sink.given c.say_unread.new.output))
     (c.say_unread.ensures.said (g.T.Tree.files c.args.tree.now) (g.T.Tree.faults c.args.tree.now) (g.T.Tree.faults c.read_config.new.tree) c.in-Err.ensures.stopped) is)
+
+pub returns-in-Err-clause-short : goal.returns-in-Err-clause-short
+returns-in-Err-clause-short g c = λ ok. inr (inl refl)

@@ -1,4 +1,4 @@
-use Rattle.std.proofs.Common.{◌≡◌, ◌∙◌, List, ℕ, [], refl, sym, ap, subst}
+use Rattle.std.proofs.Common.{◌≡◌, ◌∙◌, List, ℕ, [], refl, sym, ap, subst, inl}
 use Rattle.std.specs.Prelude.{Ok}
 use Rattle.ix_replay.specs.Fits.{fits}
 use Rattle.indexd_store.specs.declared.stop.Stop.TheVariants as stops
@@ -9,6 +9,7 @@ use Rattle.indexd_core.specs.Texts.{Said}
 use Rattle.indexd_core.proofs.PreviewLemmas.{rose-until}
 use Rattle.indexd_core.proofs.FeedLemmas.{asks_taken, disk_end, input_end, output_end, damaged_end, usage_end, listener_end}
 use Rattle.indexd_core.proofs.StoredLemmas.{disk_stop, output_stop, input_stop, usage_stop, listener_stop, yes_no, err_as, by_blame}
+use Rattle.indexd_core.proofs.ShortLemmas.{left_at_stop, end_short}
 use Rattle.indexd_core.proofs.feed.feed_with.Goals as goal
 
 pub run_streams-requires-clause-settings : goal.run_streams-requires-clause-settings
@@ -74,3 +75,9 @@ returns-in-Err-clause-usage g c = λ is. usage_stop c.say_stop.result c.in-Err.s
 
 pub returns-in-Err-clause-listener : goal.returns-in-Err-clause-listener
 returns-in-Err-clause-listener g c = λ is. listener_stop c.say_stop.result c.in-Err.stop c.say_stop.ensures.status is
+
+pub returns-in-Ok-clause-short : goal.returns-in-Ok-clause-short
+returns-in-Ok-clause-short g c = λ ok. inl (c.in-Ok.ensures.short (end_short c.say_end.result c.in-Ok.end c.say_end.ensures.status ok))
+
+pub returns-in-Err-clause-short : goal.returns-in-Err-clause-short
+returns-in-Err-clause-short g c = left_at_stop g.D.Disk c.args.disk.now c.run_streams.new.disk c.say_stop.result c.in-Err.stop c.say_stop.ensures.status c.in-Err.ensures.stopped_short

@@ -1,5 +1,5 @@
-use Rattle.std.proofs.Common.{rules, ◌≡◌, refl, sym, subst, Some}
-use Rattle.indexd_words.specs.Orders.{asked}
+use Rattle.std.proofs.Common.{rules, ◌≡◌, ℕ, refl, sym, subst, inl, inr, Some}
+use Rattle.indexd_words.specs.Orders.{asked, serve}
 use Rattle.indexd_words.specs.Shown.{shown}
 use Rattle.indexd_words.specs.declared.orders.Order.TheVariants.{Preview}
 use Rattle.indexd_core.specs.Prepared.{Stated}
@@ -9,8 +9,10 @@ use Rattle.indexd_core.proofs.StopLemmas.{preview-stated, store_stated}
 use Rattle.indexd_core.proofs.NamedLemmas.{stated_short}
 use Rattle.indexd_core.specs.Commands.{asked_for}
 use Rattle.indexd_core.specs.Origins.{stated_of}
+use Rattle.indexd_core.specs.Serves.{Serves, ear}
 use Rattle.indexd_core.specs.Stored.{Stored, WroteUnread, unread}
 use Rattle.indexd_core.specs.declared.status.Status.{Status}
+use Rattle.indexd_core.proofs.ServeLemmas.{same_count}
 use Rattle.indexd_core.proofs.StoredLemmas.{some_task}
 use Rattle.indexd_store.specs.declared.task.Task.TheVariants as tasks
 use Rattle.indexd_core.proofs.program.top.Goals as goal
@@ -91,3 +93,25 @@ returns-in-Err-NoMemory-clause-task g c = λ is.
           (side (g.W.Sink.faults c.args.output.now) (g.W.Sink.given c.args.output.now)) (side (g.W.Sink.faults c.stop-in-Err-NoMemory.new.output) (g.W.Sink.given c.stop-in-Err-NoMemory.new.output)))
           (sym c.stop-in-Err-NoMemory.ensures.status) c.stop-in-Err-NoMemory.ensures.line),
     )
+
+pub returns-in-Ok-Serve-clause-served : goal.returns-in-Ok-Serve-clause-served
+returns-in-Ok-Serve-clause-served g c = λ port requests asks.
+    let here : asked c.args.words.now ≡ Some (serve c.in-Ok-Serve.port c.in-Ok-Serve.requests) = search rules in
+    subst (λ (n : ℕ). Serves c.serve.result n (g.T.Tree.files c.args.tree.now) (g.T.Tree.faults c.args.tree.now) (g.T.Tree.faults c.serve.new.tree)
+    (g.C.Clock.ahead c.args.clock.now) (g.C.Clock.ahead c.serve.new.clock)
+    (ear (g.L.Listener.waiting c.args.listener.now) (g.L.Listener.handed c.args.listener.now)) (ear (g.L.Listener.waiting c.serve.new.listener) (g.L.Listener.handed c.serve.new.listener))
+    (side (g.W.Sink.faults c.args.output.now) (g.W.Sink.given c.args.output.now)) (side (g.W.Sink.faults c.serve.new.output) (g.W.Sink.given c.serve.new.output))
+    g.D.Disk c.args.disk.now c.serve.new.disk)
+    (same_count (asked c.args.words.now) c.in-Ok-Serve.port port c.in-Ok-Serve.requests requests here asks) c.serve.ensures.serves
+
+pub returns-in_default-clause-short : goal.returns-in_default-clause-short
+returns-in_default-clause-short g c = λ ok. inr (inl refl)
+
+pub returns-in-Err-NoMemory-clause-short : goal.returns-in-Err-NoMemory-clause-short
+returns-in-Err-NoMemory-clause-short g c = λ ok. inr (inl refl)
+
+pub returns-in-Err-Usage-clause-short : goal.returns-in-Err-Usage-clause-short
+returns-in-Err-Usage-clause-short g c = λ ok. inr (inl refl)
+
+pub returns-in-Ok-Preview-default-false-clause-short : goal.returns-in-Ok-Preview-default-false-clause-short
+returns-in-Ok-Preview-default-false-clause-short g c = λ ok. inr (inl refl)

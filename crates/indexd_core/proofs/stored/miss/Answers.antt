@@ -1,9 +1,16 @@
-use Rattle.std.proofs.Common.{rules, ◌≡◌, ◌∙◌, refl, inl, w64}
+use Rattle.std.proofs.Common.{rules, ◌≡◌, ◌∙◌, false, refl, inl, w64}
 use Rattle.std.specs.Prelude.{Err}
 use Rattle.std.proofs.lemmas.Int.{to_z-of_z}
 use mir.Val.{SFits}
+use Rattle.ix_disk.proofs.Runs.{rose_later}
+use Rattle.indexd_store.specs.Stops.{is_output, is_input}
+use Rattle.indexd_store.specs.declared.stop.Stop.{Stop}
+use Rattle.indexd_store.specs.declared.stop.Stop.TheVariants as stops
 use Rattle.indexd_store.proofs.Joining.{shut_sound}
-use Rattle.indexd_core.proofs.MissedLemmas.{missed}
+use Rattle.indexd_store.proofs.Shortening.{by_end}
+use Rattle.indexd_core.specs.Stored.{status_of}
+use Rattle.indexd_core.specs.declared.status.Status.TheVariants as statuses
+use Rattle.indexd_core.proofs.MissedLemmas.{missed, by_disk}
 use Rattle.indexd_core.proofs.StoredLemmas.{by_blame, err_as}
 use Rattle.indexd_core.proofs.stored.miss.Goals as goal
 
@@ -15,9 +22,25 @@ returns-in-Err-clause-stopped g c = λ left choose history k chooser taken begin
 
 pub returns-clause-stopped : goal.returns-clause-stopped
 returns-clause-stopped g c = λ left choose history k chooser taken begins image seen.
-    missed g.D.Disk _ _ choose history k c.args.config c.in-Ok.store (g.C.Clock.ahead c.args.clock.now) (g.C.Clock.ahead c.open.new.clock) (g.C.Clock.ahead c.now-moment.new.self)
-    c.args.disk.now c.open.new.disk c.args.origin.now left c.now-moment.result c.requires.settings c.requires.long
-    (c.in-Ok.ensures.opened choose history k chooser taken begins image seen) c.now-moment.ensures
+    missed g.D.Disk _ _ choose history k c.args.config c.in-Ok.store c.stop_run.new.store (g.C.Clock.ahead c.args.clock.now) (g.C.Clock.ahead c.open.new.clock) (g.C.Clock.ahead c.now-moment.new.self)
+    c.args.disk.now c.open.new.disk c.stop_run.new.disk c.args.origin.now left c.now-moment.result c.stop_run.result c.requires.settings c.requires.long taken
+    (c.in-Ok.ensures.opened choose history k chooser taken begins image seen) c.now-moment.ensures c.stop_run.ensures.why
+    (λ now base all hold. c.stop_run.ensures.images refl choose now base chooser all hold) (λ kept now base all hold. c.stop_run.ensures.held refl kept choose now base chooser all hold)
+
+pub returns-clause-short : goal.returns-clause-short
+returns-clause-short g c = λ ok. inl (c.stop_run.ensures.short ok)
+
+pub returns-clause-cause : goal.returns-clause-cause
+returns-clause-cause g c = λ is. rose_later (g.D.Disk.faults c.args.disk.now) (g.D.Disk.faults c.open.new.disk) (g.D.Disk.faults c.stop_run.new.disk) c.open.ensures.later (by_disk _ (c.stop_run.ensures.cause is))
+
+pub returns-clause-undamaged : goal.returns-clause-undamaged
+returns-clause-undamaged g c = λ is. absurd (by_end (λ (s : Stop). status_of s ≡ statuses.Damaged → ⊥) stops.NotFound c.stop_run.result (λ e. cc) (λ e. cc) (λ e. cc) c.stop_run.ensures.why is)
+
+pub returns-clause-quiet : goal.returns-clause-quiet
+returns-clause-quiet g c = by_end (λ (s : Stop). is_output s ≡ false) stops.NotFound c.stop_run.result refl refl refl c.stop_run.ensures.why
+
+pub returns-clause-unread : goal.returns-clause-unread
+returns-clause-unread g c = by_end (λ (s : Stop). is_input s ≡ false) stops.NotFound c.stop_run.result refl refl refl c.stop_run.ensures.why
 
 pub returns-in-Err-clause-undamaged : goal.returns-in-Err-clause-undamaged
 returns-in-Err-clause-undamaged g c = λ is. by_blame c.in-Err.stop _ is

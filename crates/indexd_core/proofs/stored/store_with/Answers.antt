@@ -1,4 +1,4 @@
-use Rattle.std.proofs.Common.{◌≡◌, ◌≤◌, ◌∙◌, List, ℕ, Bool, false, refl, sym, subst, arith}
+use Rattle.std.proofs.Common.{◌≡◌, ◌≤◌, ◌∙◌, List, ℕ, Bool, false, refl, sym, subst, arith, inl, inr}
 use Rattle.std.specs.Prelude.{Ok, Err}
 use Rattle.ix_base.specs.declared.events.ChannelMeta.{ChannelMeta}
 use Rattle.ix_replay.specs.Fits.{fits}
@@ -12,6 +12,8 @@ use Rattle.indexd_core.specs.Sides.{side}
 use Rattle.indexd_core.specs.Stored.{FromStart, done, stopped, line_of, named_of}
 use Rattle.indexd_core.specs.Texts.{Said}
 use Rattle.indexd_core.proofs.StoredLemmas.{unmounted, disk_stop, output_stop, input_stop, usage_stop, listener_stop, done_stop, yes_no, err_as}
+use Rattle.indexd_core.specs.declared.status.Status.TheVariants as statuses
+use Rattle.indexd_core.proofs.ShortLemmas.{left_at_ok, left_at_err}
 use Rattle.indexd_core.proofs.stored.store_with.Goals as goal
 
 pub returns-in_default-clause-comes : goal.returns-in_default-clause-comes
@@ -61,3 +63,12 @@ returns-clause-listener g c = λ is. listener_stop c.say_stop.result c.in-Err.st
 
 pub returns-clause-undamaged : goal.returns-clause-undamaged
 returns-clause-undamaged g c = λ is. c.in-Err.ensures.undamaged (sym c.say_stop.ensures.status ∙ is)
+
+pub returns-in_default-clause-short : goal.returns-in_default-clause-short
+returns-in_default-clause-short g c = λ ok. inr (inl refl)
+
+pub returns-in-Ok-store_input-clause-short : goal.returns-in-Ok-store_input-clause-short
+returns-in-Ok-store_input-clause-short g c = left_at_ok g.D.Disk c.args.disk.now c.store_input.new.disk c.store_input.result statuses.Done tt c.in-Ok-store_input.is c.store_input.ensures.short
+
+pub returns-clause-short : goal.returns-clause-short
+returns-clause-short g c = left_at_err g.D.Disk c.args.disk.now c.store_input.new.disk c.store_input.result c.say_stop.result c.in-Err.stop c.in-Err.is c.say_stop.ensures.status c.store_input.ensures.short

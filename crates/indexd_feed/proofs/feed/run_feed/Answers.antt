@@ -3,10 +3,12 @@ use Rattle.std.specs.Prelude.{Err}
 use Rattle.ix_disk.proofs.Runs.{rose_later}
 use Rattle.ix_link.proofs.GoesLemmas.{goes_nowhere}
 use Rattle.ix_run.specs.Giving.{given_all}
+use Rattle.ix_serve.specs.Serving.{IsClean}
 use Rattle.indexd_store.specs.Opened.{is_configured}
 use Rattle.indexd_store.specs.declared.stop.Stop.TheVariants as stops
 use Rattle.indexd_store.proofs.Joining.{front_has, begun_taken, shut_sound}
-use Rattle.indexd_feed.proofs.Opening.{served_by}
+use Rattle.indexd_feed.specs.Serving.{Requests}
+use Rattle.indexd_feed.proofs.Opening.{served_behind}
 use Rattle.indexd_feed.proofs.Ending.{same_ok}
 use Rattle.indexd_feed.proofs.feed.run_feed.Goals as goal
 
@@ -15,24 +17,25 @@ returns-clause-served g c = λ choose history k chooser taken begins image seen.
     let opened = c.in-Ok.ensures.opened choose history k chooser taken begins image seen in
     let taken_now = begun_taken g.M.Memory.takes g.met.M.Memory.ticks_are_taken choose (take opened.count history) c.args.config (is_configured choose (take opened.count history) c.args.config) opened.configured
     c.requires.settings (front_has g.M.Memory.takes opened.count history taken) opened.configures in
-    let now = given_all choose (take opened.count history) opened.configured in
-    served_by g.D.Disk g.M.Memory.takes g.M.Book.Replay.fits g.M.Memory.holds choose history k c.args.config c.in-Ok.store (g.C.Clock.ahead c.args.clock.now) (g.C.Clock.ahead c.open.new.clock) c.args.disk.now c.open.new.disk opened
-    c.run_feed.result _ (g.K.Link.left c.args.link.now) (g.K.Link.left c.run_feed.new.link) (g.C.Clock.ahead c.run_feed.new.clock) (g.K.Link.given c.args.link.now) (g.K.Link.given c.run_feed.new.link)
-    c.run_feed.new.store c.run_feed.new.disk (c.run_feed.ensures.runs choose now opened.count _ chooser taken_now opened.hold)
+    let requests = c.feed_open.ensures.requests choose (given_all choose (take opened.count history) opened.configured) opened.count chooser taken_now opened.hold in
+    served_behind g.D.Disk g.M.Book.Replay.fits g.M.Memory.holds choose history k c.args.config c.in-Ok.store (g.C.Clock.ahead c.args.clock.now) (g.C.Clock.ahead c.open.new.clock) c.args.disk.now c.open.new.disk opened
+    (Requests g.D.Disk g.M.Book.Replay.fits choose c.feed_open.result
+    (IsClean (g.K.Link.faults c.args.link.now) (g.K.Link.faults c.feed_open.new.link) (g.K.Link.standing c.args.link.now) (g.K.Link.standing c.feed_open.new.link))
+    (g.K.Link.left c.args.link.now) (g.K.Link.left c.feed_open.new.link) (g.C.Clock.ahead c.feed_open.new.clock) (g.K.Link.given c.args.link.now) (g.K.Link.given c.feed_open.new.link) c.feed_open.new.disk)
+    requests.1.turns requests.0 c.feed_open.new.disk requests.1.now_is requests.1 requests.1.images
 
 pub returns-clause-unbroken : goal.returns-clause-unbroken
 returns-clause-unbroken g c = λ file at is choose history k chooser taken begins image seen later told.
     let opened = c.in-Ok.ensures.opened choose history k chooser taken begins image seen in
     let taken_now = begun_taken g.M.Memory.takes g.met.M.Memory.ticks_are_taken choose (take opened.count history) c.args.config (is_configured choose (take opened.count history) c.args.config) opened.configured
     c.requires.settings (front_has g.M.Memory.takes opened.count history taken) opened.configures in
-    let now = given_all choose (take opened.count history) opened.configured in
-    (c.run_feed.ensures.runs choose now opened.count _ chooser taken_now opened.hold).undamaged file at (same_ok is) later told
+    c.feed_open.ensures.unbroken file at (same_ok is) choose (given_all choose (take opened.count history) opened.configured) opened.count chooser taken_now opened.hold later told
 
 pub returns-clause-disk : goal.returns-clause-disk
-returns-clause-disk g c = λ is. rose_later (g.D.Disk.faults c.args.disk.now) (g.D.Disk.faults c.open.new.disk) (g.D.Disk.faults c.run_feed.new.disk) c.open.ensures.later (c.run_feed.ensures.comes.by_disk (same_ok is))
+returns-clause-disk g c = λ is. rose_later (g.D.Disk.faults c.args.disk.now) (g.D.Disk.faults c.open.new.disk) (g.D.Disk.faults c.feed_open.new.disk) c.open.ensures.later (c.feed_open.ensures.comes.by_disk (same_ok is))
 
 pub returns-clause-link : goal.returns-clause-link
-returns-clause-link g c = λ is. c.run_feed.ensures.comes.by_link (same_ok is)
+returns-clause-link g c = λ is. c.feed_open.ensures.comes.by_link (same_ok is)
 
 pub returns-in-Err-clause-sound : goal.returns-in-Err-clause-sound
 returns-in-Err-clause-sound g c = λ unsound choose history k chooser taken begins image seen.

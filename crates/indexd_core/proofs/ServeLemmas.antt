@@ -1,0 +1,69 @@
+-- The statuses of runs of connections.
+use Rattle.std.proofs.Common.{◌≡◌, ◌∙◌, ℕ, inl, inr, refl, sym, ap}
+use Rattle.std.specs.Prelude.{List, Option, Some}
+use Rattle.ix_base.specs.Faults.{Rose}
+use Rattle.ix_base.specs.declared.files.File.{File}
+use Rattle.ix_link.specs.Listeners.{Handed}
+use Rattle.indexd_feed.specs.declared.end.ServeEnd.{ServeEnd}
+use Rattle.indexd_feed.specs.declared.end.ServeEnd.TheVariants as ends
+use Rattle.indexd_words.specs.Orders.{Asked, serve}
+use Rattle.indexd_core.specs.Serves.{Ear, ear, EndsServing}
+use Rattle.indexd_core.specs.Sides.{Side}
+use Rattle.indexd_core.specs.declared.status.Status.{Status}
+use Rattle.indexd_core.specs.declared.status.Status.TheVariants as statuses
+
+pub same_ear : (a a' : Option (List (Option (List ℕ)))) (b b' : Option (List Handed)) → a' ≡ a → b' ≡ b → ear a' b' ≡ ear a b
+same_ear a a' b b' first second = λ i. record { waiting = first i; handed = second i }
+
+-- so many connections are asked for
+pub same_count : (o : Option Asked) (port port' requests requests' : ℕ) → o ≡ Some (serve port requests) → o ≡ Some (serve port' requests') → requests ≡ requests'
+same_count o port port' requests requests' is other = let same : Some (serve port requests) ≡ Some (serve port' requests') = sym is ∙ other in cc
+
+module _ (ended : Status) (requests : ℕ) (output output' : Side) where
+  pub output_served : (end : ServeEnd) → EndsServing ended requests end output output' → ended ≡ statuses.Output → Rose output.faults output'.faults
+  output_served ends.Done (inl done) is = let e : statuses.Done ≡ statuses.Output = sym done.0 ∙ is in absurd (cc)
+  output_served ends.Done (inr unsaid) is = unsaid.1
+  output_served ends.Listener wrote is = let e : statuses.ListenerFault ≡ statuses.Output = sym wrote.0 ∙ is in absurd (cc)
+  output_served ends.Memory wrote is = let e : statuses.Memory ≡ statuses.Output = sym wrote.0 ∙ is in absurd (cc)
+  output_served ends.Disk wrote is = let e : statuses.DiskFault ≡ statuses.Output = sym wrote.0 ∙ is in absurd (cc)
+  output_served (ends.Damaged file at) wrote is = let e : statuses.Damaged ≡ statuses.Output = sym wrote.0 ∙ is in absurd (cc)
+
+  pub disk_served : (end : ServeEnd) → EndsServing ended requests end output output' → ended ≡ statuses.DiskFault → end ≡ ends.Disk
+  disk_served ends.Done (inl done) is = let e : statuses.Done ≡ statuses.DiskFault = sym done.0 ∙ is in absurd (cc)
+  disk_served ends.Done (inr unsaid) is = let e : statuses.Output ≡ statuses.DiskFault = sym unsaid.0 ∙ is in absurd (cc)
+  disk_served ends.Listener wrote is = let e : statuses.ListenerFault ≡ statuses.DiskFault = sym wrote.0 ∙ is in absurd (cc)
+  disk_served ends.Memory wrote is = let e : statuses.Memory ≡ statuses.DiskFault = sym wrote.0 ∙ is in absurd (cc)
+  disk_served ends.Disk wrote is = refl
+  disk_served (ends.Damaged file at) wrote is = let e : statuses.Damaged ≡ statuses.DiskFault = sym wrote.0 ∙ is in absurd (cc)
+
+  pub listener_served : (end : ServeEnd) → EndsServing ended requests end output output' → ended ≡ statuses.ListenerFault → end ≡ ends.Listener
+  listener_served ends.Done (inl done) is = let e : statuses.Done ≡ statuses.ListenerFault = sym done.0 ∙ is in absurd (cc)
+  listener_served ends.Done (inr unsaid) is = let e : statuses.Output ≡ statuses.ListenerFault = sym unsaid.0 ∙ is in absurd (cc)
+  listener_served ends.Listener wrote is = refl
+  listener_served ends.Memory wrote is = let e : statuses.Memory ≡ statuses.ListenerFault = sym wrote.0 ∙ is in absurd (cc)
+  listener_served ends.Disk wrote is = let e : statuses.DiskFault ≡ statuses.ListenerFault = sym wrote.0 ∙ is in absurd (cc)
+  listener_served (ends.Damaged file at) wrote is = let e : statuses.Damaged ≡ statuses.ListenerFault = sym wrote.0 ∙ is in absurd (cc)
+
+  pub damaged_served : (end : ServeEnd) (P : Type 0) → EndsServing ended requests end output output' → ended ≡ statuses.Damaged → ((file : File) (at : ℕ) → end ≡ ends.Damaged file at → P) → P
+  damaged_served ends.Done P (inl done) is damaged = let e : statuses.Done ≡ statuses.Damaged = sym done.0 ∙ is in absurd (cc)
+  damaged_served ends.Done P (inr unsaid) is damaged = let e : statuses.Output ≡ statuses.Damaged = sym unsaid.0 ∙ is in absurd (cc)
+  damaged_served ends.Listener P wrote is damaged = let e : statuses.ListenerFault ≡ statuses.Damaged = sym wrote.0 ∙ is in absurd (cc)
+  damaged_served ends.Memory P wrote is damaged = let e : statuses.Memory ≡ statuses.Damaged = sym wrote.0 ∙ is in absurd (cc)
+  damaged_served ends.Disk P wrote is damaged = let e : statuses.DiskFault ≡ statuses.Damaged = sym wrote.0 ∙ is in absurd (cc)
+  damaged_served (ends.Damaged file at) P wrote is damaged = damaged file at refl
+
+  pub input_served : (end : ServeEnd) → EndsServing ended requests end output output' → ended ≡ statuses.Input → ⊥
+  input_served ends.Done (inl done) is = let e : statuses.Done ≡ statuses.Input = sym done.0 ∙ is in cc
+  input_served ends.Done (inr unsaid) is = let e : statuses.Output ≡ statuses.Input = sym unsaid.0 ∙ is in cc
+  input_served ends.Listener wrote is = let e : statuses.ListenerFault ≡ statuses.Input = sym wrote.0 ∙ is in cc
+  input_served ends.Memory wrote is = let e : statuses.Memory ≡ statuses.Input = sym wrote.0 ∙ is in cc
+  input_served ends.Disk wrote is = let e : statuses.DiskFault ≡ statuses.Input = sym wrote.0 ∙ is in cc
+  input_served (ends.Damaged file at) wrote is = let e : statuses.Damaged ≡ statuses.Input = sym wrote.0 ∙ is in cc
+
+  pub usage_served : (end : ServeEnd) → EndsServing ended requests end output output' → ended ≡ statuses.Usage → ⊥
+  usage_served ends.Done (inl done) is = let e : statuses.Done ≡ statuses.Usage = sym done.0 ∙ is in cc
+  usage_served ends.Done (inr unsaid) is = let e : statuses.Output ≡ statuses.Usage = sym unsaid.0 ∙ is in cc
+  usage_served ends.Listener wrote is = let e : statuses.ListenerFault ≡ statuses.Usage = sym wrote.0 ∙ is in cc
+  usage_served ends.Memory wrote is = let e : statuses.Memory ≡ statuses.Usage = sym wrote.0 ∙ is in cc
+  usage_served ends.Disk wrote is = let e : statuses.DiskFault ≡ statuses.Usage = sym wrote.0 ∙ is in cc
+  usage_served (ends.Damaged file at) wrote is = let e : statuses.Damaged ≡ statuses.Usage = sym wrote.0 ∙ is in cc

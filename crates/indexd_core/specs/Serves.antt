@@ -1,0 +1,65 @@
+-- Connections that are served, one request each: `serve`.
+use Rattle.std.specs.Prelude.{◌≡◌, ◌⊎◌, ◌++◌, ℕ, List, [], codes, decimal, Option}
+use Rattle.ix_base.specs.Clocks.{Moments}
+use Rattle.ix_base.specs.Faults.{Rose}
+use Rattle.ix_base.specs.Told.{HasWritten, HasBegun}
+use Rattle.ix_base.specs.declared.trees.TreeFile.{TreeFile}
+use Rattle.ix_disk.specs.declared.disk.Disk.{Ghosts}
+use Rattle.ix_link.specs.Listeners.{Handed}
+use Rattle.ix_machine.specs.declared.commands.Config.{Config}
+use Rattle.ix_replay.specs.Fits.{fits}
+use Rattle.indexd_feed.specs.Serving.{HasServed, Connections}
+use Rattle.indexd_feed.specs.declared.end.ServeEnd.{ServeEnd}
+use Rattle.indexd_feed.specs.declared.end.ServeEnd.TheVariants as ends
+use Rattle.indexd_store.specs.Opened.{HasShut}
+use Rattle.indexd_store.specs.declared.stop.Stop.{Stop}
+use Rattle.indexd_core.specs.Sides.{Side}
+use Rattle.indexd_core.specs.Stored.{status_of, line_of, damaged_line, FromStart, Whole}
+use Rattle.indexd_core.specs.Texts.{status_text, Said}
+use Rattle.indexd_core.specs.declared.status.Status.{Status}
+use Rattle.indexd_core.specs.declared.status.Status.TheVariants.{Done, Memory, DiskFault, Damaged, Output, ListenerFault}
+
+-- what a listener tells: what each connection that waits holds, and the connections that were handed back
+pub record Ear : Type 0 where
+  pub waiting : Option (List (Option (List ℕ)))
+  pub handed : Option (List Handed)
+
+abbrev pub ear : Option (List (Option (List ℕ))) → Option (List Handed) → Ear
+ear waiting handed = record { waiting = waiting; handed = handed }
+
+-- ---- statuses and their lines
+
+abbrev pub served_line : ℕ → List ℕ
+served_line requests = codes "served " ++ decimal requests ++ codes "\n"
+
+-- The status of a run of so many connections that ended so, and what was written: how many were served, or the line of the status.
+abbrev pub EndsServing : Status → ℕ → ServeEnd → Side → Side → Type 0
+EndsServing status requests ends.Done output output' =
+    ((status ≡ Done) × HasWritten (served_line requests) output.told output'.told)
+    ⊎ ((status ≡ Output) × Rose output.faults output'.faults × HasBegun (served_line requests) output.told output'.told)
+EndsServing status requests ends.Listener output output' = (status ≡ ListenerFault) × Said (status_text ListenerFault) output output'
+EndsServing status requests ends.Memory output output' = (status ≡ Memory) × Said (status_text Memory) output output'
+EndsServing status requests ends.Disk output output' = (status ≡ DiskFault) × Said (status_text DiskFault) output output'
+EndsServing status requests (ends.Damaged file at) output output' = (status ≡ Damaged) × Said (damaged_line file at) output output'
+
+-- ---- runs
+
+-- A run of connections with these settings. Unbound: the port was not to be had, and nothing else was done. Shut: the run stopped before the
+-- first connection, took none, and wrote the line of that. Served: connections were served up to this end, and then the output was written.
+pub data ServeComes (status : Status) {D : Type 0} (d : Ghosts D) (config : Config) (requests : ℕ) (ahead ahead' : Option Moments) (heard heard' : Ear) (output output' : Side) (disk disk' : D) : Type 0 where
+  unbound : status ≡ ListenerFault → ahead' ≡ ahead → heard' ≡ heard → disk' ≡ disk → Said (status_text ListenerFault) output output' →
+      ServeComes status d config requests ahead ahead' heard heard' output output' disk disk'
+  shut : (stop : Stop) → status ≡ status_of stop →
+      FromStart d disk (λ choose history k. HasShut stop d fits choose history k config ahead ahead' disk disk') →
+      heard' ≡ heard → Said (line_of [] stop) output output' →
+      ServeComes status d config requests ahead ahead' heard heard' output output' disk disk'
+  served : (end : ServeEnd) →
+      FromStart d disk (λ choose history k. HasServed d fits choose history k config ahead
+      (Connections d fits choose requests end heard.waiting heard'.waiting heard.handed heard'.handed ahead' disk') disk disk') →
+      EndsServing status requests end output output' →
+      ServeComes status d config requests ahead ahead' heard heard' output output' disk disk'
+
+abbrev pub Serves : Status → ℕ → Option (List TreeFile) → ℕ → ℕ → Option Moments → Option Moments → Ear → Ear → Side → Side → {D : Type 0} → Ghosts D → D → D → Type 0
+Serves status requests files failed failed' ahead ahead' heard heard' output output' d disk disk' =
+    Whole status files failed failed' ((ahead' ≡ ahead) × (heard' ≡ heard) × (disk' ≡ disk))
+    (λ config. ServeComes status d config requests ahead ahead' heard heard' output output' disk disk') output output'

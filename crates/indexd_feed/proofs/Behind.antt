@@ -1,0 +1,276 @@
+-- A checkpoint behind requests changes nothing of what was answered: every image since stands for all that was accepted.
+use Rattle.std.proofs.Common.{◌≡◌, ◌≤◌, ◌∙◌, ℕ, true, false, List, [], ◌∷◌, length, refl, sym, ap, subst, arith, inl, inr, Option, Result, Ok, Err, length-append}
+use Rattle.std.specs.Prelude.{OnOk}
+use Rattle.std.proofs.lemmas.Bool.{false≢true}
+use Rattle.ix_base.specs.Clocks.{Moments}
+use Rattle.ix_base.specs.declared.files.File.{File}
+use Rattle.ix_book.specs.Book.{Book}
+use Rattle.ix_checkpoint.specs.declared.fault.CheckpointFault.{CheckpointFault}
+use Rattle.ix_checkpoint.specs.declared.fault.CheckpointFault.TheVariants as checkpoints
+use Rattle.ix_disk.proofs.Runs.{always_on, always_weaker}
+use Rattle.ix_disk.specs.Image.{Image}
+use Rattle.ix_disk.specs.Moments.{Always}
+use Rattle.ix_disk.specs.declared.disk.Disk.{Ghosts}
+use Rattle.ix_feed.proofs.Growing.{AreGrowing, acknowledging}
+use Rattle.ix_feed.specs.Connections as connections
+use Rattle.ix_feed.specs.Connections.{Visit, AreVisits, Listens, turns_of}
+use Rattle.ix_feed.specs.Feeding.{Turn, AreTurns, Runs, Acknowledges, history_after, known, is_open_end}
+use Rattle.ix_feed.specs.declared.feed.Fed.{Fed}
+use Rattle.ix_feed.specs.declared.feed.Fed.TheVariants as fed
+use Rattle.ix_feed.specs.declared.serve.Heard.{Heard}
+use Rattle.ix_feed.specs.declared.serve.Heard.TheVariants as heard
+use Rattle.ix_keep.specs.declared.fault.CommitFault.TheVariants as commits
+use Rattle.ix_link.specs.Listeners.{Handed}
+use Rattle.ix_machine.specs.Given.{Chooser}
+use Rattle.ix_machine.specs.declared.commands.Order.{Order}
+use Rattle.ix_serve.specs.Prefixes.{StandsIn}
+use Rattle.ix_serve.specs.declared.served.ServeFault.TheVariants as fault
+use Rattle.ix_store.proofs.Counted.{take_whole}
+use Rattle.ix_store.specs.Written.{Stands}
+use Rattle.ix_store.specs.declared.store.Store.{Store}
+use Rattle.indexd_feed.specs.Ends.{fed_behind, FedBehind, is_short, heard_end, heard_behind, HeardBehind, is_short_served}
+use Rattle.indexd_feed.specs.Serving.{Requests, Connections}
+use Rattle.indexd_feed.specs.declared.end.ServeEnd.{ServeEnd}
+use Rattle.indexd_feed.specs.declared.end.ServeEnd.TheVariants as serving
+
+-- ---- histories
+
+-- a turn knew no more than there was, and the history only grows
+grown : (D : Type 0) (h : List Order) (turns : List (Turn D)) → length h ≤ length (history_after h turns)
+grown D h [] = omega arith
+grown D h (turn ∷ earlier) = omega (arith, grown D h earlier, length-append (history_after h earlier) turn.answer.more)
+
+knows_within : (D : Type 0) (h : List Order) (turns : List (Turn D)) → AreGrowing h (length h) turns → known (length h) turns ≤ length (history_after h turns)
+knows_within D h [] grow = omega arith
+knows_within D h (turn ∷ earlier) grow = omega (arith, grow.2, length-append (history_after h earlier) turn.answer.more)
+
+growing : {D : Type 0} (g : Ghosts D) (choose : Chooser) (h : List Order) (base k run : ℕ) (turns : List (Turn D)) (left left' : Option (List ℕ)) (ahead ahead' : Option Moments) →
+    AreTurns g choose h base k run turns left left' ahead ahead' → AreGrowing h k turns
+growing g choose h base k run [] left left' ahead ahead' are = tt
+growing g choose h base k run (turn ∷ earlier) left left' ahead ahead' are = (growing g choose h base k run earlier left are.0 ahead are.1 are.2, are.3.least, are.3.within)
+
+visits_growing : {D : Type 0} (g : Ghosts D) (choose : Chooser) (h : List Order) (base k run : ℕ) (visits : List (Visit D)) (ahead ahead' : Option Moments) →
+    AreVisits g choose h base k run visits ahead ahead' → AreGrowing h k (turns_of visits)
+visits_growing g choose h base k run [] ahead ahead' are = tt
+visits_growing g choose h base k run (visit ∷ earlier) ahead ahead' are = (visits_growing g choose h base k run earlier ahead are.0 are.1, are.2.turn.least, are.2.turn.within)
+
+-- ---- images
+
+module _ {D : Type 0} (g : Ghosts D) (fits : Book → Type 0) (choose : Chooser) (h : List Order) (run of_store : ℕ) (turns : List (Turn D)) (first mid last : D) (same : of_store ≡ run) (grow : AreGrowing h (length h) turns)
+    (images : Always g first mid (StandsIn fits run choose (history_after h turns) (length h))) (made : Always g mid last (Stands fits of_store choose (history_after h turns))) where
+  abbrev now : List Order
+  now = history_after h turns
+
+  stands_in : (n : ℕ) → n ≤ length now → (image : Image) → Stands fits of_store choose now image → StandsIn fits run choose now n image
+  stands_in n within image stands = record {
+    count = length now;
+    least = within;
+    most = omega arith;
+    stands = subst (λ (l : List Order). Stands fits run choose l image) (sym (take_whole now)) (subst (λ (r : ℕ). Stands fits r choose now image) same stands);
+  }
+
+  images_on : Always g first last (StandsIn fits run choose now (length h))
+  images_on = always_on g first mid last (StandsIn fits run choose now (length h)) images (always_weaker g mid last _ _ (stands_in (length h) (grown D h turns)) made)
+
+  acknowledged_on : (image : Image) → g.may_leave last image → Acknowledges fits run choose h turns image
+  acknowledged_on image may = acknowledging h (length h) fits run choose turns grow image (stands_in (known (length h) turns) (knows_within D h turns grow) image (made.now image may))
+
+  all_on : (image : Image) → g.may_leave last image → Stands fits run choose now image
+  all_on image may = subst (λ (r : ℕ). Stands fits r choose now image) same (made.now image may)
+
+-- ---- ends
+
+ends_behind : (first : Fed) (shortened : Result Unit CheckpointFault) → is_open_end first ≡ true → FedBehind first (fed_behind first shortened)
+ends_behind first (Ok done) up = inl refl
+ends_behind first (Err checkpoints.Disk) up = inr (up, inr refl)
+ends_behind first (Err checkpoints.NoMemory) up = inr (up, inl refl)
+
+serves_behind : (first : Heard) (shortened : Result Unit CheckpointFault) → connections.is_open_end first ≡ true → HeardBehind first (heard_behind first shortened)
+serves_behind first (Ok done) up = inl refl
+serves_behind first (Err checkpoints.Disk) up = inr (up, inr refl)
+serves_behind first (Err checkpoints.NoMemory) up = inr (up, inl refl)
+
+-- where the end tells of a short log the checkpoint was made
+made_short : (first : Fed) (shortened : Result Unit CheckpointFault) (P : Type 0) → OnOk shortened P → is_short (fed_behind first shortened) ≡ true → P
+made_short first (Ok done) P ok is = ok
+made_short first (Err checkpoints.Disk) P ok is = absurd (cc)
+made_short first (Err checkpoints.NoMemory) P ok is = absurd (cc)
+
+pub short_behind : (first : Fed) (shortened : Result Unit CheckpointFault) (end : Fed) (P : Type 0) → end ≡ fed_behind first shortened → OnOk shortened P → is_short end ≡ true → P
+short_behind first shortened end P same ok is = made_short first shortened P ok (sym (ap is_short same) ∙ is)
+
+served_short : (first : Heard) (shortened : Result Unit CheckpointFault) (P : Type 0) → OnOk shortened P → is_short_served (heard_behind first shortened) ≡ true → P
+served_short first (Ok done) P ok is = ok
+served_short first (Err checkpoints.Disk) P ok is = absurd (cc)
+served_short first (Err checkpoints.NoMemory) P ok is = absurd (cc)
+
+pub short_served : (first : Heard) (shortened : Result Unit CheckpointFault) (end : ServeEnd) (P : Type 0) → end ≡ heard_behind first shortened → OnOk shortened P → is_short_served end ≡ true → P
+short_served first shortened end P same ok is = served_short first shortened P ok (sym (ap is_short_served same) ∙ is)
+
+-- an end behind which the store is closed tells of none
+pub closed_short : (first : Fed) → is_open_end first ≡ false → is_short first ≡ true → ⊥
+closed_short fed.Ended down is = cc
+closed_short (fed.Unreadable request) down is = cc
+closed_short fed.NoMemory down is = cc
+closed_short fed.Endless down is = cc
+closed_short (fed.Broken fault.Disk) down is = cc
+closed_short (fed.Broken (fault.Damaged file at)) down is = cc
+closed_short (fed.Broken fault.Link) down is = cc
+closed_short (fed.Broken fault.Cut) down is = cc
+
+served_closed : (first : Heard) → connections.is_open_end first ≡ false → is_short_served (heard_end first) ≡ true → ⊥
+served_closed heard.Done down is = cc
+served_closed heard.Listener down is = cc
+served_closed (heard.Broken commits.Disk) down is = cc
+served_closed (heard.Broken (commits.Damaged file at)) down is = cc
+
+pub closed_served : (first : Heard) (end : ServeEnd) → connections.is_open_end first ≡ false → end ≡ heard_end first → is_short_served end ≡ true → ⊥
+closed_served first end down same is = served_closed first down (sym (ap is_short_served same) ∙ is)
+
+-- a run that blames a file as damaged did so before the checkpoint
+open_undamaged : (file : File) (at : ℕ) (first : Fed) → is_open_end first ≡ true → first ≡ fed.Broken (fault.Damaged file at) → ⊥
+open_undamaged file at first up is = false≢true (sym (ap is_open_end is) ∙ up)
+
+pub undamaged_behind : (first : Fed) (shortened : Result Unit CheckpointFault) (file : File) (at : ℕ) → is_open_end first ≡ true → fed_behind first shortened ≡ fed.Broken (fault.Damaged file at) → ⊥
+undamaged_behind first (Ok done) file at up is = open_undamaged file at first up is
+undamaged_behind first (Err checkpoints.Disk) file at up is = cc
+undamaged_behind first (Err checkpoints.NoMemory) file at up is = cc
+
+pub damaged_heard : (first : Heard) (file : File) (at : ℕ) → heard_end first ≡ serving.Damaged file at → first ≡ heard.Broken (commits.Damaged file at)
+damaged_heard heard.Done file at is = absurd (cc)
+damaged_heard heard.Listener file at is = absurd (cc)
+damaged_heard (heard.Broken commits.Disk) file at is = absurd (cc)
+damaged_heard (heard.Broken (commits.Damaged f a)) file at is = cc
+
+pub undamaged_served : (first : Heard) (shortened : Result Unit CheckpointFault) (file : File) (at : ℕ) → connections.is_open_end first ≡ true → heard_behind first shortened ≡ serving.Damaged file at → ⊥
+undamaged_served first (Ok done) file at up is = false≢true (sym (ap connections.is_open_end (damaged_heard first file at is)) ∙ up)
+undamaged_served first (Err checkpoints.Disk) file at up is = cc
+undamaged_served first (Err checkpoints.NoMemory) file at up is = cc
+
+-- the disk failed at the requests, or at the checkpoint
+pub disk_behind : (first : Fed) (shortened : Result Unit CheckpointFault) → is_open_end first ≡ true → fed_behind first shortened ≡ fed.Broken fault.Disk → shortened ≡ Err checkpoints.Disk
+disk_behind first (Ok done) up is = absurd (false≢true (sym (ap is_open_end is) ∙ up))
+disk_behind first (Err checkpoints.Disk) up is = refl
+disk_behind first (Err checkpoints.NoMemory) up is = absurd (cc)
+
+pub disk_heard : (first : Heard) → heard_end first ≡ serving.Disk → first ≡ heard.Broken commits.Disk
+disk_heard heard.Done is = absurd (cc)
+disk_heard heard.Listener is = absurd (cc)
+disk_heard (heard.Broken commits.Disk) is = refl
+disk_heard (heard.Broken (commits.Damaged file at)) is = absurd (cc)
+
+pub disk_served : (first : Heard) (shortened : Result Unit CheckpointFault) → connections.is_open_end first ≡ true → heard_behind first shortened ≡ serving.Disk → shortened ≡ Err checkpoints.Disk
+disk_served first (Ok done) up is = absurd (false≢true (sym (ap connections.is_open_end (disk_heard first is)) ∙ up))
+disk_served first (Err checkpoints.Disk) up is = refl
+disk_served first (Err checkpoints.NoMemory) up is = absurd (cc)
+
+-- the link failed at the requests
+pub link_behind : (first : Fed) (shortened : Result Unit CheckpointFault) → fed_behind first shortened ≡ fed.Broken fault.Link → first ≡ fed.Broken fault.Link
+link_behind first (Ok done) is = is
+link_behind first (Err checkpoints.Disk) is = absurd (cc)
+link_behind first (Err checkpoints.NoMemory) is = absurd (cc)
+
+pub listener_heard : (first : Heard) → heard_end first ≡ serving.Listener → first ≡ heard.Listener
+listener_heard heard.Done is = absurd (cc)
+listener_heard heard.Listener is = refl
+listener_heard (heard.Broken commits.Disk) is = absurd (cc)
+listener_heard (heard.Broken (commits.Damaged file at)) is = absurd (cc)
+
+pub listener_served : (first : Heard) (shortened : Result Unit CheckpointFault) → heard_behind first shortened ≡ serving.Listener → first ≡ heard.Listener
+listener_served first (Ok done) is = listener_heard first is
+listener_served first (Err checkpoints.Disk) is = absurd (cc)
+listener_served first (Err checkpoints.NoMemory) is = absurd (cc)
+
+-- ---- the whole, over one link
+
+module _ {D : Type 0} (g : Ghosts D) {M : Type 0} (takes : Order → Type 0) (fits : Book → Type 0) (holds : Chooser → List Order → M → Type 0) (choose : Chooser) (h : List Order) (base run : ℕ) (first : Fed) (clean : Type 0)
+    (left left' : Option (List ℕ)) (ahead ahead' : Option Moments) (given given' : Option (List ℕ)) (store : Store M) (before mid : D)
+    (runs : Runs g takes fits holds choose h base (length h) run first clean left left' ahead ahead' given given' store before mid) where
+  pub requests_closed : (now : List Order) × Requests g fits choose first clean left left' ahead' given given' mid base run ahead before h now
+  requests_closed = (
+    history_after h runs.turns,
+    record {
+      turns = runs.turns;
+      now_is = refl;
+      are = runs.are;
+      first = first;
+      ends = runs.ends;
+      behind = inl refl;
+      written = runs.written;
+      sent = runs.sent;
+      begun = runs.begun;
+      told = runs.told;
+      images = runs.images;
+      acknowledged = runs.acknowledged;
+      all = runs.all;
+    },
+  )
+
+  pub requests_behind : (shortened : Result Unit CheckpointFault) (end : Fed) (last : D) → end ≡ fed_behind first shortened → is_open_end first ≡ true → store.run ≡ run →
+      Always g mid last (Stands fits store.run choose (history_after h runs.turns)) →
+      (now : List Order) × Requests g fits choose end clean left left' ahead' given given' last base run ahead before h now
+  requests_behind shortened end last is up same made =
+      let grow = growing g choose h base (length h) run runs.turns left left' ahead ahead' runs.are in (
+        history_after h runs.turns,
+        record {
+          turns = runs.turns;
+          now_is = refl;
+          are = runs.are;
+          first = first;
+          ends = runs.ends;
+          behind = subst (FedBehind first) (sym is) (ends_behind first shortened up);
+          written = runs.written;
+          sent = runs.sent;
+          begun = runs.begun;
+          told = runs.told;
+          images = images_on g fits choose h run store.run runs.turns before mid last same grow runs.images made;
+          acknowledged = acknowledged_on g fits choose h run store.run runs.turns before mid last same grow runs.images made;
+          all = λ opened. all_on g fits choose h run store.run runs.turns before mid last same grow runs.images made;
+        },
+      )
+
+-- ---- over a connection each
+
+module _ {D : Type 0} (g : Ghosts D) {M : Type 0} (takes : Order → Type 0) (fits : Book → Type 0) (holds : Chooser → List Order → M → Type 0) (choose : Chooser) (h : List Order) (base run requests : ℕ) (first : Heard)
+    (waiting waiting' : Option (List (Option (List ℕ)))) (handed handed' : Option (List Handed)) (ahead ahead' : Option Moments) (store : Store M) (before mid : D)
+    (listens : Listens g takes fits holds choose h base (length h) run requests first waiting waiting' handed handed' ahead ahead' store before mid) where
+  pub connections_closed : (end : ServeEnd) → end ≡ heard_end first → (now : List Order) × Connections g fits choose requests end waiting waiting' handed handed' ahead' mid base run ahead before h now
+  connections_closed end is = (
+    history_after h (turns_of listens.visits),
+    record {
+      visits = listens.visits;
+      now_is = refl;
+      are = listens.are;
+      first = first;
+      ends = listens.ends;
+      behind = inl is;
+      waits = listens.waits;
+      backs = listens.backs;
+      told = listens.told;
+      images = listens.images;
+      acknowledged = listens.acknowledged;
+      all = listens.all;
+    },
+  )
+
+  pub connections_behind : (shortened : Result Unit CheckpointFault) (end : ServeEnd) (last : D) → end ≡ heard_behind first shortened → connections.is_open_end first ≡ true → store.run ≡ run →
+      Always g mid last (Stands fits store.run choose (history_after h (turns_of listens.visits))) →
+      (now : List Order) × Connections g fits choose requests end waiting waiting' handed handed' ahead' last base run ahead before h now
+  connections_behind shortened end last is up same made =
+      let grow = visits_growing g choose h base (length h) run listens.visits ahead ahead' listens.are in (
+        history_after h (turns_of listens.visits),
+        record {
+          visits = listens.visits;
+          now_is = refl;
+          are = listens.are;
+          first = first;
+          ends = listens.ends;
+          behind = subst (HeardBehind first) (sym is) (serves_behind first shortened up);
+          waits = listens.waits;
+          backs = listens.backs;
+          told = listens.told;
+          images = images_on g fits choose h run store.run (turns_of listens.visits) before mid last same grow listens.images made;
+          acknowledged = acknowledged_on g fits choose h run store.run (turns_of listens.visits) before mid last same grow listens.images made;
+          all = λ opened. all_on g fits choose h run store.run (turns_of listens.visits) before mid last same grow listens.images made;
+        },
+      )
