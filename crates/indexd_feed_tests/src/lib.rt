@@ -2,4 +2,14 @@
 #![tactic(auto)]
 
 #[cfg(test)]
+mod checkpointed;
+#[cfg(test)]
+mod connections;
+#[cfg(test)]
+mod hostile;
+#[cfg(test)]
 mod requests;
+#[cfg(test)]
+mod runs;
+#[cfg(test)]
+mod sockets;

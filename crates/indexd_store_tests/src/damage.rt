@@ -134,3 +134,42 @@ fn a_log_that_is_changed_is_named(rt: HostRuntime) -> Result<(), Fail> {
     let want = "6: indexd: damaged: meta/1 at 19\n";
     holds(&rt, alloc, &mut first, run(&[], "tick", "", want))
 }
+
+/// What is carried of an open event of the one line `a`: how many lines it has, its text, its two marks, and that no time was read.
+const MARKS: &[u8] = b"\0\0\0\x01\0\0\0\x01a\0\0\0";
+
+/// The place at which these bytes stand first, or the end.
+fn place_of(bytes: &[u8], sought: &[u8]) -> usize {
+    for place in 0..bytes.len() {
+        if bytes[place..].starts_with(sought) {
+            return place;
+        }
+    }
+    bytes.len()
+}
+
+/// A mark of an open channel that is none makes the log damaged. No place of it is told.
+#[test]
+fn a_carry_that_is_none_is_named(rt: HostRuntime) -> Result<(), Fail> {
+    let alloc = rt.alloc();
+    let mut disk = disk_of(alloc);
+    let begun = Run {
+        cut: true,
+        ..run(&[], STORE, "a\nb", "4: indexd: input fault\n")
+    };
+    holds(&rt, alloc, &mut disk, begun)?;
+    let log = read_file(alloc, &mut disk, LOG)?;
+    let place = place_of(log.as_slice(), MARKS);
+    spoil(
+        alloc,
+        &mut disk,
+        LOG,
+        Harm::Other(place.saturating_add(9), b"\x02"),
+    )?;
+    let told = shown(alloc, &mut disk, run(&[], "buckets", "", ""))?;
+    assert!(rt;
+        told.as_str() == "6: indexd: damaged: meta/1 at 0\n",
+        "{place}: {told}"
+    );
+    Ok(())
+}

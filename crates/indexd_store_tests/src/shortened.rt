@@ -70,7 +70,7 @@ fn aged(rt: &impl Abort, alloc: Global) -> Result<MemDisk, Fail> {
 }
 
 /// Puts bytes behind the end of a file.
-fn lengthen(disk: &mut MemDisk, file: File, bytes: &[u8]) -> bool {
+pub(crate) fn lengthen(disk: &mut MemDisk, file: File, bytes: &[u8]) -> bool {
     match disk.length(file) {
         Ok(end) => disk.write_at(file, end, bytes).is_ok(),
         Err(_) => false,
@@ -117,7 +117,7 @@ fn a_checkpoint_changes_no_listing(rt: HostRuntime) -> Result<(), Fail> {
 }
 
 /// How long a log has to be for a checkpoint.
-const LONG: usize = 8_388_608;
+pub(crate) const LONG: usize = 8_388_608;
 
 /// A run makes a log short that has grown long. Here bytes behind its last gate, which mean nothing, make it long.
 #[test]

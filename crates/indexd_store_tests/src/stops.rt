@@ -1,6 +1,7 @@
 //! Runs that are stopped at each call of the disk, or for which one call fails.
 
 use crate::runs::{Files, LATER, NOON, Run, shown};
+use crate::shortened::{LONG, lengthen};
 use ix_base::{Area, FailPlan, File};
 use ix_disk::{MemDisk, OneFail, StopDisk};
 use std::alloc::Global;
@@ -305,4 +306,51 @@ fn a_stop_while_a_block_is_served(rt: HostRuntime) -> Result<(), Fail> {
     let disk = MemDisk::new(alloc, FailPlan::none(alloc));
     let feed = (0, run(NOON, PLAIN, "feed", REQUESTS));
     check_stops(&rt, alloc, &disk, feed, known, (0, u64::MAX))
+}
+
+/// A store with three events whose log is long: bytes behind its last gate, which mean nothing, make it so.
+fn long_log(rt: &impl Abort, alloc: Global) -> Result<MemDisk, Fail> {
+    let mut disk = MemDisk::new(alloc, FailPlan::none(alloc));
+    let said = shown(alloc, &mut disk, run(NOON, KEPT, STORE, "x\ny\nz"))?;
+    let zeros = vec![in alloc; 0u8; LONG]?;
+    let log = File {
+        area: Area::Meta,
+        number: 1,
+    };
+    let is_long = lengthen(&mut disk, log, zeros.as_slice());
+    assert!(rt; is_long && said.as_str() == "0: ", "{said}");
+    Ok(disk)
+}
+
+/// Behind every stop and every fault the store shows the same.
+const SHORTENED: &[&str] = &[
+    "",
+    "0: X0: index main stored 3 bytes 174 frozen 0\nbucket main hot_v1_0 hot 3 174\nevents settled 3 nulled 0 dropped 0\n",
+];
+
+fn shortened_known() -> Known {
+    Known {
+        runs: [
+            run(NOON, KEPT, "export main", ""),
+            run(NOON, KEPT, "buckets", ""),
+        ],
+        shown: SHORTENED,
+    }
+}
+
+/// A run that makes a long log short. A stop leaves the old log or the new one, with the same state.
+#[test]
+fn a_stop_while_a_log_is_made_short(rt: HostRuntime) -> Result<(), Fail> {
+    let alloc = rt.alloc();
+    let disk = long_log(&rt, alloc)?;
+    let list = (0, run(NOON, KEPT, "buckets", ""));
+    check_stops(&rt, alloc, &disk, list, shortened_known(), (0, u64::MAX))
+}
+
+#[test]
+fn a_call_that_fails_while_a_log_is_made_short(rt: HostRuntime) -> Result<(), Fail> {
+    let alloc = rt.alloc();
+    let disk = long_log(&rt, alloc)?;
+    let list = (0, run(NOON, KEPT, "buckets", ""));
+    check_fails(&rt, alloc, &disk, list, shortened_known())
 }
