@@ -7,13 +7,13 @@ use Rattle.ix_link.specs.Listeners.{Handed}
 use Rattle.indexd_feed.specs.declared.end.ServeEnd.{ServeEnd}
 use Rattle.indexd_feed.specs.declared.end.ServeEnd.TheVariants as ends
 use Rattle.indexd_words.specs.Orders.{Asked, serve}
-use Rattle.indexd_core.specs.Serves.{Ear, ear, EndsServing}
+use Rattle.indexd_core.specs.Serves.{Listened, listened, EndsServing}
 use Rattle.indexd_core.specs.Sides.{Side}
 use Rattle.indexd_core.specs.declared.status.Status.{Status}
 use Rattle.indexd_core.specs.declared.status.Status.TheVariants as statuses
 
-pub same_ear : (a a' : Option (List (Option (List ℕ)))) (b b' : Option (List Handed)) → a' ≡ a → b' ≡ b → ear a' b' ≡ ear a b
-same_ear a a' b b' first second = λ i. record { waiting = first i; handed = second i }
+pub same_listened : (a a' : Option (List (Option (List ℕ)))) (b b' : Option (List Handed)) → a' ≡ a → b' ≡ b → listened a' b' ≡ listened a b
+same_listened a a' b b' first second = λ i. record { waiting = first i; handed = second i }
 
 -- so many connections are asked for
 pub same_count : (o : Option Asked) (port port' requests requests' : ℕ) → o ≡ Some (serve port requests) → o ≡ Some (serve port' requests') → requests ≡ requests'

@@ -20,12 +20,12 @@ use Rattle.indexd_core.specs.declared.status.Status.{Status}
 use Rattle.indexd_core.specs.declared.status.Status.TheVariants.{Done, Memory, DiskFault, Damaged, Output, ListenerFault}
 
 -- what a listener tells: what each connection that waits holds, and the connections that were handed back
-pub record Ear : Type 0 where
+pub record Listened : Type 0 where
   pub waiting : Option (List (Option (List ℕ)))
   pub handed : Option (List Handed)
 
-abbrev pub ear : Option (List (Option (List ℕ))) → Option (List Handed) → Ear
-ear waiting handed = record { waiting = waiting; handed = handed }
+abbrev pub listened : Option (List (Option (List ℕ))) → Option (List Handed) → Listened
+listened waiting handed = record { waiting = waiting; handed = handed }
 
 -- ---- statuses and their lines
 
@@ -46,7 +46,7 @@ EndsServing status requests (ends.Damaged file at) output output' = (status ≡ 
 
 -- A run of connections with these settings. Unbound: the port was not to be had, and nothing else was done. Shut: the run stopped before the
 -- first connection, took none, and wrote the line of that. Served: connections were served up to this end, and then the output was written.
-pub data ServeComes (status : Status) {D : Type 0} (d : Ghosts D) (config : Config) (requests : ℕ) (ahead ahead' : Option Moments) (heard heard' : Ear) (output output' : Side) (disk disk' : D) : Type 0 where
+pub data ServeComes (status : Status) {D : Type 0} (d : Ghosts D) (config : Config) (requests : ℕ) (ahead ahead' : Option Moments) (heard heard' : Listened) (output output' : Side) (disk disk' : D) : Type 0 where
   unbound : status ≡ ListenerFault → ahead' ≡ ahead → heard' ≡ heard → disk' ≡ disk → Said (status_text ListenerFault) output output' →
       ServeComes status d config requests ahead ahead' heard heard' output output' disk disk'
   shut : (stop : Stop) → status ≡ status_of stop →
@@ -59,7 +59,7 @@ pub data ServeComes (status : Status) {D : Type 0} (d : Ghosts D) (config : Conf
       EndsServing status requests end output output' →
       ServeComes status d config requests ahead ahead' heard heard' output output' disk disk'
 
-abbrev pub Serves : Status → ℕ → Option (List TreeFile) → ℕ → ℕ → Option Moments → Option Moments → Ear → Ear → Side → Side → {D : Type 0} → Ghosts D → D → D → Type 0
+abbrev pub Serves : Status → ℕ → Option (List TreeFile) → ℕ → ℕ → Option Moments → Option Moments → Listened → Listened → Side → Side → {D : Type 0} → Ghosts D → D → D → Type 0
 Serves status requests files failed failed' ahead ahead' heard heard' output output' d disk disk' =
     Whole status files failed failed' ((ahead' ≡ ahead) × (heard' ≡ heard) × (disk' ≡ disk))
     (λ config. ServeComes status d config requests ahead ahead' heard heard' output output' disk disk') output output'

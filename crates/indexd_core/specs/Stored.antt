@@ -106,10 +106,6 @@ FromStart d disk comes =
     (choose : Chooser) (history : List Order) (k : ℕ) → IsChooser choose → AreGiven history →
     Begins d fits choose history k disk → (image : Image) → d.seen disk ≡ Some image → comes choose history k
 
--- the disk does not tell what it reads
-abbrev pub IsUntold : {D : Type 0} → Ghosts D → D → Type 0
-IsUntold d disk = (image : Image) → d.seen disk ≡ Some image → ⊥
-
 -- A run with these settings. Done: what was given and written is as `whole` says, and every image at the exit has all commands. Stopped: the
 -- middle is what the output was before the line of the stop; what was given and written is as `part` says, where nothing was given behind the
 -- settings `untouched` holds, and `wrote` in any case; every image at the exit has all commands, or where the disk is at fault those that were

@@ -4,11 +4,12 @@
 ghost use Rattle.std.specs.Prelude.{◌≡◌, ◌≤◌, ◌⊎◌};
 ghost use Rattle.ix_base.specs.Faults.{Rose};
 ghost use Rattle.ix_kept.specs.Configs.{IsConfig};
+ghost use Rattle.ix_serve.specs.Serving.{IsTold};
 ghost use Rattle.indexd_core.specs.Feeds as defs;
 ghost use Rattle.indexd_core.specs.Feeds.{FeedComes, Feeds};
 ghost use Rattle.indexd_core.specs.Shortened.{LeavesShort};
 ghost use Rattle.indexd_core.specs.Sides.{side};
-ghost use Rattle.indexd_core.specs.Stored.{FromStart, IsUntold};
+ghost use Rattle.indexd_core.specs.Stored.{FromStart};
 ghost use Rattle.indexd_core.specs.Texts.{Said};
 
 use crate::ends::{Named, say_damaged, say_stop};
@@ -93,9 +94,10 @@ fn feed_with<S: Source, W: Sink, C: Clock, D: Disk>(
     ensures input { result ≡ Status.Input → Rose (S.faults input.old) (S.faults input.new) }
     ensures read_later { S.faults input.old ≤ S.faults input.new }
     ensures written_later { W.faults output.old ≤ W.faults output.new }
+    ensures told { IsTold D.Disk disk.old → IsTold D.Disk disk.new }
     ensures disk_later { D.Disk.faults disk.old ≤ D.Disk.faults disk.new }
     ensures disk { result ≡ Status.DiskFault → Rose (D.Disk.faults disk.old) (D.Disk.faults disk.new) }
-    ensures undamaged { result ≡ Status.Damaged → FromStart D.Disk disk.old (λ choose history k. IsUntold D.Disk disk.new) }
+    ensures undamaged { result ≡ Status.Damaged → FromStart D.Disk disk.old (λ choose history k. ⊥) }
     ensures usage { result ≡ Status.Usage → ⊥ }
     ensures listener { result ≡ Status.ListenerFault → ⊥ }
 {
@@ -123,10 +125,11 @@ pub fn feed<S: Source, W: Sink, C: Clock, T: Tree, D: Disk>(
     ensures input { result ≡ Status.Input → Rose (S.faults input.old) (S.faults input.new) ⊎ Rose (T.faults tree.old) (T.faults tree.new) }
     ensures read_later { S.faults input.old ≤ S.faults input.new }
     ensures written_later { W.faults output.old ≤ W.faults output.new }
+    ensures told { IsTold D.Disk disk.old → IsTold D.Disk disk.new }
     ensures disk_later { D.Disk.faults disk.old ≤ D.Disk.faults disk.new }
     ensures disk { result ≡ Status.DiskFault → Rose (D.Disk.faults disk.old) (D.Disk.faults disk.new) }
-    // A disk that keeps what was committed, and tells what it reads, is not damaged.
-    ensures undamaged { result ≡ Status.Damaged → FromStart D.Disk disk.old (λ choose history k. IsUntold D.Disk disk.new) }
+    // A disk that keeps what was committed, and tells what it reads, is never damaged.
+    ensures undamaged { result ≡ Status.Damaged → FromStart D.Disk disk.old (λ choose history k. ⊥) }
     ensures usage { result ≡ Status.Usage → ⊥ }
     ensures listener { result ≡ Status.ListenerFault → ⊥ }
     ensures same { T.files tree.new ≡ T.files tree.old }

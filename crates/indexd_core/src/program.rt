@@ -2,6 +2,7 @@
 
 ghost use Rattle.std.specs.Prelude.{◌≡◌, ◌≢◌, ◌≤◌, ◌⊎◌, ℕ, List, Some, true, false};
 ghost use Rattle.ix_base.specs.Faults.{Rose};
+ghost use Rattle.ix_serve.specs.Serving.{IsTold};
 ghost use Rattle.indexd_settings.specs.Layers.{file_named};
 ghost use Rattle.indexd_settings.specs.declared.layers.SettingsFile.{SettingsFile};
 ghost use Rattle.indexd_words.specs.Orders.{asked};
@@ -11,10 +12,10 @@ ghost use Rattle.indexd_core.specs.Commands.{is_command, is_stored, is_task, is_
 ghost use Rattle.indexd_core.specs.Feeds.{Feeds};
 ghost use Rattle.indexd_core.specs.Prepared.{Stated};
 ghost use Rattle.indexd_core.specs.Runs.{Previews, Refuses};
-ghost use Rattle.indexd_core.specs.Serves.{Serves, ear};
+ghost use Rattle.indexd_core.specs.Serves.{Serves, listened};
 ghost use Rattle.indexd_core.specs.Shortened.{LeavesShort};
 ghost use Rattle.indexd_core.specs.Sides.{side};
-ghost use Rattle.indexd_core.specs.Stored.{FromStart, IsUntold, Tasked, Stored};
+ghost use Rattle.indexd_core.specs.Stored.{FromStart, Tasked, Stored};
 ghost use Rattle.indexd_core.specs.Texts.{Said, status_text};
 
 use crate::btool::btool;
@@ -117,7 +118,7 @@ pub fn top<S: Source, W: Sink, C: Clock, T: Tree, D: Disk, L: Listener>(
     // stands the reply to what it held; at every end but a fault of the disk each image has all commands that were accepted.
     ensures served { (port requests : ℕ) → AskServe words.now port requests →
         Serves result requests (T.files tree.old) (T.faults tree.old) (T.faults tree.new) (C.ahead clock.old) (C.ahead clock.new)
-        (ear (L.waiting listener.old) (L.handed listener.old)) (ear (L.waiting listener.new) (L.handed listener.new))
+        (listened (L.waiting listener.old) (L.handed listener.old)) (listened (L.waiting listener.new) (L.handed listener.new))
         (side (W.faults output.old) (W.given output.old)) (side (W.faults output.new) (W.given output.new)) D.Disk disk.old disk.new }
 
     // Behind a command that has mounted the store the current log is not long, as the disk reads, unless there was no room in memory, or the
@@ -140,8 +141,10 @@ pub fn top<S: Source, W: Sink, C: Clock, T: Tree, D: Disk, L: Listener>(
     ensures output { result ≡ Status.Output → Rose (W.faults output.old) (W.faults output.new) }
     ensures disk { result ≡ Status.DiskFault → Rose (D.Disk.faults disk.old) (D.Disk.faults disk.new) }
     ensures listener { result ≡ Status.ListenerFault → Rose (L.faults listener.old) (L.faults listener.new) }
-    // Where the images at the start stand for some history, a disk that tells what it reads is not damaged.
-    ensures undamaged { result ≡ Status.Damaged → FromStart D.Disk disk.old (λ choose history k. IsUntold D.Disk disk.new) }
+    // A disk that tells what it reads, and whose images at the start stand for some history, is never damaged.
+    ensures undamaged { result ≡ Status.Damaged → FromStart D.Disk disk.old (λ choose history k. ⊥) }
+    // A disk that tells what it reads goes on telling.
+    ensures told { IsTold D.Disk disk.old → IsTold D.Disk disk.new }
     ensures disk_later { D.Disk.faults disk.old ≤ D.Disk.faults disk.new }
     ensures heard_later { L.faults listener.old ≤ L.faults listener.new }
     ensures read_later { S.faults input.old ≤ S.faults input.new }

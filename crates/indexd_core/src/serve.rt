@@ -4,12 +4,13 @@
 ghost use Rattle.std.specs.Prelude.{◌≡◌, ◌≤◌};
 ghost use Rattle.ix_base.specs.Faults.{Rose};
 ghost use Rattle.ix_kept.specs.Configs.{IsConfig};
+ghost use Rattle.ix_serve.specs.Serving.{IsTold};
 ghost use Rattle.indexd_feed.specs.declared.end.ServeEnd.TheVariants as ends;
 ghost use Rattle.indexd_core.specs.Serves as defs;
-ghost use Rattle.indexd_core.specs.Serves.{EndsServing, ServeComes, Serves, ear};
+ghost use Rattle.indexd_core.specs.Serves.{EndsServing, ServeComes, Serves, listened};
 ghost use Rattle.indexd_core.specs.Shortened.{LeavesShort};
 ghost use Rattle.indexd_core.specs.Sides.{side};
-ghost use Rattle.indexd_core.specs.Stored.{FromStart, IsUntold};
+ghost use Rattle.indexd_core.specs.Stored.{FromStart};
 ghost use Rattle.indexd_core.specs.Texts.{Said, status_text};
 
 use crate::ends::{Named, say_damaged, say_stop};
@@ -98,17 +99,18 @@ fn serve_with<W: Sink, C: Clock, D: Disk, L: Listener>(
 ) -> Status
     requires { IsConfig config }
     ensures comes { ServeComes result D.Disk config serving.requests (C.ahead clock.old) (C.ahead clock.new)
-        (ear (L.waiting listener.old) (L.handed listener.old)) (ear (L.waiting listener.new) (L.handed listener.new))
+        (listened (L.waiting listener.old) (L.handed listener.old)) (listened (L.waiting listener.new) (L.handed listener.new))
         (side (W.faults output.old) (W.given output.old)) (side (W.faults output.new) (W.given output.new)) disk.old disk.new }
     ensures short { LeavesShort result D.Disk disk.old disk.new }
     ensures output { result ≡ Status.Output → Rose (W.faults output.old) (W.faults output.new) }
     ensures written_later { W.faults output.old ≤ W.faults output.new }
+    ensures told { IsTold D.Disk disk.old → IsTold D.Disk disk.new }
     ensures disk_later { D.Disk.faults disk.old ≤ D.Disk.faults disk.new }
     ensures heard_later { L.faults listener.old ≤ L.faults listener.new }
     ensures disk { result ≡ Status.DiskFault → Rose (D.Disk.faults disk.old) (D.Disk.faults disk.new) }
     ensures listener { result ≡ Status.ListenerFault → Rose (L.faults listener.old) (L.faults listener.new) }
     ensures out { L.out listener.new ≡ L.out listener.old }
-    ensures undamaged { result ≡ Status.Damaged → FromStart D.Disk disk.old (λ choose history k. IsUntold D.Disk disk.new) }
+    ensures undamaged { result ≡ Status.Damaged → FromStart D.Disk disk.old (λ choose history k. ⊥) }
     ensures input { result ≡ Status.Input → ⊥ }
     ensures usage { result ≡ Status.Usage → ⊥ }
 {
@@ -134,19 +136,20 @@ pub fn serve<W: Sink, C: Clock, T: Tree, D: Disk, L: Listener>(
     listener: &mut L,
 ) -> Status
     ensures serves { Serves result serving.requests (T.files tree.old) (T.faults tree.old) (T.faults tree.new) (C.ahead clock.old) (C.ahead clock.new)
-        (ear (L.waiting listener.old) (L.handed listener.old)) (ear (L.waiting listener.new) (L.handed listener.new))
+        (listened (L.waiting listener.old) (L.handed listener.old)) (listened (L.waiting listener.new) (L.handed listener.new))
         (side (W.faults output.old) (W.given output.old)) (side (W.faults output.new) (W.given output.new)) D.Disk disk.old disk.new }
     ensures short { LeavesShort result D.Disk disk.old disk.new }
     ensures output { result ≡ Status.Output → Rose (W.faults output.old) (W.faults output.new) }
     ensures input { result ≡ Status.Input → Rose (T.faults tree.old) (T.faults tree.new) }
     ensures written_later { W.faults output.old ≤ W.faults output.new }
+    ensures told { IsTold D.Disk disk.old → IsTold D.Disk disk.new }
     ensures disk_later { D.Disk.faults disk.old ≤ D.Disk.faults disk.new }
     ensures heard_later { L.faults listener.old ≤ L.faults listener.new }
     ensures disk { result ≡ Status.DiskFault → Rose (D.Disk.faults disk.old) (D.Disk.faults disk.new) }
     ensures listener { result ≡ Status.ListenerFault → Rose (L.faults listener.old) (L.faults listener.new) }
     ensures out { L.out listener.new ≡ L.out listener.old }
-    // A disk that keeps what was committed, and tells what it reads, is not damaged.
-    ensures undamaged { result ≡ Status.Damaged → FromStart D.Disk disk.old (λ choose history k. IsUntold D.Disk disk.new) }
+    // A disk that keeps what was committed, and tells what it reads, is never damaged.
+    ensures undamaged { result ≡ Status.Damaged → FromStart D.Disk disk.old (λ choose history k. ⊥) }
     ensures usage { result ≡ Status.Usage → ⊥ }
     ensures same { T.files tree.new ≡ T.files tree.old }
     ensures tree_later { T.faults tree.old ≤ T.faults tree.new }

@@ -5,6 +5,7 @@ ghost use Rattle.std.specs.Prelude.{◌≡◌, ◌≤◌, ◌⊎◌, ℕ, List, 
 ghost use Rattle.ix_base.specs.Faults.{Rose};
 ghost use Rattle.ix_kept.specs.Configs.{IsConfig};
 ghost use Rattle.ix_replay.specs.Fits.{fits};
+ghost use Rattle.ix_serve.specs.Serving.{IsTold};
 ghost use Rattle.indexd_store.specs.Opened.{HasRun, HasStopped, WhenOpen};
 ghost use Rattle.indexd_store.specs.Previews.{HasFed, HasTaken};
 ghost use Rattle.indexd_store.specs.Shortened.{EndsShort, StopsShort};
@@ -14,7 +15,7 @@ ghost use Rattle.indexd_core.specs.Prepared.{index_or_default};
 ghost use Rattle.indexd_core.specs.Shortened.{LeavesShort};
 ghost use Rattle.indexd_core.specs.Sides.{side};
 ghost use Rattle.indexd_core.specs.Stored as defs;
-ghost use Rattle.indexd_core.specs.Stored.{AreShort, FromStart, InputComes, IsUntold, Silent, Stored, TaskComes, Tasked};
+ghost use Rattle.indexd_core.specs.Stored.{AreShort, FromStart, InputComes, Silent, Stored, TaskComes, Tasked};
 
 use crate::ends::{Named, say_stop};
 use crate::prepare::{index_of, say_unread, stated_meta};
@@ -55,9 +56,10 @@ fn run_with<W: Sink, C: Clock, D: Disk>(
     ensures output { result ≡ Status.Output → Rose (W.faults output.old) (W.faults output.new) }
     ensures input { result ≡ Status.Input → ⊥ }
     ensures written_later { W.faults output.old ≤ W.faults output.new }
+    ensures told { IsTold D.Disk disk.old → IsTold D.Disk disk.new }
     ensures disk_later { D.Disk.faults disk.old ≤ D.Disk.faults disk.new }
     ensures disk { result ≡ Status.DiskFault → Rose (D.Disk.faults disk.old) (D.Disk.faults disk.new) }
-    ensures undamaged { result ≡ Status.Damaged → FromStart D.Disk disk.old (λ choose history k. IsUntold D.Disk disk.new) }
+    ensures undamaged { result ≡ Status.Damaged → FromStart D.Disk disk.old (λ choose history k. ⊥) }
     ensures usage { result ≡ Status.Usage → ⊥ }
     ensures listener { result ≡ Status.ListenerFault → ⊥ }
 {
@@ -82,10 +84,11 @@ pub fn run_stored<W: Sink, C: Clock, T: Tree, D: Disk>(
     ensures output { result ≡ Status.Output → Rose (W.faults output.old) (W.faults output.new) }
     ensures input { result ≡ Status.Input → Rose (T.faults tree.old) (T.faults tree.new) }
     ensures written_later { W.faults output.old ≤ W.faults output.new }
+    ensures told { IsTold D.Disk disk.old → IsTold D.Disk disk.new }
     ensures disk_later { D.Disk.faults disk.old ≤ D.Disk.faults disk.new }
     ensures disk { result ≡ Status.DiskFault → Rose (D.Disk.faults disk.old) (D.Disk.faults disk.new) }
-    // A disk that keeps what was committed, and tells what it reads, is not damaged.
-    ensures undamaged { result ≡ Status.Damaged → FromStart D.Disk disk.old (λ choose history k. IsUntold D.Disk disk.new) }
+    // A disk that keeps what was committed, and tells what it reads, is never damaged.
+    ensures undamaged { result ≡ Status.Damaged → FromStart D.Disk disk.old (λ choose history k. ⊥) }
     ensures usage { result ≡ Status.Usage → ⊥ }
     ensures listener { result ≡ Status.ListenerFault → ⊥ }
     ensures same { T.files tree.new ≡ T.files tree.old }
@@ -126,9 +129,10 @@ fn miss<C: Clock, D: Disk>(
         (C.ahead clock.old) (C.ahead clock.new) (left ≡ left)
         (HasFed choose origin.now (Err result) (C.ahead clock.new) left left) disk.old disk.new) }
     ensures short { StopsShort D.Disk fits result disk.old disk.new }
+    ensures told { IsTold D.Disk disk.old → IsTold D.Disk disk.new }
     ensures later { D.Disk.faults disk.old ≤ D.Disk.faults disk.new }
     ensures cause { result ≡ Stop.Disk → Rose (D.Disk.faults disk.old) (D.Disk.faults disk.new) }
-    ensures undamaged { defs.status_of result ≡ Status.Damaged → FromStart D.Disk disk.old (λ choose history k. IsUntold D.Disk disk.new) }
+    ensures undamaged { defs.status_of result ≡ Status.Damaged → FromStart D.Disk disk.old (λ choose history k. ⊥) }
     ensures quiet { is_output result ≡ false }
     ensures unread { is_input result ≡ false }
 {
@@ -160,11 +164,12 @@ fn store_input<C: Clock, S: Source, D: Disk>(
         (C.ahead clock.old) (C.ahead clock.new) (S.left input.new ≡ S.left input.old)
         (HasFed choose origin result (C.ahead clock.new) (S.left input.old) (S.left input.new)) disk.old disk.new)) }
     ensures short { EndsShort D.Disk fits result disk.old disk.new }
+    ensures told { IsTold D.Disk disk.old → IsTold D.Disk disk.new }
     ensures later { D.Disk.faults disk.old ≤ D.Disk.faults disk.new }
     ensures cause { IsErrOf result Stop.Disk → Rose (D.Disk.faults disk.old) (D.Disk.faults disk.new) }
     ensures read_later { S.faults input.old ≤ S.faults input.new }
     ensures input { IsErrOf result Stop.Input → Rose (S.faults input.old) (S.faults input.new) }
-    ensures undamaged { IfErr result (λ stop. defs.status_of stop ≡ Status.Damaged → FromStart D.Disk disk.old (λ choose history k. IsUntold D.Disk disk.new)) }
+    ensures undamaged { IfErr result (λ stop. defs.status_of stop ≡ Status.Damaged → FromStart D.Disk disk.old (λ choose history k. ⊥)) }
     ensures quiet { IfErr result (λ stop. is_output stop ≡ false) }
     ensures read { HasTaken result (S.left input.old) (S.left input.new) }
 {
@@ -211,9 +216,10 @@ fn store_with<S: Source, W: Sink, C: Clock, D: Disk>(
     ensures input { result ≡ Status.Input → Rose (S.faults input.old) (S.faults input.new) }
     ensures read_later { S.faults input.old ≤ S.faults input.new }
     ensures written_later { W.faults output.old ≤ W.faults output.new }
+    ensures told { IsTold D.Disk disk.old → IsTold D.Disk disk.new }
     ensures disk_later { D.Disk.faults disk.old ≤ D.Disk.faults disk.new }
     ensures disk { result ≡ Status.DiskFault → Rose (D.Disk.faults disk.old) (D.Disk.faults disk.new) }
-    ensures undamaged { result ≡ Status.Damaged → FromStart D.Disk disk.old (λ choose history k. IsUntold D.Disk disk.new) }
+    ensures undamaged { result ≡ Status.Damaged → FromStart D.Disk disk.old (λ choose history k. ⊥) }
     ensures usage { result ≡ Status.Usage → ⊥ }
     ensures listener { result ≡ Status.ListenerFault → ⊥ }
 {
@@ -247,10 +253,11 @@ pub fn store_preview<S: Source, W: Sink, C: Clock, T: Tree, D: Disk>(
     ensures input { result ≡ Status.Input → Rose (S.faults input.old) (S.faults input.new) ⊎ Rose (T.faults tree.old) (T.faults tree.new) }
     ensures read_later { S.faults input.old ≤ S.faults input.new }
     ensures written_later { W.faults output.old ≤ W.faults output.new }
+    ensures told { IsTold D.Disk disk.old → IsTold D.Disk disk.new }
     ensures disk_later { D.Disk.faults disk.old ≤ D.Disk.faults disk.new }
     ensures disk { result ≡ Status.DiskFault → Rose (D.Disk.faults disk.old) (D.Disk.faults disk.new) }
-    // A disk that keeps what was committed, and tells what it reads, is not damaged.
-    ensures undamaged { result ≡ Status.Damaged → FromStart D.Disk disk.old (λ choose history k. IsUntold D.Disk disk.new) }
+    // A disk that keeps what was committed, and tells what it reads, is never damaged.
+    ensures undamaged { result ≡ Status.Damaged → FromStart D.Disk disk.old (λ choose history k. ⊥) }
     ensures usage { result ≡ Status.Usage → ⊥ }
     ensures listener { result ≡ Status.ListenerFault → ⊥ }
     ensures same { T.files tree.new ≡ T.files tree.old }

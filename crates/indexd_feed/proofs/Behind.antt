@@ -24,7 +24,6 @@ use Rattle.ix_link.specs.Listeners.{Handed}
 use Rattle.ix_machine.specs.Given.{Chooser}
 use Rattle.ix_machine.specs.declared.commands.Order.{Order}
 use Rattle.ix_serve.specs.Prefixes.{StandsIn}
-use Rattle.ix_serve.specs.declared.served.ServeFault.TheVariants as fault
 use Rattle.ix_store.proofs.Counted.{take_whole}
 use Rattle.ix_store.specs.Written.{Stands}
 use Rattle.ix_store.specs.declared.store.Store.{Store}
@@ -113,10 +112,8 @@ closed_short fed.Ended down is = cc
 closed_short (fed.Unreadable request) down is = cc
 closed_short fed.NoMemory down is = cc
 closed_short fed.Endless down is = cc
-closed_short (fed.Broken fault.Disk) down is = cc
-closed_short (fed.Broken (fault.Damaged file at)) down is = cc
-closed_short (fed.Broken fault.Link) down is = cc
-closed_short (fed.Broken fault.Cut) down is = cc
+closed_short fed.Link down is = cc
+closed_short (fed.Broken cause) down is = cc
 
 served_closed : (first : Heard) → connections.is_open_end first ≡ false → is_short_served (heard_end first) ≡ true → ⊥
 served_closed heard.Done down is = cc
@@ -128,10 +125,10 @@ pub closed_served : (first : Heard) (end : ServeEnd) → connections.is_open_end
 closed_served first end down same is = served_closed first down (sym (ap is_short_served same) ∙ is)
 
 -- a run that blames a file as damaged did so before the checkpoint
-open_undamaged : (file : File) (at : ℕ) (first : Fed) → is_open_end first ≡ true → first ≡ fed.Broken (fault.Damaged file at) → ⊥
+open_undamaged : (file : File) (at : ℕ) (first : Fed) → is_open_end first ≡ true → first ≡ fed.Broken (commits.Damaged file at) → ⊥
 open_undamaged file at first up is = false≢true (sym (ap is_open_end is) ∙ up)
 
-pub undamaged_behind : (first : Fed) (shortened : Result Unit CheckpointFault) (file : File) (at : ℕ) → is_open_end first ≡ true → fed_behind first shortened ≡ fed.Broken (fault.Damaged file at) → ⊥
+pub undamaged_behind : (first : Fed) (shortened : Result Unit CheckpointFault) (file : File) (at : ℕ) → is_open_end first ≡ true → fed_behind first shortened ≡ fed.Broken (commits.Damaged file at) → ⊥
 undamaged_behind first (Ok done) file at up is = open_undamaged file at first up is
 undamaged_behind first (Err checkpoints.Disk) file at up is = cc
 undamaged_behind first (Err checkpoints.NoMemory) file at up is = cc
@@ -148,7 +145,7 @@ undamaged_served first (Err checkpoints.Disk) file at up is = cc
 undamaged_served first (Err checkpoints.NoMemory) file at up is = cc
 
 -- the disk failed at the requests, or at the checkpoint
-pub disk_behind : (first : Fed) (shortened : Result Unit CheckpointFault) → is_open_end first ≡ true → fed_behind first shortened ≡ fed.Broken fault.Disk → shortened ≡ Err checkpoints.Disk
+pub disk_behind : (first : Fed) (shortened : Result Unit CheckpointFault) → is_open_end first ≡ true → fed_behind first shortened ≡ fed.Broken commits.Disk → shortened ≡ Err checkpoints.Disk
 disk_behind first (Ok done) up is = absurd (false≢true (sym (ap is_open_end is) ∙ up))
 disk_behind first (Err checkpoints.Disk) up is = refl
 disk_behind first (Err checkpoints.NoMemory) up is = absurd (cc)
@@ -165,7 +162,7 @@ disk_served first (Err checkpoints.Disk) up is = refl
 disk_served first (Err checkpoints.NoMemory) up is = absurd (cc)
 
 -- the link failed at the requests
-pub link_behind : (first : Fed) (shortened : Result Unit CheckpointFault) → fed_behind first shortened ≡ fed.Broken fault.Link → first ≡ fed.Broken fault.Link
+pub link_behind : (first : Fed) (shortened : Result Unit CheckpointFault) → fed_behind first shortened ≡ fed.Link → first ≡ fed.Link
 link_behind first (Ok done) is = is
 link_behind first (Err checkpoints.Disk) is = absurd (cc)
 link_behind first (Err checkpoints.NoMemory) is = absurd (cc)

@@ -1,81 +1,36 @@
 -- How a run of requests ends.
-use Rattle.std.proofs.Common.{◌≡◌, ◌∙◌, ◌⊎◌, ℕ, Bool, true, false, List, [], ◌∷◌, refl, sym, subst, inl, inr, arith}
-use Rattle.std.specs.Prelude.{Option, Some, None, Result, Ok, Err, nat_eq, if◌then◌else◌}
+use Rattle.std.proofs.Common.{◌≡◌, ◌∙◌, ◌⊎◌, ℕ, refl, sym, subst, inl, inr, arith}
+use Rattle.std.specs.Prelude.{Option, Some, None, Result, Ok, Err}
 use Rattle.ix_base.specs.declared.files.File.{File}
-use Rattle.ix_feed.specs.Feeding.{Turn, EndsBy, EndsAs, end_of}
 use Rattle.ix_feed.specs.declared.feed.Fed.{Fed}
 use Rattle.ix_feed.specs.declared.feed.Fed.TheVariants as fed
 use Rattle.ix_link.specs.declared.link.Side.{Side}
 use Rattle.ix_link.specs.declared.link.Side.TheVariants as sides
-use Rattle.ix_serve.specs.declared.served.Served.{Served}
-use Rattle.ix_serve.specs.declared.served.Served.TheVariants as served
-use Rattle.ix_serve.specs.declared.served.ServeFault.{ServeFault}
-use Rattle.ix_serve.specs.declared.served.ServeFault.TheVariants as fault
+use Rattle.ix_keep.specs.declared.fault.CommitFault.TheVariants as commits
 use Rattle.ix_base.specs.Faults.{Rose}
 use Rattle.ix_link.specs.Links.{Standing, IsCaused, Goes}
 use Rattle.indexd_feed.specs.Sides.{failures}
 use Rattle.indexd_feed.specs.Ends as ends_of
-use Rattle.indexd_feed.specs.Ends.{FedBehind, is_short, link_end, fed_of}
+use Rattle.indexd_feed.specs.Ends.{link_end, fed_of}
 use Rattle.indexd_feed.specs.declared.end.End.{End}
 use Rattle.indexd_feed.specs.declared.end.End.TheVariants as ends
 
--- ---- no run ends by a cut that is not told with its request
-
-unread : (b : Bool) (request : ℕ) → Some (if b then fed.NoMemory else fed.Unreadable request) ≡ Some (fed.Broken fault.Cut) → ⊥
-unread true request is = cc
-unread false request is = cc
-
-uncut_turn : (n : ℕ) (result : Result Served ServeFault) → end_of n result ≡ Some (fed.Broken fault.Cut) → ⊥
-uncut_turn n (Ok served.Ended) is = cc
-uncut_turn n (Ok (served.Reply status true unshortened)) is = cc
-uncut_turn n (Ok (served.Reply status false unshortened)) is = unread (nat_eq status 503) n is
-uncut_turn n (Err fault.Disk) is = cc
-uncut_turn n (Err (fault.Damaged file at)) is = cc
-uncut_turn n (Err fault.Link) is = cc
-uncut_turn n (Err fault.Cut) is = cc
-
-uncut_by : {D : Type 0} (turns : List (Turn D)) → EndsBy (fed.Broken fault.Cut) turns → ⊥
-uncut_by [] (inl is) = is
-uncut_by (turn ∷ earlier) (inl is) = uncut_turn _ turn.result is.0
-uncut_by turns (inr is) = let e : fed.Broken fault.Cut ≡ fed.Endless = is.0 in cc
-
-uncut : {D : Type 0} (turns : List (Turn D)) → EndsAs (fed.Broken fault.Cut) turns → ⊥
-uncut turns (inl is) = uncut_by turns is
-uncut turns (inr is) = let e : true ≡ false = is.2 in cc
-
 -- ---- what an end says of the requests
 
-of_link : (failed : Option Side) → fed_of (link_end failed) ≡ fed.Broken fault.Link
+of_link : (failed : Option Side) → fed_of (link_end failed) ≡ fed.Link
 of_link None = refl
 of_link (Some sides.Reading) = refl
 of_link (Some sides.Writing) = refl
 
-uncut_behind : {D : Type 0} (first end : Fed) (turns : List (Turn D)) → EndsAs first turns → FedBehind first end → end ≡ fed.Broken fault.Cut → ⊥
-uncut_behind first end turns ends (inl same) is = uncut turns (subst (λ (e : Fed). EndsAs e turns) (sym same ∙ is) ends)
-uncut_behind first end turns ends (inr (up, inl memory)) is = let e : fed.NoMemory ≡ fed.Broken fault.Cut = sym memory ∙ is in cc
-uncut_behind first end turns ends (inr (up, inr disk)) is = let e : fed.Broken fault.Disk ≡ fed.Broken fault.Cut = sym disk ∙ is in cc
-
--- any end that comes is told as it is
-pub told_end : {D : Type 0} (end : Fed) (failed : Option Side) (first : Fed) (turns : List (Turn D)) → EndsAs first turns → FedBehind first end → fed_of (ends_of.end_of end failed) ≡ end
-told_end fed.Ended failed first turns is behind = refl
-told_end (fed.Unreadable request) failed first turns is behind = refl
-told_end fed.NoMemory failed first turns is behind = refl
-told_end fed.Endless failed first turns is behind = refl
-told_end (fed.Broken fault.Disk) failed first turns is behind = refl
-told_end (fed.Broken (fault.Damaged file at)) failed first turns is behind = refl
-told_end (fed.Broken fault.Link) failed first turns is behind = of_link failed
-told_end (fed.Broken fault.Cut) failed first turns is behind = absurd (uncut_behind first (fed.Broken fault.Cut) turns is behind refl)
-
--- and tells of a short log where it did
-pub short_told : (end : Fed) (failed : Option Side) → is_short (fed_of (ends_of.end_of end failed)) ≡ true → is_short end ≡ true
-short_told fed.Ended failed is = is
-short_told (fed.Unreadable request) failed is = is
-short_told fed.NoMemory failed is = is
-short_told fed.Endless failed is = is
-short_told (fed.Broken fault.Disk) failed is = is
-short_told (fed.Broken (fault.Damaged file at)) failed is = is
-short_told (fed.Broken fault.Link) failed is = refl
-short_told (fed.Broken fault.Cut) failed is = refl
+-- an end is told as it is
+pub told_end : (end : Fed) (failed : Option Side) → fed_of (ends_of.end_of end failed) ≡ end
+told_end fed.Ended failed = refl
+told_end (fed.Unreadable request) failed = refl
+told_end fed.NoMemory failed = refl
+told_end fed.Endless failed = refl
+told_end fed.Link failed = of_link failed
+told_end (fed.Broken commits.Disk) failed = refl
+told_end (fed.Broken (commits.Damaged file at)) failed = refl
 
 -- ---- which ends come of a fault
 
@@ -84,30 +39,28 @@ not_link_end None end is e = cc
 not_link_end (Some sides.Reading) end is e = cc
 not_link_end (Some sides.Writing) end is e = cc
 
-pub of_disk : (end : Fed) (failed : Option Side) → ends_of.end_of end failed ≡ ends.Disk → end ≡ fed.Broken fault.Disk
+pub of_disk : (end : Fed) (failed : Option Side) → ends_of.end_of end failed ≡ ends.Disk → end ≡ fed.Broken commits.Disk
 of_disk fed.Ended failed is = absurd (cc)
 of_disk (fed.Unreadable request) failed is = absurd (cc)
 of_disk fed.NoMemory failed is = absurd (cc)
 of_disk fed.Endless failed is = absurd (cc)
-of_disk (fed.Broken fault.Disk) failed is = refl
-of_disk (fed.Broken (fault.Damaged file at)) failed is = absurd (cc)
-of_disk (fed.Broken fault.Link) failed is = absurd (not_link_end failed ends.Disk refl is)
-of_disk (fed.Broken fault.Cut) failed is = absurd (cc)
+of_disk (fed.Broken commits.Disk) failed is = refl
+of_disk (fed.Broken (commits.Damaged file at)) failed is = absurd (cc)
+of_disk fed.Link failed is = absurd (not_link_end failed ends.Disk refl is)
 
 not_damaged : (failed : Option Side) (file : File) (at : ℕ) → link_end failed ≡ ends.Damaged file at → ⊥
 not_damaged None file at is = cc
 not_damaged (Some sides.Reading) file at is = cc
 not_damaged (Some sides.Writing) file at is = cc
 
-pub of_damaged : (end : Fed) (failed : Option Side) (file : File) (at : ℕ) → ends_of.end_of end failed ≡ ends.Damaged file at → end ≡ fed.Broken (fault.Damaged file at)
+pub of_damaged : (end : Fed) (failed : Option Side) (file : File) (at : ℕ) → ends_of.end_of end failed ≡ ends.Damaged file at → end ≡ fed.Broken (commits.Damaged file at)
 of_damaged fed.Ended failed file at is = absurd (cc)
 of_damaged (fed.Unreadable request) failed file at is = absurd (cc)
 of_damaged fed.NoMemory failed file at is = absurd (cc)
 of_damaged fed.Endless failed file at is = absurd (cc)
-of_damaged (fed.Broken fault.Disk) failed file at is = absurd (cc)
-of_damaged (fed.Broken (fault.Damaged f a)) failed file at is = cc
-of_damaged (fed.Broken fault.Link) failed file at is = absurd (not_damaged failed file at is)
-of_damaged (fed.Broken fault.Cut) failed file at is = absurd (cc)
+of_damaged (fed.Broken commits.Disk) failed file at is = absurd (cc)
+of_damaged (fed.Broken (commits.Damaged f a)) failed file at is = cc
+of_damaged fed.Link failed file at is = absurd (not_damaged failed file at is)
 
 -- where an input has failed, or an output: the link did, and this side of it
 input_side : (failed : Option Side) → link_end failed ≡ ends.Input → failed ≡ Some sides.Reading
@@ -115,30 +68,28 @@ input_side None is = absurd (cc)
 input_side (Some sides.Reading) is = refl
 input_side (Some sides.Writing) is = absurd (cc)
 
-pub of_input : (end : Fed) (failed : Option Side) → ends_of.end_of end failed ≡ ends.Input → (end ≡ fed.Broken fault.Link) × (failed ≡ Some sides.Reading)
+pub of_input : (end : Fed) (failed : Option Side) → ends_of.end_of end failed ≡ ends.Input → (end ≡ fed.Link) × (failed ≡ Some sides.Reading)
 of_input fed.Ended failed is = absurd (cc)
 of_input (fed.Unreadable request) failed is = absurd (cc)
 of_input fed.NoMemory failed is = absurd (cc)
 of_input fed.Endless failed is = absurd (cc)
-of_input (fed.Broken fault.Disk) failed is = absurd (cc)
-of_input (fed.Broken (fault.Damaged file at)) failed is = absurd (cc)
-of_input (fed.Broken fault.Link) failed is = (refl, input_side failed is)
-of_input (fed.Broken fault.Cut) failed is = absurd (cc)
+of_input (fed.Broken commits.Disk) failed is = absurd (cc)
+of_input (fed.Broken (commits.Damaged file at)) failed is = absurd (cc)
+of_input fed.Link failed is = (refl, input_side failed is)
 
 output_side : (failed : Option Side) → link_end failed ≡ ends.Output → (failed ≡ None) ⊎ (failed ≡ Some sides.Writing)
 output_side None is = inl refl
 output_side (Some sides.Reading) is = absurd (cc)
 output_side (Some sides.Writing) is = inr refl
 
-pub of_output : (end : Fed) (failed : Option Side) → ends_of.end_of end failed ≡ ends.Output → (end ≡ fed.Broken fault.Link) × ((failed ≡ None) ⊎ (failed ≡ Some sides.Writing))
+pub of_output : (end : Fed) (failed : Option Side) → ends_of.end_of end failed ≡ ends.Output → (end ≡ fed.Link) × ((failed ≡ None) ⊎ (failed ≡ Some sides.Writing))
 of_output fed.Ended failed is = absurd (cc)
 of_output (fed.Unreadable request) failed is = absurd (cc)
 of_output fed.NoMemory failed is = absurd (cc)
 of_output fed.Endless failed is = absurd (cc)
-of_output (fed.Broken fault.Disk) failed is = absurd (cc)
-of_output (fed.Broken (fault.Damaged file at)) failed is = absurd (cc)
-of_output (fed.Broken fault.Link) failed is = (refl, output_side failed is)
-of_output (fed.Broken fault.Cut) failed is = absurd (cc)
+of_output (fed.Broken commits.Disk) failed is = absurd (cc)
+of_output (fed.Broken (commits.Damaged file at)) failed is = absurd (cc)
+of_output fed.Link failed is = (refl, output_side failed is)
 
 -- what was answered is this
 pub same_ok : {T E : Type 0} {a b : T} → ◌≡◌ {A = Result T E} (Ok a) (Ok b) → a ≡ b

@@ -17,6 +17,7 @@ use Rattle.ix_serve.specs.Prefixes.{StandsIn}
 use Rattle.ix_store.proofs.Lawful.{stands_from}
 use Rattle.ix_store.specs.Written.{StandsFrom}
 use Rattle.ix_store.specs.declared.store.Store.{Store}
+use Rattle.ix_serve.specs.Serving.{IsTold}
 use Rattle.indexd_store.specs.Opened.{HasOpened, StandsInRun}
 use Rattle.indexd_feed.specs.Serving.{Serving, Requests, HasServed}
 
@@ -47,9 +48,9 @@ module _ {D : Type 0} (g : Ghosts D) {M : Type 0} (fits : Book → Type 0) (hold
       (always_weaker g first mid _ _ (before turns) opened.stood)
       (always_weaker g mid last _ _ (behind turns store.run) images)
 
-  pub served_behind : (serves : Serving D) (turns : List (Turn D)) (now : List Order) (last : D) → now ≡ history_after begun turns → serves opened.count store.run told mid begun now →
+  pub served_behind : (serves : Serving D) (turns : List (Turn D)) (now : List Order) (last : D) → (IsTold g first → IsTold g mid) → now ≡ history_after begun turns → serves opened.count store.run told mid begun now →
       Always g mid last (StandsIn fits store.run choose now (length begun)) → HasServed g fits choose h k config ahead serves first last
-  served_behind serves turns now last same served images = record {
+  served_behind serves turns now last tells same served images = record {
     count = opened.count;
     least = opened.least;
     most = opened.most;
@@ -60,6 +61,7 @@ module _ {D : Type 0} (g : Ghosts D) {M : Type 0} (fits : Book → Type 0) (hold
     run = store.run;
     middle = mid;
     now = now;
+    tells = tells;
     served = served;
     stood = subst (λ (all : List Order). Always g first last (StandsInRun fits choose h k all opened.count)) (sym same)
         (stood_by turns last (subst (λ (all : List Order). Always g mid last (StandsIn fits store.run choose all (length begun))) same images));
@@ -80,6 +82,7 @@ served_as g fits choose h k config ahead serves says first last has said = recor
   run = has.run;
   middle = has.middle;
   now = has.now;
+  tells = has.tells;
   served = said;
   stood = has.stood;
 }

@@ -11,7 +11,6 @@ use Rattle.ix_feed.specs.declared.serve.Heard.TheVariants as heard
 use Rattle.ix_keep.specs.declared.fault.CommitFault.TheVariants as commits
 use Rattle.ix_link.specs.declared.link.Side.{Side}
 use Rattle.ix_link.specs.declared.link.Side.TheVariants.{Reading, Writing}
-use Rattle.ix_serve.specs.declared.served.ServeFault.TheVariants as fault
 use Rattle.indexd_feed.specs.declared.end.End.{End}
 use Rattle.indexd_feed.specs.declared.end.End.TheVariants as ends
 use Rattle.indexd_feed.specs.declared.end.ServeEnd.{ServeEnd}
@@ -22,13 +21,13 @@ use Rattle.indexd_feed.specs.declared.end.ServeEnd.TheVariants as serving
 -- the end of a run, by what came of making its log short behind its requests
 abbrev pub fed_behind : Fed → Result Unit CheckpointFault → Fed
 fed_behind end (Ok done) = end
-fed_behind end (Err checkpoints.Disk) = fed.Broken fault.Disk
+fed_behind end (Err checkpoints.Disk) = fed.Broken commits.Disk
 fed_behind end (Err checkpoints.NoMemory) = fed.NoMemory
 
 -- A run whose requests ended as the first ends as the second: the same, or where the store was open behind them, for want of memory or by a
 -- fault of the disk.
 abbrev pub FedBehind : Fed → Fed → Type 0
-FedBehind first end = (end ≡ first) ⊎ ((feeding.is_open_end first ≡ true) × ((end ≡ fed.NoMemory) ⊎ (end ≡ fed.Broken fault.Disk)))
+FedBehind first end = (end ≡ first) ⊎ ((feeding.is_open_end first ≡ true) × ((end ≡ fed.NoMemory) ⊎ (end ≡ fed.Broken commits.Disk)))
 
 -- whether the log was made short behind a run: not where there was no room in memory, or the disk has failed or is damaged
 abbrev pub is_short : Fed → Bool
@@ -36,10 +35,8 @@ is_short fed.Ended = true
 is_short (fed.Unreadable request) = true
 is_short fed.NoMemory = false
 is_short fed.Endless = true
-is_short (fed.Broken fault.Disk) = false
-is_short (fed.Broken (fault.Damaged file at)) = false
-is_short (fed.Broken fault.Link) = true
-is_short (fed.Broken fault.Cut) = true
+is_short fed.Link = true
+is_short (fed.Broken cause) = false
 
 -- ---- over an input and an output
 
@@ -48,16 +45,14 @@ link_end None = ends.Output
 link_end (Some Reading) = ends.Input
 link_end (Some Writing) = ends.Output
 
--- No run ends by a cut that is not told with its request.
 abbrev pub end_of : Fed → Option Side → End
 end_of fed.Ended failed = ends.Ended
 end_of (fed.Unreadable request) failed = ends.Unreadable request
 end_of fed.NoMemory failed = ends.Memory
 end_of fed.Endless failed = ends.Endless
-end_of (fed.Broken fault.Disk) failed = ends.Disk
-end_of (fed.Broken (fault.Damaged file at)) failed = ends.Damaged file at
-end_of (fed.Broken fault.Link) failed = link_end failed
-end_of (fed.Broken fault.Cut) failed = ends.Unreadable 0
+end_of fed.Link failed = link_end failed
+end_of (fed.Broken commits.Disk) failed = ends.Disk
+end_of (fed.Broken (commits.Damaged file at)) failed = ends.Damaged file at
 
 -- what an end says of the requests, whichever side of the link has failed
 abbrev pub fed_of : End → Fed
@@ -65,10 +60,10 @@ fed_of ends.Ended = fed.Ended
 fed_of (ends.Unreadable request) = fed.Unreadable request
 fed_of ends.Memory = fed.NoMemory
 fed_of ends.Endless = fed.Endless
-fed_of ends.Disk = fed.Broken fault.Disk
-fed_of (ends.Damaged file at) = fed.Broken (fault.Damaged file at)
-fed_of ends.Input = fed.Broken fault.Link
-fed_of ends.Output = fed.Broken fault.Link
+fed_of ends.Disk = fed.Broken commits.Disk
+fed_of (ends.Damaged file at) = fed.Broken (commits.Damaged file at)
+fed_of ends.Input = fed.Link
+fed_of ends.Output = fed.Link
 
 -- ---- over a connection each
 

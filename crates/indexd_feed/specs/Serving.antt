@@ -84,5 +84,7 @@ pub record HasServed {D : Type 0} (d : Ghosts D) (fits : Book → Type 0) (choos
   pub run : ℕ
   pub middle : D
   pub now : List Order
+  -- a disk that tells what it reads does so still when they begin
+  pub tells : IsTold d before → IsTold d middle
   pub served : serves count run told middle (given_all choose (take count history) configured) now
   pub stood : Always d before disk (StandsInRun fits choose history k now count)

@@ -2,8 +2,6 @@
 //! them. `feed`, `serve` and `run` make these ends.
 
 ghost use Rattle.std.specs.Prelude.{◌≡◌};
-ghost use Rattle.ix_feed.specs.Connections as connections;
-ghost use Rattle.ix_feed.specs.Feeding as feeding;
 ghost use Rattle.indexd_feed.specs.Ends as defs;
 
 use ix_base::File;
@@ -11,7 +9,6 @@ use ix_checkpoint::CheckpointFault;
 use ix_feed::{Fed, Heard};
 use ix_keep::CommitFault;
 use ix_link::Side;
-use ix_serve::ServeFault;
 
 /// How a run of requests ended.
 #[derive(Clone, Copy, Debug, PartialEq, Eq)]
@@ -56,16 +53,6 @@ pub enum ServeEnd {
     Damaged { file: File, at: u64 },
 }
 
-/// Whether the store is open still behind requests of a link that ended so.
-pub(crate) fn is_open_fed(end: Fed) -> bool
-    ensures { result ≡ feeding.is_open_end end }
-{
-    match end {
-        Fed::Broken { fault } => matches!(fault, ServeFault::Link | ServeFault::Cut),
-        Fed::Ended | Fed::Unreadable { .. } | Fed::NoMemory | Fed::Endless => true,
-    }
-}
-
 /// The end of a run whose requests ended so, by what came of making the log short behind them.
 pub(crate) fn fed_behind(end: Fed, shortened: Result<(), CheckpointFault>) -> Fed
     ensures { result ≡ defs.fed_behind end shortened }
@@ -73,7 +60,7 @@ pub(crate) fn fed_behind(end: Fed, shortened: Result<(), CheckpointFault>) -> Fe
     match shortened {
         Ok(()) => end,
         Err(CheckpointFault::Disk) => Fed::Broken {
-            fault: ServeFault::Disk,
+            cause: CommitFault::Disk,
         },
         Err(CheckpointFault::NoMemory) => Fed::NoMemory,
     }
@@ -89,7 +76,7 @@ fn link_end(failed: Option<Side>) -> End
     }
 }
 
-/// How requests over an input and an output ended. That one was cut is told as `Unreadable`.
+/// How requests over an input and an output ended.
 pub(crate) fn end_of(fed: Fed, failed: Option<Side>) -> End
     ensures { result ≡ defs.end_of fed failed }
 {
@@ -98,22 +85,11 @@ pub(crate) fn end_of(fed: Fed, failed: Option<Side>) -> End
         Fed::Unreadable { request } => End::Unreadable { request },
         Fed::NoMemory => End::Memory,
         Fed::Endless => End::Endless,
-        Fed::Broken { fault } => match fault {
-            ServeFault::Disk => End::Disk,
-            ServeFault::Damaged { file, at } => End::Damaged { file, at },
-            ServeFault::Link => link_end(failed),
-            ServeFault::Cut => End::Unreadable { request: 0 },
+        Fed::Link => link_end(failed),
+        Fed::Broken { cause } => match cause {
+            CommitFault::Disk => End::Disk,
+            CommitFault::Damaged { file, at } => End::Damaged { file, at },
         },
-    }
-}
-
-/// Whether the store is open still behind connections that ended so.
-pub(crate) fn is_open_heard(end: Heard) -> bool
-    ensures { result ≡ connections.is_open_end end }
-{
-    match end {
-        Heard::Done | Heard::Listener => true,
-        Heard::Broken { .. } => false,
     }
 }
 

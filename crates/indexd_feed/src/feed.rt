@@ -11,7 +11,7 @@ ghost use Rattle.ix_link.specs.Links.{Goes};
 ghost use Rattle.ix_machine.specs.Given.{Chooser};
 ghost use Rattle.ix_machine.specs.declared.commands.Order.{Order};
 ghost use Rattle.ix_run.specs.Resting.{IsAtRest, ReadsShort};
-ghost use Rattle.ix_serve.specs.Serving.{IsClean};
+ghost use Rattle.ix_serve.specs.Serving.{IsClean, IsTold};
 ghost use Rattle.ix_serve.specs.Taking.{TakesAsks};
 ghost use Rattle.ix_store.specs.Holding.{Holds};
 ghost use Rattle.indexd_store.specs.Opened.{Begins, configuring, HasShut};
@@ -20,15 +20,15 @@ ghost use Rattle.indexd_store.specs.Stops.{is_output, is_input};
 ghost use Rattle.indexd_feed.specs.Ends as ends;
 ghost use Rattle.indexd_feed.specs.Serving.{HasServed, Requests};
 
-use crate::end::{fed_behind, is_open_fed};
+use crate::end::fed_behind;
 use indexd_store::{Stop, open};
 use ix_base::Clock;
 use ix_disk::Disk;
 use ix_feed::{Fed, run_feed as feed_store};
+use ix_keep::CommitFault;
 use ix_link::Link;
 use ix_machine::Config;
 use ix_run::shorten;
-use ix_serve::ServeFault;
 use ix_store::{Listing, Store};
 use std::alloc::Global;
 
@@ -46,14 +46,15 @@ fn feed_open<M: Listing + Drop, D: Disk, C: Clock, K: Link>(
         Holds D.Disk M.Book.fits M.holds choose history base (length history) store.old disk.old →
         (now : List Order) × Requests D.Disk M.Book.fits choose result (IsClean (K.faults link.old) (K.faults link.new) (K.standing link.old) (K.standing link.new))
         (K.left link.old) (K.left link.new) (C.ahead clock.new) (K.given link.old) (K.given link.new) disk.new base store.old.run (C.ahead clock.old) disk.old history now }
-    ensures unbroken { (file : File) (at : ℕ) → result ≡ Fed.Broken (ServeFault.Damaged file at) → (choose : Chooser) (history : List Order) (base : ℕ) → M.is_chooser choose →
-        AllByRecursion M.takes history → Holds D.Disk M.Book.fits M.holds choose history base (length history) store.old disk.old → (later : Image) → D.Disk.seen disk.new ≡ Some later → ⊥ }
+    ensures unbroken { (file : File) (at : ℕ) → result ≡ Fed.Broken (CommitFault.Damaged file at) → (choose : Chooser) (history : List Order) (base : ℕ) → M.is_chooser choose →
+        AllByRecursion M.takes history → Holds D.Disk M.Book.fits M.holds choose history base (length history) store.old disk.old → (image : Image) → D.Disk.seen disk.old ≡ Some image → ⊥ }
     ensures short { ends.is_short result ≡ true → ReadsShort D.Disk disk.new }
     ensures goes { Goes (K.standing link.old) (K.standing link.new) }
+    ensures told { IsTold D.Disk disk.old → IsTold D.Disk disk.new }
     ensures comes { Comes (K.faults link.old) (K.faults link.new) (D.Disk.faults disk.old) (D.Disk.faults disk.new) result }
 {
     let end = feed_store(alloc, store, link, clock, disk);
-    if !is_open_fed(end) {
+    if !end.is_open() {
         return end;
     }
     let shortened = shorten(store, disk);
@@ -89,23 +90,24 @@ pub fn run_feed<M: Listing + Drop, D: Disk, C: Clock, K: Link>(
     // mounted.
     ensures short { IfOk result (λ end. ends.is_short end ≡ true → ReadsShort D.Disk disk.new) }
     ensures stopped_short { IfErr result (λ stop. StopsShort D.Disk M.Book.fits stop disk.old disk.new) }
-    // What is on the disk is not damaged where it keeps what was committed,
+    // What is on the disk is not damaged where it keeps what was committed and tells what it reads,
     ensures undamaged { (file : File) (at : ℕ) → result ≡ Err (Stop.Damaged file at) → (choose : Chooser) (history : List Order) (k : ℕ) → M.is_chooser choose → AllByRecursion M.takes history →
-        Begins D.Disk M.Book.fits choose history k disk.old → (image : Image) → D.Disk.seen disk.old ≡ Some image → (later : Image) → D.Disk.seen disk.new ≡ Some later → ⊥ }
-    ensures unbroken { (file : File) (at : ℕ) → result ≡ Ok (Fed.Broken (ServeFault.Damaged file at)) → (choose : Chooser) (history : List Order) (k : ℕ) → M.is_chooser choose →
-        AllByRecursion M.takes history → Begins D.Disk M.Book.fits choose history k disk.old → (image : Image) → D.Disk.seen disk.old ≡ Some image → (later : Image) → D.Disk.seen disk.new ≡ Some later → ⊥ }
+        Begins D.Disk M.Book.fits choose history k disk.old → (image : Image) → D.Disk.seen disk.old ≡ Some image → ⊥ }
+    ensures unbroken { (file : File) (at : ℕ) → result ≡ Ok (Fed.Broken (CommitFault.Damaged file at)) → (choose : Chooser) (history : List Order) (k : ℕ) → M.is_chooser choose →
+        AllByRecursion M.takes history → Begins D.Disk M.Book.fits choose history k disk.old → (image : Image) → D.Disk.seen disk.old ≡ Some image → ⊥ }
     // and it is sound.
     ensures sound { IsErrOf result Stop.Unsound → (choose : Chooser) (history : List Order) (k : ℕ) → M.is_chooser choose → AllByRecursion M.takes history →
         Begins D.Disk M.Book.fits choose history k disk.old → (image : Image) → D.Disk.seen disk.old ≡ Some image → ⊥ }
     ensures quiet { IfErr result (λ stop. is_output stop ≡ false) }
     ensures still { IfErr result (λ stop. is_input stop ≡ false) }
-    // The link is the same still, and no count falls.
+    // The link is the same still, a disk that tells what it reads goes on telling, and no count falls.
     ensures goes { Goes (K.standing link.old) (K.standing link.new) }
+    ensures told { IsTold D.Disk disk.old → IsTold D.Disk disk.new }
     ensures link_later { K.faults link.old ≤ K.faults link.new }
     ensures later { D.Disk.faults disk.old ≤ D.Disk.faults disk.new }
     ensures cause { IsErrOf result Stop.Disk → Rose (D.Disk.faults disk.old) (D.Disk.faults disk.new) }
-    ensures disk { result ≡ Ok (Fed.Broken ServeFault.Disk) → Rose (D.Disk.faults disk.old) (D.Disk.faults disk.new) }
-    ensures link { result ≡ Ok (Fed.Broken ServeFault.Link) → Rose (K.faults link.old) (K.faults link.new) }
+    ensures disk { result ≡ Ok (Fed.Broken CommitFault.Disk) → Rose (D.Disk.faults disk.old) (D.Disk.faults disk.new) }
+    ensures link { result ≡ Ok (Fed.Link) → Rose (K.faults link.old) (K.faults link.new) }
 {
     let mut store = match open::<M, D, C>(alloc, disk, clock, config) {
         Ok(store) => store,

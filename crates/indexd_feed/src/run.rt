@@ -8,6 +8,7 @@ ghost use Rattle.ix_disk.specs.Image.{Image};
 ghost use Rattle.ix_machine.specs.Given.{Chooser};
 ghost use Rattle.ix_machine.specs.declared.commands.Order.{Order};
 ghost use Rattle.ix_run.specs.Resting.{ReadsShort};
+ghost use Rattle.ix_serve.specs.Serving.{IsTold};
 ghost use Rattle.ix_serve.specs.Taking.{TakesAsks};
 ghost use Rattle.indexd_store.specs.Opened.{Begins, configuring, HasShut};
 ghost use Rattle.indexd_store.specs.Shortened.{StopsShort};
@@ -57,17 +58,18 @@ pub fn run_streams<M: Listing + Drop, D: Disk, C: Clock, S: Source, W: Sink>(
     // mounted.
     ensures short { IfOk result (λ end. is_short (fed_of end) ≡ true → ReadsShort D.Disk disk.new) }
     ensures stopped_short { IfErr result (λ stop. StopsShort D.Disk M.Book.fits stop disk.old disk.new) }
-    // What is on the disk is not damaged where it keeps what was committed,
+    // What is on the disk is not damaged where it keeps what was committed and tells what it reads,
     ensures undamaged { (file : File) (at : ℕ) → result ≡ Err (Stop.Damaged file at) → (choose : Chooser) (history : List Order) (k : ℕ) → M.is_chooser choose → AllByRecursion M.takes history →
-        Begins D.Disk M.Book.fits choose history k disk.old → (image : Image) → D.Disk.seen disk.old ≡ Some image → (later : Image) → D.Disk.seen disk.new ≡ Some later → ⊥ }
+        Begins D.Disk M.Book.fits choose history k disk.old → (image : Image) → D.Disk.seen disk.old ≡ Some image → ⊥ }
     ensures unbroken { (file : File) (at : ℕ) → result ≡ Ok (End.Damaged file at) → (choose : Chooser) (history : List Order) (k : ℕ) → M.is_chooser choose → AllByRecursion M.takes history →
-        Begins D.Disk M.Book.fits choose history k disk.old → (image : Image) → D.Disk.seen disk.old ≡ Some image → (later : Image) → D.Disk.seen disk.new ≡ Some later → ⊥ }
+        Begins D.Disk M.Book.fits choose history k disk.old → (image : Image) → D.Disk.seen disk.old ≡ Some image → ⊥ }
     // and it is sound.
     ensures sound { IsErrOf result Stop.Unsound → (choose : Chooser) (history : List Order) (k : ℕ) → M.is_chooser choose → AllByRecursion M.takes history →
         Begins D.Disk M.Book.fits choose history k disk.old → (image : Image) → D.Disk.seen disk.old ≡ Some image → ⊥ }
     ensures quiet { IfErr result (λ stop. is_output stop ≡ false) }
     ensures still { IfErr result (λ stop. is_input stop ≡ false) }
-    // No count falls, and each fault has its cause.
+    // A disk that tells what it reads goes on telling, no count falls, and each fault has its cause.
+    ensures told { IsTold D.Disk disk.old → IsTold D.Disk disk.new }
     ensures read_later { S.faults input.old ≤ S.faults input.new }
     ensures written_later { W.faults output.old ≤ W.faults output.new }
     ensures later { D.Disk.faults disk.old ≤ D.Disk.faults disk.new }

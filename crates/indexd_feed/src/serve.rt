@@ -9,6 +9,7 @@ ghost use Rattle.ix_disk.specs.Image.{Image};
 ghost use Rattle.ix_machine.specs.Given.{Chooser};
 ghost use Rattle.ix_machine.specs.declared.commands.Order.{Order};
 ghost use Rattle.ix_run.specs.Resting.{IsAtRest, ReadsShort};
+ghost use Rattle.ix_serve.specs.Serving.{IsTold};
 ghost use Rattle.ix_serve.specs.Taking.{TakesAsks};
 ghost use Rattle.ix_store.specs.Holding.{Holds};
 ghost use Rattle.indexd_store.specs.Opened.{Begins, configuring, HasShut};
@@ -17,7 +18,7 @@ ghost use Rattle.indexd_store.specs.Stops.{is_output, is_input};
 ghost use Rattle.indexd_feed.specs.Ends as ends;
 ghost use Rattle.indexd_feed.specs.Serving.{HasServed, Connections};
 
-use crate::end::{ServeEnd, heard_behind, heard_end, is_open_heard};
+use crate::end::{ServeEnd, heard_behind, heard_end};
 use indexd_store::{Stop, open};
 use ix_base::Clock;
 use ix_disk::Disk;
@@ -44,8 +45,9 @@ fn serve_open<M: Listing + Drop, D: Disk, C: Clock, L: Listener>(
         (now : List Order) × Connections D.Disk M.Book.fits choose requests result (L.waiting listener.old) (L.waiting listener.new) (L.handed listener.old) (L.handed listener.new)
         (C.ahead clock.new) disk.new base store.old.run (C.ahead clock.old) disk.old history now }
     ensures unbroken { (file : File) (at : ℕ) → result ≡ ServeEnd.Damaged file at → (choose : Chooser) (history : List Order) (base : ℕ) → M.is_chooser choose →
-        AllByRecursion M.takes history → Holds D.Disk M.Book.fits M.holds choose history base (length history) store.old disk.old → (later : Image) → D.Disk.seen disk.new ≡ Some later → ⊥ }
+        AllByRecursion M.takes history → Holds D.Disk M.Book.fits M.holds choose history base (length history) store.old disk.old → (image : Image) → D.Disk.seen disk.old ≡ Some image → ⊥ }
     ensures short { ends.is_short_served result ≡ true → ReadsShort D.Disk disk.new }
+    ensures told { IsTold D.Disk disk.old → IsTold D.Disk disk.new }
     ensures out { L.out listener.new ≡ L.out listener.old }
     ensures heard_later { L.faults listener.old ≤ L.faults listener.new }
     ensures later { D.Disk.faults disk.old ≤ D.Disk.faults disk.new }
@@ -53,7 +55,7 @@ fn serve_open<M: Listing + Drop, D: Disk, C: Clock, L: Listener>(
     ensures disk { result ≡ ServeEnd.Disk → Rose (D.Disk.faults disk.old) (D.Disk.faults disk.new) }
 {
     let end = serve_store(alloc, store, listener, requests, clock, disk);
-    if !is_open_heard(end) {
+    if !end.is_open() {
         return heard_end(end);
     }
     let shortened = shorten(store, disk);
@@ -88,17 +90,18 @@ pub fn run_serve<M: Listing + Drop, D: Disk, C: Clock, L: Listener>(
     // mounted.
     ensures short { IfOk result (λ end. ends.is_short_served end ≡ true → ReadsShort D.Disk disk.new) }
     ensures stopped_short { IfErr result (λ stop. StopsShort D.Disk M.Book.fits stop disk.old disk.new) }
-    // What is on the disk is not damaged where it keeps what was committed,
+    // What is on the disk is not damaged where it keeps what was committed and tells what it reads,
     ensures undamaged { (file : File) (at : ℕ) → result ≡ Err (Stop.Damaged file at) → (choose : Chooser) (history : List Order) (k : ℕ) → M.is_chooser choose → AllByRecursion M.takes history →
-        Begins D.Disk M.Book.fits choose history k disk.old → (image : Image) → D.Disk.seen disk.old ≡ Some image → (later : Image) → D.Disk.seen disk.new ≡ Some later → ⊥ }
+        Begins D.Disk M.Book.fits choose history k disk.old → (image : Image) → D.Disk.seen disk.old ≡ Some image → ⊥ }
     ensures unbroken { (file : File) (at : ℕ) → result ≡ Ok (ServeEnd.Damaged file at) → (choose : Chooser) (history : List Order) (k : ℕ) → M.is_chooser choose →
-        AllByRecursion M.takes history → Begins D.Disk M.Book.fits choose history k disk.old → (image : Image) → D.Disk.seen disk.old ≡ Some image → (later : Image) → D.Disk.seen disk.new ≡ Some later → ⊥ }
+        AllByRecursion M.takes history → Begins D.Disk M.Book.fits choose history k disk.old → (image : Image) → D.Disk.seen disk.old ≡ Some image → ⊥ }
     // and it is sound.
     ensures sound { IsErrOf result Stop.Unsound → (choose : Chooser) (history : List Order) (k : ℕ) → M.is_chooser choose → AllByRecursion M.takes history →
         Begins D.Disk M.Book.fits choose history k disk.old → (image : Image) → D.Disk.seen disk.old ≡ Some image → ⊥ }
     ensures quiet { IfErr result (λ stop. is_output stop ≡ false) }
     ensures still { IfErr result (λ stop. is_input stop ≡ false) }
-    // As many connections are out as before, no count falls, and each fault has its cause.
+    // A disk that tells what it reads goes on telling, as many connections are out as before, no count falls, and each fault has its cause.
+    ensures told { IsTold D.Disk disk.old → IsTold D.Disk disk.new }
     ensures out { L.out listener.new ≡ L.out listener.old }
     ensures heard_later { L.faults listener.old ≤ L.faults listener.new }
     ensures later { D.Disk.faults disk.old ≤ D.Disk.faults disk.new }

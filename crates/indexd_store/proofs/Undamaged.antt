@@ -1,6 +1,8 @@
 -- What a run blames as damaged is what a layer below has found damaged.
-use Rattle.std.proofs.Common.{◌≡◌, ℕ, inl, inr}
+use Rattle.std.proofs.Common.{◌≡◌, ℕ, Option, None, Some, inl, inr, refl}
+use Rattle.ix_base.specs.Told.{Told}
 use Rattle.ix_base.specs.declared.files.File.{File}
+use Rattle.ix_disk.specs.Image.{Image}
 use Rattle.ix_keep.specs.declared.fault.CommitFault.TheVariants as commits
 use Rattle.ix_life.specs.declared.views.View.{View}
 use Rattle.ix_machine.specs.declared.answers.Refusal.{Refusal}
@@ -62,3 +64,10 @@ pub unsaid_undamaged : (task : Task) (view : View) (file : File) (at : ℕ) → 
 unsaid_undamaged task view file at (inl is) = cc
 unsaid_undamaged task view file at (inr (inl is)) = cc
 unsaid_undamaged task view file at (inr (inr is)) = let e : stops.Damaged file at ≡ stops.Unsound = is.0 in cc
+
+-- an object that tells goes on telling
+pub seen_on : (step : Image → Image → Type 0) (old new : Option Image) (image : Image) → Told step old new → old ≡ Some image → (later : Image) × (new ≡ Some later)
+seen_on step None None image told is = absurd (cc)
+seen_on step None (Some later) image told is = absurd (cc)
+seen_on step (Some before) None image told is = absurd told
+seen_on step (Some before) (Some later) image told is = (later, refl)

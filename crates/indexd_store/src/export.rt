@@ -3,9 +3,10 @@
 ghost use Rattle.std.specs.Prelude.{◌≡◌, ◌≤◌, ℕ, List, [], length, true, false, Some, Err, OnOk, OnErr, IfErr, IsErrOf};
 ghost use Rattle.std.specs.List.{AllByRecursion};
 ghost use Rattle.ix_base.specs.Faults.{Rose};
-ghost use Rattle.ix_base.specs.Told.{HasWritten, HasBegun};
+ghost use Rattle.ix_base.specs.Told.{Told, HasWritten, HasBegun};
 ghost use Rattle.ix_base.specs.declared.files.File.{File};
 ghost use Rattle.ix_disk.specs.Image.{Image};
+ghost use Rattle.ix_keep.specs.Contents.{Anyhow};
 ghost use Rattle.ix_machine.specs.Given.{Chooser};
 ghost use Rattle.ix_machine.specs.Step.{after};
 ghost use Rattle.ix_machine.specs.declared.commands.Order.{Order};
@@ -90,6 +91,7 @@ pub(crate) fn export<M: Listing + Drop, D: Disk, W: Sink>(
     ensures undamaged { (file : File) (at : ℕ) → result ≡ Err (Stop.Damaged file at) → (choose : Chooser) (history : List Order) (base : ℕ) → M.is_chooser choose →
         AllByRecursion M.takes history → Holds D.Disk M.Book.fits M.holds choose history base (length history) store.old disk.old → (image : Image) → D.Disk.seen disk.new ≡ Some image → ⊥ }
     ensures short { is_short result ≡ true → ReadsShort D.Disk disk.new }
+    ensures told { Told Anyhow (D.Disk.seen disk.old) (D.Disk.seen disk.new) }
     ensures later { D.Disk.faults disk.old ≤ D.Disk.faults disk.new }
     ensures cause { IsErrOf result Stop.Disk → Rose (D.Disk.faults disk.old) (D.Disk.faults disk.new) }
     ensures grown { W.faults output.old ≤ W.faults output.new }

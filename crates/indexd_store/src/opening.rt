@@ -42,9 +42,9 @@ pub fn open<M: Listing + Drop, D: Disk, C: Clock>(
     ensures stopped { IfErr result (λ stop. (choose : Chooser) (history : List Order) (k : ℕ) → M.is_chooser choose → AllByRecursion M.takes history →
         Begins D.Disk M.Book.fits choose history k disk.old → (image : Image) → D.Disk.seen disk.old ≡ Some image →
         HasShut stop D.Disk M.Book.fits choose history k config (C.ahead clock.old) (C.ahead clock.new) disk.old disk.new) }
-    // A disk that keeps what was committed is not damaged.
+    // A disk that keeps what was committed, and tells what it reads, is not damaged.
     ensures undamaged { (file : File) (at : ℕ) → result ≡ Err (Stop.Damaged file at) → (choose : Chooser) (history : List Order) (k : ℕ) → M.is_chooser choose → AllByRecursion M.takes history →
-        Begins D.Disk M.Book.fits choose history k disk.old → (image : Image) → D.Disk.seen disk.old ≡ Some image → (later : Image) → D.Disk.seen disk.new ≡ Some later → ⊥ }
+        Begins D.Disk M.Book.fits choose history k disk.old → (image : Image) → D.Disk.seen disk.old ≡ Some image → ⊥ }
     ensures over { IfOk result (λ store. IsOver D.Disk store.keeper disk.new) }
     // What the end of a run asks for, and what it leaves at a stop.
     ensures rest { IfOk result (λ store. IsAtRest D.Disk store.keeper disk.new) }

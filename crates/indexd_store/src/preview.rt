@@ -3,8 +3,10 @@
 ghost use Rattle.std.specs.Prelude.{◌≡◌, ◌≤◌, ℕ, ℤ, List, length, true, false, Some, Err, IfOk, IfErr, OnOk, IsErrOf};
 ghost use Rattle.std.specs.List.{AllByRecursion};
 ghost use Rattle.ix_base.specs.Faults.{Rose};
+ghost use Rattle.ix_base.specs.Told.{Told};
 ghost use Rattle.ix_base.specs.declared.files.File.{File};
 ghost use Rattle.ix_disk.specs.Image.{Image};
+ghost use Rattle.ix_keep.specs.Contents.{Anyhow};
 ghost use Rattle.ix_machine.specs.Given.{Chooser};
 ghost use Rattle.ix_machine.specs.declared.commands.Order.{Order};
 ghost use Rattle.ix_run.specs.Storing.{begin_order, block_order, end_order, IsBlock};
@@ -59,6 +61,7 @@ fn store_all<M: Listing + Drop, D: Disk, S: Source>(
     ensures quiet { IfErr result (λ stop. is_output stop ≡ false) }
     ensures undamaged { (file : File) (at : ℕ) → result ≡ Err (Stop.Damaged file at) → (choose : Chooser) (history : List Order) (base : ℕ) → M.is_chooser choose →
         AllByRecursion M.takes history → Holds D.Disk M.Book.fits M.holds choose history base (length history) store.old disk.old → (image : Image) → D.Disk.seen disk.new ≡ Some image → ⊥ }
+    ensures told { Told Anyhow (D.Disk.seen disk.old) (D.Disk.seen disk.new) }
     ensures later { D.Disk.faults disk.old ≤ D.Disk.faults disk.new }
     ensures cause { IsErrOf result Stop.Disk → Rose (D.Disk.faults disk.old) (D.Disk.faults disk.new) }
     ensures read_later { S.faults input.old ≤ S.faults input.new }
@@ -94,6 +97,7 @@ fn store_preview<M: Listing + Drop, D: Disk, S: Source>(
     ensures short { is_short result ≡ true → ReadsShort D.Disk disk.new }
     ensures undamaged { (file : File) (at : ℕ) → result ≡ Err (Stop.Damaged file at) → (choose : Chooser) (history : List Order) (base : ℕ) → M.is_chooser choose →
         AllByRecursion M.takes history → Holds D.Disk M.Book.fits M.holds choose history base (length history) store.old disk.old → (image : Image) → D.Disk.seen disk.new ≡ Some image → ⊥ }
+    ensures told { Told Anyhow (D.Disk.seen disk.old) (D.Disk.seen disk.new) }
     ensures later { D.Disk.faults disk.old ≤ D.Disk.faults disk.new }
     ensures cause { IsErrOf result Stop.Disk → Rose (D.Disk.faults disk.old) (D.Disk.faults disk.new) }
     ensures read_later { S.faults input.old ≤ S.faults input.new }
@@ -130,9 +134,9 @@ pub fn run_preview<M: Listing + Drop, D: Disk, C: Clock, S: Source>(
         Begins D.Disk M.Book.fits choose history k disk.old → (image : Image) → D.Disk.seen disk.old ≡ Some image →
         HasStopped stop D.Disk M.Book.fits choose history k config (C.ahead clock.old) (C.ahead clock.new) (S.left input.new ≡ S.left input.old)
         (HasFed choose origin result (C.ahead clock.new) (S.left input.old) (S.left input.new)) disk.old disk.new) }
-    // What is on the disk is not damaged where it keeps what was committed,
+    // What is on the disk is not damaged where it keeps what was committed and tells what it reads,
     ensures undamaged { (file : File) (at : ℕ) → result ≡ Err (Stop.Damaged file at) → (choose : Chooser) (history : List Order) (k : ℕ) → M.is_chooser choose → AllByRecursion M.takes history →
-        Begins D.Disk M.Book.fits choose history k disk.old → (image : Image) → D.Disk.seen disk.old ≡ Some image → (later : Image) → D.Disk.seen disk.new ≡ Some later → ⊥ }
+        Begins D.Disk M.Book.fits choose history k disk.old → (image : Image) → D.Disk.seen disk.old ≡ Some image → ⊥ }
     // and it is sound.
     ensures sound { IsErrOf result Stop.Unsound → (choose : Chooser) (history : List Order) (k : ℕ) → M.is_chooser choose → AllByRecursion M.takes history →
         Begins D.Disk M.Book.fits choose history k disk.old → (image : Image) → D.Disk.seen disk.old ≡ Some image → ⊥ }
@@ -140,6 +144,8 @@ pub fn run_preview<M: Listing + Drop, D: Disk, C: Clock, S: Source>(
     ensures short { EndsShort D.Disk M.Book.fits result disk.old disk.new }
     ensures read { HasTaken result (S.left input.old) (S.left input.new) }
     ensures quiet { IfErr result (λ stop. is_output stop ≡ false) }
+    // A disk that tells what it reads goes on telling.
+    ensures told { Told Anyhow (D.Disk.seen disk.old) (D.Disk.seen disk.new) }
     ensures later { D.Disk.faults disk.old ≤ D.Disk.faults disk.new }
     ensures cause { IsErrOf result Stop.Disk → Rose (D.Disk.faults disk.old) (D.Disk.faults disk.new) }
     ensures read_later { S.faults input.old ≤ S.faults input.new }

@@ -3,9 +3,10 @@
 ghost use Rattle.std.specs.Prelude.{◌≡◌, ◌≤◌, ℕ, ℤ, List, length, true, false, Some, Err, IfOk, IfErr, OnOk, IsErrOf};
 ghost use Rattle.std.specs.List.{AllByRecursion};
 ghost use Rattle.ix_base.specs.Faults.{Rose};
-ghost use Rattle.ix_base.specs.Told.{HasWritten, HasBegun};
+ghost use Rattle.ix_base.specs.Told.{Told, HasWritten, HasBegun};
 ghost use Rattle.ix_base.specs.declared.files.File.{File};
 ghost use Rattle.ix_disk.specs.Image.{Image};
+ghost use Rattle.ix_keep.specs.Contents.{Anyhow};
 ghost use Rattle.ix_machine.specs.Given.{Chooser};
 ghost use Rattle.ix_machine.specs.Step.{after};
 ghost use Rattle.ix_machine.specs.declared.commands.Order.{Order};
@@ -66,6 +67,7 @@ fn give_command<M: Listing + Drop, D: Disk>(
         IsWhy choose history task.entry moment stop) }
     ensures undamaged { (file : File) (at : ℕ) → result ≡ Err (Stop.Damaged file at) → (choose : Chooser) (history : List Order) (base : ℕ) → M.is_chooser choose →
         AllByRecursion M.takes history → Holds D.Disk M.Book.fits M.holds choose history base (length history) store.old disk.old → (image : Image) → D.Disk.seen disk.new ≡ Some image → ⊥ }
+    ensures told { Told Anyhow (D.Disk.seen disk.old) (D.Disk.seen disk.new) }
     ensures later { D.Disk.faults disk.old ≤ D.Disk.faults disk.new }
     ensures cause { IsErrOf result Stop.Disk → Rose (D.Disk.faults disk.old) (D.Disk.faults disk.new) }
     ensures quiet { IfErr result (λ stop. is_output stop ≡ false) }
@@ -107,6 +109,7 @@ fn give_task<M: Listing + Drop, D: Disk>(
     ensures short { is_short result ≡ true → ReadsShort D.Disk disk.new }
     ensures undamaged { (file : File) (at : ℕ) → result ≡ Err (Stop.Damaged file at) → (choose : Chooser) (history : List Order) (base : ℕ) → M.is_chooser choose →
         AllByRecursion M.takes history → Holds D.Disk M.Book.fits M.holds choose history base (length history) store.old disk.old → (image : Image) → D.Disk.seen disk.new ≡ Some image → ⊥ }
+    ensures told { Told Anyhow (D.Disk.seen disk.old) (D.Disk.seen disk.new) }
     ensures later { D.Disk.faults disk.old ≤ D.Disk.faults disk.new }
     ensures cause { IsErrOf result Stop.Disk → Rose (D.Disk.faults disk.old) (D.Disk.faults disk.new) }
     ensures quiet { IfErr result (λ stop. is_output stop ≡ false) }
@@ -153,6 +156,7 @@ fn give_and_say<M: Listing + Drop, D: Disk, W: Sink>(
     ensures unread { IfErr result (λ stop. is_input stop ≡ false) }
     ensures undamaged { (file : File) (at : ℕ) → result ≡ Err (Stop.Damaged file at) → (choose : Chooser) (history : List Order) (base : ℕ) → M.is_chooser choose →
         AllByRecursion M.takes history → Holds D.Disk M.Book.fits M.holds choose history base (length history) store.old disk.old → (image : Image) → D.Disk.seen disk.new ≡ Some image → ⊥ }
+    ensures told { Told Anyhow (D.Disk.seen disk.old) (D.Disk.seen disk.new) }
     ensures later { D.Disk.faults disk.old ≤ D.Disk.faults disk.new }
     ensures cause { IsErrOf result Stop.Disk → Rose (D.Disk.faults disk.old) (D.Disk.faults disk.new) }
     ensures grown { W.faults output.old ≤ W.faults output.new }
@@ -195,6 +199,7 @@ fn carry_out<M: Listing + Drop, D: Disk, W: Sink>(
     ensures unread { IfErr result (λ stop. is_input stop ≡ false) }
     ensures undamaged { (file : File) (at : ℕ) → result ≡ Err (Stop.Damaged file at) → (choose : Chooser) (history : List Order) (base : ℕ) → M.is_chooser choose →
         AllByRecursion M.takes history → Holds D.Disk M.Book.fits M.holds choose history base (length history) store.old disk.old → (image : Image) → D.Disk.seen disk.new ≡ Some image → ⊥ }
+    ensures told { Told Anyhow (D.Disk.seen disk.old) (D.Disk.seen disk.new) }
     ensures later { D.Disk.faults disk.old ≤ D.Disk.faults disk.new }
     ensures cause { IsErrOf result Stop.Disk → Rose (D.Disk.faults disk.old) (D.Disk.faults disk.new) }
     ensures grown { W.faults output.old ≤ W.faults output.new }
@@ -230,15 +235,17 @@ pub fn run_task<M: Listing + Drop, D: Disk, C: Clock, W: Sink>(
         (HasHalted D.Disk choose task.entry stop (C.ahead clock.new) (W.given output.old) (W.given output.new) disk.new) disk.old disk.new) }
     // Only an export, and an output that fails, leave a part of a text.
     ensures quiet { IfErr result (λ stop. says task.entry stop ≡ false → W.given output.new ≡ W.given output.old) }
-    // What is on the disk is not damaged where it keeps what was committed,
+    // What is on the disk is not damaged where it keeps what was committed and tells what it reads,
     ensures undamaged { (file : File) (at : ℕ) → result ≡ Err (Stop.Damaged file at) → (choose : Chooser) (history : List Order) (k : ℕ) → M.is_chooser choose → AllByRecursion M.takes history →
-        Begins D.Disk M.Book.fits choose history k disk.old → (image : Image) → D.Disk.seen disk.old ≡ Some image → (later : Image) → D.Disk.seen disk.new ≡ Some later → ⊥ }
+        Begins D.Disk M.Book.fits choose history k disk.old → (image : Image) → D.Disk.seen disk.old ≡ Some image → ⊥ }
     // and it is sound.
     ensures sound { IsErrOf result Stop.Unsound → (choose : Chooser) (history : List Order) (k : ℕ) → M.is_chooser choose → AllByRecursion M.takes history →
         Begins D.Disk M.Book.fits choose history k disk.old → (image : Image) → D.Disk.seen disk.old ≡ Some image → ⊥ }
     // Its log is not long then, as the disk reads, whatever it stops for; but where memory was short, or the disk has failed or is not sound.
     ensures short { EndsShort D.Disk M.Book.fits result disk.old disk.new }
     ensures unread { IfErr result (λ stop. is_input stop ≡ false) }
+    // A disk that tells what it reads goes on telling.
+    ensures told { Told Anyhow (D.Disk.seen disk.old) (D.Disk.seen disk.new) }
     ensures later { D.Disk.faults disk.old ≤ D.Disk.faults disk.new }
     ensures cause { IsErrOf result Stop.Disk → Rose (D.Disk.faults disk.old) (D.Disk.faults disk.new) }
     ensures grown { W.faults output.old ≤ W.faults output.new }

@@ -21,7 +21,7 @@ use Rattle.ix_store.specs.Written.{Stands}
 use Rattle.ix_store.specs.declared.store.Store.{Store}
 use Rattle.ix_store.proofs.Counted.{take_whole}
 use Rattle.ix_store.proofs.Lawful.{held_stands}
-use Rattle.ix_serve.specs.Answer.{Says, answer_of_fault}
+use Rattle.ix_serve.specs.Answer.{Says}
 use Rattle.ix_serve.specs.Entries.{entry}
 use Rattle.ix_feed.specs.Feeding.{Turn, history_after, reply_text, known, AreTurns, EndsAs, AreTold, IsUndamagedEnd, Reaches, Feeds, Runs, IsWholeEnd, is_open_end, end_of, most_requests}
 use Rattle.ix_serve.specs.Prefixes.{StandsIn}
@@ -33,7 +33,7 @@ use Rattle.ix_serve.specs.declared.served.Served.{Served}
 use Rattle.ix_serve.specs.declared.served.Served.TheVariants as served
 use Rattle.ix_serve.specs.declared.served.ServeFault.{ServeFault}
 use Rattle.ix_serve.specs.declared.served.ServeFault.TheVariants as fault
-use Rattle.ix_serve.proofs.Answering.{wrote_begun, wrote_clean, damaged_back}
+use Rattle.ix_serve.proofs.Answering.{wrote_begun, wrote_clean}
 use Rattle.ix_serve.proofs.Standing.{of_all}
 use Rattle.ix_feed.proofs.Growing.{AreGrowing, acknowledging, images_behind, held_in}
 
@@ -96,15 +96,15 @@ open_end n (Err (fault.Damaged file at)) end is up = absurd (false≢true (ap is
 open_end n (Err fault.Link) end is up = tt
 open_end n (Err fault.Cut) end is up = tt
 
-unread_end : (b : Bool) (n : ℕ) (f : ServeFault) → (if b then fed.NoMemory else fed.Unreadable n) ≡ fed.Broken f → ⊥
-unread_end true n f is = cc
-unread_end false n f is = cc
+unread_end : (b : Bool) (n : ℕ) (cause : CommitFault) → (if b then fed.NoMemory else fed.Unreadable n) ≡ fed.Broken cause → ⊥
+unread_end true n cause is = cc
+unread_end false n cause is = cc
 
 -- a run that ends by damage does so in its last turn
-pub damaged_turn : (n : ℕ) (result : Result Served ServeFault) (file : File) (at : ℕ) → end_of n result ≡ Some (fed.Broken (fault.Damaged file at)) → result ≡ Err (fault.Damaged file at)
+pub damaged_turn : (n : ℕ) (result : Result Served ServeFault) (file : File) (at : ℕ) → end_of n result ≡ Some (fed.Broken (commits.Damaged file at)) → result ≡ Err (fault.Damaged file at)
 damaged_turn n (Ok served.Ended) file at is = absurd (cc)
 damaged_turn n (Ok (served.Reply status true unshortened)) file at is = absurd (cc)
-damaged_turn n (Ok (served.Reply status false unshortened)) file at is = absurd (unread_end (nat_eq status 503) n (fault.Damaged file at) (some_is _ _ is))
+damaged_turn n (Ok (served.Reply status false unshortened)) file at is = absurd (unread_end (nat_eq status 503) n (commits.Damaged file at) (some_is _ _ is))
 damaged_turn n (Err fault.Disk) file at is = absurd (cc)
 damaged_turn n (Err (fault.Damaged f a)) file at is = cc
 damaged_turn n (Err fault.Link) file at is = absurd (cc)
@@ -221,16 +221,7 @@ feeds_all g takes fits holds choose h base k run clean left left' ahead ahead' g
 
 -- ---- the commit at the end
 
--- a store that fails in the last commit
-broken_down : (cause : CommitFault) → is_open_end (fed.Broken (answer_of_fault cause)) ≡ false
-broken_down commits.Disk = refl
-broken_down (commits.Damaged file at) = refl
-
-broken_part : (cause : CommitFault) → IsWholeEnd (fed.Broken (answer_of_fault cause)) → ⊥
-broken_part commits.Disk is = is
-broken_part (commits.Damaged file at) is = is
-
-broken_is : (a b : ServeFault) → fed.Broken a ≡ fed.Broken b → a ≡ b
+broken_is : (a b : CommitFault) → fed.Broken a ≡ fed.Broken b → a ≡ b
 broken_is a b is = cc
 
 module _ {D : Type 0} (g : Ghosts D) {M : Type 0} (takes : Order → Type 0) (fits : Book → Type 0) (holds : Chooser → List Order → M → Type 0) (choose : Chooser) (h : List Order) (base k run : ℕ) (end : Fed) (clean : Type 0)
@@ -311,7 +302,7 @@ module _ {D : Type 0} (g : Ghosts D) {M : Type 0} (takes : Order → Type 0) (fi
 
     -- the commit met a fault
     pub runs_broken : (cause : CommitFault) → ((kept : ℕ) → Holds g fits holds choose after base kept store mid → (file : File) (at : ℕ) → cause ≡ commits.Damaged file at → (image : Image) → g.seen new ≡ Some image → ⊥) →
-        Runs g takes fits holds choose h base k run (fed.Broken (answer_of_fault cause)) clean left left' ahead ahead' given given' later old new
-    runs_broken cause undamaged = runs_on (fed.Broken (answer_of_fault cause)) (inr (answer_of_fault cause, refl, broken_down cause, end, feeds.ends)) (λ is. absurd (broken_part cause is))
-        (λ file at is image seen. undamaged kept (feeds.held up).3 file at (damaged_back cause file at (broken_is _ _ is)) image seen)
-        (λ is. absurd (false≢true (sym (broken_down cause) ∙ is))) (λ is. absurd (false≢true (sym (broken_down cause) ∙ is)))
+        Runs g takes fits holds choose h base k run (fed.Broken cause) clean left left' ahead ahead' given given' later old new
+    runs_broken cause undamaged = runs_on (fed.Broken cause) (inr (cause, refl, end, up, feeds.ends)) (λ is. absurd is)
+        (λ file at is image seen. undamaged kept (feeds.held up).3 file at (broken_is _ _ is) image seen)
+        (λ is. absurd (false≢true is)) (λ is. absurd (false≢true is))

@@ -10,6 +10,8 @@ use Rattle.ix_disk.specs.Image.{Image}
 use Rattle.ix_disk.specs.Moments.{Always}
 use Rattle.ix_disk.specs.declared.disk.Disk.{Ghosts}
 use Rattle.ix_http.specs.Asked.{Fits}
+use Rattle.ix_keep.specs.declared.fault.CommitFault.{CommitFault}
+use Rattle.ix_keep.specs.declared.fault.CommitFault.TheVariants as commits
 use Rattle.ix_machine.specs.Given.{Chooser}
 use Rattle.ix_machine.specs.declared.commands.Order.{Order}
 use Rattle.ix_store.specs.Holding.{Holds}
@@ -37,9 +39,9 @@ abbrev pub end_of : ℕ → Result Served ServeFault → Option Fed
 end_of request (Ok served.Ended) = Some fed.Ended
 end_of request (Ok (served.Reply status true unshortened)) = None
 end_of request (Ok (served.Reply status false unshortened)) = Some (if nat_eq status 503 then fed.NoMemory else fed.Unreadable request)
-end_of request (Err fault.Disk) = Some (fed.Broken fault.Disk)
-end_of request (Err (fault.Damaged file at)) = Some (fed.Broken (fault.Damaged file at))
-end_of request (Err fault.Link) = Some (fed.Broken fault.Link)
+end_of request (Err fault.Disk) = Some (fed.Broken commits.Disk)
+end_of request (Err (fault.Damaged file at)) = Some (fed.Broken (commits.Damaged file at))
+end_of request (Err fault.Link) = Some fed.Link
 end_of request (Err fault.Cut) = Some (fed.Unreadable request)
 
 -- all that was to be written was
@@ -48,6 +50,7 @@ IsWholeEnd fed.Ended = Unit {0}
 IsWholeEnd (fed.Unreadable request) = Unit {0}
 IsWholeEnd fed.NoMemory = Unit {0}
 IsWholeEnd fed.Endless = Unit {0}
+IsWholeEnd fed.Link = ⊥
 IsWholeEnd (fed.Broken cause) = ⊥
 
 -- the store is open still
@@ -56,10 +59,8 @@ is_open_end fed.Ended = true
 is_open_end (fed.Unreadable request) = true
 is_open_end fed.NoMemory = true
 is_open_end fed.Endless = true
-is_open_end (fed.Broken fault.Disk) = false
-is_open_end (fed.Broken (fault.Damaged file at)) = false
-is_open_end (fed.Broken fault.Link) = true
-is_open_end (fed.Broken fault.Cut) = true
+is_open_end fed.Link = true
+is_open_end (fed.Broken cause) = false
 
 -- ---- turns
 
@@ -126,7 +127,7 @@ EndsBy end turns = EndsWith end turns ⊎ ((end ≡ fed.Endless) × (length turn
 
 -- No run over a disk that tells what it reads ends by damage.
 abbrev pub IsUndamagedEnd : {D : Type 0} → Ghosts D → D → Fed → Type 0
-IsUndamagedEnd d disk end = (file : File) (at : ℕ) → end ≡ fed.Broken (fault.Damaged file at) → (image : Image) → d.seen disk ≡ Some image → ⊥
+IsUndamagedEnd d disk end = (file : File) (at : ℕ) → end ≡ fed.Broken (commits.Damaged file at) → (image : Image) → d.seen disk ≡ Some image → ⊥
 
 -- ---- what is acknowledged
 
@@ -183,7 +184,7 @@ pub record Feeds {D : Type 0} (d : Ghosts D) {M : Type 0} (takes : Order → Typ
 
 -- the end of a run with a commit behind its turns: that of the turns, or the fault of the commit
 abbrev pub EndsAs : {D : Type 0} → Fed → List (Turn D) → Type 0
-EndsAs end turns = EndsBy end turns ⊎ ((cause : ServeFault) × (end ≡ fed.Broken cause) × (is_open_end end ≡ false) × (first : Fed) × EndsBy first turns)
+EndsAs end turns = EndsBy end turns ⊎ ((cause : CommitFault) × (end ≡ fed.Broken cause) × (first : Fed) × (is_open_end first ≡ true) × EndsBy first turns)
 
 -- A run with the commit at its end. What was written of its replies is all of them where the end is no fault of the link or the disk, and
 -- also where the link is clean; else a front of them.
@@ -208,5 +209,5 @@ pub record Runs {D : Type 0} (d : Ghosts D) {M : Type 0} (takes : Order → Type
 pub record Comes (link link' disk disk' : ℕ) (end : Fed) : Type 0 where
   pub link_later : link ≤ link'
   pub disk_later : disk ≤ disk'
-  pub by_link : end ≡ fed.Broken fault.Link → Rose link link'
-  pub by_disk : end ≡ fed.Broken fault.Disk → Rose disk disk'
+  pub by_link : end ≡ fed.Link → Rose link link'
+  pub by_disk : end ≡ fed.Broken commits.Disk → Rose disk disk'

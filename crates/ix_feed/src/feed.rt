@@ -14,8 +14,9 @@ ghost use Rattle.ix_store.specs.Holding.{Holds};
 
 use ix_base::Clock;
 use ix_disk::Disk;
+use ix_keep::CommitFault;
 use ix_link::Link;
-use ix_serve::{ServeFault, Served, answer_of_fault, serve_one};
+use ix_serve::{ServeFault, Served, serve_one};
 use ix_store::{Listing, Store};
 use std::alloc::Global;
 
@@ -36,10 +37,24 @@ pub enum Fed {
     NoMemory,
     /// 2^32 requests were served.
     Endless,
-    /// The link has failed, or the disk, or the store is damaged.
+    /// The link has failed.
+    Link,
+    /// The disk has failed, or the store is damaged. The store is closed.
     Broken {
-        fault: ServeFault,
+        cause: CommitFault,
     },
+}
+
+impl Fed {
+    /// Whether the store is open still.
+    pub fn is_open(self) -> bool
+        ensures { result ≡ defs.is_open_end self }
+    {
+        match self {
+            Fed::Ended | Fed::Unreadable { .. } | Fed::NoMemory | Fed::Endless | Fed::Link => true,
+            Fed::Broken { .. } => false,
+        }
+    }
 }
 
 /// The end of a run behind a request that is refused, and of which it is not known where it ends.
@@ -74,17 +89,13 @@ fn end_of(request: u64, came: Result<Served, ServeFault>) -> Option<Fed>
             }
         }
         Err(ServeFault::Cut) => Some(Fed::Unreadable { request }),
-        Err(fault) => Some(Fed::Broken { fault }),
-    }
-}
-
-/// Whether the store is open still.
-fn is_open_end(end: Fed) -> bool
-    ensures { result ≡ defs.is_open_end end }
-{
-    match end {
-        Fed::Broken { fault } => matches!(fault, ServeFault::Link | ServeFault::Cut),
-        Fed::Ended | Fed::Unreadable { .. } | Fed::NoMemory | Fed::Endless => true,
+        Err(ServeFault::Link) => Some(Fed::Link),
+        Err(ServeFault::Disk) => Some(Fed::Broken {
+            cause: CommitFault::Disk,
+        }),
+        Err(ServeFault::Damaged { file, at }) => Some(Fed::Broken {
+            cause: CommitFault::Damaged { file, at },
+        }),
     }
 }
 
@@ -150,13 +161,11 @@ pub fn run_feed<K: Link, M: Listing + Drop, C: Clock, D: Disk>(
     ensures comes { defs.Comes (K.faults link.old) (K.faults link.new) (D.Disk.faults disk.old) (D.Disk.faults disk.new) result }
 {
     let end = feed_all(alloc, store, link, clock, disk);
-    if !is_open_end(end) {
+    if !end.is_open() {
         return end;
     }
     match store.commit(disk) {
         Ok(()) => end,
-        Err(cause) => Fed::Broken {
-            fault: answer_of_fault(cause),
-        },
+        Err(cause) => Fed::Broken { cause },
     }
 }

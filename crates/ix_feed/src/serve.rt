@@ -27,8 +27,20 @@ pub enum Heard {
     Done,
     /// The listener has failed.
     Listener,
-    /// The disk has failed, or the store is damaged.
+    /// The disk has failed, or the store is damaged. The store is closed.
     Broken { cause: CommitFault },
+}
+
+impl Heard {
+    /// Whether the store is open still.
+    pub fn is_open(self) -> bool
+        ensures { result ≡ defs.is_open_end self }
+    {
+        match self {
+            Heard::Done | Heard::Listener => true,
+            Heard::Broken { .. } => false,
+        }
+    }
 }
 
 /// The fault of the disk that ends a run behind what came of a request.
@@ -40,16 +52,6 @@ fn break_of(came: Result<Served, ServeFault>) -> Option<CommitFault>
         Err(ServeFault::Damaged { file, at }) => Some(CommitFault::Damaged { file, at }),
         Err(ServeFault::Link | ServeFault::Cut) => None,
         Ok(_) => None,
-    }
-}
-
-/// Whether the store is open still.
-fn is_open_end(end: Heard) -> bool
-    ensures { result ≡ defs.is_open_end end }
-{
-    match end {
-        Heard::Done | Heard::Listener => true,
-        Heard::Broken { .. } => false,
     }
 }
 
@@ -155,7 +157,7 @@ pub fn run_serve<L: Listener, M: Listing + Drop, C: Clock, D: Disk>(
     ensures comes { defs.Comes (L.faults listener.old) (L.faults listener.new) (D.Disk.faults disk.old) (D.Disk.faults disk.new) result }
 {
     let end = serve_all(alloc, store, listener, requests, clock, disk);
-    if !is_open_end(end) {
+    if !end.is_open() {
         return end;
     }
     match store.commit(disk) {

@@ -3,8 +3,10 @@
 ghost use Rattle.std.specs.Prelude.{◌≡◌, ◌≤◌, ◌<◌, ℕ, List, [], ◌∷◌, length, map, false, Some, Err, IfOk, IfErr, IsErrOf, vec_len};
 ghost use Rattle.std.specs.List.{AllByRecursion};
 ghost use Rattle.ix_base.specs.Faults.{Rose};
+ghost use Rattle.ix_base.specs.Told.{Told};
 ghost use Rattle.ix_base.specs.declared.files.File.{File};
 ghost use Rattle.ix_disk.specs.Image.{Image};
+ghost use Rattle.ix_keep.specs.Contents.{Anyhow};
 ghost use Rattle.ix_keep.specs.Snapshot.{IsOver, IsMeasured};
 ghost use Rattle.ix_machine.specs.Given.{Chooser};
 ghost use Rattle.ix_machine.specs.Judged.{is_begun};
@@ -69,6 +71,7 @@ fn give_one<M: Listing + Drop, D: Disk>(
     ensures measured { is_cut result ≡ false → IsMeasured D.Disk store.old.keeper disk.old → IsMeasured D.Disk store.new.keeper disk.new }
     ensures undamaged { (file : File) (at : ℕ) → result ≡ Err (GiveFault.Commit (CommitFault.Damaged file at)) → (choose : Chooser) (history : List Order) (base k : ℕ) → M.is_chooser choose →
         AllByRecursion M.takes history → Holds D.Disk M.Book.fits M.holds choose history base k store.old disk.old → (image : Image) → D.Disk.seen disk.new ≡ Some image → ⊥ }
+    ensures told { Told Anyhow (D.Disk.seen disk.old) (D.Disk.seen disk.new) }
     ensures later { D.Disk.faults disk.old ≤ D.Disk.faults disk.new }
     ensures cause { IfErr result (λ fault. fault ≡ GiveFault.Commit CommitFault.Disk → Rose (D.Disk.faults disk.old) (D.Disk.faults disk.new)) }
 {
@@ -117,6 +120,7 @@ impl Stream {
         ensures measured { is_cut result ≡ false → IsMeasured D.Disk store.old.keeper disk.old → IsMeasured D.Disk store.new.keeper disk.new }
         ensures undamaged { (file : File) (at : ℕ) → result ≡ Err (GiveFault.Commit (CommitFault.Damaged file at)) → (choose : Chooser) (history : List Order) (base k : ℕ) → M.is_chooser choose →
             AllByRecursion M.takes history → Holds D.Disk M.Book.fits M.holds choose history base k store.old disk.old → (image : Image) → D.Disk.seen disk.new ≡ Some image → ⊥ }
+        ensures told { Told Anyhow (D.Disk.seen disk.old) (D.Disk.seen disk.new) }
         ensures later { D.Disk.faults disk.old ≤ D.Disk.faults disk.new }
         ensures cause { IfErr result (λ fault. fault ≡ GiveFault.Commit CommitFault.Disk → Rose (D.Disk.faults disk.old) (D.Disk.faults disk.new)) }
     {
@@ -143,6 +147,7 @@ impl Stream {
         ensures measured { is_cut result ≡ false → IsMeasured D.Disk store.old.keeper disk.old → IsMeasured D.Disk store.new.keeper disk.new }
         ensures undamaged { (file : File) (at : ℕ) → result ≡ Err (GiveFault.Commit (CommitFault.Damaged file at)) → (choose : Chooser) (history : List Order) (base k : ℕ) → M.is_chooser choose →
             AllByRecursion M.takes history → Holds D.Disk M.Book.fits M.holds choose history base k store.old disk.old → (image : Image) → D.Disk.seen disk.new ≡ Some image → ⊥ }
+        ensures told { Told Anyhow (D.Disk.seen disk.old) (D.Disk.seen disk.new) }
         ensures later { D.Disk.faults disk.old ≤ D.Disk.faults disk.new }
         ensures cause { IfErr result (λ fault. fault ≡ GiveFault.Commit CommitFault.Disk → Rose (D.Disk.faults disk.old) (D.Disk.faults disk.new)) }
     {
@@ -170,6 +175,7 @@ impl Stream {
         ensures measured { is_cut result ≡ false → IsMeasured D.Disk store.old.keeper disk.old → IsMeasured D.Disk store.new.keeper disk.new }
         ensures undamaged { (file : File) (at : ℕ) → result ≡ Err (GiveFault.Commit (CommitFault.Damaged file at)) → (choose : Chooser) (history : List Order) (base k : ℕ) → M.is_chooser choose →
             AllByRecursion M.takes history → Holds D.Disk M.Book.fits M.holds choose history base k store.old disk.old → (image : Image) → D.Disk.seen disk.new ≡ Some image → ⊥ }
+        ensures told { Told Anyhow (D.Disk.seen disk.old) (D.Disk.seen disk.new) }
         ensures later { D.Disk.faults disk.old ≤ D.Disk.faults disk.new }
         ensures cause { IfErr result (λ fault. fault ≡ GiveFault.Commit CommitFault.Disk → Rose (D.Disk.faults disk.old) (D.Disk.faults disk.new)) }
     {
@@ -211,6 +217,7 @@ impl Stream {
         ensures measured { is_cut result ≡ false → IsMeasured D.Disk store.old.keeper disk.old → IsMeasured D.Disk store.new.keeper disk.new }
         ensures undamaged { (file : File) (at : ℕ) → result ≡ Err (GiveFault.Commit (CommitFault.Damaged file at)) → (choose : Chooser) (history : List Order) (base k : ℕ) → M.is_chooser choose →
             AllByRecursion M.takes history → Holds D.Disk M.Book.fits M.holds choose history base k store.old disk.old → (image : Image) → D.Disk.seen disk.new ≡ Some image → ⊥ }
+        ensures told { Told Anyhow (D.Disk.seen disk.old) (D.Disk.seen disk.new) }
         ensures later { D.Disk.faults disk.old ≤ D.Disk.faults disk.new }
         ensures cause { IfErr result (λ fault. fault ≡ GiveFault.Commit CommitFault.Disk → Rose (D.Disk.faults disk.old) (D.Disk.faults disk.new)) }
     {
@@ -243,6 +250,7 @@ impl Stream {
         ensures measured { is_run_cut result ≡ false → IsMeasured D.Disk store.old.keeper disk.old → IsMeasured D.Disk store.new.keeper disk.new }
         ensures undamaged { (file : File) (at : ℕ) → result ≡ Err (RunFault.Given (GiveFault.Commit (CommitFault.Damaged file at))) → (choose : Chooser) (history : List Order) (base k : ℕ) → M.is_chooser choose →
             AllByRecursion M.takes history → Holds D.Disk M.Book.fits M.holds choose history base k store.old disk.old → (image : Image) → D.Disk.seen disk.new ≡ Some image → ⊥ }
+        ensures told { Told Anyhow (D.Disk.seen disk.old) (D.Disk.seen disk.new) }
         ensures later { D.Disk.faults disk.old ≤ D.Disk.faults disk.new }
         ensures read_later { S.faults input.old ≤ S.faults input.new }
         ensures cause { IsErrOf result (RunFault.Given (GiveFault.Commit CommitFault.Disk)) → Rose (D.Disk.faults disk.old) (D.Disk.faults disk.new) }
@@ -288,6 +296,7 @@ impl Stream {
         ensures measured { is_run_cut result ≡ false → IsMeasured D.Disk store.old.keeper disk.old → IsMeasured D.Disk store.new.keeper disk.new }
         ensures undamaged { (file : File) (at : ℕ) → result ≡ Err (RunFault.Given (GiveFault.Commit (CommitFault.Damaged file at))) → (choose : Chooser) (history : List Order) (base k : ℕ) → M.is_chooser choose →
             AllByRecursion M.takes history → Holds D.Disk M.Book.fits M.holds choose history base k store.old disk.old → (image : Image) → D.Disk.seen disk.new ≡ Some image → ⊥ }
+        ensures told { Told Anyhow (D.Disk.seen disk.old) (D.Disk.seen disk.new) }
         ensures later { D.Disk.faults disk.old ≤ D.Disk.faults disk.new }
         ensures read_later { S.faults input.old ≤ S.faults input.new }
         ensures cause { IsErrOf result (RunFault.Given (GiveFault.Commit CommitFault.Disk)) → Rose (D.Disk.faults disk.old) (D.Disk.faults disk.new) }
@@ -346,6 +355,8 @@ pub fn store_input<M: Listing + Drop, D: Disk, S: Source>(
     // A disk that keeps what was committed is not damaged.
     ensures undamaged { (file : File) (at : ℕ) → result ≡ Err (RunFault.Given (GiveFault.Commit (CommitFault.Damaged file at))) → (choose : Chooser) (history : List Order) (base k : ℕ) → M.is_chooser choose →
         AllByRecursion M.takes history → Holds D.Disk M.Book.fits M.holds choose history base k store.old disk.old → (image : Image) → D.Disk.seen disk.new ≡ Some image → ⊥ }
+    // A disk that tells what it reads goes on telling.
+    ensures told { Told Anyhow (D.Disk.seen disk.old) (D.Disk.seen disk.new) }
     ensures later { D.Disk.faults disk.old ≤ D.Disk.faults disk.new }
     ensures read_later { S.faults input.old ≤ S.faults input.new }
     ensures cause { IsErrOf result (RunFault.Given (GiveFault.Commit CommitFault.Disk)) → Rose (D.Disk.faults disk.old) (D.Disk.faults disk.new) }

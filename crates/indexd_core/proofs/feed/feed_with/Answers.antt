@@ -67,7 +67,7 @@ returns-in-Err-clause-input g c = λ is. absurd (yes_no _ (input_stop c.say_stop
 
 pub returns-in-Err-clause-undamaged : goal.returns-in-Err-clause-undamaged
 returns-in-Err-clause-undamaged g c = λ is. by_blame c.in-Err.stop _ (sym c.say_stop.ensures.status ∙ is)
-    (λ unsound. λ choose history k chooser taken begins image seen later told. c.run_streams.ensures.sound (c.in-Err.is ∙ err_as c.in-Err.stop _ unsound) choose history k chooser taken begins image seen)
+    (λ unsound. λ choose history k chooser taken begins image seen. c.run_streams.ensures.sound (c.in-Err.is ∙ err_as c.in-Err.stop _ unsound) choose history k chooser taken begins image seen)
     (λ file at damaged. c.run_streams.ensures.undamaged file at (c.in-Err.is ∙ err_as c.in-Err.stop _ damaged))
 
 pub returns-in-Err-clause-usage : goal.returns-in-Err-clause-usage

@@ -9,7 +9,7 @@ use Rattle.indexd_core.proofs.StopLemmas.{preview-stated, store_stated}
 use Rattle.indexd_core.proofs.NamedLemmas.{stated_short}
 use Rattle.indexd_core.specs.Commands.{asked_for}
 use Rattle.indexd_core.specs.Origins.{stated_of}
-use Rattle.indexd_core.specs.Serves.{Serves, ear}
+use Rattle.indexd_core.specs.Serves.{Serves, listened}
 use Rattle.indexd_core.specs.Stored.{Stored, WroteUnread, unread}
 use Rattle.indexd_core.specs.declared.status.Status.{Status}
 use Rattle.indexd_core.proofs.ServeLemmas.{same_count}
@@ -99,7 +99,7 @@ returns-in-Ok-Serve-clause-served g c = λ port requests asks.
     let here : asked c.args.words.now ≡ Some (serve c.in-Ok-Serve.port c.in-Ok-Serve.requests) = search rules in
     subst (λ (n : ℕ). Serves c.serve.result n (g.T.Tree.files c.args.tree.now) (g.T.Tree.faults c.args.tree.now) (g.T.Tree.faults c.serve.new.tree)
     (g.C.Clock.ahead c.args.clock.now) (g.C.Clock.ahead c.serve.new.clock)
-    (ear (g.L.Listener.waiting c.args.listener.now) (g.L.Listener.handed c.args.listener.now)) (ear (g.L.Listener.waiting c.serve.new.listener) (g.L.Listener.handed c.serve.new.listener))
+    (listened (g.L.Listener.waiting c.args.listener.now) (g.L.Listener.handed c.args.listener.now)) (listened (g.L.Listener.waiting c.serve.new.listener) (g.L.Listener.handed c.serve.new.listener))
     (side (g.W.Sink.faults c.args.output.now) (g.W.Sink.given c.args.output.now)) (side (g.W.Sink.faults c.serve.new.output) (g.W.Sink.given c.serve.new.output))
     g.D.Disk c.args.disk.now c.serve.new.disk)
     (same_count (asked c.args.words.now) c.in-Ok-Serve.port port c.in-Ok-Serve.requests requests here asks) c.serve.ensures.serves

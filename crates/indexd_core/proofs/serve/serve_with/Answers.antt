@@ -9,7 +9,7 @@ use Rattle.indexd_core.specs.Sides.{side}
 use Rattle.indexd_core.specs.Stored.{FromStart, line_of, named_of}
 use Rattle.indexd_core.specs.Texts.{Said}
 use Rattle.indexd_core.proofs.FeedLemmas.{asks_taken}
-use Rattle.indexd_core.proofs.ServeLemmas.{same_ear, output_served, disk_served, listener_served, damaged_served, input_served, usage_served}
+use Rattle.indexd_core.proofs.ServeLemmas.{same_listened, output_served, disk_served, listener_served, damaged_served, input_served, usage_served}
 use Rattle.indexd_core.proofs.ShortLemmas.{left_at_stop, serve_short}
 use Rattle.indexd_core.proofs.StoredLemmas.{disk_stop, output_stop, input_stop, usage_stop, listener_stop, yes_no, err_as, by_blame}
 use Rattle.indexd_core.proofs.serve.serve_with.Goals as goal
@@ -21,7 +21,7 @@ pub run_serve-requires-clause-asks : goal.run_serve-requires-clause-asks
 run_serve-requires-clause-asks g c = asks_taken
 
 pub returns-in-Err-clause-comes : goal.returns-in-Err-clause-comes
-returns-in-Err-clause-comes g c = unbound c.say_fault.ensures.status refl (same_ear _ _ _ _ c.bind.ensures.waiting c.bind.ensures.handed) refl c.say_fault.ensures.said
+returns-in-Err-clause-comes g c = unbound c.say_fault.ensures.status refl (same_listened _ _ _ _ c.bind.ensures.waiting c.bind.ensures.handed) refl c.say_fault.ensures.said
 
 pub returns-in-Err-clause-short : goal.returns-in-Err-clause-short
 returns-in-Err-clause-short g c = λ ok. inr (inl refl)
@@ -65,7 +65,7 @@ pub returns-in-Err-run_serve-clause-comes : goal.returns-in-Err-run_serve-clause
 returns-in-Err-run_serve-clause-comes g c =
     let named : named_of c.of_index.result ≡ [] = cc (c.of_index.ensures) in
     shut c.in-Err-run_serve.stop c.say_stop.ensures.status c.in-Err-run_serve.ensures.shut
-    (same_ear _ _ _ _ (ap (λ l. g.L.Listener.waiting l) c.in-Err-run_serve.ensures.untouched ∙ c.bind.ensures.waiting) (ap (λ l. g.L.Listener.handed l) c.in-Err-run_serve.ensures.untouched ∙ c.bind.ensures.handed))
+    (same_listened _ _ _ _ (ap (λ l. g.L.Listener.waiting l) c.in-Err-run_serve.ensures.untouched ∙ c.bind.ensures.waiting) (ap (λ l. g.L.Listener.handed l) c.in-Err-run_serve.ensures.untouched ∙ c.bind.ensures.handed))
     (subst (λ (name : List ℕ). Said (line_of name c.in-Err-run_serve.stop) (side (g.W.Sink.faults c.args.output.now) (g.W.Sink.given c.args.output.now))
     (side (g.W.Sink.faults c.say_stop.new.output) (g.W.Sink.given c.say_stop.new.output))) named c.say_stop.ensures.said)
 
@@ -83,7 +83,7 @@ returns-in-Err-run_serve-clause-input g c = λ is. yes_no _ (input_stop c.say_st
 
 pub returns-in-Err-run_serve-clause-undamaged : goal.returns-in-Err-run_serve-clause-undamaged
 returns-in-Err-run_serve-clause-undamaged g c = λ is. by_blame c.in-Err-run_serve.stop _ (sym c.say_stop.ensures.status ∙ is)
-    (λ unsound. λ choose history k chooser taken begins image seen later told. c.run_serve.ensures.sound (c.in-Err-run_serve.is ∙ err_as c.in-Err-run_serve.stop _ unsound) choose history k chooser taken begins image seen)
+    (λ unsound. λ choose history k chooser taken begins image seen. c.run_serve.ensures.sound (c.in-Err-run_serve.is ∙ err_as c.in-Err-run_serve.stop _ unsound) choose history k chooser taken begins image seen)
     (λ file at damaged. c.run_serve.ensures.undamaged file at (c.in-Err-run_serve.is ∙ err_as c.in-Err-run_serve.stop _ damaged))
 
 pub returns-in-Err-run_serve-clause-usage : goal.returns-in-Err-run_serve-clause-usage

@@ -12,6 +12,7 @@ use Rattle.indexd_core.specs.Stored.{status_of}
 use Rattle.indexd_core.specs.declared.status.Status.TheVariants as statuses
 use Rattle.indexd_core.proofs.MissedLemmas.{missed, by_disk}
 use Rattle.indexd_core.proofs.StoredLemmas.{by_blame, err_as}
+use Rattle.ix_serve.proofs.Standing.{tells_on}
 use Rattle.indexd_core.proofs.stored.miss.Goals as goal
 
 pub open-requires : goal.open-requires
@@ -44,6 +45,12 @@ returns-clause-unread g c = by_end (λ (s : Stop). is_input s ≡ false) stops.N
 
 pub returns-in-Err-clause-undamaged : goal.returns-in-Err-clause-undamaged
 returns-in-Err-clause-undamaged g c = λ is. by_blame c.in-Err.stop _ is
-    (λ unsound. λ choose history k chooser taken begins image seen later told.
+    (λ unsound. λ choose history k chooser taken begins image seen.
     shut_sound c.in-Err.stop g.D.Disk _ choose history k c.args.config _ _ c.args.disk.now c.open.new.disk unsound (c.in-Err.ensures.stopped choose history k chooser taken begins image seen))
     (λ file at damaged. c.open.ensures.undamaged file at (c.in-Err.is ∙ err_as c.in-Err.stop _ damaged))
+
+pub returns-clause-told : goal.returns-clause-told
+returns-clause-told g c = λ is. tells_on g.D.Disk _ c.open.new.disk c.stop_run.new.disk c.stop_run.ensures.told (tells_on g.D.Disk _ c.args.disk.now c.open.new.disk c.open.ensures.told is)
+
+pub returns-in-Err-clause-told : goal.returns-in-Err-clause-told
+returns-in-Err-clause-told g c = tells_on g.D.Disk _ c.args.disk.now c.open.new.disk c.open.ensures.told

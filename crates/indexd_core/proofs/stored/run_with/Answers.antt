@@ -7,6 +7,7 @@ use Rattle.indexd_core.proofs.PreviewLemmas.{rose-until}
 use Rattle.indexd_core.proofs.StoredLemmas.{task_taken, disk_stop, output_stop, input_stop, usage_stop, listener_stop, yes_no, err_as, by_blame}
 use Rattle.indexd_core.specs.declared.status.Status.TheVariants as statuses
 use Rattle.indexd_core.proofs.ShortLemmas.{left_at_ok, left_at_err}
+use Rattle.ix_serve.proofs.Standing.{tells_on}
 use Rattle.indexd_core.proofs.stored.run_with.Goals as goal
 
 pub run_task-requires-clause-settings : goal.run_task-requires-clause-settings
@@ -44,7 +45,7 @@ returns-in-Err-clause-listener g c = λ is. listener_stop c.say_stop.result c.in
 
 pub returns-in-Err-clause-undamaged : goal.returns-in-Err-clause-undamaged
 returns-in-Err-clause-undamaged g c = λ is. by_blame c.in-Err.stop _ (sym c.say_stop.ensures.status ∙ is)
-    (λ unsound. λ choose history k chooser taken begins image seen later told. c.run_task.ensures.sound (c.in-Err.is ∙ err_as c.in-Err.stop _ unsound) choose history k chooser taken begins image seen)
+    (λ unsound. λ choose history k chooser taken begins image seen. c.run_task.ensures.sound (c.in-Err.is ∙ err_as c.in-Err.stop _ unsound) choose history k chooser taken begins image seen)
     (λ file at damaged. c.run_task.ensures.undamaged file at (c.in-Err.is ∙ err_as c.in-Err.stop _ damaged))
 
 pub returns-in-Ok-clause-short : goal.returns-in-Ok-clause-short
@@ -52,3 +53,9 @@ returns-in-Ok-clause-short g c = left_at_ok g.D.Disk c.args.disk.now c.run_task.
 
 pub returns-in-Err-clause-short : goal.returns-in-Err-clause-short
 returns-in-Err-clause-short g c = left_at_err g.D.Disk c.args.disk.now c.run_task.new.disk c.run_task.result c.say_stop.result c.in-Err.stop c.in-Err.is c.say_stop.ensures.status c.run_task.ensures.short
+
+pub returns-in-Ok-clause-told : goal.returns-in-Ok-clause-told
+returns-in-Ok-clause-told g c = tells_on g.D.Disk _ c.args.disk.now c.run_task.new.disk c.run_task.ensures.told
+
+pub returns-in-Err-clause-told : goal.returns-in-Err-clause-told
+returns-in-Err-clause-told g c = tells_on g.D.Disk _ c.args.disk.now c.run_task.new.disk c.run_task.ensures.told

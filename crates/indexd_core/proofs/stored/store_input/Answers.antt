@@ -2,6 +2,7 @@ use Rattle.std.proofs.Common.{◌≤◌, ◌∙◌, arith}
 use Rattle.indexd_store.proofs.Feeding.{none_taken}
 use Rattle.indexd_store.proofs.Tasks.{if_err_by}
 use Rattle.indexd_core.proofs.StoredLemmas.{brief_index, by_blame, err_as}
+use Rattle.ix_serve.proofs.Standing.{tells_on}
 use Rattle.indexd_core.proofs.stored.store_input.Goals as goal
 
 pub run_preview-requires-clause-settings : goal.run_preview-requires-clause-settings
@@ -27,5 +28,8 @@ returns-then-is_long-clause-stopped g c = c.miss.ensures.stopped (g.S.Source.lef
 
 pub returns-clause-undamaged : goal.returns-clause-undamaged
 returns-clause-undamaged g c = if_err_by c.run_preview.result _ (λ stop is. λ blamed. by_blame stop _ blamed
-    (λ unsound. λ choose history k chooser taken begins image seen later told. c.run_preview.ensures.sound (is ∙ err_as stop _ unsound) choose history k chooser taken begins image seen)
+    (λ unsound. λ choose history k chooser taken begins image seen. c.run_preview.ensures.sound (is ∙ err_as stop _ unsound) choose history k chooser taken begins image seen)
     (λ file at damaged. c.run_preview.ensures.undamaged file at (is ∙ err_as stop _ damaged)))
+
+pub returns-clause-told : goal.returns-clause-told
+returns-clause-told g c = tells_on g.D.Disk _ c.args.disk.now c.run_preview.new.disk c.run_preview.ensures.told

@@ -7,9 +7,11 @@ use Rattle.ix_serve.specs.Serving.{IsClean}
 use Rattle.indexd_store.specs.Opened.{is_configured}
 use Rattle.indexd_store.specs.declared.stop.Stop.TheVariants as stops
 use Rattle.indexd_store.proofs.Joining.{front_has, begun_taken, shut_sound}
+use Rattle.indexd_store.proofs.Undamaged.{seen_on}
 use Rattle.indexd_feed.specs.Serving.{Requests}
 use Rattle.indexd_feed.proofs.Opening.{served_behind}
 use Rattle.indexd_feed.proofs.Ending.{same_ok}
+use Rattle.ix_serve.proofs.Standing.{tells_on}
 use Rattle.indexd_feed.proofs.feed.run_feed.Goals as goal
 
 pub returns-clause-served : goal.returns-clause-served
@@ -22,14 +24,15 @@ returns-clause-served g c = λ choose history k chooser taken begins image seen.
     (Requests g.D.Disk g.M.Book.Replay.fits choose c.feed_open.result
     (IsClean (g.K.Link.faults c.args.link.now) (g.K.Link.faults c.feed_open.new.link) (g.K.Link.standing c.args.link.now) (g.K.Link.standing c.feed_open.new.link))
     (g.K.Link.left c.args.link.now) (g.K.Link.left c.feed_open.new.link) (g.C.Clock.ahead c.feed_open.new.clock) (g.K.Link.given c.args.link.now) (g.K.Link.given c.feed_open.new.link) c.feed_open.new.disk)
-    requests.1.turns requests.0 c.feed_open.new.disk requests.1.now_is requests.1 requests.1.images
+    requests.1.turns requests.0 c.feed_open.new.disk (tells_on g.D.Disk _ c.args.disk.now c.open.new.disk c.open.ensures.told) requests.1.now_is requests.1 requests.1.images
 
 pub returns-clause-unbroken : goal.returns-clause-unbroken
-returns-clause-unbroken g c = λ file at is choose history k chooser taken begins image seen later told.
+returns-clause-unbroken g c = λ file at is choose history k chooser taken begins image seen.
+    let mounted = seen_on _ (g.D.Disk.seen c.args.disk.now) (g.D.Disk.seen c.open.new.disk) image c.open.ensures.told seen in
     let opened = c.in-Ok.ensures.opened choose history k chooser taken begins image seen in
     let taken_now = begun_taken g.M.Memory.takes g.met.M.Memory.ticks_are_taken choose (take opened.count history) c.args.config (is_configured choose (take opened.count history) c.args.config) opened.configured
     c.requires.settings (front_has g.M.Memory.takes opened.count history taken) opened.configures in
-    c.feed_open.ensures.unbroken file at (same_ok is) choose (given_all choose (take opened.count history) opened.configured) opened.count chooser taken_now opened.hold later told
+    c.feed_open.ensures.unbroken file at (same_ok is) choose (given_all choose (take opened.count history) opened.configured) opened.count chooser taken_now opened.hold mounted.0 mounted.1
 
 pub returns-clause-disk : goal.returns-clause-disk
 returns-clause-disk g c = λ is. rose_later (g.D.Disk.faults c.args.disk.now) (g.D.Disk.faults c.open.new.disk) (g.D.Disk.faults c.feed_open.new.disk) c.open.ensures.later (c.feed_open.ensures.comes.by_disk (same_ok is))
@@ -48,3 +51,9 @@ returns-in-Err-clause-undamaged g c = λ file at is.
 
 pub returns-in-Err-clause-goes : goal.returns-in-Err-clause-goes
 returns-in-Err-clause-goes g c = goes_nowhere (g.K.Link.standing c.args.link.now)
+
+pub returns-clause-told : goal.returns-clause-told
+returns-clause-told g c = λ is. c.feed_open.ensures.told (tells_on g.D.Disk _ c.args.disk.now c.open.new.disk c.open.ensures.told is)
+
+pub returns-in-Err-clause-told : goal.returns-in-Err-clause-told
+returns-in-Err-clause-told g c = tells_on g.D.Disk _ c.args.disk.now c.open.new.disk c.open.ensures.told

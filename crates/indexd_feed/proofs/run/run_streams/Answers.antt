@@ -4,7 +4,7 @@ use Rattle.indexd_feed.specs.Ends.{fed_of, is_short}
 use Rattle.indexd_feed.specs.Serving.{HasServed, Requests}
 use Rattle.indexd_feed.specs.Sides.{IsSound}
 use Rattle.indexd_feed.proofs.Opening.{served_as, requests_where}
-use Rattle.indexd_feed.proofs.Ending.{told_end, short_told, of_disk, of_damaged, of_input, of_output, same_ok, same_err, read_failed, write_failed, has_failed, along}
+use Rattle.indexd_feed.proofs.Ending.{told_end, of_disk, of_damaged, of_input, of_output, same_ok, same_err, read_failed, write_failed, has_failed, along}
 use Rattle.indexd_feed.proofs.run.run_streams.Goals as goal
 
 pub returns-in-Ok-clause-served : goal.returns-in-Ok-clause-served
@@ -16,14 +16,14 @@ returns-in-Ok-clause-served g c = λ choose history k chooser taken begins image
     (g.S.Source.left c.new-link.result.source.now) (g.S.Source.left c.run_feed.new.link.source.now) (g.C.Clock.ahead c.run_feed.new.clock)
     (g.W.Sink.given c.new-link.result.sink.now) (g.W.Sink.given c.run_feed.new.link.sink.now) c.run_feed.new.disk) _ _ has
     (requests_where g.D.Disk _ choose c.in-Ok.fed (fed_of c.end_of.result) _ _ _ _ _ _ _ _ _ _ _ _ _ _ (λ sound. inr sound)
-    (ap fed_of c.end_of.ensures ∙ told_end c.in-Ok.fed c.run_feed.new.link.failed requests.first requests.turns requests.ends requests.behind) requests) in
+    (ap fed_of c.end_of.ensures ∙ told_end c.in-Ok.fed c.run_feed.new.link.failed) requests) in
     along (λ s s' w w'. HasServed g.D.Disk g.M.Book.Replay.fits choose history k c.args.config (g.C.Clock.ahead c.args.clock.now)
     (Requests g.D.Disk g.M.Book.Replay.fits choose (fed_of c.end_of.result) (IsSound (g.W.Sink.faults w) (g.W.Sink.faults w'))
     (g.S.Source.left s) (g.S.Source.left s') (g.C.Clock.ahead c.run_feed.new.clock) (g.W.Sink.given w) (g.W.Sink.given w') c.run_feed.new.disk) c.args.disk.now c.run_feed.new.disk)
     c.new-link.ensures.read (search rules) c.new-link.ensures.written (search rules) told
 
 pub returns-in-Ok-clause-short : goal.returns-in-Ok-clause-short
-returns-in-Ok-clause-short g c = λ is. c.in-Ok.ensures.short (short_told c.in-Ok.fed c.run_feed.new.link.failed (ap (λ e. is_short (fed_of e)) (sym c.end_of.ensures) ∙ is))
+returns-in-Ok-clause-short g c = λ is. c.in-Ok.ensures.short (ap is_short (sym (told_end c.in-Ok.fed c.run_feed.new.link.failed) ∙ ap fed_of (sym c.end_of.ensures)) ∙ is)
 
 pub returns-in-Ok-clause-unbroken : goal.returns-in-Ok-clause-unbroken
 returns-in-Ok-clause-unbroken g c = λ file at is. c.run_feed.ensures.unbroken file at (c.in-Ok.is ∙ ap (λ e. Ok e) (of_damaged c.in-Ok.fed c.run_feed.new.link.failed file at (sym c.end_of.ensures ∙ same_ok is)))

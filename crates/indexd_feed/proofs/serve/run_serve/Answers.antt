@@ -6,9 +6,11 @@ use Rattle.ix_run.specs.Giving.{given_all}
 use Rattle.indexd_store.specs.Opened.{is_configured}
 use Rattle.indexd_store.specs.declared.stop.Stop.TheVariants as stops
 use Rattle.indexd_store.proofs.Joining.{front_has, begun_taken, shut_sound}
+use Rattle.indexd_store.proofs.Undamaged.{seen_on}
 use Rattle.indexd_feed.specs.Serving.{Connections}
 use Rattle.indexd_feed.proofs.Opening.{served_behind}
 use Rattle.indexd_feed.proofs.Ending.{same_ok}
+use Rattle.ix_serve.proofs.Standing.{tells_on}
 use Rattle.indexd_feed.proofs.serve.run_serve.Goals as goal
 
 pub returns-clause-served : goal.returns-clause-served
@@ -21,14 +23,15 @@ returns-clause-served g c = λ choose history k chooser taken begins image seen.
     (Connections g.D.Disk g.M.Book.Replay.fits choose c.args.requests c.serve_open.result
     (g.L.Listener.waiting c.args.listener.now) (g.L.Listener.waiting c.serve_open.new.listener) (g.L.Listener.handed c.args.listener.now) (g.L.Listener.handed c.serve_open.new.listener)
     (g.C.Clock.ahead c.serve_open.new.clock) c.serve_open.new.disk)
-    (turns_of all.1.visits) all.0 c.serve_open.new.disk all.1.now_is all.1 all.1.images
+    (turns_of all.1.visits) all.0 c.serve_open.new.disk (tells_on g.D.Disk _ c.args.disk.now c.open.new.disk c.open.ensures.told) all.1.now_is all.1 all.1.images
 
 pub returns-clause-unbroken : goal.returns-clause-unbroken
-returns-clause-unbroken g c = λ file at is choose history k chooser taken begins image seen later told.
+returns-clause-unbroken g c = λ file at is choose history k chooser taken begins image seen.
+    let mounted = seen_on _ (g.D.Disk.seen c.args.disk.now) (g.D.Disk.seen c.open.new.disk) image c.open.ensures.told seen in
     let opened = c.in-Ok.ensures.opened choose history k chooser taken begins image seen in
     let taken_now = begun_taken g.M.Memory.takes g.met.M.Memory.ticks_are_taken choose (take opened.count history) c.args.config (is_configured choose (take opened.count history) c.args.config) opened.configured
     c.requires.settings (front_has g.M.Memory.takes opened.count history taken) opened.configures in
-    c.serve_open.ensures.unbroken file at (same_ok is) choose (given_all choose (take opened.count history) opened.configured) opened.count chooser taken_now opened.hold later told
+    c.serve_open.ensures.unbroken file at (same_ok is) choose (given_all choose (take opened.count history) opened.configured) opened.count chooser taken_now opened.hold mounted.0 mounted.1
 
 pub returns-clause-disk : goal.returns-clause-disk
 returns-clause-disk g c = λ is. rose_later (g.D.Disk.faults c.args.disk.now) (g.D.Disk.faults c.open.new.disk) (g.D.Disk.faults c.serve_open.new.disk) c.open.ensures.later (c.serve_open.ensures.disk (same_ok is))
@@ -44,3 +47,9 @@ pub returns-in-Err-clause-undamaged : goal.returns-in-Err-clause-undamaged
 returns-in-Err-clause-undamaged g c = λ file at is.
     let was : c.open.result ≡ Err (stops.Damaged file at) = cc (is, c.in-Err.is) in
     c.open.ensures.undamaged file at was
+
+pub returns-clause-told : goal.returns-clause-told
+returns-clause-told g c = λ is. c.serve_open.ensures.told (tells_on g.D.Disk _ c.args.disk.now c.open.new.disk c.open.ensures.told is)
+
+pub returns-in-Err-clause-told : goal.returns-in-Err-clause-told
+returns-in-Err-clause-told g c = tells_on g.D.Disk _ c.args.disk.now c.open.new.disk c.open.ensures.told

@@ -12,7 +12,7 @@ use Rattle.indexd_store.specs.declared.stop.Stop.TheVariants as stops
 use Rattle.indexd_store.proofs.Ending.{unset, unsound_of_mount}
 use Rattle.indexd_store.proofs.Joining.{front_has, committed, configured_as, opened_same, opened_by, stopped_by}
 use Rattle.indexd_store.proofs.Shortening.{by_end, damaged_end, stopped_short, most_taken}
-use Rattle.indexd_store.proofs.Undamaged.{damaged_of_mount}
+use Rattle.indexd_store.proofs.Undamaged.{damaged_of_mount, seen_on}
 use Rattle.indexd_store.proofs.opening.open.Goals as goal
 
 pub returns-then-same_kept-clause-opened : goal.returns-then-same_kept-clause-opened
@@ -71,20 +71,21 @@ returns-in-Err-clause-stopped g c = λ choose history k chooser taken begins ima
 })
 
 pub returns-in-Err-clause-undamaged : goal.returns-in-Err-clause-undamaged
-returns-in-Err-clause-undamaged g c = λ file at is choose history k chooser taken begins image seen later told.
+returns-in-Err-clause-undamaged g c = λ file at is choose history k chooser taken begins image seen.
     let stop : of_mount c.in-Err.fault ≡ stops.Damaged file at = cc (is, c.of_mount.ensures) in
     let fault = damaged_of_mount c.in-Err.fault file at stop in
     let was : c.mount.result ≡ Err (mounts.Damaged file at) = cc (fault, c.in-Err.is) in
     c.mount.ensures.undamaged file at was choose history k begins image seen
 
 pub returns-in-Err-run_last-clause-undamaged : goal.returns-in-Err-run_last-clause-undamaged
-returns-in-Err-run_last-clause-undamaged g c = λ file at is choose history k chooser taken begins image seen later told.
+returns-in-Err-run_last-clause-undamaged g c = λ file at is choose history k chooser taken begins image seen.
+    let mounted = seen_on _ (g.D.Disk.seen c.args.disk.now) (g.D.Disk.seen c.mount.new.disk) image c.mount.ensures.told seen in
+    let later = seen_on _ (g.D.Disk.seen c.mount.new.disk) (g.D.Disk.seen c.run_last.new.disk) mounted.0 c.run_last.ensures.told mounted.1 in
     let found = c.in-Ok.ensures.mounted choose history k chooser taken begins image seen in
     let all = committed g.D.Disk _ g.M.Memory.holds choose history k c.args.config image c.in-Ok.store c.mount.new.disk found in
     let blamed = damaged_end c.in-Err-run_last.stop c.stop_run.result file at c.stop_run.ensures.why is in
     let same = c.stop_run.ensures.closed (ap loses blamed) in
-    c.run_last.ensures.undamaged file at (c.in-Err-run_last.is ∙ ap (λ (s : Stop). Err s) blamed) choose (take found.count history) found.count chooser (front_has g.M.Memory.takes found.count history taken) all later
-    (subst (λ d. g.D.Disk.seen d ≡ Some later) same.1.1 told)
+    c.run_last.ensures.undamaged file at (c.in-Err-run_last.is ∙ ap (λ (s : Stop). Err s) blamed) choose (take found.count history) found.count chooser (front_has g.M.Memory.takes found.count history taken) all later.0 later.1
 
 pub returns-in-Err-run_last-clause-short : goal.returns-in-Err-run_last-clause-short
 returns-in-Err-run_last-clause-short g c = λ ok. inl (c.stop_run.ensures.short ok)

@@ -69,6 +69,7 @@ returns-in_default g c =
       short = c.give_and_say.ensures.short;
       unread = c.give_and_say.ensures.unread;
       undamaged = c.give_and_say.ensures.undamaged;
+      told = c.give_and_say.ensures.told;
       later = c.give_and_say.ensures.later;
       cause = c.give_and_say.ensures.cause;
       grown = c.give_and_say.ensures.grown;

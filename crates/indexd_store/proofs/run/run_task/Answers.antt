@@ -7,6 +7,7 @@ use Rattle.indexd_store.specs.Opened.{is_configured}
 use Rattle.indexd_store.specs.declared.stop.Stop.TheVariants as stops
 use Rattle.indexd_store.proofs.Joining.{front_has, begun_taken, done_when, halted_when, shut_sound}
 use Rattle.indexd_store.proofs.Shortening.{ends_as}
+use Rattle.indexd_store.proofs.Undamaged.{seen_on}
 use Rattle.indexd_store.proofs.Tasks.{on_ok_by, at_ok, if_err_by, at_err}
 use Rattle.indexd_store.proofs.run.run_task.Goals as goal
 
@@ -59,10 +60,12 @@ returns-in-Err-clause-undamaged g c = λ file at is.
 
 pub returns-clause-undamaged : goal.returns-clause-undamaged
 returns-clause-undamaged g c = λ file at is choose history k chooser taken begins image seen.
+    let mounted = seen_on _ (g.D.Disk.seen c.args.disk.now) (g.D.Disk.seen c.open.new.disk) image c.open.ensures.told seen in
+    let later = seen_on _ (g.D.Disk.seen c.open.new.disk) (g.D.Disk.seen c.carry_out.new.disk) mounted.0 c.carry_out.ensures.told mounted.1 in
     let opened = c.in-Ok.ensures.opened choose history k chooser taken begins image seen in
     let taken_now = begun_taken g.M.Memory.takes g.met.M.Memory.ticks_are_taken choose (take opened.count history) c.args.config (is_configured choose (take opened.count history) c.args.config) opened.configured
     c.requires.settings (front_has g.M.Memory.takes opened.count history taken) opened.configures in
-    c.carry_out.ensures.undamaged file at is choose (given_all choose (take opened.count history) opened.configured) opened.count chooser taken_now opened.hold
+    c.carry_out.ensures.undamaged file at is choose (given_all choose (take opened.count history) opened.configured) opened.count chooser taken_now opened.hold later.0 later.1
 
 pub returns-clause-short : goal.returns-clause-short
 returns-clause-short g c = ends_as g.D.Disk _ c.carry_out.result c.args.disk.now c.carry_out.new.disk c.carry_out.ensures.short

@@ -4,6 +4,7 @@ use Rattle.std.proofs.lemmas.List.{length-take, length-take-le}
 use Rattle.ix_base.specs.Told.{Told, Took}
 use Rattle.ix_disk.proofs.Runs.{rose_later}
 use Rattle.ix_keep.specs.declared.fault.CommitFault.TheVariants as commits
+use Rattle.ix_keep.proofs.Reading.{anyhow_same, anyhow_through}
 use Rattle.ix_store.proofs.Booked.{all_more}
 use Rattle.ix_run.specs.Giving.{given_all}
 use Rattle.ix_run.specs.Storing.{block_order, joined, IsBlock, input_limit}
@@ -22,6 +23,7 @@ loop-taken-init g c = record {
   given = λ choose h base k chooser taken hold. given_none g.D.Disk g.M.Book.Replay.fits g.M.Memory.holds choose h base k c.args.store.now c.args.disk.now hold;
   over = c.requires.over;
   measured = λ measured. measured;
+  told = anyhow_same (g.D.Disk.seen c.args.disk.now) (g.D.Disk.seen c.args.disk.now) refl;
   later = omega arith;
   read_later = omega arith;
 }
@@ -95,6 +97,7 @@ loop-taken-preserved g c =
           (all_taken g.M.Memory.takes g.met.M.Memory.ticks_are_taken choose h (map (block_order c.args.self.moment) c.loop-taken.invariant.pieces) taken
           (blocks_taken g.M.Memory.takes c.args.self.moment c.requires.takes c.loop-taken.invariant.pieces c.loop-taken.invariant.sizes)) one.hold);
       over = c.in-Ok-add.ensures.over refl;
+      told = anyhow_through (g.D.Disk.seen c.args.disk.now) (g.D.Disk.seen c.loop-taken.disk) (g.D.Disk.seen c.add.new.disk) c.loop-taken.invariant.told c.add.ensures.told;
       measured = λ measured. c.in-Ok-add.ensures.measured refl (c.loop-taken.invariant.measured measured);
       later = omega (arith, c.loop-taken.invariant.later, c.add.ensures.later);
       read_later = omega (arith, c.loop-taken.invariant.read_later, c.read.ensures.cause.later);

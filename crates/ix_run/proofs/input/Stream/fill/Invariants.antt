@@ -1,6 +1,7 @@
 use Rattle.std.proofs.Common.{◌≡◌, ◌≤◌, ◌-◌, ℕ, List, length, map}
 use Rattle.std.specs.List.{AllByRecursion}
 use Rattle.ix_base.specs.Told.{Told, Took}
+use Rattle.ix_keep.specs.Contents.{Anyhow}
 use Rattle.ix_keep.specs.Snapshot.{IsOver, IsMeasured}
 use Rattle.ix_machine.specs.Given.{Chooser}
 use Rattle.ix_machine.specs.declared.commands.Order.{Order}
@@ -21,6 +22,7 @@ invariant-loop-taken g l = record {
       HasGivenAll g.D.Disk g.M.Book.Replay.fits g.M.Memory.holds choose history (map (block_order l.self.moment) pieces) base k l.store l.initial.disk l.disk;
   over : IsOver g.D.Disk l.store.keeper l.disk;
   measured : IsMeasured g.D.Disk l.initial.store.keeper l.initial.disk → IsMeasured g.D.Disk l.store.keeper l.disk;
+  told : Told Anyhow (g.D.Disk.seen l.initial.disk) (g.D.Disk.seen l.disk);
   later : g.D.Disk.faults l.initial.disk ≤ g.D.Disk.faults l.disk;
   read_later : g.S.Source.faults l.initial.input ≤ g.S.Source.faults l.input;
 }
