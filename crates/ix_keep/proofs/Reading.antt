@@ -25,7 +25,7 @@ use Rattle.ix_book.proofs.Replays.{bad_gate_none}
 use Rattle.ix_keep.specs.Contents.{Filling, BeginsWith, HoldsFilling, Keeping, Anyhow}
 use Rattle.ix_keep.specs.Parts.{AreParts, file_in}
 use Rattle.ix_keep.specs.Copies.{IsCopy, target}
-use Rattle.ix_keep.specs.Reads.{OrGone, Removing, IsElsewhere, IsGone, ReadsNone, LeadsTo, first_items, next_run}
+use Rattle.ix_keep.specs.Reads.{OrGone, Removing, IsElsewhere, IsGone, ReadsNone, LeadsTo, IsBegunFrom, HasNoRun, first_items, next_run}
 use Rattle.ix_keep.specs.Snapshot.{Snapshot, IsOver, log_of, begun}
 use Rattle.ix_keep.specs.Mounting.{IsRead, IsBadLog}
 use Rattle.ix_keep.specs.declared.copied.Copied.{Copied}
@@ -235,6 +235,14 @@ module _ (fits : Book → Type 0) where
       let bodies : one.bodies ≡ two.bodies = one_list_of one.bodies two.bodies (bytes_in image (current k)) one.in_log there in
       let theirs = subst (λ (n : ℕ). Replays (Taken fits (current n)) two.bodies empty b) same two.replayed in
       replays_one (Taken fits (current k)) two.bodies empty a b (subst (λ (l : List (List ℕ)). Replays (Taken fits (current k)) l empty a) bodies one.replayed) theirs
+
+  -- an image whose next run was begun leaves one to begin
+  pub begun_has_run : (image : Image) (now : Book) → IsBegunFrom fits image now → HasNoRun fits image → ⊥
+  begun_has_run image now begun none =
+      let same = leads_one image none.book begun.book none.leads begun.leads in
+      ⊎_elim (λ (last : 2 ^ 63 - 1 ≤ run_in none.book).
+      let there = subst (λ (b : Book). 2 ^ 63 - 1 ≤ run_in b) same last in
+      omega (arith, there, begun.room)) (λ (no : fits (next_run none.book) → ⊥). subst (λ (b : Book). fits (next_run b) → ⊥) same no (subst fits begun.is begun.taken)) none.none
 
   short_roots : (k : ℕ) → AreShort (roots k)
   short_roots zero = tt

@@ -50,12 +50,13 @@ first_items false run = items.Run run ∷ []
 abbrev pub next_run : Book → Book
 next_run book = replay (first_items (not (has_settings book)) (run_in book + 1)) book
 
--- The image leads to a book whose next run has a number, and which then is this one.
+-- The image leads to a book whose next run has a number, and which then is this one, which the state above takes.
 pub record IsBegunFrom (fits : Book → Type 0) (image : Image) (now : Book) : Type 0 where
   pub book : Book
   pub leads : LeadsTo fits book image
   pub room : run_in book < 2 ^ 63 - 1
   pub is : now ≡ next_run book
+  pub taken : fits now
 
 -- The image leads to a book whose next run has no number, or which the state above does not take once that run has begun.
 pub record HasNoRun (fits : Book → Type 0) (image : Image) : Type 0 where

@@ -10,7 +10,7 @@ ghost use Rattle.ix_keep.specs.Snapshot.{Snapshot, Stages, Forgets};
 ghost use Rattle.ix_keep.specs.Undo.{IsSame};
 ghost use Rattle.ix_keep.specs.Shortening.{TellsLong};
 ghost use Rattle.ix_keep.specs.Mounting.{KeepsOneOf, IsBadLog};
-ghost use Rattle.ix_keep.specs.Reads.{LeadsTo};
+ghost use Rattle.ix_keep.specs.Reads.{LeadsTo, IsBegunFrom, HasNoRun};
 ghost use Rattle.ix_keep.specs.declared.keeper.Keeper.{Keeper};
 
 use ix_book::Replay;
@@ -47,4 +47,10 @@ pub fn bad_logs_lead_nowhere<B: Replay>()
 /// An image leads to one book at the most.
 pub fn leads_to_one_book<B: Replay>()
     ensures { (image : Image) (a b : Book) → LeadsTo B.fits a image → LeadsTo B.fits b image → a ≡ b }
+{}
+
+/// Where a run was begun the logs left one to begin. So a mount is full exactly where, as the disk reads, they leave none, unless it meets another
+/// fault or want of memory.
+pub fn begun_has_run<B: Replay>()
+    ensures { (image : Image) (now : Book) → IsBegunFrom B.fits image now → HasNoRun B.fits image → ⊥ }
 {}

@@ -21,8 +21,8 @@ pub use drafting::{stage, stage_both};
 pub use fault::CommitFault;
 pub use keeper::{Keeper, StageFault};
 pub use lawful::{
-    bad_logs_lead_nowhere, empty_disk_keeps, forgets, leads_to_one_book, same_stages,
-    wants_for_a_long_log,
+    bad_logs_lead_nowhere, begun_has_run, empty_disk_keeps, forgets, leads_to_one_book,
+    same_stages, wants_for_a_long_log,
 };
 pub use mounting::{MountFault, mount};
 pub use parts::Part;

@@ -220,6 +220,7 @@ fn begin<D: Disk, B: Replay>(
     ensures entered { IsErrOf result MountFault.Full → (s : Snapshot) → B.stands state.old ≡ s.book → B.stands state.new ≡ (begun (not (has_settings s.book)) run s).book }
     ensures made { (s : Snapshot) → B.stands state.old ≡ s.book → OnOk result (B.stands state.new ≡ (begun (not (has_settings s.book)) run s).book) }
     ensures damaged { keeper.old.parts ≡ [] → keeper.old.copies ≡ [] → (file : File) (at : ℕ) → IsBadMount result file at → ⊥ }
+    ensures taken { OnOk result (B.fits (B.stands state.new)) }
     ensures full { IsErrOf result MountFault.Full → B.fits (B.stands state.new) → ⊥ }
     ensures later { D.Disk.faults disk.old ≤ D.Disk.faults disk.new }
     ensures cause { IsErrOf result MountFault.Disk → Rose (D.Disk.faults disk.old) (D.Disk.faults disk.new) }

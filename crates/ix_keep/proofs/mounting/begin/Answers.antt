@@ -90,3 +90,6 @@ returns-in-Ok-false-clause-entered g c = λ full s is.
     let fresh = ap not settled in
     let made = c.in_ok-enter_run.ensures.made s is in
     c.judge.ensures.same ∙ made ∙ ap (λ t. (begun t c.args.run s).book) fresh
+
+pub returns-clause-taken : goal.returns-clause-taken
+returns-clause-taken g c = subst g.B.Replay.fits (sym c.judge.ensures.same) (c.in-Ok-true.ensures.judged.0 (search rules))

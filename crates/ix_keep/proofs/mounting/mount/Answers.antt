@@ -197,6 +197,7 @@ returns-clause-read g c = λ image told.
       leads = read_leads g.B.Replay.fits g.D.Disk c.in_ok-keeper.keeper mid book c.in_ok-keeper.ensures.read image (g.met.D.Disk.seen_may_stay mid image (c.read.ensures.same ∙ told));
       room = omega (arith, run, c.if-run-ge9223372036854775807.false);
       is = c.in_ok-begin.ensures.made s refl ∙ begun_next book (c.run-run.result + 1) s refl (ap (λ (n : ℕ). n + 1) run);
+      taken = c.in_ok-begin.ensures.taken;
     }
 
 pub returns-clause-removed : goal.returns-clause-removed
