@@ -230,6 +230,7 @@ unmounted d fits choose history k config ahead untouched may disk same begins no
     fault = mounts.NoMemory;
     stop_is = refl;
     sound = λ is. cc;
+    spent = λ is. cc;
     not_asked = refl;
     stood = record { later = now; now = begins; since = λ t image since left. inl left };
   }),

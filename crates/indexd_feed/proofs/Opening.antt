@@ -62,6 +62,7 @@ module _ {D : Type 0} (g : Ghosts D) {M : Type 0} (fits : Book → Type 0) (hold
     middle = mid;
     now = now;
     tells = tells;
+    runs_left = opened.runs_left;
     served = served;
     stood = subst (λ (all : List Order). Always g first last (StandsInRun fits choose h k all opened.count)) (sym same)
         (stood_by turns last (subst (λ (all : List Order). Always g mid last (StandsIn fits store.run choose all (length begun))) same images));
@@ -83,6 +84,7 @@ served_as g fits choose h k config ahead serves says first last has said = recor
   middle = has.middle;
   now = has.now;
   tells = has.tells;
+  runs_left = has.runs_left;
   served = said;
   stood = has.stood;
 }

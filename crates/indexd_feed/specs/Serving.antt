@@ -24,6 +24,7 @@ use Rattle.indexd_feed.specs.Ends.{FedBehind, HeardBehind}
 use Rattle.indexd_feed.specs.declared.end.ServeEnd.{ServeEnd}
 use Rattle.indexd_store.specs.Asked.{Asks}
 use Rattle.indexd_store.specs.Opened.{is_configured, Configures, StandsInRun}
+use Rattle.indexd_store.specs.Shortened.{HasRunsLeft}
 
 -- What is said of requests that were served over an open store: by how many commands were there when it was mounted, the number of its run,
 -- what the clock was to tell and the disk when the requests began, and the histories before them and behind them.
@@ -86,5 +87,6 @@ pub record HasServed {D : Type 0} (d : Ghosts D) (fits : Book → Type 0) (choos
   pub now : List Order
   -- a disk that tells what it reads does so still when they begin
   pub tells : IsTold d before → IsTold d middle
+  pub runs_left : HasRunsLeft d fits before
   pub served : serves count run told middle (given_all choose (take count history) configured) now
   pub stood : Always d before disk (StandsInRun fits choose history k now count)

@@ -132,3 +132,10 @@ unsound_of_mount (mounts.Damaged file at) is = cc
 unsound_of_mount mounts.Unsound is = refl
 unsound_of_mount mounts.Full is = cc
 unsound_of_mount mounts.NoMemory is = cc
+
+pub full_of_mount : (fault : MountFault) → of_mount fault ≡ stops.Full → fault ≡ mounts.Full
+full_of_mount mounts.Disk is = cc
+full_of_mount (mounts.Damaged file at) is = cc
+full_of_mount mounts.Unsound is = cc
+full_of_mount mounts.Full is = refl
+full_of_mount mounts.NoMemory is = cc

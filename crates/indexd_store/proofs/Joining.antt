@@ -28,6 +28,7 @@ use Rattle.ix_store.specs.declared.store.Store.{Store}
 use Rattle.indexd_store.specs.Asked.{Asks}
 use Rattle.indexd_store.specs.Ends.{IsLeft, Ends, Only, AtMost, same_kept}
 use Rattle.indexd_store.specs.Previews.{Fed, HasFed}
+use Rattle.indexd_store.specs.Shortened.{HasRunsLeft}
 use Rattle.indexd_store.specs.Stops.{loses, loses_in, is_output}
 use Rattle.indexd_store.proofs.Ending.{sound_settings}
 use Rattle.indexd_store.specs.declared.stop.Stop.{Stop}
@@ -82,14 +83,15 @@ module _ {D : Type 0} (g : Ghosts D) {M : Type 0} (fits : Book → Type 0) (hold
         sym (ap (λ (force : List Kept). same_kept force config.kept) (said choose (take is.count h) is.count is.count is.hold.old is.hold.staged)) ∙ (sym same_is ∙ answers)
 
     pub opened_same : (image : Image) (store : Store M) (first mid : D) (ahead : Option Moments) → (is : IsMounted g fits holds choose h k image store mid) → Always g first mid (StandsFrom fits choose h k) →
-        is_configured choose (take is.count h) config ≡ true → HasOpened g fits holds choose h k config store ahead ahead first mid
-    opened_same image store first mid ahead is stood same = record {
+        HasRunsLeft g fits first → is_configured choose (take is.count h) config ≡ true → HasOpened g fits holds choose h k config store ahead ahead first mid
+    opened_same image store first mid ahead is stood left same = record {
       count = is.count;
       least = is.least;
       most = is.most;
       configured = [];
       configures = subst (λ (b : Bool). Configures b config []) (sym same) refl;
       asked = refl;
+      runs_left = left;
       hold = committed image store mid is;
       stood = always_weaker g first mid _ _ (λ image stands. inl stands) stood;
     }
@@ -103,22 +105,23 @@ module _ {D : Type 0} (g : Ghosts D) {M : Type 0} (fits : Book → Type 0) (hold
         (always_weaker g mid last _ _ (λ image stands. inr stands) (fewer g fits holds choose now (length (take count h)) count mid last (omega (arith, taken count h most)) stood))
 
     pub opened_by : (image : Image) (mounted store : Store M) (first mid last : D) (ahead ahead' : Option Moments) → (is : IsMounted g fits holds choose h k image mounted mid) → Always g first mid (StandsFrom fits choose h k) →
-        is_configured choose (take is.count h) config ≡ false → (moment : ℤ) → Told (Answered moment) ahead ahead' →
+        HasRunsLeft g fits first → is_configured choose (take is.count h) config ≡ false → (moment : ℤ) → Told (Answered moment) ahead ahead' →
         IsLeft g fits holds choose (take is.count h) is.count (Only (configuring config moment)) store mid last → HasOpened g fits holds choose h k config store ahead ahead' first last
-    opened_by image mounted store first mid last ahead ahead' is before other moment told left = record {
+    opened_by image mounted store first mid last ahead ahead' is before runs other moment told left = record {
       count = is.count;
       least = is.least;
       most = is.most;
       configured = left.orders;
       configures = subst (λ (b : Bool). Configures b config left.orders) (sym other) (moment, left.allowed);
       asked = asked_once (configuring config moment) left.orders ahead ahead' left.allowed told;
+      runs_left = runs;
       hold = left.all.hold;
       stood = over_mount is.count (given_all choose (take is.count h) left.orders) first mid last is.most before left.all.stood;
     }
 
     -- the run stops where settings are to be put in force
     module _ (image : Image) (mounted store : Store M) (first mid last : D) (ahead ahead' : Option Moments) (is : IsMounted g fits holds choose h k image mounted mid) (before : Always g first mid (StandsFrom fits choose h k))
-        (other : is_configured choose (take is.count h) config ≡ false) (moment : ℤ) (told : Told (Answered moment) ahead ahead') (stop : Stop) (why : IsUnset choose (take is.count h) (configuring config moment) stop) where
+        (runs : HasRunsLeft g fits first) (other : is_configured choose (take is.count h) config ≡ false) (moment : ℤ) (told : Told (Answered moment) ahead ahead') (stop : Stop) (why : IsUnset choose (take is.count h) (configuring config moment) stop) where
       shut : (orders : List Order) → AtMost (configuring config moment) orders → WhenShut choose config stop ahead ahead' (take is.count h) orders []
       shut orders at_most = record {
         differ = other;
@@ -136,6 +139,7 @@ module _ {D : Type 0} (g : Ghosts D) {M : Type 0} (fits : Book → Type 0) (hold
         most = is.most;
         configured = ends.orders;
         orders = [];
+        runs_left = runs;
         allowed = shut ends.orders ends.allowed;
         stood = over_mount is.count (given_all choose (take is.count h) ends.orders) first mid last is.most before ends.stood;
         exit = λ image left. (fewer g fits holds choose (given_all choose (take is.count h) ends.orders) (length (take is.count h)) is.count mid last (omega (arith, taken is.count h is.most)) ends.stood).now image left;
@@ -146,6 +150,7 @@ module _ {D : Type 0} (g : Ghosts D) {M : Type 0} (fits : Book → Type 0) (hold
         most = is.most;
         configured = ends.orders;
         orders = [];
+        runs_left = runs;
         allowed = shut ends.orders ends.allowed;
         stood = over_mount is.count (given_all choose (take is.count h) ends.orders) first mid last is.most before ends.all.stood;
         exit = all_stand (given_all choose (take is.count h) ends.orders) is.count store last ends.all.hold;
@@ -192,6 +197,7 @@ module _ {D : Type 0} (g : Ghosts D) {M : Type 0} (fits : Book → Type 0) (hold
         most = opened.most;
         configured = opened.configured;
         orders = ends.orders;
+        runs_left = opened.runs_left;
         allowed = when_open may ends.orders ends.allowed;
         stood = over_opened ends.orders ends.stood;
         exit = λ image left. (since ends.orders ends.stood).now image left;
@@ -202,6 +208,7 @@ module _ {D : Type 0} (g : Ghosts D) {M : Type 0} (fits : Book → Type 0) (hold
         most = opened.most;
         configured = opened.configured;
         orders = ends.orders;
+        runs_left = opened.runs_left;
         allowed = when_open may ends.orders ends.allowed;
         stood = over_opened ends.orders ends.all.stood;
         exit = all_stand (given_all choose begun ends.orders) opened.count store last ends.all.hold;

@@ -18,6 +18,7 @@ use Rattle.ix_store.specs.declared.fault.MountFault.{MountFault}
 use Rattle.ix_store.specs.declared.store.Store.{Store}
 use Rattle.indexd_store.specs.Asked.{Asks}
 use Rattle.indexd_store.specs.Ends.{AtMost, same_kept}
+use Rattle.indexd_store.specs.Shortened.{HasHadItsRuns, HasRunsLeft}
 use Rattle.indexd_store.specs.Stops.{of_mount, loses}
 use Rattle.indexd_store.specs.declared.stop.Stop.{Stop}
 use Rattle.indexd_store.specs.declared.stop.Stop.TheVariants as stops
@@ -90,6 +91,7 @@ pub record HasOpened {D : Type 0} (d : Ghosts D) {M : Type 0} (fits : Book → T
   pub configured : List Order
   pub configures : Configures (is_configured choose (take count history) config) config configured
   pub asked : Asks configured ahead ahead'
+  pub runs_left : HasRunsLeft d fits before
   pub hold : Holds d fits holds choose (given_all choose (take count history) configured) count (length (given_all choose (take count history) configured)) store disk
   pub stood : Always d before disk (StandsInRun fits choose history k (given_all choose (take count history) configured) count)
 
@@ -105,17 +107,21 @@ pub record HasRun (lost : Bool) {D : Type 0} (d : Ghosts D) (fits : Book → Typ
   pub most : count ≤ length history
   pub configured : List Order
   pub orders : List Order
+  -- a run was left to mount
+  pub runs_left : HasRunsLeft d fits before
   pub allowed : may (take count history) configured orders
   pub stood : Always d before disk (StandsInRun fits choose history k (given_all choose (given_all choose (take count history) configured) orders) count)
   pub exit : (image : Image) → d.may_leave disk image →
       StandsFrom fits choose (given_all choose (given_all choose (take count history) configured) orders)
       (lasting lost count (length (given_all choose (given_all choose (take count history) configured) orders))) image
 
--- Nothing was mounted: the clock was not asked, and every image stands for what was there, which is sound.
+-- Nothing was mounted: the clock was not asked, and every image stands for what was there, which is sound. A store is full then where, as the
+-- disk reads, no further run is left; with one that was mounted a run was.
 pub record HasNotMounted (stop : Stop) {D : Type 0} (d : Ghosts D) (fits : Book → Type 0) (choose : Chooser) (history : List Order) (k : ℕ) (ahead ahead' : Option Moments) (before disk : D) : Type 0 where
   pub fault : MountFault
   pub stop_is : stop ≡ of_mount fault
   pub sound : stop ≡ stops.Unsound → ⊥
+  pub spent : stop ≡ stops.Full → HasHadItsRuns d fits before
   pub not_asked : ahead' ≡ ahead
   pub stood : Always d before disk (StandsFrom fits choose history k)
 

@@ -29,6 +29,10 @@ is_short (Err stop) = is_short_at stop
 abbrev pub HasHadItsRuns : {D : Type 0} → Ghosts D → (Book → Type 0) → D → Type 0
 HasHadItsRuns d fits disk = (image : Image) → d.seen disk ≡ Some image → HasNoRun fits image
 
+-- As the disk reads, a further run is left.
+abbrev pub HasRunsLeft : {D : Type 0} → Ghosts D → (Book → Type 0) → D → Type 0
+HasRunsLeft d fits disk = (image : Image) → d.seen disk ≡ Some image → HasNoRun fits image → ⊥
+
 -- Behind a run that stops, the current log is not long, as the disk reads; but where nothing was mounted.
 abbrev pub StopsShort : {D : Type 0} → Ghosts D → (Book → Type 0) → Stop → D → D → Type 0
 StopsShort d fits stop before disk = is_short_at stop ≡ true → ReadsShort d disk ⊎ ((stop ≡ stops.Full) × HasHadItsRuns d fits before)

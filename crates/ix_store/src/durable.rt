@@ -85,8 +85,10 @@ impl<M: Memory + Drop> Store<M> {
         // and it is sound.
         ensures sound { IsErrOf result MountFault.Unsound → (choose : Chooser) (history : List Order) (k : ℕ) → M.is_chooser choose → AllByRecursion M.takes history →
             ((image : Image) → D.Disk.may_leave disk.old image → StandsFrom M.Book.fits choose history k image) → (image : Image) → D.Disk.seen disk.old ≡ Some image → ⊥ }
-        // Full comes only where no further run has a number, or there is no room for it, as the disk reads.
+        // Full comes exactly where no further run has a number, or there is no room for it, as the disk reads, unless another fault or want of
+        // memory comes first.
         ensures full { IsErrOf result MountFault.Full → (image : Image) → D.Disk.seen disk.old ≡ Some image → HasNoRun M.Book.fits image }
+        ensures begun { OnOk result ((image : Image) → D.Disk.seen disk.old ≡ Some image → HasNoRun M.Book.fits image → ⊥) }
         ensures later { D.Disk.faults disk.old ≤ D.Disk.faults disk.new }
         ensures cause { IsErrOf result MountFault.Disk → Rose (D.Disk.faults disk.old) (D.Disk.faults disk.new) }
     {

@@ -9,7 +9,7 @@ use Rattle.indexd_store.specs.Opened.{configuring, IsUnset}
 use Rattle.indexd_store.specs.Stops.{of_mount, loses}
 use Rattle.indexd_store.specs.declared.stop.Stop.{Stop}
 use Rattle.indexd_store.specs.declared.stop.Stop.TheVariants as stops
-use Rattle.indexd_store.proofs.Ending.{unset, unsound_of_mount}
+use Rattle.indexd_store.proofs.Ending.{unset, unsound_of_mount, full_of_mount}
 use Rattle.indexd_store.proofs.Joining.{front_has, committed, configured_as, opened_same, opened_by, stopped_by}
 use Rattle.indexd_store.proofs.Shortening.{by_end, damaged_end, stopped_short, most_taken}
 use Rattle.indexd_store.proofs.Undamaged.{damaged_of_mount, seen_on}
@@ -19,7 +19,7 @@ pub returns-then-same_kept-clause-opened : goal.returns-then-same_kept-clause-op
 returns-then-same_kept-clause-opened g c = λ choose history k chooser taken begins image seen.
     let is = c.in-Ok.ensures.mounted choose history k chooser taken begins image seen in
     let same : c.same_kept.result ≡ same_kept c.kept.result.now c.args.config.kept = cc (c.same_kept.ensures, c.as_slice.ensures, c.as_slice-2.ensures) in
-    opened_same g.D.Disk _ g.M.Memory.holds choose history k c.args.config image c.in-Ok.store c.args.disk.now c.mount.new.disk (g.C.Clock.ahead c.args.clock.now) is (c.in-Ok.ensures.images choose history k begins)
+    opened_same g.D.Disk _ g.M.Memory.holds choose history k c.args.config image c.in-Ok.store c.args.disk.now c.mount.new.disk (g.C.Clock.ahead c.args.clock.now) is (c.in-Ok.ensures.images choose history k begins) c.in-Ok.ensures.begun
     (configured_as g.D.Disk _ g.M.Memory.holds choose history k c.args.config image c.in-Ok.store c.mount.new.disk is c.kept.result.now c.kept.ensures c.same_kept.result true same c.if-same_kept.true)
 
 pub run_last-requires-clause-takes : goal.run_last-requires-clause-takes
@@ -33,7 +33,7 @@ returns-in-Ok-run_last-clause-opened g c = λ choose history k chooser taken beg
     let left = simp to_z-of_z at (c.in-Ok-run_last.ensures.left choose (take is.count history) is.count chooser (front_has g.M.Memory.takes is.count history taken)
     (committed g.D.Disk _ g.M.Memory.holds choose history k c.args.config image c.in-Ok.store c.mount.new.disk is)) in
     opened_by g.D.Disk _ g.M.Memory.holds choose history k c.args.config image c.in-Ok.store c.run_last.new.store c.args.disk.now c.mount.new.disk c.run_last.new.disk
-    (g.C.Clock.ahead c.args.clock.now) (g.C.Clock.ahead c.now-moment.new.self) is (c.in-Ok.ensures.images choose history k begins)
+    (g.C.Clock.ahead c.args.clock.now) (g.C.Clock.ahead c.now-moment.new.self) is (c.in-Ok.ensures.images choose history k begins) c.in-Ok.ensures.begun
     (configured_as g.D.Disk _ g.M.Memory.holds choose history k c.args.config image c.in-Ok.store c.mount.new.disk is c.kept.result.now c.kept.ensures c.same_kept.result false same c.if-same_kept.false)
     c.now-moment.result c.now-moment.ensures left
 
@@ -52,7 +52,7 @@ returns-in-Err-run_last-clause-stopped g c = λ choose history k chooser taken b
     (λ orders at_most. all_taken g.M.Memory.takes g.met.M.Memory.ticks_are_taken choose (take is.count history) orders front (most_taken g.M.Memory.takes order orders (c.requires c.now-moment.result) at_most))
     c.stop_run.ensures.closed (λ kept now given held. c.stop_run.ensures.images kept choose now is.count chooser given held) (λ kept also now given held. c.stop_run.ensures.held kept also choose now is.count chooser given held) ends in
     stopped_by g.D.Disk _ g.M.Memory.holds choose history k c.args.config image c.in-Ok.store c.stop_run.new.store c.args.disk.now c.mount.new.disk c.stop_run.new.disk
-    (g.C.Clock.ahead c.args.clock.now) (g.C.Clock.ahead c.now-moment.new.self) is (c.in-Ok.ensures.images choose history k begins)
+    (g.C.Clock.ahead c.args.clock.now) (g.C.Clock.ahead c.now-moment.new.self) is (c.in-Ok.ensures.images choose history k begins) c.in-Ok.ensures.begun
     (configured_as g.D.Disk _ g.M.Memory.holds choose history k c.args.config image c.in-Ok.store c.mount.new.disk is c.kept.result.now c.kept.ensures c.same_kept.result false same c.if-same_kept.false)
     c.now-moment.result c.now-moment.ensures c.stop_run.result
     (by_end (λ (stop : Stop). IsUnset choose (take is.count history) order stop) c.in-Err-run_last.stop c.stop_run.result
@@ -66,6 +66,10 @@ returns-in-Err-clause-stopped g c = λ choose history k chooser taken begins ima
       let is : of_mount c.in-Err.fault ≡ stops.Unsound = cc (unsound, c.of_mount.ensures) in
       let mount_is : c.in-Err.fault ≡ mounts.Unsound = unsound_of_mount c.in-Err.fault is in
       c.in-Err.ensures.sound (cc (mount_is)) choose history k chooser taken begins image seen;
+  spent = λ full.
+      let is : of_mount c.in-Err.fault ≡ stops.Full = cc (full, c.of_mount.ensures) in
+      let mount_is : c.in-Err.fault ≡ mounts.Full = full_of_mount c.in-Err.fault is in
+      c.in-Err.ensures.full (cc (mount_is));
   not_asked = refl;
   stood = c.in-Err.ensures.images choose history k begins;
 })

@@ -1,6 +1,7 @@
 use Rattle.std.proofs.Common.{refl, ap, ◌∙◌, length}
 use Rattle.std.specs.Prelude.{Err}
 use Rattle.ix_keep.specs.declared.mounting.MountFault.{MountFault as KeptFault}
+use Rattle.ix_keep.proofs.Reading.{begun_has_run}
 use Rattle.ix_snapshot.specs.Snap.{leaves}
 use Rattle.ix_store.specs.declared.memory.BookFault.{BookFault}
 use Rattle.ix_store.proofs.Committed.{family_from, holds_mounted, none_unsound, kept_damaged, kept_full}
@@ -43,3 +44,6 @@ returns-in-Err-clause-undamaged g c = λ named at is choose h k all image told.
 pub returns-in-Err-clause-full : goal.returns-in-Err-clause-full
 returns-in-Err-clause-full g c = λ is.
     c.mount.ensures.full_as_read (c.in-Err.is ∙ ap (λ (f : KeptFault). Err f) (kept_full c.in-Err.fault c.fault_of.result c.fault_of.ensures is))
+
+pub returns-in-Ok-from_book-clause-begun : goal.returns-in-Ok-from_book-clause-begun
+returns-in-Ok-from_book-clause-begun g c = λ image told none. begun_has_run _ image _ (c.in-Ok.ensures.read image told) none
