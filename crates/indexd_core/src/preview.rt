@@ -24,8 +24,9 @@ use std::sync::ledger::{Blank, Ledger};
 /// How many bytes of input are taken at the most.
 const INPUT_LIMIT: u64 = 1 << 40;
 
-/// How many bytes are read at once.
-const BLOCK: usize = 1 << 20;
+/// How many bytes are read at once. The lines and events of so many are in memory together, and should find room in the
+/// caches of a processor.
+const BLOCK: usize = 1 << 16;
 
 /// A run of `preview`.
 #[derive(Drop)]
