@@ -1,6 +1,9 @@
 //! The program `indexd`: the real input, output, clock, files of settings, disk and listener, handed to the library that does all the work.
 #![tactic(auto)]
 
+#[cfg(test)]
+mod tests;
+
 use indexd_core::{Status, say, top};
 use ix_base::{HostClock, HostTree, StdSink, StdSource, Text};
 use ix_disk::HostDisk;

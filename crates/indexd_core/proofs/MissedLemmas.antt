@@ -25,7 +25,7 @@ use Rattle.ix_machine.specs.Step.{after}
 use Rattle.ix_machine.specs.declared.commands.Config.{Config}
 use Rattle.ix_machine.specs.declared.commands.Order.{Order}
 use Rattle.ix_run.specs.Giving.{given_all}
-use Rattle.ix_snapshot.specs.Shelved.{IsSet}
+use Rattle.ix_machine.specs.Shelved.{IsSet}
 use Rattle.ix_store.specs.Holding.{Holds}
 use Rattle.ix_store.specs.Written.{Stands}
 use Rattle.ix_store.specs.declared.store.Store.{Store}

@@ -12,5 +12,7 @@ mod serve;
 mod status;
 mod stored;
 
+/// What the program's store is over, for callers that open that store themselves.
+pub use ix_tier::Tier;
 pub use program::top;
 pub use status::{Status, say};

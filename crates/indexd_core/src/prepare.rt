@@ -162,6 +162,7 @@ pub fn prepare<T: Tree>(
 {
     let configuration = read_configuration(alloc, tree)?;
     if let Some(index) = missing_index(origin.index, &configuration.limits) {
+        drop(configuration);
         return Err(PrepareStop::NotFound(Bytes::copy_of(alloc, index.as_bytes())?));
     }
     let prepared = choose(alloc, origin, configuration)?;

@@ -216,6 +216,7 @@ fn preview_lines<S: Source, W: Sink>(
     ensures written_later { W.faults output.old ≤ W.faults output.new }
 {
     let Ok(mut block) = make_block(alloc) else {
+        drop(prepared);
         return Status::Memory;
     };
     let Ok(mut preview) = Preview::start(alloc, prepared, moment) else {

@@ -115,6 +115,7 @@ fn serve_with<W: Sink, C: Clock, D: Disk, L: Listener>(
     ensures usage { result ≡ Status.Usage → ⊥ }
 {
     if let Err(_) = listener.bind(serving.port) {
+        drop(config);
         return say_fault(Status::ListenerFault, output);
     }
     match run_serve::<Tier, D, C, L>(alloc, disk, clock, config, listener, serving.requests) {

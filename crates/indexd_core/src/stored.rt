@@ -224,6 +224,7 @@ fn store_with<S: Source, W: Sink, C: Clock, D: Disk>(
     ensures listener { result ≡ Status.ListenerFault → ⊥ }
 {
     let Ok((meta, index)) = stated(alloc, origin, &config.limits) else {
+        drop(config);
         say(Status::Memory, output);
         return Status::Memory;
     };

@@ -5,8 +5,8 @@ use Rattle.std.proofs.lemmas.Bool.{false≢true}
 use Rattle.ix_base.specs.Clocks.{Moments}
 use Rattle.ix_base.specs.declared.files.File.{File}
 use Rattle.ix_book.specs.Book.{Book}
-use Rattle.ix_checkpoint.specs.declared.fault.CheckpointFault.{CheckpointFault}
-use Rattle.ix_checkpoint.specs.declared.fault.CheckpointFault.TheVariants as checkpoints
+use Rattle.ix_book.specs.declared.fault.CheckpointFault.{CheckpointFault}
+use Rattle.ix_book.specs.declared.fault.CheckpointFault.TheVariants as checkpoints
 use Rattle.ix_disk.proofs.Runs.{always_on, always_weaker}
 use Rattle.ix_disk.specs.Image.{Image}
 use Rattle.ix_disk.specs.Moments.{Always}

@@ -1,7 +1,7 @@
 -- How runs of requests end, and what of an end is told once the log behind them was made short.
 use Rattle.std.specs.Prelude.{◌≡◌, ◌⊎◌, Bool, true, false, Option, None, Some, Result, Ok, Err}
-use Rattle.ix_checkpoint.specs.declared.fault.CheckpointFault.{CheckpointFault}
-use Rattle.ix_checkpoint.specs.declared.fault.CheckpointFault.TheVariants as checkpoints
+use Rattle.ix_book.specs.declared.fault.CheckpointFault.{CheckpointFault}
+use Rattle.ix_book.specs.declared.fault.CheckpointFault.TheVariants as checkpoints
 use Rattle.ix_feed.specs.Connections as connections
 use Rattle.ix_feed.specs.Feeding as feeding
 use Rattle.ix_feed.specs.declared.feed.Fed.{Fed}

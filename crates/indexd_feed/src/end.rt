@@ -5,7 +5,7 @@ ghost use Rattle.std.specs.Prelude.{◌≡◌};
 ghost use Rattle.indexd_feed.specs.Ends as defs;
 
 use ix_base::File;
-use ix_checkpoint::CheckpointFault;
+use ix_book::CheckpointFault;
 use ix_feed::{Fed, Heard};
 use ix_keep::CommitFault;
 use ix_link::Side;

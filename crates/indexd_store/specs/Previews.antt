@@ -13,7 +13,7 @@ use Rattle.ix_machine.specs.declared.answers.Refusal.{Refusal}
 use Rattle.ix_machine.specs.declared.commands.Order.{Order}
 use Rattle.ix_run.specs.Giving.{given_all, AreAllowed}
 use Rattle.ix_run.specs.Storing.{tilde, joined, storing, end_order, input_limit, IsBlock, IsNextRefused}
-use Rattle.ix_snapshot.specs.Shelved.{IsSet}
+use Rattle.ix_machine.specs.Shelved.{IsSet}
 use Rattle.ix_store.specs.Counting.{numbers}
 use Rattle.indexd_store.specs.Stops.{of_refusal}
 use Rattle.indexd_store.specs.declared.stop.Stop.{Stop}

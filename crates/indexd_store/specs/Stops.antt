@@ -1,7 +1,7 @@
 -- Why a run over a store stops.
 use Rattle.std.specs.Prelude.{◌≡◌, ◌⊎◌, ℕ, Bool, true, false, List, Result, Ok, Err}
-use Rattle.ix_checkpoint.specs.declared.fault.CheckpointFault.{CheckpointFault}
-use Rattle.ix_checkpoint.specs.declared.fault.CheckpointFault.TheVariants as checkpoints
+use Rattle.ix_book.specs.declared.fault.CheckpointFault.{CheckpointFault}
+use Rattle.ix_book.specs.declared.fault.CheckpointFault.TheVariants as checkpoints
 use Rattle.ix_keep.specs.declared.fault.CommitFault.{CommitFault}
 use Rattle.ix_keep.specs.declared.fault.CommitFault.TheVariants as commits
 use Rattle.ix_machine.specs.Bounds.{IsRefused}

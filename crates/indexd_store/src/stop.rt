@@ -4,7 +4,7 @@ ghost use Rattle.std.specs.Prelude.{◌≡◌};
 ghost use Rattle.indexd_store.specs.Stops as defs;
 
 use ix_base::{File, NoMemory};
-use ix_checkpoint::CheckpointFault;
+use ix_book::CheckpointFault;
 use ix_keep::CommitFault;
 use ix_machine::Refusal;
 use ix_run::{GiveFault, RunFault};

@@ -7,3 +7,5 @@ pub mod Once
 pub mod Renaming
 pub mod Replays
 pub mod Runs
+pub mod RootNumbers
+pub mod PutItems

@@ -3,3 +3,4 @@ pub mod Plain
 pub mod Replaying
 pub mod Root
 pub mod Slots
+pub mod Whole

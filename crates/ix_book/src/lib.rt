@@ -1,16 +1,25 @@
-//! The book of a store: what the items of its log lead to, and how staged items are kept and become a further body.
+//! The book of a store: what the items of its log lead to, how staged items are kept and become a further body, and what a checkpoint
+//! writes: the whole state of a store as the one body of a further log, and that log's number in the root log. The keeper calls it.
 #![tactic(auto)]
 
+mod fault;
 mod plain;
 mod putting;
 mod replaying;
 mod root;
+mod rooting;
 mod slot;
 mod slots;
+mod whole;
+mod writing;
 
+pub use fault::CheckpointFault;
 pub use plain::PlainBook;
 pub use putting::put_body;
 pub use replaying::{Replay, ReplayFault, bad_gate_replays_nothing, replay_log};
 pub use root::{log_file, read_root};
+pub use rooting::put_number;
 pub use slot::Slot;
 pub use slots::{drop_older, last_removals};
+pub use whole::Whole;
+pub use writing::write_log;

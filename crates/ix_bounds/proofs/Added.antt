@@ -12,7 +12,7 @@ use Rattle.ix_machine.specs.Buckets.{Index, buckets, ledger}
 use Rattle.ix_machine.specs.Shown.{configured, with_fresh, index_view}
 use Rattle.ix_machine.specs.State.{Catalog}
 use Rattle.ix_machine.proofs.Ledgers.{HasAll, same_entries}
-use Rattle.ix_snapshot.specs.Shelved.{shelved_indexes}
+use Rattle.ix_machine.specs.Shelved.{shelved_indexes}
 use Rattle.ix_bounds.proofs.Sums.{sum_map, sum_flat, sum_two, fresh_sum}
 
 abbrev pub in_view : (Bucket → ℕ) → IndexView → ℕ

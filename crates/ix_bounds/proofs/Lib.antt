@@ -6,3 +6,12 @@ pub mod Times
 pub mod Sizes
 pub mod Seen
 pub mod Deciding
+pub mod Volumes
+pub mod Limited
+pub mod Shelved
+pub mod Numbered
+pub mod Steps
+pub mod TickSums
+pub mod Bounded
+pub mod Ticking
+pub mod Orders

@@ -18,9 +18,9 @@ use Rattle.ix_machine.proofs.Named.{by_test}
 use Rattle.ix_shelves.specs.Lists.{find, AreAscending}
 use Rattle.ix_shelves.specs.Measures.{has_some}
 use Rattle.ix_shelves.specs.Shelves.{is_live, is_of, next_number}
-use Rattle.ix_snapshot.proofs.Counting.{next_number_is}
-use Rattle.ix_snapshot.proofs.Listing.{among, or_fresh, find_fresh, ascending_fresh}
-use Rattle.ix_snapshot.proofs.Names.{less_other, found_first}
+use Rattle.ix_machine.proofs.Counting.{next_number_is}
+use Rattle.ix_machine.proofs.Listing.{among, or_fresh, find_fresh, ascending_fresh}
+use Rattle.ix_machine.proofs.Names.{less_other, found_first}
 use Rattle.ix_bounds.proofs.Sums.{all_from, all_two}
 
 none_some : {X : Type 0} {x : X} → None ≡ Some x → ⊥

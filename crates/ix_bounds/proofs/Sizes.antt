@@ -20,7 +20,7 @@ use Rattle.ix_shelves.specs.Lists.{AreAscending}
 use Rattle.ix_shelves.specs.Measures.{index_items, shelf_items, shelf_size}
 use Rattle.ix_shelves.specs.Shelves.{next_number}
 use Rattle.ix_shelves.proofs.Sizes.{next_size}
-use Rattle.ix_snapshot.specs.Shelved.{shelved_indexes, shelved}
+use Rattle.ix_machine.specs.Shelved.{shelved_indexes, shelved}
 use Rattle.ix_bounds.specs.Parts.{Parts, channel_of, IsPartsOf}
 use Rattle.ix_bounds.specs.Within.{item_size, settings_size, channel_size, spot_size, size}
 use Rattle.ix_bounds.proofs.Added.{in_ledger, entries_sum}

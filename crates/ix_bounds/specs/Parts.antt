@@ -7,7 +7,7 @@ use Rattle.ix_items.specs.declared.items.Entry.{Entry}
 use Rattle.ix_items.specs.declared.items.Kept.{Kept}
 use Rattle.ix_machine.specs.State.{State, Life}
 use Rattle.ix_shelves.specs.declared.shelves.Shelves.{Shelves}
-use Rattle.ix_snapshot.specs.Shelved.{shelved}
+use Rattle.ix_machine.specs.Shelved.{shelved}
 
 -- the settings that are kept, the names and metadata of the open channels, the spots, the shelves and the ledger
 pub record Parts : Type 0 where

@@ -5,7 +5,7 @@ use Rattle.ix_items.specs.declared.items.Item.{Item}
 use Rattle.ix_machine.specs.Given.{Chooser}
 use Rattle.ix_machine.specs.declared.commands.Command.{Command}
 use Rattle.ix_machine.specs.declared.commands.Order.{Order}
-use Rattle.ix_state.specs.declared.held.Held.{Held}
+use Rattle.ix_kept.specs.declared.held.Held.{Held}
 use Rattle.ix_channels.specs.Working.{IsWorked}
 use Rattle.ix_channels.specs.declared.change.ChannelChange.{ChannelChange}
 use Rattle.ix_channels.specs.declared.working.Worked.{Worked}

@@ -28,10 +28,10 @@ use Rattle.ix_props.specs.Same.{AreSame}
 use Rattle.ix_props.specs.Settings.{AreSettings}
 use Rattle.ix_props.specs.declared.settings.Settings.{Settings}
 use Rattle.ix_shelves.specs.Lists.{find, insert, stands_before}
-use Rattle.ix_snapshot.specs.Books.{life_item}
-use Rattle.ix_state.specs.Held.{IsOpen, SeesChannels}
-use Rattle.ix_state.specs.declared.held.Held.{Held}
-use Rattle.ix_state.specs.declared.held.Open.{Open}
+use Rattle.ix_machine.specs.Books.{life_item}
+use Rattle.ix_kept.specs.Held.{IsOpen, SeesChannels}
+use Rattle.ix_kept.specs.declared.held.Held.{Held}
+use Rattle.ix_kept.specs.declared.held.Open.{Open}
 use Rattle.ix_channels.specs.Begun.{resolved, IsBegun}
 use Rattle.ix_channels.specs.Changes.{HasRoom, changed}
 use Rattle.ix_channels.specs.Places.{place_for}

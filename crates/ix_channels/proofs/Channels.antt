@@ -9,9 +9,9 @@ use Rattle.ix_machine.specs.State.{Life, life_name}
 use Rattle.ix_machine.proofs.Named.{by_test}
 use Rattle.ix_shelves.specs.Lists as lists
 use Rattle.ix_shelves.specs.Lists.{find, change, without, update, stands_before}
-use Rattle.ix_state.specs.Causes.{has_name}
-use Rattle.ix_state.specs.Held.{IsOpen}
-use Rattle.ix_state.specs.declared.held.Open.{Open}
+use Rattle.ix_kept.specs.Causes.{has_name}
+use Rattle.ix_kept.specs.Held.{IsOpen}
+use Rattle.ix_kept.specs.declared.held.Open.{Open}
 use Rattle.ix_channels.specs.Places.{is_before, place_for}
 
 false_true : false ≡ true → ⊥

@@ -17,10 +17,10 @@ use Rattle.ix_machine.specs.declared.commands.Config.{Config}
 use Rattle.ix_machine.specs.declared.commands.Order.{Order}
 use Rattle.ix_shelves.specs.Numbers.{HasRecord}
 use Rattle.ix_shelves.proofs.Updates.{all_push}
-use Rattle.ix_snapshot.specs.Said as said
-use Rattle.ix_state.specs.Held.{IsOpen}
-use Rattle.ix_state.specs.declared.held.Held.{Held}
-use Rattle.ix_state.specs.declared.held.Open.{Open}
+use Rattle.ix_machine.specs.Said as said
+use Rattle.ix_kept.specs.Held.{IsOpen}
+use Rattle.ix_kept.specs.declared.held.Held.{Held}
+use Rattle.ix_kept.specs.declared.held.Open.{Open}
 use Rattle.ix_channels.specs.Ended.{ended_item, life_adds, HasShortName, AreEnded}
 use Rattle.ix_channels.specs.Taken.{Settles}
 use Rattle.ix_channels.specs.Working.{MayBeDone, IsWorked}

@@ -22,8 +22,8 @@ use Rattle.ix_machine.specs.declared.commands.Order.{Order}
 use Rattle.ix_parse.specs.Limits.{IsSmall}
 use Rattle.ix_props.specs.declared.props.PropsEntry.{PropsEntry}
 use Rattle.ix_props.specs.declared.settings.Settings.{Settings}
-use Rattle.ix_state.specs.Held.{SeesChannels}
-use Rattle.ix_state.specs.declared.held.Held.{Held}
+use Rattle.ix_kept.specs.Held.{SeesChannels}
+use Rattle.ix_kept.specs.declared.held.Held.{Held}
 use Rattle.ix_transforms.specs.Seds.{raw_limit}
 use Rattle.ix_transforms.specs.Sizes.{KeepsSizes, HasSizes}
 use Rattle.ix_channels.specs.Begun.{resolved}

@@ -27,12 +27,12 @@ use Rattle.ix_parse.specs.Standing.{StandsFor}
 use Rattle.ix_parse.proofs.SameLemmas as same
 use Rattle.ix_props.specs.declared.settings.Settings.{Settings}
 use Rattle.ix_shelves.specs.Lists.{find}
-use Rattle.ix_snapshot.specs.Books.{life_item}
-use Rattle.ix_snapshot.proofs.Names.{found_name}
-use Rattle.ix_state.specs.Causes.{has_name}
-use Rattle.ix_state.specs.Held.{IsOpen}
-use Rattle.ix_state.specs.declared.held.Held.{Held}
-use Rattle.ix_state.specs.declared.held.Open.{Open}
+use Rattle.ix_machine.specs.Books.{life_item}
+use Rattle.ix_machine.proofs.Names.{found_name}
+use Rattle.ix_kept.specs.Causes.{has_name}
+use Rattle.ix_kept.specs.Held.{IsOpen}
+use Rattle.ix_kept.specs.declared.held.Held.{Held}
+use Rattle.ix_kept.specs.declared.held.Open.{Open}
 use Rattle.ix_channels.specs.Changes.{with_channel}
 use Rattle.ix_channels.specs.Taken.{item_of, TakesIn, IsFed, Settles}
 use Rattle.ix_channels.specs.Working.{MayBeDone, IsWorked}

@@ -19,10 +19,10 @@ use Rattle.ix_parse.specs.Carry.{HasMoments}
 use Rattle.ix_parse.specs.Limits.{KeepsLimits}
 use Rattle.ix_parse.specs.Standing.{StandsFor}
 use Rattle.ix_props.specs.declared.settings.Settings.{Settings}
-use Rattle.ix_state.specs.Causes.{has_name}
-use Rattle.ix_state.specs.Held.{IsOpen}
-use Rattle.ix_state.specs.declared.held.Held.{Held}
-use Rattle.ix_state.specs.declared.held.Open.{Open}
+use Rattle.ix_kept.specs.Causes.{has_name}
+use Rattle.ix_kept.specs.Held.{IsOpen}
+use Rattle.ix_kept.specs.declared.held.Held.{Held}
+use Rattle.ix_kept.specs.declared.held.Open.{Open}
 use Rattle.ix_channels.specs.Begun.{resolved, IsBegun}
 use Rattle.ix_channels.specs.Sizes.{HasBriefChance}
 use Rattle.ix_channels.specs.Working.{MayBeDone, StaysWithin}

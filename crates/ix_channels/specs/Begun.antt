@@ -6,7 +6,7 @@ use Rattle.ix_parse.specs.Standing.{StandsFor}
 use Rattle.ix_props.specs.Settings.{AreSettings, AreUsable}
 use Rattle.ix_props.specs.declared.props.PropsEntry.{PropsEntry}
 use Rattle.ix_props.specs.declared.settings.Settings.{Settings}
-use Rattle.ix_state.specs.declared.held.Open.{Open}
+use Rattle.ix_kept.specs.declared.held.Open.{Open}
 
 -- the metadata with the index that holds
 abbrev pub resolved : LimitSet → ChannelMeta → ChannelMeta

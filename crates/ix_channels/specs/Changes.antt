@@ -5,7 +5,7 @@ use Rattle.std.specs.declared.alloc.Global.{Global}
 use Rattle.std.specs.declared.vec.Vec.{Vec}
 use Rattle.ix_parse.specs.Standing.{Kept}
 use Rattle.ix_shelves.specs.Lists.{update}
-use Rattle.ix_state.specs.declared.held.Open.{Open}
+use Rattle.ix_kept.specs.declared.held.Open.{Open}
 use Rattle.ix_channels.specs.Rooms as rooms
 use Rattle.ix_channels.specs.declared.change.ChannelChange.{ChannelChange}
 use Rattle.ix_channels.specs.declared.change.ChannelChange.TheVariants.{Same, Begun, Fed, Ended, AllEnded}

@@ -10,8 +10,8 @@ use Rattle.ix_life.specs.declared.sets.LimitSet.{LimitSet}
 use Rattle.ix_machine.specs.State.{Life}
 use Rattle.ix_machine.specs.Step.{end_adds}
 use Rattle.ix_shelves.specs.Numbers.{HasRecord}
-use Rattle.ix_state.specs.Held.{IsOpen}
-use Rattle.ix_state.specs.declared.held.Open.{Open}
+use Rattle.ix_kept.specs.Held.{IsOpen}
+use Rattle.ix_kept.specs.declared.held.Open.{Open}
 use Rattle.ix_channels.specs.declared.endings.Endings.{Endings}
 
 -- the item of a channel in memory that ended

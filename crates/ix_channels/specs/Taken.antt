@@ -11,7 +11,7 @@ use Rattle.ix_parse.specs.Carry.{carry_of}
 use Rattle.ix_parse.specs.Settled.{settled}
 use Rattle.ix_parse.specs.Standing.{Kept, StandsFor}
 use Rattle.ix_props.specs.declared.settings.Settings.{Settings}
-use Rattle.ix_state.specs.declared.held.Open.{Open}
+use Rattle.ix_kept.specs.declared.held.Open.{Open}
 use Rattle.ix_channels.specs.declared.feeding.Fed.{Fed}
 
 -- the item of an open channel with this stream

@@ -10,9 +10,9 @@ use Rattle.ix_machine.specs.Judged.{judged}
 use Rattle.ix_machine.specs.Step.{after, outcomes, stepped}
 use Rattle.ix_machine.specs.declared.commands.Command.{Command}
 use Rattle.ix_machine.specs.declared.commands.Order.{Order}
-use Rattle.ix_snapshot.specs.Said.{channel_items}
-use Rattle.ix_state.specs.Held.{IsOpen, SeesChannels}
-use Rattle.ix_state.specs.declared.held.Held.{Held}
+use Rattle.ix_machine.specs.Said.{channel_items}
+use Rattle.ix_kept.specs.Held.{IsOpen, SeesChannels}
+use Rattle.ix_kept.specs.declared.held.Held.{Held}
 use Rattle.ix_channels.specs.Changes.{HasRoom, changed}
 use Rattle.ix_channels.specs.declared.working.Worked.{Worked}
 

@@ -18,10 +18,10 @@ use crate::places::place_for;
 use crate::room::Room;
 use crate::working::{WorkFault, Worked};
 use ix_base::{Bytes, ChannelMeta, NoMemory, RoutedList};
+use ix_kept::{Held, Open};
 use ix_life::LimitSet;
 use ix_parse::Channel;
 use ix_props::Props;
-use ix_state::{Held, Open};
 use std::alloc::Global;
 
 fn index_or_default(limits: &LimitSet, index: Option<Bytes>) -> Result<Bytes, NoMemory>

@@ -6,8 +6,8 @@ ghost use Rattle.ix_shelves.specs.Lists.{update};
 ghost use Rattle.ix_channels.specs.Changes.{HasRoom, changed, with_channel};
 
 use crate::room::Room;
+use ix_kept::Open;
 use ix_parse::Channel;
-use ix_state::Open;
 
 /// A change of the open channels.
 #[derive(Drop)]

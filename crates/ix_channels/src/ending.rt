@@ -27,9 +27,9 @@ use crate::places::place_of;
 use crate::working::{WorkFault, Worked, nothing};
 use ix_base::{RoutedList, Sequence};
 use ix_items::Item;
+use ix_kept::{Held, Open};
 use ix_life::LimitSet;
 use ix_parse::Channel;
-use ix_state::{Held, Open};
 use std::alloc::Global;
 
 /// What the end of a channel makes of it: what it settles, and what the log says of it.

@@ -9,8 +9,8 @@ ghost use Rattle.ix_machine.specs.declared.commands.Command.TheVariants as comma
 ghost use Rattle.ix_machine.specs.declared.commands.Config.{Config as Configured};
 ghost use Rattle.ix_machine.specs.declared.commands.Order.{Order};
 ghost use Rattle.ix_shelves.specs.Numbers.{HasRecord};
-ghost use Rattle.ix_state.specs.Held.{IsOpen};
-ghost use Rattle.ix_state.specs.declared.held.Open.{Open as OpenChannel};
+ghost use Rattle.ix_kept.specs.Held.{IsOpen};
+ghost use Rattle.ix_kept.specs.declared.held.Open.{Open as OpenChannel};
 ghost use Rattle.ix_channels.specs.Changes.{HasRoom};
 ghost use Rattle.ix_channels.specs.Ended.{AreEnded, HasShortName};
 ghost use Rattle.ix_channels.specs.Sizes.{HasBriefChance};
@@ -22,8 +22,8 @@ use crate::ending::{Ending, end_open};
 use crate::working::{WorkFault, Worked};
 use ix_base::{NoMemory, Routed, Sequence};
 use ix_items::Item;
+use ix_kept::{Held, Open};
 use ix_life::LimitSet;
-use ix_state::{Held, Open};
 use std::alloc::Global;
 
 /// What the ends of channels make of them, one behind the other.

@@ -2,11 +2,11 @@
 
 ghost use Rattle.std.specs.Prelude.{◌≡◌, ◌≤◌, ◌<◌, length, not, IfSome};
 ghost use Rattle.std.specs.List.{position};
-ghost use Rattle.ix_state.specs.Causes.{has_name};
-ghost use Rattle.ix_state.specs.declared.held.Open.{Open as OpenChannel};
+ghost use Rattle.ix_kept.specs.Causes.{has_name};
+ghost use Rattle.ix_kept.specs.declared.held.Open.{Open as OpenChannel};
 ghost use Rattle.ix_channels.specs.Places as defs;
 
-use ix_state::Open;
+use ix_kept::Open;
 use std::cmp::Ordering;
 
 /// The place of the channel of this name.

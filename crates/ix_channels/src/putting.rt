@@ -18,9 +18,9 @@ use crate::change::ChannelChange;
 use crate::checks::have_records;
 use crate::working::{WorkFault, Worked};
 use ix_base::{Bytes, ChannelMeta, Event, NoMemory, Routed, RoutedList, Sequence};
+use ix_kept::Held;
 use ix_machine::{Config, Direct, DirectList};
 use ix_props::Settings;
-use ix_state::Held;
 use ix_transforms::apply;
 use std::alloc::Global;
 

@@ -1,7 +1,11 @@
-//! Tests of links, requests and replies, by public calls.
+//! Tests of links, requests and replies, and of the words of the command line, by public calls.
 #![tactic(auto)]
 
 #[cfg(test)]
 mod requests;
 #[cfg(test)]
+mod said;
+#[cfg(test)]
 mod sockets;
+#[cfg(test)]
+mod words;

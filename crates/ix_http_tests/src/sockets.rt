@@ -1,12 +1,12 @@
 //! Listeners: one over the system's sockets, and one in memory.
 
-use ix_base::{Bytes, FailPlan, Failed, MemSink, MemSource, NoMemory};
+use crate::said::{bytes_of, compare, failing, note, say, shown};
+use ix_base::{FailPlan, Failed, MemSink, MemSource};
 use ix_http::{Incoming, Kind, read_request, write_reply};
-use ix_link::{Link, Listener, MemLink, MemLinkList, MemListener, Pair, Side, TcpListen};
+use ix_link::{Link, Listener, MemLink, MemLinkList, MemListener, Pair, TcpListen};
 use std::alloc::Global;
 use std::io::{Read, Write};
 use std::net::{Ipv4Addr, SocketAddr, TcpStream};
-use std::test::Fail;
 
 const ASKED: &[u8] = b"GET /nothing HTTP/1.1\r\n\r\n";
 
@@ -15,80 +15,118 @@ const ANSWERED: &[u8] =
 
 /// Answers 404 where a request is refused, and nothing else.
 fn answer<K: Link>(alloc: Global, link: &mut K) -> Result<(), Failed> {
-    match read_request(alloc, link) {
-        Ok(Incoming::Refused { .. }) => write_reply(
-            link,
-            404,
-            Kind::Json,
-            b"{\"error\":\"NoRoute\"}",
-        ),
-        Ok(_) => Ok(()),
-        Err(_) => Err(Failed),
+    let read = read_request(alloc, link);
+    let is_refused = matches!(read, Ok(Incoming::Refused { .. }));
+    let is_fault = read.is_err();
+    drop(read);
+    if is_refused {
+        write_reply(link, 404, Kind::Json, b"{\"error\":\"NoRoute\"}")
+    } else if is_fault {
+        Err(Failed)
+    } else {
+        Ok(())
     }
 }
 
-#[test]
-fn a_socket_is_served(rt: HostRuntime) -> Result<(), Fail> {
-    let mut listener = TcpListen::new(rt.clone()?);
-    assert!(rt; listener.accept().is_err());
-    listener.bind(0)?;
-    let address = SocketAddr::from((Ipv4Addr::LOCALHOST, listener.port()));
-    let mut client = TcpStream::connect(&rt, address)?;
-    client.write_all(ASKED)?;
-    let mut conn = listener.accept()?;
-    answer(rt.alloc(), &mut conn)?;
-    listener.done(conn);
-    let mut text = Vec::new(rt.alloc());
-    client.read_to_end(&mut text)?;
-    assert!(rt; text.as_slice() == ANSWERED);
-    Ok(())
-}
-
-fn link(alloc: Global, text: &[u8]) -> Result<MemLink, NoMemory> {
-    Ok(MemLink::new(alloc, Bytes::copy_of(alloc, text)?, FailPlan::none(alloc)))
-}
-
-#[test]
-fn a_listener_in_memory_is_served(rt: HostRuntime) -> Result<(), Fail> {
-    let alloc = rt.alloc();
-    let mut waiting = MemLinkList::new(alloc);
-    waiting.push(link(alloc, ASKED)?)?;
-    waiting.push(link(alloc, b"")?)?;
-    let mut listener = MemListener::new(alloc, waiting, FailPlan::none(alloc));
-    listener.bind(8080)?;
-    for _ in 0..2 {
-        let mut conn = listener.accept()?;
-        answer(alloc, &mut conn)?;
+/// Answers the next connection of a listener, and writes what that came to.
+fn note_served<L: Listener>(text: &mut String, alloc: Global, listener: &mut L) {
+    if let Ok(mut conn) = listener.accept() {
+        note(text, answer(alloc, &mut conn));
         listener.done(conn);
     }
-    assert!(rt;
-        listener.accept().is_err() && listener.port == Some(8080) && listener.plan.faults == 1
-    );
-    let handed = listener.handed();
-    assert!(rt; handed.len() == 2);
-    assert!(rt; handed[0].given() == ANSWERED && handed[1].given() == b"".as_slice());
-    Ok(())
+}
+
+/// Writes whether this answer stands on a connection up to its end.
+fn note_answered(text: &mut String, alloc: Global, client: &mut impl Read) {
+    let mut found = Vec::new(alloc);
+    note(text, client.read_to_end(&mut found).is_ok());
+    note(text, found.as_slice() == ANSWERED);
+    drop(found);
+}
+
+fn socket_said(rt: &HostRuntime) -> String {
+    let mut text = String::new(rt.alloc());
+    let mut listener = TcpListen::new(rt);
+    note(&mut text, listener.accept().is_err());
+    note(&mut text, listener.bind(0));
+    let address = SocketAddr::from((Ipv4Addr::LOCALHOST, listener.port()));
+    if let Ok(mut client) = TcpStream::connect(rt, address) {
+        note(&mut text, client.write_all(ASKED).is_ok());
+        note_served(&mut text, rt.alloc(), &mut listener);
+        note_answered(&mut text, rt.alloc(), &mut client);
+        drop(client);
+    }
+    drop(listener);
+    text
 }
 
 #[test]
-fn a_pair_names_the_side_that_failed(rt: HostRuntime) -> Result<(), Fail> {
-    let alloc = rt.alloc();
-    let mut source = MemSource::new(Bytes::copy_of(alloc, ASKED)?, FailPlan::none(alloc));
-    let mut sink = MemSink::new(alloc, FailPlan::none(alloc));
-    let mut pair = Pair::new(&mut source, &mut sink);
-    answer(alloc, &mut pair)?;
-    assert!(rt; pair.failed.is_none());
-    assert!(rt; sink.bytes() == ANSWERED);
-    for (reads, writes, wanted) in [(0u64, 99u64, Side::Reading), (99, 0, Side::Writing)] {
-        let mut reading = Vec::new(alloc);
-        reading.push(reads)?;
-        let mut writing = Vec::new(alloc);
-        writing.push(writes)?;
-        let mut source = MemSource::new(Bytes::copy_of(alloc, ASKED)?, FailPlan::new(reading));
-        let mut sink = MemSink::new(alloc, FailPlan::new(writing));
-        let mut pair = Pair::new(&mut source, &mut sink);
-        assert!(rt; answer(alloc, &mut pair).is_err());
-        assert!(rt; pair.failed == Some(wanted));
+fn a_socket_is_served(rt: HostRuntime) {
+    compare(&rt, socket_said(&rt), "true Ok(()) true Ok(()) true true ");
+}
+
+fn link(alloc: Global, bytes: &[u8]) -> MemLink {
+    MemLink::new(alloc, bytes_of(alloc, bytes), FailPlan::none(alloc))
+}
+
+fn two_links(alloc: Global) -> MemLinkList {
+    let mut waiting = MemLinkList::new(alloc);
+    let _ = waiting.push(link(alloc, ASKED));
+    let _ = waiting.push(link(alloc, b""));
+    waiting
+}
+
+fn memory_said(alloc: Global) -> String {
+    let mut text = String::new(alloc);
+    let mut listener = MemListener::new(alloc, two_links(alloc), FailPlan::none(alloc));
+    note(&mut text, listener.bind(8080));
+    note_served(&mut text, alloc, &mut listener);
+    note_served(&mut text, alloc, &mut listener);
+    note(&mut text, listener.accept().is_err());
+    note(&mut text, listener.port);
+    note(&mut text, listener.plan.faults);
+    for link in listener.handed() {
+        note(&mut text, link.given() == ANSWERED);
+        note(&mut text, link.given().len());
     }
-    Ok(())
+    drop(listener);
+    text
+}
+
+#[test]
+fn a_listener_in_memory_is_served(rt: HostRuntime) {
+    let wanted = "Ok(()) Ok(()) Ok(()) true Some(8080) 1 true 116 false 0 ";
+    compare(&rt, memory_said(rt.alloc()), wanted);
+}
+
+/// Writes what a pair answers whose reads and writes fail by plans, which side failed, and whether the answer was given.
+fn note_pair(text: &mut String, alloc: Global, reading: FailPlan, writing: FailPlan) {
+    let mut source = MemSource::new(bytes_of(alloc, ASKED), reading);
+    let mut sink = MemSink::new(alloc, writing);
+    let mut pair = Pair::new(&mut source, &mut sink);
+    note(text, answer(alloc, &mut pair));
+    note(text, pair.failed);
+    note(text, sink.bytes() == ANSWERED);
+    drop(source);
+    drop(sink);
+}
+
+fn pairs_said(alloc: Global) -> String {
+    let mut text = String::new(alloc);
+    note_pair(
+        &mut text,
+        alloc,
+        FailPlan::none(alloc),
+        FailPlan::none(alloc),
+    );
+    note_pair(&mut text, alloc, failing(alloc, 0), failing(alloc, 99));
+    note_pair(&mut text, alloc, failing(alloc, 99), failing(alloc, 0));
+    text
+}
+
+#[test]
+fn a_pair_names_the_side_that_failed(rt: HostRuntime) {
+    let wanted =
+        "Ok(()) None true Err(Failed) Some(Reading) false Err(Failed) Some(Writing) false ";
+    compare(&rt, pairs_said(rt.alloc()), wanted);
 }

@@ -6,7 +6,7 @@ use Rattle.ix_book.specs.Book.{Book, Replays}
 use Rattle.ix_book.specs.Replaying.{first_after, first_length}
 use Rattle.ix_book.specs.Slots.{bytes_of}
 use Rattle.ix_book.specs.declared.slot.Slot.{Slot}
-use Rattle.ix_checkpoint.proofs.Putting.{item_some}
+use Rattle.ix_book.proofs.PutItems.{item_some}
 
 pub first_stays : (first size : ℕ) → size ≡ 0 → first_after first first size ≡ first
 first_stays first size is = go (first == 0) refl

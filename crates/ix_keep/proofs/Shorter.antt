@@ -22,8 +22,8 @@ use Rattle.ix_book.specs.Book.{Name, Book, named, is_same, empty, after_item, re
 use Rattle.ix_book.specs.Root.{Taken, IsNoLog, roots, current, log_file}
 use Rattle.ix_book.proofs.Applying.{replay_behind}
 use Rattle.ix_book.proofs.Bodies.{end_bodies}
-use Rattle.ix_checkpoint.specs.Whole.{removal, whole, whole_body, HasNumbers}
-use Rattle.ix_checkpoint.proofs.Numbers.{roots_long}
+use Rattle.ix_book.specs.Whole.{removal, whole, whole_body, HasNumbers}
+use Rattle.ix_book.proofs.RootNumbers.{roots_long}
 use Rattle.ix_keep.specs.Contents.{Filling, filling, HasFilling, HoldsFilling, BeginsWith, Spares, IsFree, Anyhow}
 use Rattle.ix_keep.specs.Snapshot.{Snapshot, Keeps, KeepsEither, AreFree, AreNoLogs, Held, IsOver, IsMeasured, IsLong, log_of}
 use Rattle.ix_keep.specs.Shortening.{shortened, Tells, HasOneBody, TellsLong, IsLongLog}

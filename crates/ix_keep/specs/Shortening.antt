@@ -7,7 +7,7 @@ use Rattle.ix_disk.specs.declared.disk.Disk.{Ghosts}
 use Rattle.ix_log.specs.Log.{HasBodies}
 use Rattle.ix_book.specs.Book.{Name, Book, named, is_same, empty, replay}
 use Rattle.ix_book.specs.Replaying.{first_length}
-use Rattle.ix_checkpoint.specs.Whole.{removal}
+use Rattle.ix_book.specs.Whole.{removal}
 use Rattle.ix_keep.specs.Snapshot.{Snapshot, IsOver, IsMeasured, IsLong, with_item, log_of}
 use Rattle.ix_keep.specs.declared.keeper.Keeper.{Keeper}
 

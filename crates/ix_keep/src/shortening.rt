@@ -6,15 +6,14 @@ ghost use Rattle.ix_base.specs.Told.{Told};
 ghost use Rattle.ix_disk.specs.Image.{Image};
 ghost use Rattle.ix_disk.specs.Moments.{Goes, Always};
 ghost use Rattle.ix_log.specs.Log.{file_of, place_of};
-ghost use Rattle.ix_checkpoint.specs.Whole.{whole_body};
-ghost use Rattle.ix_checkpoint.specs.declared.fault.CheckpointFault.TheVariants as faults;
+ghost use Rattle.ix_book.specs.Whole.{whole_body};
+ghost use Rattle.ix_book.specs.declared.fault.CheckpointFault.TheVariants as faults;
 ghost use Rattle.ix_keep.specs.Contents.{Anyhow};
 ghost use Rattle.ix_keep.specs.Snapshot.{Snapshot, KeepsEither, Held, IsOver, IsIdle, IsMeasured, log_of};
 ghost use Rattle.ix_keep.specs.Shortening.{shortened, Tells, IsShortest};
 
 use crate::keeper::Keeper;
-use ix_book::{Replay, log_file};
-use ix_checkpoint::{CheckpointFault, Whole, put_number, write_log};
+use ix_book::{CheckpointFault, Replay, Whole, log_file, put_number, write_log};
 use ix_disk::Disk;
 use ix_log::Log;
 use std::alloc::Global;

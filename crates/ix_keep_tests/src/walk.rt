@@ -4,7 +4,7 @@ ghost use Rattle.std.specs.Prelude.{◌≡◌};
 ghost use Rattle.ix_keep_tests.specs.Walks.{state_of, left_of};
 
 use ix_base::{NoMemory, Sequence};
-use ix_checkpoint::Whole;
+use ix_book::Whole;
 use ix_items::Item;
 use std::alloc::Global;
 

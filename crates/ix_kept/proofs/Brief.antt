@@ -23,7 +23,7 @@ use Rattle.ix_props.specs.Values.{name}
 use Rattle.ix_props.specs.declared.props.PropsEntry.{PropsEntry}
 use Rattle.ix_props.specs.declared.values.Value.{Value}
 use Rattle.ix_props.specs.declared.values.Value.TheVariants as value
-use Rattle.ix_snapshot.specs.Shelved.{IsSet}
+use Rattle.ix_machine.specs.Shelved.{IsSet}
 use Rattle.ix_values.specs.Values.{stated, value_of}
 
 false_true : false ≡ true → ⊥

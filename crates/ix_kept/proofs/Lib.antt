@@ -9,3 +9,6 @@ mod Moves
 mod KeptLemmas
 mod NameLemmas
 pub mod Brief
+pub mod Known
+pub mod Thawing
+pub mod Judged

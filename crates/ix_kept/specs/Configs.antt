@@ -16,7 +16,7 @@ use Rattle.ix_props.specs.Same.{AreSame}
 use Rattle.ix_props.specs.Settings.{AreSettings}
 use Rattle.ix_props.specs.declared.props.PropsEntry.{PropsEntry}
 use Rattle.ix_props.specs.declared.settings.Settings.{Settings}
-use Rattle.ix_snapshot.specs.Shelved.{IsSet}
+use Rattle.ix_machine.specs.Shelved.{IsSet}
 
 -- ---- what is kept of one file: 1 is props.conf, 2 transforms.conf, 3 indexes.conf and 4 zones.conf
 

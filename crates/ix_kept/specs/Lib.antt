@@ -3,3 +3,5 @@ pub mod Taken
 pub mod Checks
 pub mod Files
 pub mod Keeping
+pub mod Held
+pub mod Causes

@@ -1,13 +1,16 @@
-//! The settings that a store keeps, and the values that they give. The store reads them again when it is mounted; the program makes
-//! them of the files of settings.
+//! The settings that a store keeps, and the values that they give, which the store reads again when it is mounted. And the state of a
+//! store in memory: what a command is refused for, and when a Tick comes before it.
 #![tactic(auto)]
 
 mod checks;
 mod configs;
 mod faults;
 mod files;
+mod held;
+mod judging;
 mod keeping;
 
 pub use configs::config_of;
 pub use faults::ConfigFault;
+pub use held::{Held, Open, Storage};
 pub use keeping::{KeptFiles, kept_is_config, kept_of, read_names_are_short};

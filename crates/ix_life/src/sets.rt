@@ -29,7 +29,6 @@ pub struct IndexLimits {
 pub type IndexLimitsList = Sequence<IndexLimits>;
 
 /// The limits of all indexes that are configured, and what `default` says for the whole store.
-#[derive(Drop)]
 pub struct LimitSet {
     /// `defaultDatabase`: the index of events for which no other is stated.
     pub default_database: Bytes,
@@ -39,6 +38,19 @@ pub struct LimitSet {
     pub rotate_secs: u64,
     indexes: IndexLimitsList,
     retired: Limits,
+}
+
+/// It is written out, so that each place where one is let go is a call of it, which is proved once.
+impl Drop for LimitSet {
+    fn drop(self) {
+        let LimitSet {
+            default_database: _,
+            last_chance: _,
+            rotate_secs: _,
+            indexes: _,
+            retired: _,
+        } = self;
+    }
 }
 
 /// Where an event of an index goes.

@@ -1,5 +1,5 @@
 -- A value that stands for a stream, and the next bytes or the end.
-use Rattle.std.proofs.Common.{◌≡◌, ℕ, ◌+◌, ℤ, Bool, true, false, List, [], ◌++◌, length, take, drop, replicate, Option, refl, sym, ◌∙◌, ap, subst, append_assoc}
+use Rattle.std.proofs.Common.{◌≡◌, ℕ, ◌+◌, ◌-◌, ◌≤◌, ℤ, Bool, true, false, List, [], ◌++◌, length, take, drop, replicate, Option, refl, sym, ◌∙◌, ap, subst, arith, append_assoc, length-append}
 use Rattle.std.specs.List.{flat_map, zip}
 use Rattle.std.proofs.lemmas.List.{append-nil}
 use Rattle.std.proofs.lemmas.Grind.{flat_map-append}
@@ -12,6 +12,11 @@ use Rattle.ix_lines.specs.Settle.{Settles}
 use Rattle.ix_lines.specs.Parts.{Parts, StandsFor, Adds, AddsPart, Ends, EndsPart}
 use Rattle.ix_lines.specs.declared.kept.Kept.{Kept}
 use Rattle.ix_base.specs.declared.events.Line.{Line}
+use Rattle.std.proofs.lemmas.List.{length-drop}
+use Rattle.std.proofs.lemmas.Slice.Zip.{length-zip}
+use Rattle.ix_lines.specs.Moments.{moments_of}
+use Rattle.ix_lines.specs.Pending.{IsPaired, dated_in}
+use Rattle.ix_lines.specs.declared.pending.Pending.{Pending}
 use Rattle.ix_lines.proofs.ListLemmas.{drop-zip, zip-append}
 use Rattle.ix_lines.proofs.WalkLemmas.{walk_of-append}
 
@@ -168,3 +173,13 @@ closed-some look stable t stream old kept out out' stands b m some =
 pub settles-some : (t : ℕ) (w : Walked) (before : Option ℕ) (kept : Kept) (left : List Dated) (out out' out'' : List Line) → Settles t w before kept left out out' →
     out'' ≡ out' → AddsSome (flat_map (line_of t) w.done) out out''
 settles-some t w before kept left out out' out'' s e = all-some (flat_map (line_of t) w.done) out out'' (e ∙ s.written)
+
+-- how far the scan place moved on
+pub fed-moved : (old all left : Pending) (bytes : List ℕ) (stop : ℕ) → IsPaired old → IsPaired left → all.bytes ≡ old.bytes ++ bytes → left.bytes ≡ drop stop all.bytes →
+    stop ≤ length all.bytes → length (dated_in old) + length bytes - length (dated_in left) ≡ stop
+fed-moved old all left bytes stop p q a l h =
+    let before = length-zip old.bytes (moments_of old.runs.items) in
+    let behind = length-zip left.bytes (moments_of left.runs.items) in
+    let whole : length all.bytes ≡ length old.bytes + length bytes = ap length a ∙ length-append old.bytes bytes in
+    let rest : length left.bytes ≡ length (drop stop all.bytes) = ap length l in
+    omega (arith, before, behind, whole, rest, length-drop stop all.bytes, p, q, h)

@@ -12,3 +12,4 @@ pub mod Answering
 pub mod Settling
 pub mod Feeding
 pub mod CarryLaw
+pub mod Looking

@@ -64,7 +64,7 @@ walk-seek look stable u before rest (d ∷ left) =
         walk-match look u before rest d left from to n sized.1 sized.2 (omega (arith, sized.3, length-bytes_of left))
 
 -- places that are passed over
-past-zero : (f : Found) → f ≡ past 0 f
+pub past-zero : (f : Found) → f ≡ past 0 f
 past-zero (Break from to n) = λ i. Break (plus from i) (plus to i) (plus n i)
   where
     plus : (k : ℕ) → k ≡ 0 + k

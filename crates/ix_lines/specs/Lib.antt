@@ -8,6 +8,7 @@ pub mod Moments
 pub mod Pending
 pub mod Kept
 pub mod Seek
+pub mod Begun
 pub mod Settle
 pub mod Parts
 pub mod Carry

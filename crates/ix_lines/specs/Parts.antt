@@ -1,5 +1,5 @@
 -- What a value keeps of a stream.
-use Rattle.std.specs.Prelude.{◌≡◌, ℕ, ◌+◌, ◌<◌, ℤ, Bool, true, false, List, ◌++◌, Option, take}
+use Rattle.std.specs.Prelude.{◌≡◌, ℕ, ◌+◌, ◌-◌, ◌<◌, ℤ, Bool, true, false, List, ◌++◌, length, Option, take}
 use Rattle.ix_base.specs.Stream.{Dated, bytes_of}
 use Rattle.ix_pattern.specs.Piece.{least_length}
 use Rattle.ix_pattern.specs.Rows.{Shape, tree}
@@ -71,6 +71,10 @@ pub record Held : Type 0 where
 -- the value has taken in this stream
 abbrev pub Holds : List Dated → Held → Type 0
 Holds stream lines = StandsFor (breaks_by lines.breaker) lines.parts.truncate stream lines.parts
+
+-- how far the scan place moved on while so many bytes came
+abbrev pub moved : Held → ℕ → Held → ℕ
+moved old came new = length old.parts.pending + came - length new.parts.pending
 
 -- the pattern has a capturing group, and a match takes a byte
 pub record IsBreaker (p : Shape) : Type 0 where

@@ -45,3 +45,13 @@ seek look unfinished before (b ∷ bytes) =
 abbrev pub IsWithin : Found → ℕ → ℕ → Type 0
 IsWithin (Break from to end) len most = (from ≤ to) × (to ≤ end) × (0 < end) × (end ≤ len)
 IsWithin (Stop at) len most = (at ≤ len) × (len < at + most)
+
+-- where the search goes on behind it, or from
+abbrev pub end_of : Found → ℕ
+end_of (Break from to end) = end
+end_of (Stop at) = at
+
+-- how many attempts were made at the most: no two at one place
+abbrev pub most_looks : Found → ℕ
+most_looks (Break from to end) = end
+most_looks (Stop at) = at + 1

@@ -1,12 +1,14 @@
 //! Breaks between lines.
 
-ghost use Rattle.std.specs.Prelude.{◌≡◌, ℕ, ◌+◌, ◌<◌, ◌≤◌, length, take, IfOk, Option};
+ghost use Rattle.std.specs.Prelude.{◌≡◌, ℕ, ◌+◌, ◌-◌, ◌*◌, ◌<◌, ◌≤◌, List, length, take, drop, IfOk, OnOk, Option};
 ghost use Rattle.ix_pattern.specs.Piece.{least_length};
 ghost use Rattle.ix_pattern.specs.Rows.{tree};
 ghost use Rattle.ix_match.specs.Attempt.{reach};
+ghost use Rattle.ix_match.specs.Scans.{GoesOn, emptied};
+ghost use Rattle.ix_lines.specs.Begun.{IsBegun, StopsBegun};
 ghost use Rattle.ix_lines.specs.Breaks.{break_of, breaks_by};
 ghost use Rattle.ix_lines.specs.Laws.{IsStable};
-ghost use Rattle.ix_lines.specs.Seek.{look_of, IsSized, seek, last_byte, IsWithin};
+ghost use Rattle.ix_lines.specs.Seek.{look_of, IsSized, seek, last_byte, IsWithin, end_of, most_looks};
 
 use crate::byte_runs::{is_byte_run, run_at};
 use ix_base::{NoMemory, Steps};
@@ -14,7 +16,7 @@ use ix_match::{Look, Scan};
 use ix_pattern::Pattern;
 use std::alloc::Global;
 use std::marker::Model;
-use std::sync::ledger::Ledger;
+use std::sync::ledger::{Blank, Ledger};
 
 /// What an attempt at a place comes to. Places count from that place.
 #[derive(Clone, Copy)]
@@ -65,7 +67,8 @@ fn break_of(groups: &[Option<(usize, usize)>]) -> (usize, usize)
     (0, 0)
 }
 
-/// A pattern of breaks, with what its attempts keep. Contracts see the pattern.
+/// A pattern of breaks, with the attempt that goes on while bytes come. Contracts see the pattern, what the attempt is to
+/// its callers, and whether one is made at all.
 #[derive(Drop)]
 pub struct Breaker {
     pattern: Pattern,
@@ -78,12 +81,13 @@ impl Model for Breaker {
     ghost use Rattle.std.specs.Prelude.{◌≡◌, ◌<◌, true};
     ghost use Rattle.ix_lines.specs.ByteRuns.{IsByteRun};
     ghost use Rattle.ix_pattern.specs.Piece.{IsSound, least_length};
-    ghost use Rattle.ix_pattern.specs.Rows.{Shape, tree};
+    ghost use Rattle.ix_pattern.specs.Rows.{tree};
     ghost use Rattle.ix_match.specs.Starts.{AreStarts};
+    ghost use Rattle.ix_lines.specs.Begun.{Breaking};
 
-    ghost Value = { Shape };
+    ghost Value = { Breaking };
 
-    ghost view = { λ b. b.pattern };
+    ghost view = { λ b. record { pattern = b.pattern; scan = b.scan; counts = b.counts } };
 
     ghost invariant = { λ b. IsSound (tree b.pattern.rows) × (0 < least_length (tree b.pattern.rows))
         × AreStarts b.pattern b.scan.starts × (b.scan.pattern ≡ b.pattern) × (b.counts ≡ true → IsByteRun b.pattern) };
@@ -93,8 +97,9 @@ impl Breaker {
     /// A pattern whose matches take at least one byte.
     pub fn new(alloc: Global, pattern: Pattern) -> Result<Breaker, NoMemory>
         requires { 0 < least_length (tree pattern.rows) }
-        ensures is { IfOk result (λ breaker. breaker ≡ pattern) }
-        ensures stable { IfOk result (λ breaker. IsStable (breaks_by breaker)) }
+        ensures is { IfOk result (λ breaker. breaker.pattern ≡ pattern) }
+        ensures goes_on { IfOk result (λ breaker. (before : Option ℕ) (bytes : List ℕ) → GoesOn breaker.scan before bytes) }
+        ensures stable { IfOk result (λ breaker. IsStable (breaks_by breaker.pattern)) }
     {
         let _ = pattern.root();
         let scan = Scan::new(alloc, &pattern)?;
@@ -106,7 +111,19 @@ impl Breaker {
         })
     }
 
-    /// The attempt at the first of these bytes.
+    /// Begins anew where this place is not the first one.
+    fn stand(&mut self, place: usize)
+        ensures first { place ≡ 0 → self.new ≡ self.old }
+        ensures other { 0 < place → self.new.scan ≡ emptied self.old.scan }
+        ensures pattern { self.new.pattern ≡ self.old.pattern }
+    {
+        if place == 0 {
+            return;
+        }
+        self.scan.reset();
+    }
+
+    /// The attempt at the first of these bytes. It goes on where they go on from those of the last look.
     fn look<L: Ledger>(
         &mut self,
         before: Option<u8>,
@@ -114,15 +131,19 @@ impl Breaker {
         unfinished: bool,
         steps: &mut Steps<L>,
     ) -> Result<Looked, NoMemory>
-        ensures is { IfOk result (λ l. look_of l ≡ breaks_by self.old before bytes.now unfinished) }
+        requires { GoesOn self.old.scan before bytes.now }
+        ensures is { IfOk result (λ l. look_of l ≡ breaks_by self.old.pattern before bytes.now unfinished) }
         ensures sized { IfOk result (λ l. IsSized l (length bytes.now)) }
-        ensures same { self.new ≡ self.old }
+        ensures pattern { self.new.pattern ≡ self.old.pattern }
+        ensures goes_on { OnOk result (GoesOn self.new.scan before bytes.now) }
+        ensures begun { OnOk result (0 < length bytes.now → IsBegun self.new) }
+        ensures counted { OnOk result (steps.new ≤ steps.old + self.old.pattern.weight * 512) }
+        ensures again { IsBegun self.old → steps.new ≡ steps.old }
         ensures later { steps.old ≤ steps.new }
     {
         if self.counts {
             return Ok(run_at(&self.scan, bytes, unfinished));
         }
-        self.scan.reset();
         match self
             .scan
             .advance(&self.pattern, before, bytes, !unfinished, steps)?
@@ -137,7 +158,8 @@ impl Breaker {
         }
     }
 
-    /// The first break from the first of these bytes on. The bytes with which no match begins are passed over at once.
+    /// The first break from the first of these bytes on, which go on from those of the last look. The bytes with which no
+    /// match begins are passed over at once.
     pub fn seek<L: Ledger>(
         &mut self,
         before: Option<u8>,
@@ -145,14 +167,20 @@ impl Breaker {
         unfinished: bool,
         steps: &mut Steps<L>,
     ) -> Result<Found, NoMemory>
-        ensures is { IfOk result (λ found. found ≡ seek (breaks_by self.old) unfinished before bytes.now) }
+        requires { GoesOn self.old.scan before bytes.now }
+        ensures is { IfOk result (λ found. found ≡ seek (breaks_by self.old.pattern) unfinished before bytes.now) }
         ensures within { IfOk result (λ found. IsWithin found (length bytes.now) reach) }
-        ensures same { self.new ≡ self.old }
+        ensures pattern { self.new.pattern ≡ self.old.pattern }
+        ensures goes_on { IfOk result (λ found. GoesOn self.new.scan (last_byte before (take (end_of found) bytes.now)) (drop (end_of found) bytes.now)) }
+        ensures begun { IfOk result (λ found. StopsBegun found (length bytes.now) self.new) }
+        ensures counted { IfOk result (λ found. steps.new ≤ steps.old + self.old.pattern.weight * 512 * most_looks found) }
+        ensures again { IfOk result (λ found. IsBegun self.old → steps.new ≤ steps.old + self.old.pattern.weight * 512 * (most_looks found - 1)) }
         ensures later { steps.old ≤ steps.new }
     {
         let mut at: usize = 0;
         while at < bytes.len() {
             let place = at + self.scan.passed_over(&bytes[at..]);
+            self.stand(place);
             if place == bytes.len() {
                 return Ok(Found::Stop(place));
             }
@@ -165,6 +193,7 @@ impl Breaker {
                 Looked::No => at = place + 1,
                 Looked::More => return Ok(Found::Stop(place)),
                 Looked::Match { from, to, end } => {
+                    self.stand(place + end);
                     return Ok(Found::Break {
                         from: place + from,
                         to: place + to,
@@ -173,7 +202,32 @@ impl Breaker {
                 }
             }
         }
+        self.stand(at);
         Ok(Found::Stop(at))
+    }
+
+    /// Brings the attempt up to the end of these bytes. The tests are counted in the ledger that the blank one opens, which
+    /// nobody reads.
+    pub fn bring_up<L: Ledger>(
+        &mut self,
+        before: Option<u8>,
+        bytes: &[u8],
+        blank: Blank,
+    ) -> Result<(), NoMemory>
+        requires name { blank.name ≡ L.name }
+        requires parts { blank.parts ≡ L.parts }
+        requires some { 0 < blank.parts }
+        requires goes_on { GoesOn self.old.scan before bytes.now }
+        ensures pattern { self.new.pattern ≡ self.old.pattern }
+        ensures goes_on { OnOk result (GoesOn self.new.scan before bytes.now) }
+        ensures begun { OnOk result (0 < length bytes.now → IsBegun self.new) }
+    {
+        if bytes.is_empty() {
+            return Ok(());
+        }
+        let mut steps = Steps::<L>::new(blank);
+        let _ = self.look(before, bytes, true, &mut steps)?;
+        Ok(())
     }
 
     /// A copy of it.

@@ -41,6 +41,7 @@ impl Pending {
         requires { IsPaired self.old }
         ensures paired { OnOk result (IsPaired self.new) }
         ensures added { OnOk result (dated_in self.new ≡ dated_in self.old ++ dated bytes.now moment) }
+        ensures bytes { OnOk result (self.new.bytes ≡ self.old.bytes ++ bytes.now) }
         ensures before { self.new.before ≡ self.old.before }
     {
         add_moments(&mut self.runs, bytes.len(), moment)?;
@@ -53,6 +54,7 @@ impl Pending {
         requires within { n ≤ length self.old.bytes }
         ensures paired { OnOk result (IsPaired self.new) }
         ensures left { OnOk result (dated_in self.new ≡ drop n (dated_in self.old)) }
+        ensures bytes { OnOk result (self.new.bytes ≡ drop n self.old.bytes) }
         ensures before { OnOk result (self.new.before ≡ last_byte self.old.before (take n self.old.bytes)) }
     {
         if n == 0 {

@@ -1,13 +1,13 @@
 //! A stream in blocks. Whoever reads a stream feeds its blocks to `Lines`.
 
-ghost use Rattle.std.specs.Prelude.{◌≡◌, ◌<◌, ◌≤◌, List, [], ◌++◌, length, IsTrue, IfOk, OnOk, OnErr, IsErr};
+ghost use Rattle.std.specs.Prelude.{◌≡◌, ◌+◌, ◌*◌, ◌<◌, ◌≤◌, List, [], ◌++◌, length, IsTrue, IfOk, OnOk, OnErr, IsErr};
 ghost use Rattle.std.specs.List.{All};
 ghost use Rattle.ix_base.specs.Clocks.{clamped};
 ghost use Rattle.ix_base.specs.Stream.{Dated, dated};
 ghost use Rattle.ix_lines.specs.Lines.{effective, IsShort};
 ghost use Rattle.ix_match.specs.Attempt.{reach};
 ghost use Rattle.ix_lines.specs.Breaks.{breaks_by};
-ghost use Rattle.ix_lines.specs.Parts.{Holds, IsBreaker, Adds, AddsPart, Ends, EndsPart};
+ghost use Rattle.ix_lines.specs.Parts.{Holds, IsBreaker, Adds, AddsPart, Ends, EndsPart, moved};
 ghost use Rattle.ix_lines.specs.Carry.{carry_of, dated_of};
 
 use crate::breaks::Breaker;
@@ -19,8 +19,8 @@ use crate::pending::Pending;
 use ix_base::{LineList, NoMemory, Steps, clamped};
 use ix_pattern::Pattern;
 use std::alloc::Global;
-use std::marker::Model;
-use std::sync::ledger::Ledger;
+use std::marker::{Brand, Model};
+use std::sync::ledger::{Blank, Ledger};
 
 /// The lines of a stream that comes in blocks. Whatever the blocks, the lines are those of the whole stream.
 ///
@@ -31,17 +31,27 @@ use std::sync::ledger::Ledger;
 ///
 /// At most 16,383 bytes wait for what comes behind them, with their moments; of the line that is open the first bytes
 /// are kept, one more than a line may have.
-#[derive(Drop)]
 pub struct Lines {
     cutter: Cutter,
     pending: Pending,
     broken: bool,
 }
 
+impl Drop for Lines {
+    fn drop(self) {
+        let Lines {
+            cutter: _,
+            pending: _,
+            broken: _,
+        } = self;
+    }
+}
+
 impl Model for Lines {
     ghost use Rattle.ix_lines.specs.Parts.{Held};
     ghost use Rattle.ix_lines.specs.Breaks.{breaks_by};
     ghost use Rattle.ix_lines.specs.Laws.{IsStable};
+    ghost use Rattle.ix_lines.specs.Begun.{Attends};
     ghost use Rattle.ix_lines.specs.Pending.{IsPaired, dated_in};
     ghost use Rattle.std.specs.Prelude.{◌≤◌};
     ghost use Rattle.std.specs.Bool.{OnFalse};
@@ -49,7 +59,7 @@ impl Model for Lines {
     ghost Value = { Held };
 
     ghost view = { λ l. record {
-      breaker = l.cutter.breaker;
+      breaker = l.cutter.breaker.pattern;
       parts = record {
         truncate = l.cutter.truncate;
         before = l.pending.before;
@@ -60,7 +70,8 @@ impl Model for Lines {
       };
     } };
 
-    ghost invariant = { λ l. IsStable (breaks_by l.cutter.breaker) × (l.cutter.truncate ≤ 1048576) × OnFalse l.broken (IsPaired l.pending) };
+    ghost invariant = { λ l. IsStable (breaks_by l.cutter.breaker.pattern) × (l.cutter.truncate ≤ 1048576) × OnFalse l.broken (IsPaired l.pending)
+        × OnFalse l.broken (Attends l.cutter.breaker l.pending.before l.pending.bytes) };
 }
 
 /// The length at which lines are cut, by the setting.
@@ -100,8 +111,10 @@ impl Lines {
 
     /// Takes in the next bytes, which came at this moment, in microseconds since 1970-01-01T00:00:00Z, and adds the lines
     /// that they settle. A moment before 1970 counts as 0, and one after the beginning of 2100 as that. Each test of a
-    /// byte by an attempt at the breaker counts as a step. Where there is no room in memory the first ones of these lines
-    /// may have been added, and the value is broken: it answers `NoMemory` from then on and adds nothing.
+    /// byte by an attempt at the breaker counts as a step: there are at most 512 times the breaker's weight for each byte by
+    /// which the place moved on at which a break is still sought, and as many again where no byte waited there. Where one
+    /// did, the attempt goes on, and makes no test twice. Where there is no room in memory the first ones of these lines may
+    /// have been added, and the value is broken: it answers `NoMemory` from then on and adds nothing.
     pub fn feed<L: Ledger>(
         &mut self,
         bytes: &[u8],
@@ -120,6 +133,8 @@ impl Lines {
         ensures truncate { self.new.parts.truncate ≡ self.old.parts.truncate }
         ensures pending { OnOk result (length self.new.parts.pending < reach) }
         ensures short { All IsShort out.old → All IsShort out.new }
+        ensures counted { OnOk result (steps.new ≤ steps.old + self.old.breaker.weight * 512 * (moved self.old (length bytes.now) self.new + 1)) }
+        ensures again { OnOk result (0 < length self.old.parts.pending → steps.new ≤ steps.old + self.old.breaker.weight * 512 * moved self.old (length bytes.now) self.new) }
         ensures later { steps.old ≤ steps.new }
     {
         if self.broken {
@@ -147,9 +162,12 @@ impl Lines {
         if self.broken {
             return Err(NoMemory);
         }
-        let mut cutter = self.cutter;
+        let Lines {
+            mut cutter,
+            pending,
+            broken: _,
+        } = self;
         let truncate = cutter.truncate;
-        let pending = self.pending;
         let stop = cutter.settle(&pending, false, out, steps)?;
         let bytes = pending.bytes.as_slice();
         let runs = pending.runs.as_slice();
@@ -193,13 +211,16 @@ impl Lines {
         ensures truncate { IfOk result (λ lines. lines.parts.truncate ≡ effective truncate) }
         ensures stands { IfOk result (λ lines. (stream : List Dated) → parts ≡ carry_of (breaks_by breaker) (effective truncate) stream → Holds stream lines) }
     {
+        let mut breaker = Breaker::new(alloc, breaker)?;
+        let pending = Pending::resumed(alloc, parts.before, parts.pending.as_slice())?;
+        let waiting = pending.bytes.as_slice();
+        breaker.bring_up::<Brand>(pending.before, waiting, Blank::new(1))?;
         let cutter = Cutter {
             alloc,
-            breaker: Breaker::new(alloc, breaker)?,
+            breaker,
             truncate: effective(truncate),
             kept: Kept::of_line(alloc, parts.line),
         };
-        let pending = Pending::resumed(alloc, parts.before, parts.pending.as_slice())?;
         Ok(Lines {
             cutter,
             pending,

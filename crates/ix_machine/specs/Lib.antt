@@ -15,3 +15,10 @@ pub mod Files
 pub mod Followed
 pub mod Ledger
 pub mod Laws
+pub mod Contents
+pub mod Books
+pub mod Snap
+pub mod Shelved
+pub mod OnDisk
+pub mod Done
+pub mod Said

@@ -6,7 +6,6 @@ use ix_life::LimitSet;
 use ix_props::Props;
 
 /// Settings that a store goes by: `props` and `limits` are what `kept` gives with the built-in time zones.
-#[derive(Drop)]
 pub struct Config {
     /// The settings of channels.
     pub props: Props,
@@ -14,6 +13,17 @@ pub struct Config {
     pub limits: LimitSet,
     /// The settings themselves, as they are kept with the store.
     pub kept: KeptList,
+}
+
+/// It is written out, so that each place where one is let go is a call of it, which is proved once.
+impl Drop for Config {
+    fn drop(self) {
+        let Config {
+            props: _,
+            limits: _,
+            kept: _,
+        } = self;
+    }
 }
 
 /// An event that comes already cut: no lines are looked for in it, and it is not merged with others.

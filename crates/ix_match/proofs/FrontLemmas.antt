@@ -51,7 +51,7 @@ none-other (Some b) (set ∷ xs) ys e = none-other (Some b) xs ys (or-other (in_
 abbrev pub Silent : (Reached → List Way) → ℕ → Type 0
 Silent next place = (s : Reached) → s.place ≡ place → next s ≡ []
 
-here-silent : (next : Reached → List Way) (r : Reached) (test : Bool) → next r ≡ [] → onward next (here test r) ≡ []
+pub here-silent : (next : Reached → List Way) (r : Reached) (test : Bool) → next r ≡ [] → onward next (here test r) ≡ []
 here-silent next r true e = ap (λ l. l ++ []) e
 here-silent next r false e = refl
 

@@ -3,5 +3,8 @@ pub mod ClosedLemmas
 pub mod FrontLemmas
 pub mod FindLemmas
 pub mod ScanLemmas
+pub mod KeptLemmas
 pub mod FewLemmas
 pub mod StartLemmas
+pub mod LeadLemmas
+pub mod PrefilterLemmas

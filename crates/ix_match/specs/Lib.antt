@@ -5,3 +5,6 @@ pub mod Fronts
 pub mod Searches
 pub mod Scans
 pub mod Few
+pub mod Leads
+pub mod Prefilters
+pub mod Prepared

@@ -1,7 +1,9 @@
 -- The search for a pattern, and what it works in.
-use Rattle.std.specs.Prelude.{◌≡◌, length}
+use Rattle.std.specs.Prelude.{◌≡◌, ℕ, List, Option, length, IfSome}
 use Rattle.ix_pattern.specs.Rows.{Rows}
+use Rattle.ix_threads.specs.Attempts.{Stands}
 use Rattle.ix_threads.specs.Finders.{IsFinder, HasRoom}
+use Rattle.ix_match.specs.declared.kept.Kept.{Kept}
 use Rattle.ix_match.specs.declared.search.Search.{Search}
 
 -- it is for the pattern with these pieces
@@ -13,3 +15,8 @@ pub record IsSearch (rows : Rows) (search : Search) : Type 0 where
 pub record IsKept (rows : Rows) (search : Search) : Type 0 where
   pub search_is : IsSearch rows search
   pub whole : search.finder.width ≡ length rows
+
+-- and the attempt, if one was begun, stands for these bytes behind that one
+pub record KeepsFor (rows : Rows) (kept : Kept) (before : Option ℕ) (bytes : List ℕ) : Type 0 where
+  pub is_kept : IsKept rows kept.search
+  pub stands : IfSome kept.attempt (λ a. Stands rows kept.search.finder.program a before bytes)

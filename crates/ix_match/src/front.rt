@@ -34,7 +34,7 @@ pub enum Opening {
 }
 
 #[tactic(auto, unfolding(crate::specs::Fronts::passes, crate::specs::Fronts::fronts))]
-fn opens_with(p: &Pattern, piece: usize) -> Opening
+pub fn opens_with(p: &Pattern, piece: usize) -> Opening
     requires { piece < length p.now.rows }
     ensures { Opens p.now.rows piece result }
 {
@@ -140,7 +140,7 @@ pub fn front_of(alloc: Global, p: &Pattern) -> Result<Front, NoMemory>
 }
 
 /// Whether one of the byte pieces takes the byte.
-fn may_begin<L: Ledger>(p: &Pattern, front: &Front, byte: u8, steps: &mut Steps<L>) -> bool
+pub fn may_begin<L: Ledger>(p: &Pattern, front: &Front, byte: u8, steps: &mut Steps<L>) -> bool
     requires { IsFront p.now front.now }
     ensures { result ≡ in_one (Some byte) (fronts (tree p.now.rows)) }
 {

@@ -1,20 +1,21 @@
 //! One attempt at a place of a stream, of which more bytes may come.
 
-ghost use Rattle.std.specs.Prelude.{◌≡◌, ℕ, ◌<◌, ◌≤◌, ◌+◌, ◌-◌, ◌*◌, ◌∷◌, List, Bool, not, length, take_while, slice_get, IfSome, IfOk, OnOk, OnErr};
+ghost use Rattle.std.specs.Prelude.{◌≡◌, ℕ, ◌≤◌, ◌+◌, ◌-◌, ◌*◌, List, [], Option, None, true, not, length, take, take_while, slice_get, IfSome, IfOk, OnOk, OnErr};
 ghost use Rattle.ix_pattern.specs.Piece.{in_set};
-ghost use Rattle.ix_pattern.specs.Rows.{byte_pieces};
+ghost use Rattle.ix_pattern.specs.Rows.{Rows, byte_pieces};
 ghost use Rattle.ix_pattern.specs.Ways.{sight};
 ghost use Rattle.ix_match.specs.Attempt.{reach, attempt};
 ghost use Rattle.ix_threads.specs.Leaf.{text_of};
+ghost use Rattle.ix_threads.specs.Finders.{HasRoom};
 ghost use Rattle.ix_threads.specs.Outcomes.{head_of as outcome_head};
 ghost use Rattle.ix_match.specs.Starts.{AreStarts};
 ghost use Rattle.ix_match.specs.Scans.{GoesOn, emptied, head_of, BeginsAtOnce, LiesInReach};
-ghost use Rattle.ix_match.specs.Searches.{IsKept};
+ghost use Rattle.ix_match.specs.Searches.{IsKept, KeepsFor};
 
 use crate::few;
 use crate::few::{Few, few_of};
 use crate::first::{Found, GroupList};
-use crate::search::Search;
+use crate::kept::Kept;
 use crate::starts::starts_of;
 use crate::told::Told;
 use ix_base::{NoMemory, Steps};
@@ -49,27 +50,31 @@ pub struct Scan {
     few: Few,
     before: Option<u8>,
     told: Told,
-    /// The search for the pattern, once an attempt was made. Its table has all tests.
-    search: Option<Search>,
+    /// The search for the pattern, once an attempt was made, and the attempt itself.
+    kept: Option<Kept>,
 }
 
 impl Model for Scan {
-    ghost use Rattle.std.specs.Prelude.{IfSome};
+    ghost use Rattle.std.specs.Prelude.{◌≡◌, [], None, take, IfSome};
     ghost use Rattle.ix_match.specs.Few.{Lists};
     ghost use Rattle.ix_match.specs.Scans.{Scanned};
-    ghost use Rattle.ix_match.specs.Searches.{IsKept};
+    ghost use Rattle.ix_match.specs.Searches.{KeepsFor};
+    ghost use Rattle.ix_match.specs.Attempt.{reach};
 
     ghost Value = { Scanned };
 
     ghost view = { λ s. record { pattern = s.told.pattern; starts = s.starts; before = s.before; given = s.told.bytes } };
 
-    ghost invariant = { λ s. Lists s.few s.starts × IfSome s.search (λ f. IsKept s.told.pattern.rows f) };
+    ghost invariant = { λ s. Lists s.few s.starts × IfSome s.kept (λ k. KeepsFor s.told.pattern.rows k s.before (take reach s.told.bytes))
+        × (s.kept ≡ None → s.told.bytes ≡ []) };
 }
 
 /// What an attempt sees of the bytes that have come.
 #[tactic(auto, unfolding(crate::specs::Attempt::reach))]
 fn seen(before: Option<u8>, bytes: &[u8], closed: bool) -> Input<'_>
-    ensures { text_of result ≡ sight reach (record { before = before; bytes = bytes.now; unfinished = not closed }) }
+    ensures text { text_of result ≡ sight reach (record { before = before; bytes = bytes.now; unfinished = not closed }) }
+    ensures before { result.before ≡ before }
+    ensures bytes { result.bytes.now ≡ take reach bytes.now }
 {
     if bytes.len() >= REACH {
         Input {
@@ -86,24 +91,77 @@ fn seen(before: Option<u8>, bytes: &[u8], closed: bool) -> Input<'_>
     }
 }
 
-/// The search that was kept, or else a new one.
+/// Whether these are the same byte, or neither is one.
+fn is_same(a: Option<u8>, b: Option<u8>) -> bool
+    ensures { result ≡ true → a ≡ b }
+{
+    match a {
+        None => b.is_none(),
+        Some(first) => match b {
+            None => false,
+            Some(other) => first == other,
+        },
+    }
+}
+
+/// What was kept, its attempt only where that goes on.
+fn standing(kept: Kept, goes_on: bool) -> Kept
+    ensures { (rows : Rows) (before : Option ℕ) (bytes : List ℕ) → (goes_on ≡ true → KeepsFor rows kept before bytes) → IsKept rows kept.search →
+        KeepsFor rows result before bytes }
+{
+    if goes_on {
+        return kept;
+    }
+    kept.forgotten()
+}
+
+/// What was kept, its attempt only where that goes on, or else a new search.
 fn kept_or_new<L: Ledger>(
     alloc: Global,
     p: &Pattern,
-    kept: Option<Search>,
+    kept: Option<Kept>,
+    goes_on: bool,
     steps: &mut Steps<L>,
-) -> Result<Search, NoMemory>
-    requires { IfSome kept (λ search. IsKept p.now.rows search) }
-    ensures search { IfOk result (λ search. IsKept p.now.rows search) }
+) -> Result<Kept, NoMemory>
+    requires { IfSome kept (λ k. IsKept p.now.rows k.search) }
+    ensures kept { IfOk result (λ k. (before : Option ℕ) (bytes : List ℕ) →
+        (goes_on ≡ true → IfSome kept (λ old. KeepsFor p.now.rows old before bytes)) → KeepsFor p.now.rows k before bytes) }
     ensures counted { OnOk result (steps.new ≤ steps.old + 256 * byte_pieces p.now.rows) }
+    ensures same { (kept ≡ None → ⊥) → steps.new ≡ steps.old }
     ensures later { steps.old ≤ steps.new }
 {
     match kept {
-        Some(search) => Ok(search),
+        Some(kept) => Ok(standing(kept, goes_on)),
         None => {
-            let search = Search::tabled(alloc, p, steps)?;
-            Ok(search)
+            let kept = Kept::tabled(alloc, p, steps)?;
+            Ok(kept)
         }
+    }
+}
+
+/// What was kept, without its attempt.
+fn without_attempt(kept: Option<Kept>) -> Option<Kept>
+    ensures { (rows : Rows) (before : Option ℕ) (bytes : List ℕ) → IfSome kept (λ old. IsKept rows old.search) → IfSome result (λ k. KeepsFor rows k before bytes) }
+{
+    match kept {
+        Some(kept) => Some(kept.forgotten()),
+        None => None,
+    }
+}
+
+/// A copy of what was kept.
+fn copied(kept: &Option<Kept>) -> Result<Option<Kept>, NoMemory>
+    requires { IfSome kept.now (λ k. HasRoom k.search.finder k.search.room) }
+    ensures kept { IfOk result (λ k. (rows : Rows) (before : Option ℕ) (bytes : List ℕ) →
+        IfSome kept.now (λ old. KeepsFor rows old before bytes) → IfSome k (λ new. KeepsFor rows new before bytes)) }
+    ensures none { IfOk result (λ k. k ≡ None → kept.now ≡ None) }
+{
+    match kept {
+        Some(kept) => {
+            let copy = kept.copy()?;
+            Ok(Some(copy))
+        }
+        None => Ok(None),
     }
 }
 
@@ -121,7 +179,7 @@ impl Scan {
             starts,
             before: None,
             told: Told::of(p, &[]),
-            search: None,
+            kept: None,
         })
     }
 
@@ -129,7 +187,8 @@ impl Scan {
     /// them; there is none at the start of the stream. The bytes go on from those of the last call since `new` or
     /// `reset`, behind the same byte. An attempt sees the first 16,384 of them; where there are so many, or the stream
     /// is `closed`, its text ends there. Each test of a byte counts as a step; there are at most as many as the pattern's
-    /// weight times 512 and the bytes that no call since `new` or `reset` was given.
+    /// weight times 512 and the bytes that no call since `new` or `reset` was given. Where a byte was given before, there are
+    /// none: the threads go on from the last place of which all is decided, and each test is made once.
     ///
     /// It is `Found` with the preferred one of the matches that begin here, `No` exactly where none does, and `More`
     /// exactly where that depends on bytes that have not come. After `NoMemory` the scan is as after `reset`.
@@ -149,13 +208,16 @@ impl Scan {
         ensures given { OnOk result (self.new ≡ record self.old { before = before; given = text.now }) }
         ensures reset { OnErr result (self.new ≡ emptied self.old) }
         ensures counted { OnOk result (steps.new ≤ steps.old + p.now.weight * (length text.now - length self.old.given + 512)) }
+        ensures few { OnOk result (steps.new ≤ steps.old + p.now.weight * 512) }
+        ensures goes_on { (self.old.given ≡ [] → ⊥) → steps.new ≡ steps.old }
         ensures later { steps.old ≤ steps.new }
     {
         let _ = p.weight();
-        self.reset();
-        let mut search = kept_or_new(self.alloc, p, self.search.take(), steps)?;
-        let outcome = search.head(p, seen(before, text, closed), 0, steps)?;
-        self.search = Some(search);
+        let goes_on = is_same(self.before, before);
+        let kept = self.take_kept();
+        let mut kept = kept_or_new(self.alloc, p, kept, goes_on, steps)?;
+        let outcome = kept.go_on(p, seen(before, text, closed), steps)?;
+        self.kept = Some(kept);
         self.before = before;
         self.told = Told::of(p, text);
         Ok(look_of(outcome))
@@ -165,8 +227,19 @@ impl Scan {
     pub fn reset(&mut self)
         ensures { self.new ≡ emptied self.old }
     {
+        let begun = self.take_kept();
+        self.kept = without_attempt(begun);
+    }
+
+    /// What was kept. Nothing is kept any longer, and no byte was given.
+    fn take_kept(&mut self) -> Option<Kept>
+        ensures reset { self.new ≡ emptied self.old }
+        ensures kept { IfSome result (λ k. KeepsFor self.old.pattern.rows k self.old.before (take reach self.old.given)) }
+        ensures none { result ≡ None → self.old.given ≡ [] }
+    {
         self.before = None;
         self.told = self.told.emptied();
+        self.kept.take()
     }
 
     /// Whether a match may begin with the byte.
@@ -193,7 +266,7 @@ impl Scan {
             few: self.few,
             before: self.before,
             told: self.told.again(),
-            search: None,
+            kept: copied(&self.kept)?,
         })
     }
 }

@@ -2,14 +2,17 @@
 
 ghost use Rattle.std.specs.Prelude.{◌≡◌, ◌≤◌, ◌+◌, ◌*◌, None, IfOk, OnOk, length, replicate, slice_get};
 ghost use Rattle.ix_pattern.specs.Ways.{ways};
-ghost use Rattle.ix_pattern.specs.Rows.{tree, byte_pieces};
+ghost use Rattle.ix_pattern.specs.Rows.{Rows, tree, byte_pieces};
 ghost use Rattle.ix_threads.specs.Leaf.{text_of, at};
 ghost use Rattle.ix_threads.specs.Outcomes.{head_of};
-ghost use Rattle.ix_match.specs.Searches.{IsSearch};
+ghost use Rattle.ix_threads.specs.Attempts.{Stands};
+ghost use Rattle.ix_threads.specs.Finders.{HasRoom, IsSameProgram};
+ghost use Rattle.ix_match.specs.Searches.{IsSearch, IsKept};
 
 use ix_base::{NoMemory, Steps};
 use ix_pattern::Pattern;
-use ix_threads::finder::{Finder, finder_of, head, room_of, tabled_finder};
+use ix_threads::attempt::{Attempt, go_on};
+use ix_threads::finder::{Finder, finder_of, head, room_again, room_of, tabled_finder};
 use ix_threads::input::Input;
 use ix_threads::plan::Room;
 use ix_threads::run::Outcome;
@@ -84,5 +87,50 @@ impl Search {
             steps,
         )?;
         Ok(outcome)
+    }
+
+    /// Goes on with an attempt at the first place of a text: the head of the ordered list of ways there, where no group has
+    /// taken part.
+    pub fn go_on<L: Ledger>(
+        &mut self,
+        p: &Pattern,
+        input: Input<'_>,
+        attempt: &mut Attempt,
+        steps: &mut Steps<L>,
+    ) -> Result<Outcome, NoMemory>
+        requires search { IsSearch p.now.rows self.old }
+        requires stands { Stands p.now.rows self.old.finder.program attempt.old input.before input.bytes.now }
+        ensures head { IfOk result (λ o. slice_get (ways (tree p.now.rows) (text_of input.entry) (at 0 (replicate p.now.groups None))) 0 ≡ head_of o) }
+        ensures stands { OnOk result (Stands p.now.rows self.old.finder.program attempt.new input.entry.before input.entry.bytes.now) }
+        ensures search { OnOk result (IsSearch p.now.rows self.new) }
+        ensures finder { self.new.finder ≡ self.old.finder }
+        ensures later { steps.old ≤ steps.new }
+        ensures tabled { self.old.finder.width ≡ length p.now.rows → steps.new ≡ steps.old }
+    {
+        let outcome = go_on(
+            self.alloc,
+            p,
+            &self.finder,
+            input,
+            attempt,
+            &mut self.room,
+            steps,
+        )?;
+        Ok(outcome)
+    }
+
+    /// A copy of it, with its table and with room of its own.
+    pub fn copy(&self) -> Result<Search, NoMemory>
+        requires { HasRoom self.now.finder self.now.room }
+        ensures search { IfOk result (λ search. (rows : Rows) → IsKept rows self.now → IsKept rows search) }
+        ensures program { IfOk result (λ search. IsSameProgram self.now.finder.program search.finder.program) }
+    {
+        let finder = self.finder.copy()?;
+        let room = room_again(self.alloc, &finder, &self.room)?;
+        Ok(Search {
+            alloc: self.alloc,
+            finder,
+            room,
+        })
     }
 }

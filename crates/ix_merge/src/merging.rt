@@ -22,13 +22,24 @@ use std::marker::Model;
 /// have, or more than 4,194,304 bytes: then it starts one all the same.
 ///
 /// Of the lines so far, the event that is open is kept, and two marks.
-#[derive(Drop)]
 pub struct Merge {
     alloc: Global,
     on: bool,
     max_lines: u32,
     parts: MergeParts,
     broken: bool,
+}
+
+impl Drop for Merge {
+    fn drop(self) {
+        let Merge {
+            alloc: _,
+            on: _,
+            max_lines: _,
+            parts: _,
+            broken: _,
+        } = self;
+    }
 }
 
 impl Model for Merge {
@@ -94,7 +105,14 @@ impl Merge {
         ensures ends { (lines : List MarkedLine) → Holds lines self → Ends lines self result }
         ensures sized { ForSome result (λ event. IsSized self.max_lines event) }
     {
-        self.parts.event
+        let Merge {
+            alloc: _,
+            on: _,
+            max_lines: _,
+            parts: left,
+            broken: _,
+        } = self;
+        left.event
     }
 
     /// What is to be carried over a stop: the open event and the two marks. No `add` has answered `NoMemory`.

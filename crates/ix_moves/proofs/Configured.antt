@@ -27,8 +27,8 @@ use Rattle.ix_shelves.specs.Numbers.{KeepsNumbers, IsBalanced}
 use Rattle.ix_shelves.specs.Shelves.{with_indexes}
 use Rattle.ix_shelves.specs.declared.dealing.Work.{Work}
 use Rattle.ix_shelves.specs.declared.shelves.Shelves.{Shelves}
-use Rattle.ix_snapshot.specs.Laws as laws
-use Rattle.ix_snapshot.specs.Shelved.{shelved, shelved_indexes}
+use Rattle.ix_machine.specs.OnDisk as laws
+use Rattle.ix_machine.specs.Shelved.{shelved, shelved_indexes}
 
 -- ---- what is put together
 

@@ -3,7 +3,7 @@ use Rattle.std.proofs.Common.{◌≡◌, ℤ, List, [], ◌∷◌, ◌++◌, ref
 use Rattle.ix_base.specs.declared.events.Routed.{Routed}
 use Rattle.ix_keep.specs.Drafts.{with_pieces}
 use Rattle.ix_keep.specs.Snapshot.{Forgets}
-use Rattle.ix_ledgers.proofs.Orders.{deals_same as deals_alike}
+use Rattle.ix_bounds.proofs.Orders.{deals_same as deals_alike}
 use Rattle.ix_life.specs.declared.sets.LimitSet.{LimitSet}
 use Rattle.ix_machine.specs.Bounds.{KeepsBounds}
 use Rattle.ix_machine.specs.Given.{Chooser}
@@ -27,13 +27,13 @@ use Rattle.ix_shelves.specs.Dealing.{deal_all}
 use Rattle.ix_shelves.specs.Numbers.{KeepsNumbers, IsBalanced}
 use Rattle.ix_shelves.specs.declared.dealing.Work.{Work}
 use Rattle.ix_shelves.specs.declared.shelves.Shelves.{Shelves}
-use Rattle.ix_snapshot.specs.Contents.{contents_of}
-use Rattle.ix_snapshot.specs.Laws.{AreFiled}
-use Rattle.ix_snapshot.specs.Laws as laws
-use Rattle.ix_snapshot.specs.Shelved.{IsSet, shelved}
-use Rattle.ix_snapshot.proofs.DealtFiles.{deals_lead}
-use Rattle.ix_snapshot.proofs.DealtShelves.{deals_same}
-use Rattle.ix_state.specs.Held.{SeesBeside}
+use Rattle.ix_machine.specs.Contents.{contents_of}
+use Rattle.ix_machine.specs.OnDisk.{AreFiled}
+use Rattle.ix_machine.specs.OnDisk as laws
+use Rattle.ix_machine.specs.Shelved.{IsSet, shelved}
+use Rattle.ix_machine.proofs.DealtFiles.{deals_lead}
+use Rattle.ix_machine.proofs.DealtShelves.{deals_same}
+use Rattle.ix_kept.specs.Held.{SeesBeside}
 
 -- ---- the shelves and files that dealing leaves
 

@@ -21,7 +21,7 @@ use Rattle.ix_machine.proofs.Named.{by_test}
 use Rattle.ix_moves.specs.Guarding.{HasShortName}
 use Rattle.ix_moves.proofs.Lists.{all_from, all_front, all_rest, all_append, all_map, all_mapped, all_flat, all_filter, each_short}
 use Rattle.ix_moves.proofs.Numbers.{all_seen}
-use Rattle.ix_snapshot.specs.Shelved.{shelved_indexes}
+use Rattle.ix_machine.specs.Shelved.{shelved_indexes}
 
 -- ---- by the bytes of items
 

@@ -17,7 +17,7 @@ use Rattle.ix_machine.proofs.Named.{all_change_or_insert}
 use Rattle.ix_moves.proofs.Lists.{all_two, all_map, each_below}
 use Rattle.ix_shelves.specs.Numbers.{KeepsBucket, KeepsIndex, KeepsNumbers}
 use Rattle.ix_shelves.specs.Numbers as numbers
-use Rattle.ix_snapshot.specs.Shelved.{shelved, shelved_indexes}
+use Rattle.ix_machine.specs.Shelved.{shelved, shelved_indexes}
 
 -- what holds of each index, and of one without buckets that is configured, holds of each that is seen
 pub all_fresh : (P : Index → Type 0) (names : List (List ℕ)) (is : List Index) → AllByRecursion (λ (n : List ℕ). P (fresh_index n)) names →

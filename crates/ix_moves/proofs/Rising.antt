@@ -17,8 +17,8 @@ use Rattle.ix_machine.proofs.Ascending.{in_order_after}
 use Rattle.ix_moves.specs.Guarding.{Ascends}
 use Rattle.ix_shelves.specs.Lists.{AreAscending}
 use Rattle.ix_shelves.specs.Shelves.{view_name}
-use Rattle.ix_snapshot.specs.Shelved.{shelved_indexes}
-use Rattle.ix_snapshot.proofs.Listing.{ascending_fresh}
+use Rattle.ix_machine.specs.Shelved.{shelved_indexes}
+use Rattle.ix_machine.proofs.Listing.{ascending_fresh}
 
 abbrev pub Steps : List IndexView → Type 0
 Steps vs = AllAdjacentBelow Ascends vs (length vs)

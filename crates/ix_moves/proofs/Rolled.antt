@@ -28,12 +28,12 @@ use Rattle.ix_shelves.specs.Lists.{find}
 use Rattle.ix_shelves.specs.Shelves.{view_name}
 use Rattle.ix_shelves.specs.Turning.{roll, open_in}
 use Rattle.ix_shelves.specs.declared.shelves.Shelves.{Shelves}
-use Rattle.ix_snapshot.specs.Contents.{contents_of}
-use Rattle.ix_snapshot.specs.Shelved.{shelved}
-use Rattle.ix_snapshot.proofs.Listing.{among, or_fresh}
-use Rattle.ix_snapshot.proofs.Rising.{seen_by}
-use Rattle.ix_snapshot.proofs.RolledFiles.{rolls_filed}
-use Rattle.ix_snapshot.proofs.RolledShelves.{rolls_same}
+use Rattle.ix_machine.specs.Contents.{contents_of}
+use Rattle.ix_machine.specs.Shelved.{shelved}
+use Rattle.ix_machine.proofs.Listing.{among, or_fresh}
+use Rattle.ix_machine.proofs.Rising.{seen_by}
+use Rattle.ix_machine.proofs.RolledFiles.{rolls_filed}
+use Rattle.ix_machine.proofs.RolledShelves.{rolls_same}
 
 open_seen : (force : List Kept) (index : List ℕ) (b : Bool) (o : Option Index) →
     open_in (option_map (index_view force) (or_fresh b index o)) ≡ count_by is_open (buckets (unwrap_or o (fresh_index index)).slots)

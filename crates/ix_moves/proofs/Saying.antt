@@ -17,7 +17,7 @@ use Rattle.ix_moves.proofs.Rising.{seen_ascend}
 use Rattle.ix_shelves.specs.Lists.{AreAscending}
 use Rattle.ix_shelves.specs.Shelves.{view_name}
 use Rattle.ix_shelves.specs.declared.shelves.Shelves.{Shelves}
-use Rattle.ix_snapshot.specs.Shelved.{shelved}
+use Rattle.ix_machine.specs.Shelved.{shelved}
 
 pub can_be_said : (choose : Chooser) (history : List Order) (order : Order) (b : Base) (more : List Entry) (shelves : Shelves) → Precedes choose history order b →
     shelves ≡ shelved (after choose (history ++ order ∷ [])).force (after choose (history ++ order ∷ [])).catalog → AllByRecursion IsWritableEntry more →

@@ -8,7 +8,7 @@ use Rattle.ix_keep.specs.Drafts.{AreFit, AreFitCopies, with_pieces, with_copies}
 use Rattle.ix_keep.specs.Snapshot.{Forgets}
 use Rattle.ix_keep.specs.declared.copied.Copied.{Copied}
 use Rattle.ix_keep.specs.declared.piece.Piece.{Piece}
-use Rattle.ix_ledgers.proofs.Orders.{changes_same}
+use Rattle.ix_bounds.proofs.Orders.{changes_same}
 use Rattle.ix_machine.specs.Given.{Chooser}
 use Rattle.ix_machine.specs.Judged as judging
 use Rattle.ix_machine.specs.State.{State}
@@ -20,12 +20,12 @@ use Rattle.ix_moves.specs.Working.{here, shelves_in, left}
 use Rattle.ix_moves.specs.declared.moved.Base.{Base}
 use Rattle.ix_shelves.specs.Changes.{changes}
 use Rattle.ix_shelves.specs.declared.shelves.Shelves.{Shelves}
-use Rattle.ix_snapshot.specs.Contents.{contents_of}
-use Rattle.ix_snapshot.specs.Laws.{HasNoneFrom}
-use Rattle.ix_snapshot.specs.Said.{new_entries, shelf_items}
-use Rattle.ix_snapshot.specs.Shelved.{shelved}
-use Rattle.ix_snapshot.proofs.Stood.{after_push}
-use Rattle.ix_state.specs.Held.{SeesBeside}
+use Rattle.ix_machine.specs.Contents.{contents_of}
+use Rattle.ix_machine.specs.OnDisk.{HasNoneFrom}
+use Rattle.ix_machine.specs.Said.{new_entries, shelf_items}
+use Rattle.ix_machine.specs.Shelved.{shelved}
+use Rattle.ix_machine.proofs.Stood.{after_push}
+use Rattle.ix_kept.specs.Held.{SeesBeside}
 
 pub later_is : (choose : Chooser) (history : List Order) (order : Order) (b : Base) → Precedes choose history order b →
     after choose (history ++ order ∷ []) ≡ stepped choose (after choose history) order.command b.moment

@@ -38,14 +38,14 @@ use Rattle.ix_moves.proofs.Saying.{can_be_said}
 use Rattle.ix_moves.proofs.Standing.{later_is, Stays, Fills, left_leads}
 use Rattle.ix_shelves.specs.Turning.{thaw, thaw_copy}
 use Rattle.ix_shelves.specs.declared.shelves.Shelves.{Shelves}
-use Rattle.ix_snapshot.specs.Books.{entered_at, entry_in}
-use Rattle.ix_snapshot.specs.Contents.{contents_of}
-use Rattle.ix_snapshot.specs.Laws.{HasNoneFrom, IsThawed}
-use Rattle.ix_snapshot.specs.Shelved.{shelved}
-use Rattle.ix_snapshot.proofs.Froze.{all_entered}
-use Rattle.ix_snapshot.proofs.Saying.{both_true}
-use Rattle.ix_snapshot.proofs.ThawedFiles.{thaw_copied}
-use Rattle.ix_snapshot.proofs.ThawedShelves.{thaws_same}
+use Rattle.ix_machine.specs.Books.{entered_at, entry_in}
+use Rattle.ix_machine.specs.Contents.{contents_of}
+use Rattle.ix_machine.specs.OnDisk.{HasNoneFrom, IsThawed}
+use Rattle.ix_machine.specs.Shelved.{shelved}
+use Rattle.ix_machine.proofs.Froze.{all_entered}
+use Rattle.ix_machine.proofs.Saying.{both_true}
+use Rattle.ix_machine.proofs.ThawedFiles.{thaw_copied}
+use Rattle.ix_machine.proofs.ThawedShelves.{thaws_same}
 
 none_some : {X : Type 0} {x : X} → Some x ≡ None → ⊥
 none_some e = cc

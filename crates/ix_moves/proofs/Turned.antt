@@ -33,16 +33,16 @@ use Rattle.ix_shelves.specs.Shelves.{with_indexes}
 use Rattle.ix_shelves.specs.Turning.{turn_all}
 use Rattle.ix_shelves.specs.declared.shelves.Shelves.{Shelves}
 use Rattle.ix_shelves.specs.declared.turning.Turned.{Turned}
-use Rattle.ix_snapshot.specs.Contents.{contents_of}
-use Rattle.ix_snapshot.specs.Done.{IsDone}
-use Rattle.ix_snapshot.specs.Laws.{HasNoneFrom, AreCopied, IsTurned}
-use Rattle.ix_snapshot.specs.Said.{new_entries}
-use Rattle.ix_snapshot.specs.Shelved.{shelved}
-use Rattle.ix_snapshot.proofs.Areas.{apart_from_logs}
-use Rattle.ix_snapshot.proofs.EarlierFiles.{none_from}
-use Rattle.ix_snapshot.proofs.TurnedFiles.{turn_copied}
-use Rattle.ix_snapshot.proofs.TurnedIndexes.{turns_same}
-use Rattle.ix_state.specs.Held.{ledger_of}
+use Rattle.ix_machine.specs.Contents.{contents_of}
+use Rattle.ix_machine.specs.Done.{IsDone}
+use Rattle.ix_machine.specs.OnDisk.{HasNoneFrom, AreCopied, IsTurned}
+use Rattle.ix_machine.specs.Said.{new_entries}
+use Rattle.ix_machine.specs.Shelved.{shelved}
+use Rattle.ix_machine.proofs.Areas.{apart_from_logs}
+use Rattle.ix_machine.proofs.EarlierFiles.{none_from}
+use Rattle.ix_machine.proofs.TurnedFiles.{turn_copied}
+use Rattle.ix_machine.proofs.TurnedIndexes.{turns_same}
+use Rattle.ix_kept.specs.Held.{ledger_of}
 
 behind_is : (b : Base) (more : List Entry) → ledger_of b.ledger.now (ledger_behind b more) ≡ here b ++ more
 behind_is b [] = sym (append-nil (here b))

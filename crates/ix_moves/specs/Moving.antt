@@ -3,8 +3,8 @@ use Rattle.std.specs.Prelude.{◌≡◌, ℕ, ℤ, List, [], ◌∷◌, ◌++◌
 use Rattle.std.specs.List.{AllByRecursion}
 use Rattle.ix_base.specs.declared.events.Routed.{Routed}
 use Rattle.ix_items.specs.declared.items.Entry.{Entry}
-use Rattle.ix_indexes.specs.Names.{BringsLimits}
-use Rattle.ix_indexes.specs.Shelving.{AreSettings}
+use Rattle.ix_bounds.specs.Names.{BringsLimits}
+use Rattle.ix_bounds.specs.Shelving.{AreSettings}
 use Rattle.ix_keep.specs.Contents.{Contents}
 use Rattle.ix_keep.specs.Drafts.{AreFit, AreFitCopies, with_pieces, with_copies}
 use Rattle.ix_keep.specs.Snapshot.{Forgets}
@@ -21,12 +21,12 @@ use Rattle.ix_machine.specs.declared.commands.Config.{Config}
 use Rattle.ix_machine.specs.declared.commands.Order.{Order}
 use Rattle.ix_moves.specs.declared.moved.Base.{Base}
 use Rattle.ix_moves.specs.declared.moved.Moved.{Moved}
-use Rattle.ix_snapshot.specs.Contents.{contents_of}
-use Rattle.ix_snapshot.specs.Done.{IsDone}
-use Rattle.ix_snapshot.specs.Laws.{HasNoneFrom}
-use Rattle.ix_snapshot.specs.Said.{shelf_items}
-use Rattle.ix_snapshot.specs.Shelved.{IsSet}
-use Rattle.ix_state.specs.Held.{SeesBeside}
+use Rattle.ix_machine.specs.Contents.{contents_of}
+use Rattle.ix_machine.specs.Done.{IsDone}
+use Rattle.ix_machine.specs.OnDisk.{HasNoneFrom}
+use Rattle.ix_machine.specs.Said.{shelf_items}
+use Rattle.ix_machine.specs.Shelved.{IsSet}
+use Rattle.ix_kept.specs.Held.{SeesBeside}
 
 -- ---- before a command
 

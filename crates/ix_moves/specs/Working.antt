@@ -3,8 +3,8 @@ use Rattle.std.specs.Prelude.{◌≡◌, ℕ, List, [], ◌∷◌, ◌++◌, len
 use Rattle.std.specs.List.{AllByRecursion}
 use Rattle.std.specs.List.Sorted.{IsPermutation}
 use Rattle.ix_base.specs.declared.events.Routed.{Routed}
-use Rattle.ix_indexes.specs.Names.{BringsLimits}
-use Rattle.ix_indexes.specs.Shelving.{AreSettings}
+use Rattle.ix_bounds.specs.Names.{BringsLimits}
+use Rattle.ix_bounds.specs.Shelving.{AreSettings}
 use Rattle.ix_items.specs.declared.items.Entry.{Entry}
 use Rattle.ix_items.specs.declared.items.Kept.{Kept}
 use Rattle.ix_keep.specs.declared.copied.Copied.{Copied}
@@ -30,8 +30,8 @@ use Rattle.ix_shelves.specs.declared.dealing.DealFault.TheVariants as deals
 use Rattle.ix_shelves.specs.declared.dealing.Work.{Work}
 use Rattle.ix_shelves.specs.declared.shelves.Shelves.{Shelves}
 use Rattle.ix_shelves.specs.declared.turning.Turned.{Turned}
-use Rattle.ix_snapshot.specs.Shelved.{shelved_indexes}
-use Rattle.ix_state.specs.Held.{ledger_of}
+use Rattle.ix_machine.specs.Shelved.{shelved_indexes}
+use Rattle.ix_kept.specs.Held.{ledger_of}
 
 abbrev pub by_deal : DealFault → MoveFault
 by_deal deals.Full = faults.Full

@@ -12,7 +12,7 @@ ghost use Rattle.ix_shelves.specs.Numbers.{HasRecord, KeepsNumbers, IsBalanced};
 
 use crate::moved::{Base, MoveFault, Moved};
 use ix_base::{NoMemory, RoutedList, Sequence};
-use ix_indexes::reshelve;
+use ix_bounds::reshelve;
 use ix_life::{IndexViewList, LimitSet};
 use ix_shelves::Shelves;
 

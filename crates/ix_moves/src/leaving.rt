@@ -12,9 +12,9 @@ use crate::moved::{Base, MoveFault, Moved};
 use ix_base::{NoMemory, Sequence};
 use ix_items::{Entry, Item};
 use ix_keep::{Copied, Piece};
+use ix_kept::Storage;
 use ix_life::EntryList;
 use ix_shelves::{Shelves, ascending_differ, put_changes};
-use ix_state::Storage;
 use std::alloc::Global;
 
 /// A copy of an entry.

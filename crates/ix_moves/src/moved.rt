@@ -7,9 +7,9 @@ ghost use Rattle.ix_moves.specs.declared.moved.MoveFault.TheVariants as faults;
 use ix_base::{NoMemory as OutOfMemory, Sequence};
 use ix_items::{Entry, FileList, Item};
 use ix_keep::{Copied, Piece};
+use ix_kept::Storage;
 use ix_life::LimitSet;
 use ix_shelves::DealFault;
-use ix_state::Storage;
 use std::alloc::Global;
 
 /// What a command makes of a state beside its channels, spots and settings.

@@ -13,9 +13,9 @@ use crate::guards::LIMIT;
 use crate::moved::{Base, MoveFault, Moved};
 use ix_base::Sequence;
 use ix_items::{Entry, Item};
+use ix_kept::Storage;
 use ix_life::{EntryList, IndexViewList};
 use ix_shelves::{Shelves, Turned, turn_all};
-use ix_state::Storage;
 
 /// A ledger with new entries, where there are any, and the items of what changed with it.
 #[derive(Drop)]

@@ -1,6 +1,6 @@
 //! A channel. Whoever has the bytes of a stream feeds them to it, block by block.
 
-ghost use Rattle.std.specs.Prelude.{◌≡◌, ◌<◌, ◌≤◌, ℕ, List, [], ◌++◌, IfOk, IsSome, Err, false, true};
+ghost use Rattle.std.specs.Prelude.{◌≡◌, ◌<◌, ◌≤◌, ◌+◌, ◌*◌, ℕ, List, [], ◌++◌, length, IfOk, IsSome, Err, false, true};
 ghost use Rattle.std.specs.List.{All};
 ghost use Rattle.ix_base.specs.Clocks.{clamped};
 ghost use Rattle.ix_base.specs.Stream.{Dated, dated};
@@ -8,6 +8,7 @@ ghost use Rattle.ix_base.specs.declared.events.ChannelMeta.{ChannelMeta};
 ghost use Rattle.ix_carry.specs.Form.{IsCarryOf};
 ghost use Rattle.ix_carry.specs.Spelling.{spell};
 ghost use Rattle.ix_carry.specs.declared.carry.Carry.{Carry as Carried};
+ghost use Rattle.ix_lines.specs.Parts.{moved};
 ghost use Rattle.ix_props.specs.Settings.{AreUsable};
 ghost use Rattle.ix_props.specs.declared.settings.Settings.{Settings as Chosen};
 ghost use Rattle.ix_parse.specs.Carry.{rules_of, carry_of, HasMoments};
@@ -28,7 +29,6 @@ use std::sync::ledger::{Blank, Ledger};
 /// A stream of bytes with what is known of it. Its bytes are cut into lines, the lines are merged into events, and each event is
 /// dated and changed, all by the settings that were chosen for it. It holds back what later bytes may still change: the bytes at
 /// which a break may begin, the open line, and the open event.
-#[derive(Drop)]
 pub struct Channel {
     alloc: Global,
     settings: Settings,
@@ -37,6 +37,20 @@ pub struct Channel {
     merge: Merge,
     /// The latest time that was read of an event and accepted.
     latest: Option<i64>,
+}
+
+/// It is written out, so that each place where one is let go is a call of it, which is proved once.
+impl Drop for Channel {
+    fn drop(self) {
+        let Channel {
+            alloc: _,
+            settings: _,
+            meta: _,
+            lines: _,
+            merge: _,
+            latest: _,
+        } = self;
+    }
 }
 
 impl Model for Channel {
@@ -106,7 +120,9 @@ impl Channel {
 
     /// The channel once these bytes have come, all at one moment (microseconds since 1970-01-01T00:00:00Z; one before
     /// 1970 counts as 0, and one after the beginning of 2100 as that), and what they settle. This channel stays as it is.
-    /// Each test of a byte by an attempt at the breaker counts as a step.
+    /// Each test of a byte by an attempt at the breaker counts as a step: there are at most 512 times the breaker's weight for
+    /// each byte by which the place moved on at which a break is still sought, and as many again where no byte waited there.
+    /// Where one did, the attempt goes on, and makes no test twice.
     pub fn fed<L: Ledger>(
         &self,
         bytes: &[u8],
@@ -119,16 +135,19 @@ impl Channel {
             × (settled settings meta (stream ++ dated bytes.now (clamped moment)) false ≡ settled settings meta stream false ++ fed.1)) }
         ensures small { IfOk result (λ fed. (settings : Chosen) (meta : ChannelMeta) (stream : List Dated) →
             StandsFor settings meta stream self.now → KeepsLimits settings meta → All IsSmall fed.1) }
+        ensures counted { IfOk result (λ fed. steps.new ≤ steps.old + self.now.lines.breaker.weight * 512 * (moved self.now.lines (length bytes.now) fed.0.lines + 1)) }
+        ensures again { IfOk result (λ fed. 0 < length self.now.lines.parts.pending →
+            steps.new ≤ steps.old + self.now.lines.breaker.weight * 512 * moved self.now.lines (length bytes.now) fed.0.lines) }
         ensures later { steps.old ≤ steps.new }
     {
-        let mut lines = self.lines.copy()?;
-        let mut settled = LineList::new(self.alloc);
-        lines.feed(bytes, moment, &mut settled, steps)?;
-        let mut merge = self.merge.copy()?;
-        let mut outcomes = self.outcomes();
-        self.owner().take_lines(settled, &mut merge, &mut outcomes)?;
         let settings = self.settings.copy(self.alloc)?;
         let meta = self.meta.copy()?;
+        let mut merge = self.merge.copy()?;
+        let mut outcomes = self.outcomes();
+        let mut settled = LineList::new(self.alloc);
+        let mut lines = self.lines.copy()?;
+        lines.feed(bytes, moment, &mut settled, steps)?;
+        self.owner().take_lines(settled, &mut merge, &mut outcomes)?;
         let next = Channel {
             alloc: self.alloc,
             settings,

@@ -291,6 +291,39 @@ fn a_run_of_line_ends_is_one_break(rt: HostRuntime) -> Result<(), Fail> {
     Ok(())
 }
 
+/// A match is up to 3,600 newlines and an `x`, or any newlines.
+const FAR: &[u8] = b"(?:\\n{1,60}){60}x|(\\n+)";
+
+/// The lines of so many newlines and a `b` that come byte by byte.
+fn one_by_one(alloc: Global, breaker: &[u8], count: usize) -> Result<Bytes, NoMemory> {
+    let bytes = repeated(alloc, b'\n', count, b"b")?;
+    let cut = Cut {
+        breaker,
+        truncate: 10000,
+        size: 1,
+        resumed: false,
+    };
+    cut_up(alloc, bytes.as_slice(), cut)
+}
+
+/// An attempt that is begun anew with each byte, or that walks again over what it was given, takes minutes for this.
+#[test]
+fn an_attempt_goes_on_from_byte_to_byte(rt: HostRuntime) -> Result<(), Fail> {
+    let text = one_by_one(rt.alloc(), FAR, 16384)?;
+    assert!(rt; text.as_slice() == b"b|".as_slice());
+    Ok(())
+}
+
+/// By the contract of `feed` a call takes no step where bytes waited and the place stays at which a break is sought, and at
+/// most 6 * 512 where none did.
+#[test]
+fn newlines_byte_by_byte_are_one_break(rt: HostRuntime) -> Result<(), Fail> {
+    assert!(rt; breaker_of(rt.alloc(), NEWLINES)?.weight() == 6);
+    let text = one_by_one(rt.alloc(), NEWLINES, 10000)?;
+    assert!(rt; text.as_slice() == b"b|".as_slice());
+    Ok(())
+}
+
 #[test]
 fn an_attempt_sees_16384_bytes(rt: HostRuntime) -> Result<(), Fail> {
     let near = repeated(rt.alloc(), b'\n', 16383, b"b")?;

@@ -9,7 +9,6 @@ use ix_values::{Sed, SedList, TimeFormat, Transform, TransformList};
 use std::alloc::Global;
 
 /// How lines are merged to events.
-#[derive(Drop)]
 pub struct MergeSettings {
     /// `SHOULD_LINEMERGE`: lines are merged. Otherwise each line is an event.
     pub on: bool,
@@ -27,8 +26,21 @@ pub struct MergeSettings {
     pub max_lines: u32,
 }
 
+impl Drop for MergeSettings {
+    fn drop(self) {
+        let MergeSettings {
+            on: _,
+            before_date: _,
+            before: _,
+            break_after: _,
+            hold_after: _,
+            veto: _,
+            max_lines: _,
+        } = self;
+    }
+}
+
 /// How the time of an event is read.
-#[derive(Drop)]
 pub struct TimeSettings {
     /// `TIME_PREFIX`: the time stands behind its first match.
     pub prefix: Option<Pattern>,
@@ -44,8 +56,20 @@ pub struct TimeSettings {
     pub days_hence: u32,
 }
 
+impl Drop for TimeSettings {
+    fn drop(self) {
+        let TimeSettings {
+            prefix: _,
+            format: _,
+            lookahead: _,
+            zone: _,
+            days_ago: _,
+            days_hence: _,
+        } = self;
+    }
+}
+
 /// All settings of a channel.
-#[derive(Drop)]
 pub struct Settings {
     /// The source type that holds: the stated one, else that of the source's stanzas, else `unknown`.
     pub sourcetype: Bytes,
@@ -59,6 +83,21 @@ pub struct Settings {
     pub seds: SedList,
     /// The transforms of the `TRANSFORMS-` classes, in the order of the classes.
     pub transforms: TransformList,
+}
+
+/// It is written out, so that each place where one is let go is a call of it, which is proved once.
+impl Drop for Settings {
+    fn drop(self) {
+        let Settings {
+            sourcetype: _,
+            breaker: _,
+            truncate: _,
+            merge: _,
+            time: _,
+            seds: _,
+            transforms: _,
+        } = self;
+    }
 }
 
 fn copy_pattern(pattern: &Option<Pattern>) -> Result<Option<Pattern>, NoMemory>

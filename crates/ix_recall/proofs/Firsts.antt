@@ -7,15 +7,15 @@ use Rattle.ix_book.specs.Book.{named, name_of}
 use Rattle.ix_items.specs.declared.items.Entry.{Entry}
 use Rattle.ix_items.specs.declared.items.Item.{Item}
 use Rattle.ix_items.specs.declared.items.Item.TheVariants as items
-use Rattle.ix_listed.specs.Among.{IsAmong}
-use Rattle.ix_listed.proofs.Booked.{stands, is_in}
+use Rattle.ix_recall.specs.Among.{IsAmong}
+use Rattle.ix_recall.proofs.Booked.{stands, is_in}
 use Rattle.ix_machine.specs.Given.{Chooser}
 use Rattle.ix_machine.specs.State.{State}
 use Rattle.ix_machine.specs.Step.{after}
 use Rattle.ix_machine.specs.declared.commands.Order.{Order}
 use Rattle.ix_machine.proofs.Named.{by_test}
 use Rattle.ix_replay.specs.Lists.{Lists}
-use Rattle.ix_snapshot.specs.Snap.{left}
+use Rattle.ix_machine.specs.Snap.{left}
 use Rattle.ix_store.specs.Written.{over}
 use Rattle.ix_recall.specs.First.{is_first, is_moments}
 use Rattle.ix_recall.specs.Gathered.{entry_in, nothing, with_one, all_taken}

@@ -8,9 +8,9 @@ use Rattle.std.proofs.lemmas.List.Elements.{All-from_recursion}
 use Rattle.std.proofs.lemmas.List.Sorted.{IsPermutation-reverse, IsPermutation-sym, IsPermutation-trans, ranks_by}
 use Rattle.ix_carry.specs.Form.{IsCarryOf}
 use Rattle.ix_carry.specs.Spelling.{spell}
-use Rattle.ix_indexes.specs.Names.{CommandBringsLimits, BringsLimits, HasName}
-use Rattle.ix_indexes.specs.Shelving.{AreSettings as HasLimits}
-use Rattle.ix_indexes.proofs.Volumes.{names_are_no_volumes}
+use Rattle.ix_bounds.specs.Names.{CommandBringsLimits, BringsLimits, HasName}
+use Rattle.ix_bounds.specs.Shelving.{AreSettings as HasLimits}
+use Rattle.ix_bounds.proofs.Volumes.{names_are_no_volumes}
 use Rattle.ix_items.specs.declared.items.Entry.{Entry}
 use Rattle.ix_items.specs.declared.items.Item.{Item}
 use Rattle.ix_items.specs.declared.items.Kept.{Kept}
@@ -39,15 +39,15 @@ use Rattle.ix_replay.specs.Fits.{fits}
 use Rattle.ix_replay.specs.Lists.{AreListed, Lists}
 use Rattle.ix_replay.proofs.OneList.{one_book}
 use Rattle.ix_shelves.specs.Lists.{stands_before, AreAscending}
-use Rattle.ix_snapshot.specs.Shelved.{IsSet, shelved, shelved_indexes}
-use Rattle.ix_snapshot.specs.Snap.{left}
-use Rattle.ix_state.specs.Held.{IsOpen, shelves_of, Holds}
-use Rattle.ix_state.specs.declared.held.Held.{Held}
-use Rattle.ix_state.specs.declared.held.Open.{Open}
+use Rattle.ix_machine.specs.Shelved.{IsSet, shelved, shelved_indexes}
+use Rattle.ix_machine.specs.Snap.{left}
+use Rattle.ix_kept.specs.Held.{IsOpen, shelves_of, Holds}
+use Rattle.ix_kept.specs.declared.held.Held.{Held}
+use Rattle.ix_kept.specs.declared.held.Open.{Open}
 use Rattle.ix_store.specs.Written.{over}
-use Rattle.ix_listed.specs.Listed.{left_items, removal_item, all_items}
-use Rattle.ix_listed.proofs.Fitting.{as_removals, fits_within}
-use Rattle.ix_listed.proofs.Listing.{states_are_listed}
+use Rattle.ix_recall.specs.Listed.{left_items, removal_item, all_items}
+use Rattle.ix_recall.proofs.ListFitting.{as_removals, fits_within}
+use Rattle.ix_recall.proofs.Listing.{states_are_listed}
 use Rattle.ix_recall.specs.declared.gathering.Carried.{Carried}
 use Rattle.ix_recall.specs.declared.gathering.Gathered.{Gathered}
 use Rattle.ix_recall.specs.Gathered.{nothing, all_taken}

@@ -11,9 +11,9 @@ use Rattle.std.proofs.lemmas.Cmp.{nat_cmp_total}
 use Rattle.std.proofs.lemmas.List.{append-nil}
 use Rattle.std.proofs.lemmas.List.Elements.{filter_map-append}
 use Rattle.std.proofs.lemmas.List.Sorted.{IsPermutation-trans, ranks_by}
-use Rattle.ix_indexes.specs.Shelving.{IsBucketed, AreIndexes}
-use Rattle.ix_indexes.specs.Shelving.{AreSettings as HasLimits}
-use Rattle.ix_indexes.specs.declared.shelving.Bucketed.{Bucketed}
+use Rattle.ix_bounds.specs.Shelving.{IsBucketed, AreIndexes}
+use Rattle.ix_bounds.specs.Shelving.{AreSettings as HasLimits}
+use Rattle.ix_bounds.specs.declared.shelving.Bucketed.{Bucketed}
 use Rattle.ix_items.specs.declared.items.Bucket.{Bucket}
 use Rattle.ix_items.specs.declared.items.Kept.{Kept}
 use Rattle.ix_life.specs.declared.sets.LimitSet.{LimitSet}
@@ -24,8 +24,8 @@ use Rattle.ix_machine.specs.Sums.{AreSoundFrom, IsSound}
 use Rattle.ix_machine.proofs.Named.{by_test, same_bytes, bytes_same}
 use Rattle.ix_machine.proofs.Ascending.{less_other}
 use Rattle.ix_shelves.specs.Lists.{stands_before, AreAscending}
-use Rattle.ix_snapshot.specs.Shelved.{shelved_indexes}
-use Rattle.ix_listed.proofs.Slots.{listed_id}
+use Rattle.ix_machine.specs.Shelved.{shelved_indexes}
+use Rattle.ix_recall.proofs.Slots.{listed_id}
 use Rattle.ix_recall.specs.declared.gathering.Placed.{Placed}
 use Rattle.ix_recall.specs.Recalled.{itself, AreSorted, bucket_of, bucket_id, IsListed, IsIndexOf, AreShelved}
 use Rattle.ix_recall.specs.Standing.{placed_in}

@@ -7,8 +7,41 @@ pub mod Defaults
 pub mod Lives
 pub mod Said
 pub mod Gathers
-pub mod Ledgers
 pub mod CarryForms
 pub mod IndexBuckets
 pub mod Holding
 pub mod Firsts
+mod Putting
+mod Carried
+mod WholeSaid
+mod Resting
+mod Found
+mod Held
+mod Brief
+mod Written
+mod Sound
+pub mod Merged
+pub mod Breaking
+pub mod Fitting
+pub mod Nearest
+pub mod Chosen
+pub mod Loaded
+pub mod RangeBrief
+pub mod RangeLives
+pub mod Added
+pub mod Stored
+pub mod Members
+pub mod Booked
+pub mod Slots
+pub mod Listing
+pub mod Ranged
+pub mod Times
+pub mod Summing
+pub mod Within
+pub mod ListFitting
+pub mod Telling
+pub mod Permuted
+pub mod Shortened
+pub mod Sized
+pub mod Parted
+pub mod Ledgers

@@ -17,8 +17,8 @@ use Rattle.ix_machine.specs.Ledger.{all_frozen}
 use Rattle.ix_machine.specs.State.{State, Life, index_name}
 use Rattle.ix_machine.specs.Step.{after}
 use Rattle.ix_machine.specs.declared.commands.Order.{Order}
-use Rattle.ix_snapshot.specs.Books.{life_item, number_item}
-use Rattle.ix_listed.specs.Listed.{slot_items, index_items, single_items, state_items, left_items, all_items}
+use Rattle.ix_machine.specs.Books.{life_item, number_item}
+use Rattle.ix_recall.specs.Listed.{slot_items, index_items, single_items, state_items, left_items, all_items}
 use Rattle.ix_recall.specs.declared.gathering.Placed.{Placed}
 use Rattle.ix_recall.specs.Gathered.{settings_in, moments_in, channel_in, bucket_in, entry_in, counts_in, spot_in, next_file_in, index_in, no_counts}
 use Rattle.ix_recall.specs.Standing.{carried_life, placed_in, counted, first_or, IsOnly, SaysAll}

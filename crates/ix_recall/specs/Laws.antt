@@ -4,8 +4,8 @@ use Rattle.ix_items.specs.declared.items.Item.{Item}
 use Rattle.ix_machine.specs.Given.{Chooser}
 use Rattle.ix_machine.specs.declared.commands.Order.{Order}
 use Rattle.ix_replay.specs.Lists.{AreListed}
-use Rattle.ix_state.specs.Held.{Holds}
-use Rattle.ix_state.specs.declared.held.Held.{Held}
+use Rattle.ix_kept.specs.Held.{Holds}
+use Rattle.ix_kept.specs.declared.held.Held.{Held}
 use Rattle.ix_recall.specs.Gathered.{nothing, all_taken}
 use Rattle.ix_recall.specs.Recalled.{IsRecalled, IsNoState, IsLog}
 

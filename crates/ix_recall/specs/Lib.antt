@@ -1,6 +1,14 @@
 pub mod Gathered
 pub mod Recalled
-pub mod First
 pub mod Faults
 pub mod Standing
 pub mod Laws
+pub mod Whole
+pub mod Putting
+pub mod Existing
+pub mod Ranges
+pub mod Among
+pub mod Listed
+pub mod Told
+pub mod ListLaws
+pub mod First

@@ -26,13 +26,13 @@ use Rattle.ix_props.specs.declared.props.PropsEntry.{PropsEntry}
 use Rattle.ix_props.specs.declared.settings.Settings.{Settings}
 use Rattle.ix_replay.specs.Fits.{fits}
 use Rattle.ix_shelves.specs.Lists.{stands_before, AreAscending}
-use Rattle.ix_indexes.specs.Names.{HasName}
-use Rattle.ix_indexes.specs.Shelving.{AreSettings as HasLimits}
-use Rattle.ix_indexes.specs.declared.shelving.Bucketed.{Bucketed}
-use Rattle.ix_snapshot.specs.Shelved.{shelved_indexes}
-use Rattle.ix_snapshot.specs.Snap.{left}
-use Rattle.ix_state.specs.declared.held.Held.{Held}
-use Rattle.ix_state.specs.declared.held.Open.{Open}
+use Rattle.ix_bounds.specs.Names.{HasName}
+use Rattle.ix_bounds.specs.Shelving.{AreSettings as HasLimits}
+use Rattle.ix_bounds.specs.declared.shelving.Bucketed.{Bucketed}
+use Rattle.ix_machine.specs.Shelved.{shelved_indexes}
+use Rattle.ix_machine.specs.Snap.{left}
+use Rattle.ix_kept.specs.declared.held.Held.{Held}
+use Rattle.ix_kept.specs.declared.held.Open.{Open}
 use Rattle.ix_store.specs.Written.{over}
 use Rattle.ix_recall.specs.declared.gathering.Carried.{Carried}
 use Rattle.ix_recall.specs.declared.gathering.Gathered.{Gathered}

@@ -7,9 +7,9 @@ ghost use Rattle.ix_recall.specs.Recalled.{IsResumed, AreResumed, IsNoChannel, H
 use crate::faults::RecallFault;
 use crate::gathering::Carried;
 use crate::sorting::channels_by_name;
+use ix_kept::Open;
 use ix_parse::Channel;
 use ix_props::Props;
-use ix_state::Open;
 use std::alloc::Global;
 
 /// The channel goes on, by the settings that are chosen for it.

@@ -9,7 +9,7 @@ ghost use Rattle.ix_recall.specs.Recalled.{bucket_of, bucket_id, AreBucketsOf, A
 use crate::gathering::Placed;
 use crate::sorting::names_by_bytes;
 use ix_base::{Bytes, NoMemory};
-use ix_indexes::{Bucketed, shelve};
+use ix_bounds::{Bucketed, shelve};
 use ix_items::Bucket;
 use ix_life::{BucketList, IndexViewList, LimitSet};
 use std::alloc::Global;

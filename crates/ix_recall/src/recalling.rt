@@ -9,8 +9,8 @@ ghost use Rattle.ix_kept.specs.Taken.{AreGiven};
 ghost use Rattle.ix_machine.specs.Given.{Chooser};
 ghost use Rattle.ix_machine.specs.declared.commands.Order.{Order};
 ghost use Rattle.ix_replay.specs.Fits.{fits};
-ghost use Rattle.ix_snapshot.specs.Snap.{left};
-ghost use Rattle.ix_state.specs.Held.{Holds};
+ghost use Rattle.ix_machine.specs.Snap.{left};
+ghost use Rattle.ix_kept.specs.Held.{Holds};
 ghost use Rattle.ix_store.specs.Written.{over};
 ghost use Rattle.ix_recall.specs.First.{is_first, is_moments};
 ghost use Rattle.ix_recall.specs.Gathered.{entry_in};
@@ -23,10 +23,9 @@ use crate::indexes::indexes_of;
 use crate::sorting::spots_by_path;
 use ix_base::Sequence;
 use ix_items::Item;
-use ix_kept::config_of;
+use ix_kept::{Held, config_of};
 use ix_life::{EntryList, View};
 use ix_replay::Replayed;
-use ix_state::Held;
 use std::alloc::Global;
 
 /// The state that the items of a log lead to.

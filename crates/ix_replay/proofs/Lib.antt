@@ -3,3 +3,5 @@ pub mod Lengths
 pub mod ListSteps
 pub mod OneList
 pub mod Unnamed
+pub mod Writing
+pub mod WalkLengths

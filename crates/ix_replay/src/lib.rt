@@ -1,4 +1,5 @@
-//! The items of a log in memory, as a mount reads them, and the bounds of what a store can keep.
+//! The items of a log in memory, as a mount reads them, and the bounds of what a store can keep. And a list of items as a checkpoint is told
+//! it, one after the other: what keeps the state in memory makes the list.
 #![tactic(auto)]
 
 mod amounts;
@@ -10,8 +11,12 @@ mod names;
 mod ranges;
 mod removed;
 mod replayed;
+mod room;
 mod sizes;
 mod standing;
+mod walk;
 
 pub use laws::all_keep_bounds;
 pub use replayed::Replayed;
+pub use room::have_room;
+pub use walk::ItemWalk;

@@ -8,7 +8,7 @@ use Rattle.ix_book.specs.Book.{Book}
 use Rattle.ix_keep.specs.Mounting.{StandsFor}
 use Rattle.ix_machine.specs.Given.{Chooser}
 use Rattle.ix_machine.specs.declared.commands.Order.{Order}
-use Rattle.ix_snapshot.specs.Snap.{left}
+use Rattle.ix_machine.specs.Snap.{left}
 use Rattle.ix_keep.specs.Undo.{HasSameLogs}
 use Rattle.ix_machine.specs.Judged.{adds}
 use Rattle.ix_machine.specs.Step.{after}

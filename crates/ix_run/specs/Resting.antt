@@ -4,8 +4,8 @@ use Rattle.ix_disk.specs.Image.{Image, bytes_in}
 use Rattle.ix_disk.specs.declared.disk.Disk.{Ghosts}
 use Rattle.ix_log.specs.Log.{HasBodies}
 use Rattle.ix_book.specs.Root.{roots, current, log_file}
-use Rattle.ix_checkpoint.specs.declared.fault.CheckpointFault.{CheckpointFault}
-use Rattle.ix_checkpoint.specs.declared.fault.CheckpointFault.TheVariants as faults
+use Rattle.ix_book.specs.declared.fault.CheckpointFault.{CheckpointFault}
+use Rattle.ix_book.specs.declared.fault.CheckpointFault.TheVariants as faults
 use Rattle.ix_keep.specs.Shortening.{IsLongLog}
 use Rattle.ix_keep.specs.Snapshot.{IsOver, IsIdle, IsMeasured}
 use Rattle.ix_keep.specs.declared.keeper.Keeper.{Keeper}

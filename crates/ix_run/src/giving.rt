@@ -16,7 +16,7 @@ ghost use Rattle.ix_run.specs.Running.{HasStood, HasSettled, IsGiven, IsNotGiven
 ghost use Rattle.ix_store.specs.Holding.{Holds, IsUnchanged};
 
 use crate::shortening::shorten;
-use ix_checkpoint::CheckpointFault;
+use ix_book::CheckpointFault;
 use ix_disk::Disk;
 use ix_keep::CommitFault;
 use ix_machine::{Accepted, Command, Refusal};

@@ -13,7 +13,7 @@ ghost use Rattle.ix_run.specs.Resting.{IsAtRest, ReadsShort, is_failed};
 ghost use Rattle.ix_store.specs.Holding.{Holds};
 ghost use Rattle.ix_store.specs.Written.{Stands};
 
-use ix_checkpoint::CheckpointFault;
+use ix_book::CheckpointFault;
 use ix_disk::Disk;
 use ix_store::{Listing, Store};
 

@@ -16,7 +16,7 @@ ghost use Rattle.ix_serve.specs.Serving.{IsOpen, IsShort, IsTold, IsUndamaged};
 ghost use Rattle.ix_store.specs.Holding.{Holds};
 
 use crate::served::{ServeFault, Served, answer_of_fault};
-use ix_checkpoint::CheckpointFault;
+use ix_book::CheckpointFault;
 use ix_disk::Disk;
 use ix_store::{Listing, Memory, Store};
 

@@ -7,3 +7,5 @@ mod conf;
 mod life;
 #[cfg(test)]
 mod props;
+#[cfg(test)]
+mod said;

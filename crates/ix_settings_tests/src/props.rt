@@ -1,7 +1,10 @@
 //! Tests of `ix_values` and `ix_props`: values of each kind, and whole files, by examples worked by hand.
 
-use ix_base::{Bytes, ChannelMeta, NoMemory, Sequence};
-use ix_conf::{ConfFault, Layer, Merged, merge, parse};
+use crate::said::{
+    bytes_of, compare, note, note_unlike, note_wrong, put, repeat, say, settings_of, shown,
+};
+use ix_base::{Bytes, ChannelMeta};
+use ix_conf::Merged;
 use ix_pattern::{BreakFault, Pattern, PatternFault};
 use ix_props::{MergeSettings, Props, RuleFault, SettingFault, Settings, TimeSettings, Zone};
 use ix_values::{
@@ -9,89 +12,103 @@ use ix_values::{
     read_boolean, read_number,
 };
 use std::alloc::Global;
-use std::test::Fail;
+
+static BOOLEANS: [(&[u8], Option<bool>); 14] = [
+    (b"true", Some(true)),
+    (b"T", Some(true)),
+    (b"yEs", Some(true)),
+    (b"y", Some(true)),
+    (b"1", Some(true)),
+    (b"FALSE", Some(false)),
+    (b"f", Some(false)),
+    (b"No", Some(false)),
+    (b"N", Some(false)),
+    (b"0", Some(false)),
+    (b"", None),
+    (b"on", None),
+    (b"truer", None),
+    (b"01", None),
+];
+
+fn booleans_unlike(alloc: Global) -> String {
+    let mut text = String::new(alloc);
+    for (asked, wanted) in &BOOLEANS {
+        note_wrong(&mut text, asked, read_boolean(asked) == *wanted);
+    }
+    text
+}
 
 #[test]
 fn booleans_are_ten_words(rt: HostRuntime) {
-    let cases: [(&[u8], Option<bool>); 14] = [
-        (b"true", Some(true)),
-        (b"T", Some(true)),
-        (b"yEs", Some(true)),
-        (b"y", Some(true)),
-        (b"1", Some(true)),
-        (b"FALSE", Some(false)),
-        (b"f", Some(false)),
-        (b"No", Some(false)),
-        (b"N", Some(false)),
-        (b"0", Some(false)),
-        (b"", None),
-        (b"on", None),
-        (b"truer", None),
-        (b"01", None),
-    ];
-    for (text, want) in cases {
-        assert!(rt; read_boolean(text) == want, "the boolean {text:?}");
+    compare(&rt, booleans_unlike(rt.alloc()), "");
+}
+
+static NUMBERS: [(&[u8], Option<i64>); 16] = [
+    (b"0", Some(0)),
+    (b"-0", Some(0)),
+    (b"-1", Some(-1)),
+    (b"-2", None),
+    (b"007", Some(7)),
+    (b"1048576", Some(1_048_576)),
+    (b"1048577", None),
+    (b"0001048576", Some(1_048_576)),
+    (b"00001048576", None),
+    (b"9999999999", None),
+    (b"", None),
+    (b"-", None),
+    (b"--1", None),
+    (b"+1", None),
+    (b"1 ", None),
+    (b"0x1", None),
+];
+
+fn numbers_unlike(alloc: Global) -> String {
+    let mut text = String::new(alloc);
+    for (asked, wanted) in &NUMBERS {
+        let found = read_number(asked, -1, 1_048_576);
+        note_wrong(&mut text, asked, found == *wanted);
     }
+    text
 }
 
 #[test]
 fn numbers_have_a_sign_or_none_and_ten_digits(rt: HostRuntime) {
-    let cases: [(&[u8], Option<i64>); 16] = [
-        (b"0", Some(0)),
-        (b"-0", Some(0)),
-        (b"-1", Some(-1)),
-        (b"-2", None),
-        (b"007", Some(7)),
-        (b"1048576", Some(1_048_576)),
-        (b"1048577", None),
-        (b"0001048576", Some(1_048_576)),
-        (b"00001048576", None),
-        (b"9999999999", None),
-        (b"", None),
-        (b"-", None),
-        (b"--1", None),
-        (b"+1", None),
-        (b"1 ", None),
-        (b"0x1", None),
-    ];
-    for (text, want) in cases {
-        assert!(rt;
-            read_number(text, -1, 1_048_576) == want,
-            "the number {text:?}"
-        );
-    }
+    compare(&rt, numbers_unlike(rt.alloc()), "");
 }
 
-fn add_digit(text: &mut Bytes, digit: u32) -> Result<(), NoMemory> {
-    text.push(b'0' + (digit % 10) as u8)
+fn put_digit(out: &mut Bytes, digit: u32) {
+    let _ = out.push(b'0' + (digit % 10) as u8);
 }
 
-/// The bytes of parts, and `<12>` for group 12.
-fn add_parts(text: &mut Bytes, parts: &[Part]) -> Result<(), NoMemory> {
-    for part in parts {
-        match part {
-            Part::Byte(byte) => text.push(*byte)?,
-            Part::Group(group) => {
-                let group = (*group % 100) as u32;
-                text.push(b'<')?;
-                add_digit(text, group / 10)?;
-                add_digit(text, group)?;
-                text.push(b'>')?;
-            }
+fn put_part(out: &mut Bytes, part: Part) {
+    match part {
+        Part::Byte(byte) => put(out, &[byte]),
+        Part::Group(group) => {
+            let group = (group % 100) as u32;
+            put(out, b"<");
+            put_digit(out, group / 10);
+            put_digit(out, group);
+            put(out, b">");
         }
     }
-    Ok(())
 }
 
-fn add_which(text: &mut Bytes, which: Which) -> Result<(), NoMemory> {
+/// Adds the bytes of parts, and `<12>` for group 12.
+fn put_parts(out: &mut Bytes, parts: &[Part]) {
+    for part in parts {
+        put_part(out, *part);
+    }
+}
+
+fn put_which(out: &mut Bytes, which: Which) {
     match which {
-        Which::First => text.extend(b"first"),
-        Which::All => text.extend(b"all"),
+        Which::First => put(out, b"first"),
+        Which::All => put(out, b"all"),
         Which::Nth(number) => {
-            add_digit(text, number / 1000)?;
-            add_digit(text, number / 100)?;
-            add_digit(text, number / 10)?;
-            add_digit(text, number)
+            put_digit(out, number / 1000);
+            put_digit(out, number / 100);
+            put_digit(out, number / 10);
+            put_digit(out, number);
         }
     }
 }
@@ -105,293 +122,345 @@ fn pattern_fault(fault: PatternFault) -> &'static [u8] {
     }
 }
 
-/// Which matches and what they become, or which bytes become which.
-fn add_change(found: &mut Bytes, change: &Sed) -> Result<(), NoMemory> {
+/// Adds which matches are changed and what they become, or which bytes become which.
+fn put_change(out: &mut Bytes, change: &Sed) {
     match change {
         Sed::Replace { parts, which, .. } => {
-            add_which(found, *which)?;
-            found.extend(b"|")?;
-            add_parts(found, parts.as_slice())
+            put_which(out, *which);
+            put(out, b"|");
+            put_parts(out, parts.as_slice());
         }
         Sed::Swap { from, to } => {
-            found.extend(from.as_slice())?;
-            found.extend(b"|")?;
-            found.extend(to.as_slice())
+            put(out, from.as_slice());
+            put(out, b"|");
+            put(out, to.as_slice());
         }
     }
 }
 
 /// What a text changes, or its fault.
-fn describe_change(alloc: Global, text: &[u8]) -> Result<Bytes, NoMemory> {
+fn describe_change(alloc: Global, text: &[u8]) -> Bytes {
     let mut found = Bytes::new(alloc);
     match Sed::read(alloc, text) {
-        Ok(change) => add_change(&mut found, &change)?,
-        Err(SedFault::BadValue) => found.extend(b"bad value")?,
-        Err(SedFault::BadPattern { fault }) => found.extend(pattern_fault(fault))?,
-        Err(SedFault::NoMemory) => return Err(NoMemory),
+        Ok(change) => {
+            put_change(&mut found, &change);
+            drop(change);
+        }
+        Err(SedFault::BadValue) => put(&mut found, b"bad value"),
+        Err(SedFault::BadPattern { fault }) => put(&mut found, pattern_fault(fault)),
+        Err(SedFault::NoMemory) => put(&mut found, b"no memory"),
     }
-    Ok(found)
+    found
+}
+
+static CHANGES: [(&[u8], &[u8]); 27] = [
+    (b"s/a/b/", b"first|b"),
+    (b"s/a/b/g", b"all|b"),
+    (b"s/a/b/7", b"0007|b"),
+    (b"s/a/b/0010", b"0010|b"),
+    (b"s/a/b/1000", b"1000|b"),
+    (b"s/a//", b"first|"),
+    (b"s/\\//&/", b"first|&"),
+    (b"s/(a)/<\\1\\9>/", b"first|<<01><09>>"),
+    (b"s/a/\\n\\t\\/\\\\/", b"first|\n\t/\\"),
+    (b"s/a/$1/", b"first|$1"),
+    (b"s/a/b/0", b"bad value"),
+    (b"s/a/b/1001", b"bad value"),
+    (b"s/a/b/00001", b"bad value"),
+    (b"s/a/b/G", b"bad value"),
+    (b"s/a/b", b"bad value"),
+    (b"s/a\\/b/", b"bad value"),
+    (b"s/a/\\0/", b"bad value"),
+    (b"s/a/\\x/", b"bad value"),
+    (b"s|a|b|", b"bad value"),
+    (b"", b"bad value"),
+    (b"s/(/b/", b"syntax"),
+    (b"s/(/\\x/", b"bad value"),
+    (b"s/(a*)*/b/", b"empty repeat"),
+    (b"y/ab/cd/", b"ab|cd"),
+    (b"y/\\/\\n/\\t\\\\/", b"/\n|\t\\"),
+    (b"y/ab/c/", b"bad value"),
+    (b"y/a/\\1/", b"bad value"),
+];
+
+fn changes_unlike(alloc: Global) -> String {
+    let mut text = String::new(alloc);
+    for (asked, wanted) in &CHANGES {
+        note_unlike(&mut text, asked, describe_change(alloc, asked), wanted);
+    }
+    text
 }
 
 #[test]
-fn changes_have_two_forms(rt: HostRuntime) -> Result<(), Fail> {
-    let cases: [(&[u8], &[u8]); 27] = [
-        (b"s/a/b/", b"first|b"),
-        (b"s/a/b/g", b"all|b"),
-        (b"s/a/b/7", b"0007|b"),
-        (b"s/a/b/0010", b"0010|b"),
-        (b"s/a/b/1000", b"1000|b"),
-        (b"s/a//", b"first|"),
-        (b"s/\\//&/", b"first|&"),
-        (b"s/(a)/<\\1\\9>/", b"first|<<01><09>>"),
-        (b"s/a/\\n\\t\\/\\\\/", b"first|\n\t/\\"),
-        (b"s/a/$1/", b"first|$1"),
-        (b"s/a/b/0", b"bad value"),
-        (b"s/a/b/1001", b"bad value"),
-        (b"s/a/b/00001", b"bad value"),
-        (b"s/a/b/G", b"bad value"),
-        (b"s/a/b", b"bad value"),
-        (b"s/a\\/b/", b"bad value"),
-        (b"s/a/\\0/", b"bad value"),
-        (b"s/a/\\x/", b"bad value"),
-        (b"s|a|b|", b"bad value"),
-        (b"", b"bad value"),
-        (b"s/(/b/", b"syntax"),
-        (b"s/(/\\x/", b"bad value"),
-        (b"s/(a*)*/b/", b"empty repeat"),
-        (b"y/ab/cd/", b"ab|cd"),
-        (b"y/\\/\\n/\\t\\\\/", b"/\n|\t\\"),
-        (b"y/ab/c/", b"bad value"),
-        (b"y/a/\\1/", b"bad value"),
-    ];
-    for (text, want) in cases {
-        let found = describe_change(rt.alloc(), text)?;
-        assert!(rt; found.as_slice() == want, "the change {text:?}");
-    }
-    Ok(())
+fn changes_have_two_forms(rt: HostRuntime) {
+    compare(&rt, changes_unlike(rt.alloc()), "");
 }
 
-/// A directive as a format spells it; `_` for white space.
-fn spelling(directive: Directive) -> [u8; 2] {
+/// A directive as a format spells it; `_` for white space, and the byte itself stands behind a `=`.
+fn spelling(directive: Directive) -> &'static [u8] {
     match directive {
-        Directive::Year => *b"%Y",
-        Directive::YearOfCentury => *b"%y",
-        Directive::Month => *b"%m",
-        Directive::Day => *b"%d",
-        Directive::PaddedDay => *b"%e",
-        Directive::Hour => *b"%H",
-        Directive::HalfDayHour => *b"%I",
-        Directive::Minute => *b"%M",
-        Directive::Second => *b"%S",
-        Directive::DayOfYear => *b"%j",
-        Directive::ShortMonthName => *b"%b",
-        Directive::MonthName => *b"%B",
-        Directive::ShortWeekdayName => *b"%a",
-        Directive::WeekdayName => *b"%A",
-        Directive::HalfDay => *b"%p",
-        Directive::Epoch => *b"%s",
-        Directive::Fraction => *b"%N",
-        Directive::Millis => *b"%3",
-        Directive::Micros => *b"%6",
-        Directive::Nanos => *b"%9",
-        Directive::Offset => *b"%z",
-        Directive::ZoneName => *b"%Z",
-        Directive::Space => *b"__",
-        Directive::Byte(byte) => [b'=', byte],
+        Directive::Year => b"%Y",
+        Directive::YearOfCentury => b"%y",
+        Directive::Month => b"%m",
+        Directive::Day => b"%d",
+        Directive::PaddedDay => b"%e",
+        Directive::Hour => b"%H",
+        Directive::HalfDayHour => b"%I",
+        Directive::Minute => b"%M",
+        Directive::Second => b"%S",
+        Directive::DayOfYear => b"%j",
+        Directive::ShortMonthName => b"%b",
+        Directive::MonthName => b"%B",
+        Directive::ShortWeekdayName => b"%a",
+        Directive::WeekdayName => b"%A",
+        Directive::HalfDay => b"%p",
+        Directive::Epoch => b"%s",
+        Directive::Fraction => b"%N",
+        Directive::Millis => b"%3",
+        Directive::Micros => b"%6",
+        Directive::Nanos => b"%9",
+        Directive::Offset => b"%z",
+        Directive::ZoneName => b"%Z",
+        Directive::Space => b"__",
+        Directive::Byte(_) => b"=",
+    }
+}
+
+fn put_directive(out: &mut Bytes, directive: Directive) {
+    put(out, spelling(directive));
+    if let Directive::Byte(byte) = directive {
+        put(out, &[byte]);
     }
 }
 
 /// The directives of a format, or its fault.
-fn describe_format(alloc: Global, text: &[u8]) -> Result<Bytes, NoMemory> {
+fn describe_format(alloc: Global, text: &[u8]) -> Bytes {
     let mut found = Bytes::new(alloc);
     match TimeFormat::read(alloc, text) {
         Ok(format) => {
             for directive in format.as_slice() {
-                found.extend(&spelling(*directive))?;
+                put_directive(&mut found, *directive);
             }
+            drop(format);
         }
-        Err(FormatFault::BadValue) => found.extend(b"bad value")?,
-        Err(FormatFault::NoMemory) => return Err(NoMemory),
+        Err(FormatFault::BadValue) => put(&mut found, b"bad value"),
+        Err(FormatFault::NoMemory) => put(&mut found, b"no memory"),
     }
-    Ok(found)
+    found
+}
+
+static FORMATS: [(&[u8], &[u8]); 20] = [
+    (b"%s", b"%s"),
+    (b"%j", b"%j"),
+    (b"%m%d", b"%m%d"),
+    (b"%e %b", b"%e__%b"),
+    (b"%B%d", b"%B%d"),
+    (b"%F", b"%Y=-%m=-%d"),
+    (b"%sT%T", b"%s=T%H=:%M=:%S"),
+    (b"%%%s", b"=%%s"),
+    (b"%s.%3N%6N%9N%N", b"%s=.%3%6%9%N"),
+    (b"%s \t\x0B\r\n%p", b"%s__%p"),
+    (b"%a%A%I%y%z%Z%j", b"%a%A%I%y%z%Z%j"),
+    (b"", b"bad value"),
+    (b"%Y-%m", b"bad value"),
+    (b"%Y-%d", b"bad value"),
+    (b"%T", b"bad value"),
+    (b"%s%", b"bad value"),
+    (b"%s%Q", b"bad value"),
+    (b"%s%3", b"bad value"),
+    (b"%s%3S", b"bad value"),
+    (b"%s%1N", b"bad value"),
+];
+
+fn formats_unlike(alloc: Global) -> String {
+    let mut text = String::new(alloc);
+    for (asked, wanted) in &FORMATS {
+        note_unlike(&mut text, asked, describe_format(alloc, asked), wanted);
+    }
+    text
 }
 
 #[test]
-fn formats_are_lists_of_directives(rt: HostRuntime) -> Result<(), Fail> {
-    let cases: [(&[u8], &[u8]); 20] = [
-        (b"%s", b"%s"),
-        (b"%j", b"%j"),
-        (b"%m%d", b"%m%d"),
-        (b"%e %b", b"%e__%b"),
-        (b"%B%d", b"%B%d"),
-        (b"%F", b"%Y=-%m=-%d"),
-        (b"%sT%T", b"%s=T%H=:%M=:%S"),
-        (b"%%%s", b"=%%s"),
-        (b"%s.%3N%6N%9N%N", b"%s=.%3%6%9%N"),
-        (b"%s \t\x0B\r\n%p", b"%s__%p"),
-        (b"%a%A%I%y%z%Z%j", b"%a%A%I%y%z%Z%j"),
-        (b"", b"bad value"),
-        (b"%Y-%m", b"bad value"),
-        (b"%Y-%d", b"bad value"),
-        (b"%T", b"bad value"),
-        (b"%s%", b"bad value"),
-        (b"%s%Q", b"bad value"),
-        (b"%s%3", b"bad value"),
-        (b"%s%3S", b"bad value"),
-        (b"%s%1N", b"bad value"),
-    ];
-    for (text, want) in cases {
-        let found = describe_format(rt.alloc(), text)?;
-        assert!(rt; found.as_slice() == want, "the format {text:?}");
-    }
-    Ok(())
+fn formats_are_lists_of_directives(rt: HostRuntime) {
+    compare(&rt, formats_unlike(rt.alloc()), "");
 }
 
-/// The settings of one file.
-fn settings_of(alloc: Global, text: &[u8]) -> Result<Merged, ConfFault> {
-    let mut layers = Sequence::new(alloc);
-    let layer = Layer {
-        name: Bytes::copy_of(alloc, b"etc/system/local")?,
-        file: parse(alloc, text)?,
-    };
-    layers.push(layer)?;
-    Ok(merge(alloc, &layers)?)
-}
-
-fn key_letter(key: Key) -> u8 {
+fn key_letter(key: Key) -> &'static [u8] {
     match key {
-        Key::Raw => b'r',
-        Key::Meta => b'm',
-        Key::Queue => b'q',
-        Key::Index => b'i',
-        Key::Host => b'h',
-        Key::Source => b's',
-        Key::Sourcetype => b't',
+        Key::Raw => b"r",
+        Key::Meta => b"m",
+        Key::Queue => b"q",
+        Key::Index => b"i",
+        Key::Host => b"h",
+        Key::Source => b"s",
+        Key::Sourcetype => b"t",
     }
 }
 
-/// Source, destination, whether the indexed fields are written, format and default value; or the fault.
-fn describe_transform(alloc: Global, transforms: &Merged) -> Result<Bytes, NoMemory> {
+/// Adds source, destination, whether the indexed fields are written, format and default value.
+fn put_transform(out: &mut Bytes, transform: &Transform) {
+    put(out, key_letter(transform.source));
+    match transform.dest {
+        Some(key) => put(out, key_letter(key)),
+        None => put(out, b"-"),
+    }
+    put(out, if transform.write_meta { b"+" } else { b"-" });
+    put_parts(out, transform.format.as_slice());
+    if let Some(value) = &transform.default_value {
+        put(out, b"|");
+        put(out, value.as_slice());
+    }
+}
+
+fn put_transform_fault(out: &mut Bytes, fault: &TransformFault) {
+    match fault {
+        TransformFault::BadValue { key } => {
+            put(out, b"bad ");
+            put(out, key.as_slice());
+        }
+        TransformFault::BadPattern { key, fault } => {
+            put(out, key.as_slice());
+            put(out, b" ");
+            put(out, pattern_fault(*fault));
+        }
+        TransformFault::NoMemory => put(out, b"no memory"),
+    }
+}
+
+/// Adds what the stanza `t` is as a transform, where it is there.
+fn put_stanza(out: &mut Bytes, alloc: Global, transforms: &Merged) {
+    if transforms.has(b"t") {
+        match Transform::read(alloc, b"t", transforms) {
+            Ok(transform) => {
+                put_transform(out, &transform);
+                drop(transform);
+            }
+            Err(fault) => {
+                put_transform_fault(out, &fault);
+                drop(fault);
+            }
+        }
+    }
+}
+
+fn describe_transform(alloc: Global, text: &[u8]) -> Bytes {
     let mut found = Bytes::new(alloc);
+    if let Ok(transforms) = settings_of(alloc, text) {
+        put_stanza(&mut found, alloc, &transforms);
+        drop(transforms);
+    }
+    found
+}
+
+static TRANSFORMED: [(&[u8], &[u8]); 18] = [
+    (b"[t]\nREGEX=(a)\nWRITE_META=1", b"r-+t::<01>"),
+    (
+        b"[t]\nREGEX=a\nDEST_KEY=queue\nFORMAT=nullQueue",
+        b"rq-nullQueue",
+    ),
+    (
+        b"[t]\nREGEX=a\nDEST_KEY=_meta\nFORMAT=$0 $12$3x$ $$1",
+        b"rm-<00> <12><03>x$ $<01>",
+    ),
+    (
+        b"[t]\nREGEX=a\nSOURCE_KEY=MetaData:Host\nDEST_KEY=_MetaData:Index\nFORMAT=$123\nDEFAULT_VALUE=x y",
+        b"hi-<12>3|x y",
+    ),
+    (
+        b"DEST_KEY=_raw\nREGEX=a\nWRITE_META=y\n[t]\nFORMAT=",
+        b"rr+t::<01>",
+    ),
+    (b"DEST_KEY=_raw\nREGEX=a\n[t]\nDEST_KEY=", b"bad DEST_KEY"),
+    (
+        b"[t]\nREGEX=a\nSOURCE_KEY=MetaData:Sourcetype\nDEST_KEY=MetaData:Source\nFORMAT=$a",
+        b"ts-$a",
+    ),
+    (b"[t]\nREGEX=a", b"bad DEST_KEY"),
+    (b"[t]\nREGEX=a\nWRITE_META=0", b"bad DEST_KEY"),
+    (b"[t]\nREGEX=a\nWRITE_META=2", b"bad DEST_KEY"),
+    (
+        b"[t]\nREGEX=a\nWRITE_META=2\nDEST_KEY=_raw",
+        b"bad WRITE_META",
+    ),
+    (b"[t]\nREGEX=a\nDEST_KEY=raw\nLOOKAHEAD=0", b"bad DEST_KEY"),
+    (
+        b"[t]\nREGEX=(\nDEST_KEY=_raw\nLOOKAHEAD=0",
+        b"bad LOOKAHEAD",
+    ),
+    (
+        b"[t]\nREGEX=a\nDEST_KEY=_raw\nLOOKAHEAD=8388609",
+        b"bad LOOKAHEAD",
+    ),
+    (
+        b"[t]\nREGEX=(\nDEST_KEY=_raw\nSOURCE_KEY=x",
+        b"REGEX syntax",
+    ),
+    (b"[t]\nREGEX=\nDEST_KEY=_raw\nSOURCE_KEY=x", b"bad REGEX"),
+    (b"[t]\nDEST_KEY=_raw", b"bad REGEX"),
+    (
+        b"[t]\nREGEX=a\nDEST_KEY=_raw\nSOURCE_KEY=MetaData:Index\nWRITE_META=2",
+        b"bad SOURCE_KEY",
+    ),
+];
+
+fn transforms_unlike(alloc: Global) -> String {
+    let mut text = String::new(alloc);
+    for (asked, wanted) in &TRANSFORMED {
+        note_unlike(&mut text, asked, describe_transform(alloc, asked), wanted);
+    }
+    text
+}
+
+#[test]
+fn transforms_are_stanzas(rt: HostRuntime) {
+    compare(&rt, transforms_unlike(rt.alloc()), "");
+}
+
+/// How many bytes of the source the stanza `t` looks at.
+fn lookahead_of(alloc: Global, transforms: &Merged) -> Option<u32> {
     if !transforms.has(b"t") {
-        return Ok(found);
+        return None;
     }
     match Transform::read(alloc, b"t", transforms) {
         Ok(transform) => {
-            found.push(key_letter(transform.source))?;
-            found.push(transform.dest.map_or(b'-', |key| key_letter(key)))?;
-            found.push(if transform.write_meta { b'+' } else { b'-' })?;
-            add_parts(&mut found, transform.format.as_slice())?;
-            if let Some(value) = &transform.default_value {
-                found.push(b'|')?;
-                found.extend(value.as_slice())?;
-            }
+            let lookahead = transform.lookahead;
+            drop(transform);
+            Some(lookahead)
         }
-        Err(TransformFault::BadValue { key }) => {
-            found.extend(b"bad ")?;
-            found.extend(key.as_slice())?;
+        Err(fault) => {
+            drop(fault);
+            None
         }
-        Err(TransformFault::BadPattern { key, fault }) => {
-            found.extend(key.as_slice())?;
-            found.push(b' ')?;
-            found.extend(pattern_fault(fault))?;
-        }
-        Err(TransformFault::NoMemory) => return Err(NoMemory),
     }
-    Ok(found)
+}
+
+static LOOKAHEADS: [(&[u8], u32); 3] = [
+    (b"[t]\nREGEX=a\nDEST_KEY=_raw", 4096),
+    (b"[t]\nREGEX=a\nDEST_KEY=_raw\nLOOKAHEAD=8388608", 8_388_608),
+    (b"LOOKAHEAD=0\n[t]\nREGEX=a\nDEST_KEY=_raw\nLOOKAHEAD=1", 1),
+];
+
+fn lookaheads_unlike(alloc: Global) -> String {
+    let mut text = String::new(alloc);
+    for (asked, wanted) in &LOOKAHEADS {
+        if let Ok(transforms) = settings_of(alloc, asked) {
+            let found = lookahead_of(alloc, &transforms);
+            note_wrong(&mut text, b"seen", found != Some(*wanted));
+            note_wrong(&mut text, asked, found == Some(*wanted));
+            drop(transforms);
+        }
+    }
+    text
 }
 
 #[test]
-fn transforms_are_stanzas(rt: HostRuntime) -> Result<(), Fail> {
-    let cases: [(&[u8], &[u8]); 18] = [
-        (b"[t]\nREGEX=(a)\nWRITE_META=1", b"r-+t::<01>"),
-        (
-            b"[t]\nREGEX=a\nDEST_KEY=queue\nFORMAT=nullQueue",
-            b"rq-nullQueue",
-        ),
-        (
-            b"[t]\nREGEX=a\nDEST_KEY=_meta\nFORMAT=$0 $12$3x$ $$1",
-            b"rm-<00> <12><03>x$ $<01>",
-        ),
-        (
-            b"[t]\nREGEX=a\nSOURCE_KEY=MetaData:Host\nDEST_KEY=_MetaData:Index\nFORMAT=$123\nDEFAULT_VALUE=x y",
-            b"hi-<12>3|x y",
-        ),
-        (
-            b"DEST_KEY=_raw\nREGEX=a\nWRITE_META=y\n[t]\nFORMAT=",
-            b"rr+t::<01>",
-        ),
-        (b"DEST_KEY=_raw\nREGEX=a\n[t]\nDEST_KEY=", b"bad DEST_KEY"),
-        (
-            b"[t]\nREGEX=a\nSOURCE_KEY=MetaData:Sourcetype\nDEST_KEY=MetaData:Source\nFORMAT=$a",
-            b"ts-$a",
-        ),
-        (b"[t]\nREGEX=a", b"bad DEST_KEY"),
-        (b"[t]\nREGEX=a\nWRITE_META=0", b"bad DEST_KEY"),
-        (b"[t]\nREGEX=a\nWRITE_META=2", b"bad DEST_KEY"),
-        (
-            b"[t]\nREGEX=a\nWRITE_META=2\nDEST_KEY=_raw",
-            b"bad WRITE_META",
-        ),
-        (b"[t]\nREGEX=a\nDEST_KEY=raw\nLOOKAHEAD=0", b"bad DEST_KEY"),
-        (
-            b"[t]\nREGEX=(\nDEST_KEY=_raw\nLOOKAHEAD=0",
-            b"bad LOOKAHEAD",
-        ),
-        (
-            b"[t]\nREGEX=a\nDEST_KEY=_raw\nLOOKAHEAD=8388609",
-            b"bad LOOKAHEAD",
-        ),
-        (
-            b"[t]\nREGEX=(\nDEST_KEY=_raw\nSOURCE_KEY=x",
-            b"REGEX syntax",
-        ),
-        (b"[t]\nREGEX=\nDEST_KEY=_raw\nSOURCE_KEY=x", b"bad REGEX"),
-        (b"[t]\nDEST_KEY=_raw", b"bad REGEX"),
-        (
-            b"[t]\nREGEX=a\nDEST_KEY=_raw\nSOURCE_KEY=MetaData:Index\nWRITE_META=2",
-            b"bad SOURCE_KEY",
-        ),
-    ];
-    for (text, want) in cases {
-        let transforms = settings_of(rt.alloc(), text)?;
-        let found = describe_transform(rt.alloc(), &transforms)?;
-        assert!(rt; found.as_slice() == want, "the transform of {text:?}");
-    }
-    Ok(())
+fn transforms_look_ahead(rt: HostRuntime) {
+    compare(&rt, lookaheads_unlike(rt.alloc()), " seen seen seen");
 }
 
-/// How many bytes of the source a transform looks at.
-fn lookahead_of(alloc: Global, text: &[u8]) -> Result<Option<u32>, ConfFault> {
-    let transforms = settings_of(alloc, text)?;
-    if !transforms.has(b"t") {
-        return Ok(None);
-    }
-    match Transform::read(alloc, b"t", &transforms) {
-        Ok(transform) => Ok(Some(transform.lookahead)),
-        Err(_) => Ok(None),
-    }
-}
-
-#[test]
-fn transforms_look_ahead(rt: HostRuntime) -> Result<(), Fail> {
-    let cases: [(&[u8], u32); 3] = [
-        (b"[t]\nREGEX=a\nDEST_KEY=_raw", 4096),
-        (b"[t]\nREGEX=a\nDEST_KEY=_raw\nLOOKAHEAD=8388608", 8_388_608),
-        (b"LOOKAHEAD=0\n[t]\nREGEX=a\nDEST_KEY=_raw\nLOOKAHEAD=1", 1),
-    ];
-    for (text, want) in cases {
-        assert!(rt;
-            lookahead_of(rt.alloc(), text)? == Some(want),
-            "the lookahead of {text:?}"
-        );
-    }
-    Ok(())
-}
-
-fn add_word(text: &mut Bytes, word: &[u8]) -> Result<(), NoMemory> {
-    text.push(b'|')?;
-    text.extend(word)
+fn put_word(out: &mut Bytes, word: &[u8]) {
+    put(out, b"|");
+    put(out, word);
 }
 
 fn break_fault(fault: BreakFault) -> &'static [u8] {
@@ -402,36 +471,36 @@ fn break_fault(fault: BreakFault) -> &'static [u8] {
     }
 }
 
-/// What a fault is, and what it names.
-fn add_fault(text: &mut Bytes, fault: &SettingFault) -> Result<(), NoMemory> {
+/// Adds what a fault is, and what it names.
+fn put_fault(out: &mut Bytes, fault: &SettingFault) {
     match fault {
         SettingFault::BadValue { stanza, key } => {
-            text.extend(b"value")?;
-            add_word(text, stanza.as_slice())?;
-            add_word(text, key.as_slice())
+            put(out, b"value");
+            put_word(out, stanza.as_slice());
+            put_word(out, key.as_slice());
         }
         SettingFault::BadPattern { stanza, key, fault } => {
-            text.extend(b"pattern")?;
-            add_word(text, stanza.as_slice())?;
-            add_word(text, key.as_slice())?;
-            add_word(text, break_fault(*fault))
+            put(out, b"pattern");
+            put_word(out, stanza.as_slice());
+            put_word(out, key.as_slice());
+            put_word(out, break_fault(*fault));
         }
         SettingFault::UnknownTransform { stanza, key, name } => {
-            text.extend(b"transform")?;
-            add_word(text, stanza.as_slice())?;
-            add_word(text, key.as_slice())?;
-            add_word(text, name.as_slice())
+            put(out, b"transform");
+            put_word(out, stanza.as_slice());
+            put_word(out, key.as_slice());
+            put_word(out, name.as_slice());
         }
         SettingFault::UnknownZone { stanza, name } => {
-            text.extend(b"zone")?;
-            add_word(text, stanza.as_slice())?;
-            add_word(text, name.as_slice())
+            put(out, b"zone");
+            put_word(out, stanza.as_slice());
+            put_word(out, name.as_slice());
         }
         SettingFault::BadStanzaPattern { stanza } => {
-            text.extend(b"stanza")?;
-            add_word(text, stanza.as_slice())
+            put(out, b"stanza");
+            put_word(out, stanza.as_slice());
         }
-        SettingFault::NoMemory => Err(NoMemory),
+        SettingFault::NoMemory => put(out, b"no memory"),
     }
 }
 
@@ -459,193 +528,228 @@ RULE=
 RULE=EST5EDT
 ";
 
-/// The fault of a props.conf beside these transforms and zones, or `good`.
-fn describe_props(alloc: Global, text: &[u8]) -> Result<Bytes, Fail> {
-    let props = settings_of(alloc, text)?;
-    let transforms = settings_of(alloc, TRANSFORMS)?;
-    let zones = settings_of(alloc, ZONES)?;
+fn load_beside(alloc: Global, props: &Merged, transforms: &Merged) -> Result<Props, SettingFault> {
+    match settings_of(alloc, ZONES) {
+        Ok(zones) => {
+            let loaded = Props::load(alloc, props, transforms, &zones);
+            drop(zones);
+            loaded
+        }
+        Err(_) => Err(SettingFault::NoMemory),
+    }
+}
+
+fn load_merged(alloc: Global, props: &Merged) -> Result<Props, SettingFault> {
+    match settings_of(alloc, TRANSFORMS) {
+        Ok(transforms) => {
+            let loaded = load_beside(alloc, props, &transforms);
+            drop(transforms);
+            loaded
+        }
+        Err(_) => Err(SettingFault::NoMemory),
+    }
+}
+
+/// The props.conf of a text, beside these transforms and zones.
+fn load_props(alloc: Global, text: &[u8]) -> Result<Props, SettingFault> {
+    match settings_of(alloc, text) {
+        Ok(props) => {
+            let loaded = load_merged(alloc, &props);
+            drop(props);
+            loaded
+        }
+        Err(_) => Err(SettingFault::NoMemory),
+    }
+}
+
+/// The fault of a props.conf beside them, or `good`.
+fn describe_props(alloc: Global, text: &[u8]) -> Bytes {
     let mut found = Bytes::new(alloc);
-    match Props::load(alloc, &props, &transforms, &zones) {
-        Ok(_props) => found.extend(b"good")?,
-        Err(fault) => add_fault(&mut found, &fault)?,
+    match load_props(alloc, text) {
+        Ok(props) => {
+            put(&mut found, b"good");
+            drop(props);
+        }
+        Err(fault) => {
+            put_fault(&mut found, &fault);
+            drop(fault);
+        }
     }
-    Ok(found)
+    found
+}
+
+static JUDGED: [(&[u8], &[u8]); 40] = [
+    (b"", b"good"),
+    (b"LINE_BREAKER=", b"good"),
+    (
+        b"Other=(\n[rule::(]\nTRUNCATE=x\n[delayedrule::a]\nTZ=x",
+        b"good",
+    ),
+    (b"LINE_BREAKER=a", b"pattern|default|LINE_BREAKER|no group"),
+    (
+        b"LINE_BREAKER=(a*)",
+        b"pattern|default|LINE_BREAKER|matches empty",
+    ),
+    (b"LINE_BREAKER=(", b"pattern|default|LINE_BREAKER|syntax"),
+    (b"[w]\nTRUNCATE=4294967295", b"good"),
+    (b"[w]\nTRUNCATE=4294967296", b"value|w|TRUNCATE"),
+    (b"[w]\nTRUNCATE=-1", b"value|w|TRUNCATE"),
+    (b"[w]\nSHOULD_LINEMERGE=on", b"value|w|SHOULD_LINEMERGE"),
+    (
+        b"[w]\nBREAK_ONLY_BEFORE_DATE=2",
+        b"value|w|BREAK_ONLY_BEFORE_DATE",
+    ),
+    (
+        b"[w]\nBREAK_ONLY_BEFORE=(a*)*",
+        b"pattern|w|BREAK_ONLY_BEFORE|empty repeat",
+    ),
+    (
+        b"[w]\nMUST_BREAK_AFTER=)",
+        b"pattern|w|MUST_BREAK_AFTER|syntax",
+    ),
+    (
+        b"[w]\nMUST_NOT_BREAK_AFTER=[",
+        b"pattern|w|MUST_NOT_BREAK_AFTER|syntax",
+    ),
+    (
+        b"[w]\nMUST_NOT_BREAK_BEFORE=a{1001}",
+        b"pattern|w|MUST_NOT_BREAK_BEFORE|too large",
+    ),
+    (b"[w]\nTIME_PREFIX=*", b"pattern|w|TIME_PREFIX|syntax"),
+    (b"[w]\nMAX_EVENTS=0", b"value|w|MAX_EVENTS"),
+    (b"[w]\nMAX_EVENTS=1000001", b"value|w|MAX_EVENTS"),
+    (b"[w]\nTIME_FORMAT=%Y-%m", b"value|w|TIME_FORMAT"),
+    (b"[w]\nMAX_TIMESTAMP_LOOKAHEAD=-1", b"good"),
+    (
+        b"[w]\nMAX_TIMESTAMP_LOOKAHEAD=-2",
+        b"value|w|MAX_TIMESTAMP_LOOKAHEAD",
+    ),
+    (b"[w]\nMAX_DAYS_AGO=10952", b"value|w|MAX_DAYS_AGO"),
+    (b"[w]\nMAX_DAYS_HENCE=10951", b"value|w|MAX_DAYS_HENCE"),
+    (b"[w]\npriority=-1000001", b"value|w|priority"),
+    (b"[w]\nTZ=here", b"good"),
+    (b"[w]\nTZ=gone", b"zone|w|gone"),
+    (b"[w]\nTZ=none", b"zone|w|none"),
+    (b"[w]\nTZ=empty", b"zone|w|empty"),
+    (b"[w]\nTZ=bad", b"value|bad|RULE"),
+    (b"[w]\nSEDCMD-=s/a/b/\nSEDCMD-x=s/a/b", b"value|w|SEDCMD-x"),
+    (b"[w]\nSEDCMD-x=s/(/b/", b"pattern|w|SEDCMD-x|syntax"),
+    (b"[w]\nTRANSFORMS-x= good , ,good,", b"good"),
+    (
+        b"[w]\nTRANSFORMS-x=good,gone",
+        b"transform|w|TRANSFORMS-x|gone",
+    ),
+    (
+        b"[w]\nTRANSFORMS-x=good\t,gone",
+        b"transform|w|TRANSFORMS-x|good\t",
+    ),
+    (b"[w]\nTRANSFORMS-x=nowhere,gone", b"value|nowhere|DEST_KEY"),
+    (b"[w]\nTRANSFORMS-x=open", b"pattern|open|REGEX|syntax"),
+    (b"[w]\nTRANSFORMS-x=far", b"value|far|LOOKAHEAD"),
+    (b"[source::a(]\nTRUNCATE=x", b"stanza|source::a("),
+    (
+        b"[host::(?b)]\n[a]\nTRUNCATE=x\nTZ=gone",
+        b"value|a|TRUNCATE",
+    ),
+    (
+        b"[host::a|b*]\n[source::...(/x|y)]\n[host::)]",
+        b"stanza|host::)",
+    ),
+];
+
+fn judged_unlike(alloc: Global) -> String {
+    let mut text = String::new(alloc);
+    for (asked, wanted) in &JUDGED {
+        note_unlike(&mut text, asked, describe_props(alloc, asked), wanted);
+    }
+    text
 }
 
 #[test]
-fn values_of_props_are_judged(rt: HostRuntime) -> Result<(), Fail> {
-    let cases: [(&[u8], &[u8]); 40] = [
-        (b"", b"good"),
-        (b"LINE_BREAKER=", b"good"),
-        (
-            b"Other=(\n[rule::(]\nTRUNCATE=x\n[delayedrule::a]\nTZ=x",
-            b"good",
-        ),
-        (b"LINE_BREAKER=a", b"pattern|default|LINE_BREAKER|no group"),
-        (
-            b"LINE_BREAKER=(a*)",
-            b"pattern|default|LINE_BREAKER|matches empty",
-        ),
-        (b"LINE_BREAKER=(", b"pattern|default|LINE_BREAKER|syntax"),
-        (b"[w]\nTRUNCATE=4294967295", b"good"),
-        (b"[w]\nTRUNCATE=4294967296", b"value|w|TRUNCATE"),
-        (b"[w]\nTRUNCATE=-1", b"value|w|TRUNCATE"),
-        (b"[w]\nSHOULD_LINEMERGE=on", b"value|w|SHOULD_LINEMERGE"),
-        (
-            b"[w]\nBREAK_ONLY_BEFORE_DATE=2",
-            b"value|w|BREAK_ONLY_BEFORE_DATE",
-        ),
-        (
-            b"[w]\nBREAK_ONLY_BEFORE=(a*)*",
-            b"pattern|w|BREAK_ONLY_BEFORE|empty repeat",
-        ),
-        (
-            b"[w]\nMUST_BREAK_AFTER=)",
-            b"pattern|w|MUST_BREAK_AFTER|syntax",
-        ),
-        (
-            b"[w]\nMUST_NOT_BREAK_AFTER=[",
-            b"pattern|w|MUST_NOT_BREAK_AFTER|syntax",
-        ),
-        (
-            b"[w]\nMUST_NOT_BREAK_BEFORE=a{1001}",
-            b"pattern|w|MUST_NOT_BREAK_BEFORE|too large",
-        ),
-        (b"[w]\nTIME_PREFIX=*", b"pattern|w|TIME_PREFIX|syntax"),
-        (b"[w]\nMAX_EVENTS=0", b"value|w|MAX_EVENTS"),
-        (b"[w]\nMAX_EVENTS=1000001", b"value|w|MAX_EVENTS"),
-        (b"[w]\nTIME_FORMAT=%Y-%m", b"value|w|TIME_FORMAT"),
-        (b"[w]\nMAX_TIMESTAMP_LOOKAHEAD=-1", b"good"),
-        (
-            b"[w]\nMAX_TIMESTAMP_LOOKAHEAD=-2",
-            b"value|w|MAX_TIMESTAMP_LOOKAHEAD",
-        ),
-        (b"[w]\nMAX_DAYS_AGO=10952", b"value|w|MAX_DAYS_AGO"),
-        (b"[w]\nMAX_DAYS_HENCE=10951", b"value|w|MAX_DAYS_HENCE"),
-        (b"[w]\npriority=-1000001", b"value|w|priority"),
-        (b"[w]\nTZ=here", b"good"),
-        (b"[w]\nTZ=gone", b"zone|w|gone"),
-        (b"[w]\nTZ=none", b"zone|w|none"),
-        (b"[w]\nTZ=empty", b"zone|w|empty"),
-        (b"[w]\nTZ=bad", b"value|bad|RULE"),
-        (b"[w]\nSEDCMD-=s/a/b/\nSEDCMD-x=s/a/b", b"value|w|SEDCMD-x"),
-        (b"[w]\nSEDCMD-x=s/(/b/", b"pattern|w|SEDCMD-x|syntax"),
-        (b"[w]\nTRANSFORMS-x= good , ,good,", b"good"),
-        (
-            b"[w]\nTRANSFORMS-x=good,gone",
-            b"transform|w|TRANSFORMS-x|gone",
-        ),
-        (
-            b"[w]\nTRANSFORMS-x=good\t,gone",
-            b"transform|w|TRANSFORMS-x|good\t",
-        ),
-        (b"[w]\nTRANSFORMS-x=nowhere,gone", b"value|nowhere|DEST_KEY"),
-        (b"[w]\nTRANSFORMS-x=open", b"pattern|open|REGEX|syntax"),
-        (b"[w]\nTRANSFORMS-x=far", b"value|far|LOOKAHEAD"),
-        (b"[source::a(]\nTRUNCATE=x", b"stanza|source::a("),
-        (
-            b"[host::(?b)]\n[a]\nTRUNCATE=x\nTZ=gone",
-            b"value|a|TRUNCATE",
-        ),
-        (
-            b"[host::a|b*]\n[source::...(/x|y)]\n[host::)]",
-            b"stanza|host::)",
-        ),
-    ];
-    for (text, want) in cases {
-        let found = describe_props(rt.alloc(), text)?;
-        assert!(rt; found.as_slice() == want, "the fault of {text:?}");
-    }
-    Ok(())
+fn values_of_props_are_judged(rt: HostRuntime) {
+    compare(&rt, judged_unlike(rt.alloc()), "");
 }
 
-/// A stanza with a source type of so many bytes.
-fn names_sourcetype(alloc: Global, len: usize) -> Result<Bytes, Fail> {
-    let mut text = Bytes::copy_of(alloc, b"[w]\nsourcetype=")?;
-    for _ in 0..len {
-        text.extend(b"n")?;
-    }
-    describe_props(alloc, text.as_slice())
+/// Writes what is said of a stanza with a source type of so many bytes.
+fn note_sourcetype(text: &mut String, alloc: Global, len: usize) {
+    let mut props = bytes_of(alloc, b"[w]\nsourcetype=");
+    repeat(&mut props, b"n", len);
+    let found = describe_props(alloc, props.as_slice());
+    drop(props);
+    say(text, shown(found.as_slice()));
+    drop(found);
+}
+
+fn sourcetypes_said(alloc: Global) -> String {
+    let mut text = String::new(alloc);
+    note_sourcetype(&mut text, alloc, 1024);
+    note_sourcetype(&mut text, alloc, 1025);
+    text
 }
 
 #[test]
-fn a_source_type_has_a_bounded_name(rt: HostRuntime) -> Result<(), Fail> {
-    let cases: [(usize, &[u8]); 2] = [(1024, b"good"), (1025, b"value|w|sourcetype")];
-    for (len, want) in cases {
-        let found = names_sourcetype(rt.alloc(), len)?;
-        assert!(rt; found.as_slice() == want, "a name of {len} bytes");
-    }
-    Ok(())
+fn a_source_type_has_a_bounded_name(rt: HostRuntime) {
+    compare(
+        &rt,
+        sourcetypes_said(rt.alloc()),
+        " good value|w|sourcetype",
+    );
 }
 
-/// Whether a rule is one, and a copy of its zone too.
-fn is_rule(alloc: Global, text: &[u8]) -> Result<bool, NoMemory> {
+/// Whether a rule is one, and a copy of its zone too; nothing where memory is lacking.
+fn is_rule(alloc: Global, text: &[u8]) -> Option<bool> {
     match Zone::read(alloc, text) {
         Ok(zone) => {
-            let _copy = zone.copy()?;
-            Ok(true)
+            let copy = zone.copy();
+            drop(zone);
+            let is_copied = copy.is_ok();
+            drop(copy);
+            Some(is_copied)
         }
-        Err(RuleFault::BadRule) => Ok(false),
-        Err(RuleFault::NoMemory) => Err(NoMemory),
+        Err(RuleFault::BadRule) => Some(false),
+        Err(RuleFault::NoMemory) => None,
     }
+}
+
+static RULES: [(&[u8], bool); 7] = [
+    (b"UTC0", true),
+    (b"CET-1CEST,M3.5.0,M10.5.0/3", true),
+    (b"<+03>-3", true),
+    (b"", false),
+    (b"UTC", false),
+    (b"EST5EDT", false),
+    (b"UTC0 ", false),
+];
+
+fn rules_unlike(alloc: Global) -> String {
+    let mut text = String::new(alloc);
+    for (asked, wanted) in &RULES {
+        note_wrong(&mut text, asked, is_rule(alloc, asked) == Some(*wanted));
+    }
+    text
 }
 
 #[test]
-fn zones_have_rules(rt: HostRuntime) -> Result<(), Fail> {
-    let cases: [(&[u8], bool); 7] = [
-        (b"UTC0", true),
-        (b"CET-1CEST,M3.5.0,M10.5.0/3", true),
-        (b"<+03>-3", true),
-        (b"", false),
-        (b"UTC", false),
-        (b"EST5EDT", false),
-        (b"UTC0 ", false),
-    ];
-    for (text, want) in cases {
-        assert!(rt; is_rule(rt.alloc(), text)? == want, "the rule {text:?}");
-    }
-    Ok(())
+fn zones_have_rules(rt: HostRuntime) {
+    compare(&rt, rules_unlike(rt.alloc()), "");
 }
 
-/// What a channel is, and the text of props.conf that its settings come from.
-#[derive(Clone, Copy)]
-struct Row {
-    props: &'static str,
-    host: &'static str,
-    source: &'static str,
-    /// Empty where the channel states none.
-    sourcetype: &'static str,
-}
+/// The text of props.conf that a channel's settings come from, and its host, source and source type, which is empty where the
+/// channel states none.
+type Row = (&'static str, &'static str, &'static str, &'static str);
 
-/// The props.conf of a text, beside the transforms and zones above. No text here has a fault.
-fn load_props(alloc: Global, text: &str) -> Result<Props, NoMemory> {
-    let Ok(props) = settings_of(alloc, text.as_bytes()) else {
-        return Err(NoMemory);
-    };
-    let Ok(transforms) = settings_of(alloc, TRANSFORMS) else {
-        return Err(NoMemory);
-    };
-    let Ok(zones) = settings_of(alloc, ZONES) else {
-        return Err(NoMemory);
-    };
-    match Props::load(alloc, &props, &transforms, &zones) {
-        Ok(props) => Ok(props),
-        Err(_) => Err(NoMemory),
-    }
-}
-
-fn channel(alloc: Global, row: &Row) -> Result<ChannelMeta, NoMemory> {
-    let sourcetype = if row.sourcetype.is_empty() {
+fn channel(alloc: Global, host: &str, source: &str, sourcetype: &str) -> ChannelMeta {
+    let sourcetype = if sourcetype.is_empty() {
         None
     } else {
-        Some(Bytes::copy_of(alloc, row.sourcetype.as_bytes())?)
+        Some(bytes_of(alloc, sourcetype.as_bytes()))
     };
-    Ok(ChannelMeta {
-        host: Bytes::copy_of(alloc, row.host.as_bytes())?,
-        source: Bytes::copy_of(alloc, row.source.as_bytes())?,
+    ChannelMeta {
+        host: bytes_of(alloc, host.as_bytes()),
+        source: bytes_of(alloc, source.as_bytes()),
         sourcetype,
         index: None,
-    })
+    }
 }
 
 /// The weight of a pattern; 0 for none.
@@ -656,159 +760,226 @@ fn weight(pattern: &Option<Pattern>) -> u64 {
     }
 }
 
-fn write_merge(alloc: Global, merge: &MergeSettings, out: &mut Bytes) -> Result<(), NoMemory> {
-    let before = weight(&merge.before);
-    let break_after = weight(&merge.break_after);
-    let hold_after = weight(&merge.hold_after);
-    let veto = weight(&merge.veto);
-    let text = format!(in alloc; " {} {} {}", merge.on, merge.before_date, merge.max_lines)?;
-    out.extend(text.as_bytes())?;
-    let text = format!(in alloc; " {before}{break_after}{hold_after}{veto}")?;
-    out.extend(text.as_bytes())
+fn note_merge(text: &mut String, merge: &MergeSettings) {
+    note(text, merge.on);
+    note(text, merge.before_date);
+    note(text, merge.max_lines);
+    note(text, weight(&merge.before));
+    note(text, weight(&merge.break_after));
+    note(text, weight(&merge.hold_after));
+    note(text, weight(&merge.veto));
 }
 
-fn write_time(alloc: Global, time: &TimeSettings, out: &mut Bytes) -> Result<(), NoMemory> {
-    let prefix = weight(&time.prefix);
-    let format = match &time.format {
-        Some(format) => format.as_slice().len(),
-        None => 0,
-    };
-    let lookahead = time.lookahead.unwrap_or(0);
-    let text = format!(in alloc;
-        " {prefix} {format} {lookahead} {} {}",
-        time.days_ago, time.days_hence
-    )?;
-    out.extend(text.as_bytes())
+fn note_time(text: &mut String, time: &TimeSettings) {
+    note(text, weight(&time.prefix));
+    match &time.format {
+        Some(format) => note(text, format.as_slice().len()),
+        None => note(text, 0),
+    }
+    note(text, time.lookahead.unwrap_or(0));
+    note(text, time.days_ago);
+    note(text, time.days_hence);
 }
 
-fn write_changes(changes: &[Sed], out: &mut Bytes) -> Result<(), NoMemory> {
+fn note_changes(text: &mut String, alloc: Global, changes: &[Sed]) {
     for change in changes {
-        out.push(b' ')?;
-        add_change(out, change)?;
+        let mut found = Bytes::new(alloc);
+        put_change(&mut found, change);
+        say(text, shown(found.as_slice()));
+        drop(found);
     }
-    Ok(())
 }
 
-/// Source type, size of a line, weight of the breaker, merging, time, how many transforms, and changes.
-fn write_settings(alloc: Global, settings: &Settings, out: &mut Bytes) -> Result<(), NoMemory> {
-    out.extend(settings.sourcetype.as_slice())?;
-    let breaker = settings.breaker.weight();
-    let text = format!(in alloc; " {} {breaker}", settings.truncate)?;
-    out.extend(text.as_bytes())?;
-    write_merge(alloc, &settings.merge, out)?;
-    write_time(alloc, &settings.time, out)?;
-    let text = format!(in alloc; " {}", settings.transforms.len())?;
-    out.extend(text.as_bytes())?;
-    write_changes(settings.seds.as_slice(), out)?;
-    out.push(b'\n')
+/// Writes source type, size of a line, weight of the breaker, merging, time, how many transforms, and changes.
+fn note_settings(text: &mut String, alloc: Global, settings: &Settings) {
+    let _ = text.push_str(shown(settings.sourcetype.as_slice()));
+    note(text, settings.truncate);
+    note(text, settings.breaker.weight());
+    note_merge(text, &settings.merge);
+    note_time(text, &settings.time);
+    note(text, settings.transforms.len());
+    note_changes(text, alloc, settings.seds.as_slice());
+    let _ = text.push('\n');
 }
 
-fn write_row(alloc: Global, row: &Row, out: &mut Bytes) -> Result<(), NoMemory> {
-    let props = load_props(alloc, row.props)?;
-    let meta = channel(alloc, row)?;
-    let settings = props.settings(alloc, &meta)?;
-    let copy = settings.copy(alloc)?;
-    write_settings(alloc, &copy, out)
-}
-
-/// A row for the host `web1` and the source `/a/x`, with no source type stated.
-fn at_web(props: &'static str) -> Row {
-    typed("", props)
-}
-
-/// The same with this source type.
-fn typed(sourcetype: &'static str, props: &'static str) -> Row {
-    Row {
-        props,
-        host: "web1",
-        source: "/a/x",
-        sourcetype,
+fn note_copy(text: &mut String, alloc: Global, settings: &Settings) {
+    if let Ok(copy) = settings.copy(alloc) {
+        note_settings(text, alloc, &copy);
+        drop(copy);
     }
+}
+
+fn note_channel(text: &mut String, alloc: Global, props: &Props, meta: &ChannelMeta) {
+    if let Ok(settings) = props.settings(alloc, meta) {
+        note_copy(text, alloc, &settings);
+        drop(settings);
+    }
+}
+
+fn note_row(text: &mut String, alloc: Global, row: &Row) {
+    let (props, host, source, sourcetype) = *row;
+    match load_props(alloc, props.as_bytes()) {
+        Ok(props) => {
+            let meta = channel(alloc, host, source, sourcetype);
+            note_channel(text, alloc, &props, &meta);
+            drop(meta);
+            drop(props);
+        }
+        Err(fault) => drop(fault),
+    }
+}
+
+fn rows_said(alloc: Global, rows: &[Row]) -> String {
+    let mut text = String::new(alloc);
+    for row in rows {
+        note_row(&mut text, alloc, row);
+    }
+    text
 }
 
 /// Which stanza's value holds: by what it stands for, then by its priority, then by its name.
-fn rows_of_stanzas() -> [Row; 11] {
-    [
-        at_web(""),
-        at_web(
-            "[host::WEB*]\nTRUNCATE=3\n[source::/a/...]\nTRUNCATE=4\n[source::/a/*]\nTRUNCATE=5",
-        ),
-        Row {
-            props: "[host::WEB*]\nTRUNCATE=3\n[source::/a/...]\nTRUNCATE=4",
-            host: "web1",
-            source: "/b",
-            sourcetype: "",
-        },
-        at_web("[source::/a/...]\nTRUNCATE=4\npriority=1\n[source::/a/*]\nTRUNCATE=5"),
-        at_web("[source::/a/x]\nTRUNCATE=6\n[source::/a/*]\nTRUNCATE=5\npriority=99"),
-        at_web("[source::/a/x]\nTRUNCATE=6\n[source::/a/*]\nTRUNCATE=5\npriority=101"),
-        at_web("[host::web1]\npriority=1000\nTRUNCATE=3\n[source::...]\nTRUNCATE=4"),
-        at_web("[source::/A/*]\nTRUNCATE=4\n[host::WEB1]\nTRUNCATE=3"),
-        typed("st", "TRUNCATE=8\n[st]\nTRUNCATE=7\n[host::x]\nTRUNCATE=3"),
-        typed("st", "[st]\nTRUNCATE=7\n[host::web1]\nTRUNCATE=3"),
-        at_web("TRUNCATE=8\n[host::web1]\nTRUNCATE="),
-    ]
-}
+static BY_STANZAS: [Row; 11] = [
+    ("", "web1", "/a/x", ""),
+    (
+        "[host::WEB*]\nTRUNCATE=3\n[source::/a/...]\nTRUNCATE=4\n[source::/a/*]\nTRUNCATE=5",
+        "web1",
+        "/a/x",
+        "",
+    ),
+    (
+        "[host::WEB*]\nTRUNCATE=3\n[source::/a/...]\nTRUNCATE=4",
+        "web1",
+        "/b",
+        "",
+    ),
+    (
+        "[source::/a/...]\nTRUNCATE=4\npriority=1\n[source::/a/*]\nTRUNCATE=5",
+        "web1",
+        "/a/x",
+        "",
+    ),
+    (
+        "[source::/a/x]\nTRUNCATE=6\n[source::/a/*]\nTRUNCATE=5\npriority=99",
+        "web1",
+        "/a/x",
+        "",
+    ),
+    (
+        "[source::/a/x]\nTRUNCATE=6\n[source::/a/*]\nTRUNCATE=5\npriority=101",
+        "web1",
+        "/a/x",
+        "",
+    ),
+    (
+        "[host::web1]\npriority=1000\nTRUNCATE=3\n[source::...]\nTRUNCATE=4",
+        "web1",
+        "/a/x",
+        "",
+    ),
+    (
+        "[source::/A/*]\nTRUNCATE=4\n[host::WEB1]\nTRUNCATE=3",
+        "web1",
+        "/a/x",
+        "",
+    ),
+    (
+        "TRUNCATE=8\n[st]\nTRUNCATE=7\n[host::x]\nTRUNCATE=3",
+        "web1",
+        "/a/x",
+        "st",
+    ),
+    (
+        "[st]\nTRUNCATE=7\n[host::web1]\nTRUNCATE=3",
+        "web1",
+        "/a/x",
+        "st",
+    ),
+    ("TRUNCATE=8\n[host::web1]\nTRUNCATE=", "web1", "/a/x", ""),
+];
 
-const STANZAS: &str = "unknown 10000 6 true true 256 0000 0 0 128 2000 2 0
-unknown 5 6 true true 256 0000 0 0 128 2000 2 0
-unknown 3 6 true true 256 0000 0 0 128 2000 2 0
-unknown 4 6 true true 256 0000 0 0 128 2000 2 0
-unknown 6 6 true true 256 0000 0 0 128 2000 2 0
-unknown 5 6 true true 256 0000 0 0 128 2000 2 0
-unknown 4 6 true true 256 0000 0 0 128 2000 2 0
-unknown 3 6 true true 256 0000 0 0 128 2000 2 0
-st 7 6 true true 256 0000 0 0 128 2000 2 0
-st 3 6 true true 256 0000 0 0 128 2000 2 0
-unknown 10000 6 true true 256 0000 0 0 128 2000 2 0
+const STANZAS: &str = "unknown 10000 6 true true 256 0 0 0 0 0 0 128 2000 2 0
+unknown 5 6 true true 256 0 0 0 0 0 0 128 2000 2 0
+unknown 3 6 true true 256 0 0 0 0 0 0 128 2000 2 0
+unknown 4 6 true true 256 0 0 0 0 0 0 128 2000 2 0
+unknown 6 6 true true 256 0 0 0 0 0 0 128 2000 2 0
+unknown 5 6 true true 256 0 0 0 0 0 0 128 2000 2 0
+unknown 4 6 true true 256 0 0 0 0 0 0 128 2000 2 0
+unknown 3 6 true true 256 0 0 0 0 0 0 128 2000 2 0
+st 7 6 true true 256 0 0 0 0 0 0 128 2000 2 0
+st 3 6 true true 256 0 0 0 0 0 0 128 2000 2 0
+unknown 10000 6 true true 256 0 0 0 0 0 0 128 2000 2 0
 ";
 
 #[test]
-fn the_nearest_stanza_holds(rt: HostRuntime) -> Result<(), Fail> {
-    let mut found = Bytes::new(rt.alloc());
-    for row in &rows_of_stanzas() {
-        write_row(rt.alloc(), row, &mut found)?;
-    }
-    assert!(rt; found.as_slice() == STANZAS.as_bytes());
-    Ok(())
+fn the_nearest_stanza_holds(rt: HostRuntime) {
+    compare(&rt, rows_said(rt.alloc(), &BY_STANZAS), STANZAS);
 }
 
 /// Source types, classes, and a value of each key.
-fn rows_of_values() -> [Row; 9] {
-    [
-        at_web("[source::/a/*]\nsourcetype=app\n[app]\nTRUNCATE=9"),
-        typed("st", "[source::/a/*]\nsourcetype=app\n[app]\nTRUNCATE=9"),
-        at_web("sourcetype=all\n[host::web1]\nsourcetype=hosts\n[unknown]\nTRUNCATE=9"),
-        at_web("[source::/a/*]\nsourcetype=\n[source::/a/...]\nsourcetype=b"),
-        typed("source::/b", "TRUNCATE=8\n[source::/b]\nTRUNCATE=9"),
-        typed("rule::x", "TRUNCATE=8\n[rule::x]\nTRUNCATE=9"),
-        at_web(
-            "SEDCMD-c=\nTRANSFORMS-b=good\nTRANSFORMS-a=good,good\n[source::/a/*]\nSEDCMD-b=s/a/1/\n[host::web1]\nSEDCMD-a=y/a/b/\nSEDCMD-b=s/a/2/",
-        ),
-        at_web(
-            "LINE_BREAKER=(a)\nSHOULD_LINEMERGE=no\nBREAK_ONLY_BEFORE_DATE=0\nBREAK_ONLY_BEFORE=a\nMUST_BREAK_AFTER=ab\nMUST_NOT_BREAK_AFTER=abc\nMUST_NOT_BREAK_BEFORE=abcd\nMAX_EVENTS=9\nTIME_PREFIX=ab\nTIME_FORMAT=%s.\nMAX_TIMESTAMP_LOOKAHEAD=-1\nTZ=here\nMAX_DAYS_AGO=10951\nMAX_DAYS_HENCE=0\nTRUNCATE=0",
-        ),
-        at_web("MAX_TIMESTAMP_LOOKAHEAD=1048576"),
-    ]
-}
+static BY_VALUES: [Row; 9] = [
+    (
+        "[source::/a/*]\nsourcetype=app\n[app]\nTRUNCATE=9",
+        "web1",
+        "/a/x",
+        "",
+    ),
+    (
+        "[source::/a/*]\nsourcetype=app\n[app]\nTRUNCATE=9",
+        "web1",
+        "/a/x",
+        "st",
+    ),
+    (
+        "sourcetype=all\n[host::web1]\nsourcetype=hosts\n[unknown]\nTRUNCATE=9",
+        "web1",
+        "/a/x",
+        "",
+    ),
+    (
+        "[source::/a/*]\nsourcetype=\n[source::/a/...]\nsourcetype=b",
+        "web1",
+        "/a/x",
+        "",
+    ),
+    (
+        "TRUNCATE=8\n[source::/b]\nTRUNCATE=9",
+        "web1",
+        "/a/x",
+        "source::/b",
+    ),
+    (
+        "TRUNCATE=8\n[rule::x]\nTRUNCATE=9",
+        "web1",
+        "/a/x",
+        "rule::x",
+    ),
+    (
+        "SEDCMD-c=\nTRANSFORMS-b=good\nTRANSFORMS-a=good,good\n[source::/a/*]\nSEDCMD-b=s/a/1/\n[host::web1]\nSEDCMD-a=y/a/b/\nSEDCMD-b=s/a/2/",
+        "web1",
+        "/a/x",
+        "",
+    ),
+    (
+        "LINE_BREAKER=(a)\nSHOULD_LINEMERGE=no\nBREAK_ONLY_BEFORE_DATE=0\nBREAK_ONLY_BEFORE=a\nMUST_BREAK_AFTER=ab\nMUST_NOT_BREAK_AFTER=abc\nMUST_NOT_BREAK_BEFORE=abcd\nMAX_EVENTS=9\nTIME_PREFIX=ab\nTIME_FORMAT=%s.\nMAX_TIMESTAMP_LOOKAHEAD=-1\nTZ=here\nMAX_DAYS_AGO=10951\nMAX_DAYS_HENCE=0\nTRUNCATE=0",
+        "web1",
+        "/a/x",
+        "",
+    ),
+    ("MAX_TIMESTAMP_LOOKAHEAD=1048576", "web1", "/a/x", ""),
+];
 
-const VALUES: &str = "app 9 6 true true 256 0000 0 0 128 2000 2 0
-st 10000 6 true true 256 0000 0 0 128 2000 2 0
-unknown 9 6 true true 256 0000 0 0 128 2000 2 0
-unknown 10000 6 true true 256 0000 0 0 128 2000 2 0
-source::/b 8 6 true true 256 0000 0 0 128 2000 2 0
-rule::x 8 6 true true 256 0000 0 0 128 2000 2 0
-unknown 10000 6 true true 256 0000 0 0 128 2000 2 3 a|b first|1
-unknown 0 3 false false 9 1234 2 2 0 10951 0 0
-unknown 10000 6 true true 256 0000 0 0 1048576 2000 2 0
+const VALUES: &str = "app 9 6 true true 256 0 0 0 0 0 0 128 2000 2 0
+st 10000 6 true true 256 0 0 0 0 0 0 128 2000 2 0
+unknown 9 6 true true 256 0 0 0 0 0 0 128 2000 2 0
+unknown 10000 6 true true 256 0 0 0 0 0 0 128 2000 2 0
+source::/b 8 6 true true 256 0 0 0 0 0 0 128 2000 2 0
+rule::x 8 6 true true 256 0 0 0 0 0 0 128 2000 2 0
+unknown 10000 6 true true 256 0 0 0 0 0 0 128 2000 2 3 a|b first|1
+unknown 0 3 false false 9 1 2 3 4 2 2 0 10951 0 0
+unknown 10000 6 true true 256 0 0 0 0 0 0 1048576 2000 2 0
 ";
 
 #[test]
-fn each_key_has_its_value(rt: HostRuntime) -> Result<(), Fail> {
-    let mut found = Bytes::new(rt.alloc());
-    for row in &rows_of_values() {
-        write_row(rt.alloc(), row, &mut found)?;
-    }
-    assert!(rt; found.as_slice() == VALUES.as_bytes());
-    Ok(())
+fn each_key_has_its_value(rt: HostRuntime) {
+    compare(&rt, rows_said(rt.alloc(), &BY_VALUES), VALUES);
 }

@@ -4,7 +4,7 @@ use Rattle.std.specs.Prelude.{All, Option, Some}
 use Rattle.std.specs.List.{AllByRecursion}
 use Rattle.ix_channels.specs.declared.working.Worked.{Worked}
 use Rattle.ix_fields.specs.Spelling.{IsShort}
-use Rattle.ix_indexes.specs.Names.{BringsLimits}
+use Rattle.ix_bounds.specs.Names.{BringsLimits}
 use Rattle.ix_items.specs.Spelling.{IsKept}
 use Rattle.ix_items.specs.declared.items.Item.TheVariants as items
 use Rattle.ix_items.specs.declared.items.Kept.{Kept}

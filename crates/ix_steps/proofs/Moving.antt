@@ -13,9 +13,9 @@ use Rattle.ix_moves.specs.Moving.{Precedes, Premise, Moves, IsMoved, IsDealing, 
 use Rattle.ix_moves.specs.Moving as moving
 use Rattle.ix_moves.specs.declared.moved.Base.{Base}
 use Rattle.ix_moves.specs.declared.moved.Moved.{Moved}
-use Rattle.ix_snapshot.specs.Shelved.{IsSet}
-use Rattle.ix_state.specs.Held.{SeesBeside}
-use Rattle.ix_state.specs.declared.held.Storage.{Storage}
+use Rattle.ix_machine.specs.Shelved.{IsSet}
+use Rattle.ix_kept.specs.Held.{SeesBeside}
+use Rattle.ix_kept.specs.declared.held.Storage.{Storage}
 use Rattle.ix_steps.specs.Steps.{MayCome, order_of, IsBase, IsOver, WorksOut}
 use Rattle.ix_steps.specs.declared.working.Working.{Working}
 

@@ -31,12 +31,12 @@ use Rattle.ix_machine.proofs.Following.{after_more}
 use Rattle.ix_machine.proofs.Moments.{moments_after}
 use Rattle.ix_moves.specs.Moving.{IsMoved}
 use Rattle.ix_moves.specs.declared.moved.Moved.{Moved}
-use Rattle.ix_snapshot.specs.Contents.{contents_of}
-use Rattle.ix_snapshot.specs.Said.{shelf_items, channel_items, spot_items, settings_items, moment_items, command_items}
-use Rattle.ix_snapshot.specs.Snap.{left}
-use Rattle.ix_snapshot.proofs.BooksLeading.{books_lead, runs_are_left}
-use Rattle.ix_state.specs.Held.{IsOpen, SeesChannels}
-use Rattle.ix_state.specs.declared.held.Held.{Held}
+use Rattle.ix_machine.specs.Contents.{contents_of}
+use Rattle.ix_machine.specs.Said.{shelf_items, channel_items, spot_items, settings_items, moment_items, command_items}
+use Rattle.ix_machine.specs.Snap.{left}
+use Rattle.ix_machine.proofs.BooksLeading.{books_lead, runs_are_left}
+use Rattle.ix_kept.specs.Held.{IsOpen, SeesChannels}
+use Rattle.ix_kept.specs.declared.held.Held.{Held}
 use Rattle.ix_store.proofs.Booked.{left_contents}
 use Rattle.ix_steps.specs.Settings.{config_for, spots_for}
 use Rattle.ix_steps.specs.Steps.{MayCome, SeesConfig, IsStep, order_of, Steps, IsBeside, IsStill, moments_of, step_with, no_beside}

@@ -3,8 +3,8 @@ use Rattle.std.specs.Prelude.{◌≡◌, List}
 use Rattle.ix_channels.specs.Changes as channels
 use Rattle.ix_machine.specs.Given.{Chooser}
 use Rattle.ix_machine.specs.declared.commands.Order.{Order}
-use Rattle.ix_state.specs.Held.{Holds, ledger_of, shelves_of}
-use Rattle.ix_state.specs.declared.held.Held.{Held}
+use Rattle.ix_kept.specs.Held.{Holds, ledger_of, shelves_of}
+use Rattle.ix_kept.specs.declared.held.Held.{Held}
 use Rattle.ix_steps.specs.Settings.{config_after}
 use Rattle.ix_steps.specs.Spots as spots
 use Rattle.ix_steps.specs.declared.next.Next.{Next}

@@ -25,13 +25,13 @@ use Rattle.ix_channels.specs.Working.{IsWorked}
 use Rattle.ix_channels.specs.declared.working.Worked.{Worked}
 use Rattle.ix_moves.specs.declared.moved.Base.{Base}
 use Rattle.ix_moves.specs.declared.moved.Moved.{Moved}
-use Rattle.ix_snapshot.specs.Laws.{HasNoneFrom}
-use Rattle.ix_snapshot.specs.Said.{spot_items, settings_items}
-use Rattle.ix_snapshot.specs.Shelved.{IsSet}
-use Rattle.ix_snapshot.specs.Snap.{left}
-use Rattle.ix_state.specs.Held.{IsOpen, SeesChannels, SeesBeside}
-use Rattle.ix_state.specs.declared.held.Held.{Held}
-use Rattle.ix_state.specs.declared.held.Storage.{Storage}
+use Rattle.ix_machine.specs.OnDisk.{HasNoneFrom}
+use Rattle.ix_machine.specs.Said.{spot_items, settings_items}
+use Rattle.ix_machine.specs.Shelved.{IsSet}
+use Rattle.ix_machine.specs.Snap.{left}
+use Rattle.ix_kept.specs.Held.{IsOpen, SeesChannels, SeesBeside}
+use Rattle.ix_kept.specs.declared.held.Held.{Held}
+use Rattle.ix_kept.specs.declared.held.Storage.{Storage}
 use Rattle.ix_store.specs.Making.{LeadsOn}
 use Rattle.ix_store.specs.Written.{AreDone}
 use Rattle.ix_steps.specs.Next.{HasRoom}

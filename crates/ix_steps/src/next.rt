@@ -2,7 +2,7 @@
 
 ghost use Rattle.std.specs.Prelude.{◌≡◌};
 ghost use Rattle.ix_channels.specs.Changes.{changed, HasRoom as HasChannelRoom};
-ghost use Rattle.ix_state.specs.Held.{ledger_of, shelves_of};
+ghost use Rattle.ix_kept.specs.Held.{ledger_of, shelves_of};
 ghost use Rattle.ix_steps.specs.Next.{HasRoom, IsInstalled};
 ghost use Rattle.ix_steps.specs.Settings.{config_after};
 ghost use Rattle.ix_steps.specs.Spots.{placed};
@@ -10,10 +10,11 @@ ghost use Rattle.ix_steps.specs.Spots.{placed};
 use crate::spots::SpotChange;
 use ix_channels::ChannelChange;
 use ix_items::Entry;
+use ix_kept::{Held, Storage};
 use ix_life::EntryList;
 use ix_machine::Config;
 use ix_shelves::Shelves;
-use ix_state::{Held, Storage};
+use std::mem;
 
 /// What a command leaves in memory.
 #[derive(Drop)]
@@ -33,7 +34,7 @@ fn take_config(config: &mut Config, next: Option<Config>)
     ensures { config.new ≡ config_after config.old next }
 {
     if let Some(next) = next {
-        *config = next;
+        drop(mem::replace(config, next));
     }
 }
 

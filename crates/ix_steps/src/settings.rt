@@ -7,7 +7,7 @@ ghost use Rattle.ix_items.specs.Spelling.{HasSpelling, IsKept};
 ghost use Rattle.ix_items.specs.declared.items.Item.TheVariants as items;
 ghost use Rattle.ix_kept.specs.Taken.{IsSpot};
 ghost use Rattle.ix_machine.specs.Step.{with_spot};
-ghost use Rattle.ix_snapshot.specs.Said.{spot_item};
+ghost use Rattle.ix_machine.specs.Said.{spot_item};
 ghost use Rattle.ix_steps.specs.Spots.{placed};
 ghost use Rattle.ix_steps.specs.Steps.{CanBeside, no_beside};
 ghost use Rattle.ix_steps.specs.declared.spots.SpotChange.TheVariants as changes;
@@ -16,8 +16,8 @@ use crate::spots::SpotChange;
 use crate::steps::{Beside, StepFault};
 use ix_base::{Bytes, NoMemory, Sequence, Spot};
 use ix_items::{Item, Kept, KeptList};
+use ix_kept::Held;
 use ix_machine::Config;
-use ix_state::Held;
 use std::alloc::Global;
 
 /// What the lengths of texts in the log stay below.
@@ -121,6 +121,17 @@ fn only(alloc: Global, item: Item) -> Result<Sequence<Item>, NoMemory>
     Ok(list)
 }
 
+/// What the log says of settings. It is `Full` where they cannot be written.
+fn settings_items(alloc: Global, kept: &KeptList) -> Result<Sequence<Item>, StepFault>
+    ensures is { IfOk result (λ list. list ≡ items.Settings kept.now ∷ []) }
+    ensures proper { IfOk result (λ list. AllByRecursion HasSpelling list) }
+    ensures full { IsErrOf result StepFault.Full → IsShort kept.now → All IsKept kept.now → ⊥ }
+{
+    let item = settings_item(alloc, kept)?;
+    let items = only(alloc, item)?;
+    Ok(items)
+}
+
 impl Beside {
     /// Nothing becomes of them.
     pub(crate) fn none(alloc: Global) -> Beside
@@ -177,12 +188,16 @@ impl Beside {
         ensures proper { IfOk result (λ b. AllByRecursion HasSpelling b.items) }
         ensures full { IsErrOf result StepFault.Full → IsShort config.kept → All IsKept config.kept → ⊥ }
     {
-        let item = settings_item(alloc, &config.kept)?;
-        let items = only(alloc, item)?;
-        Ok(Beside {
-            config: Some(config),
-            spot: SpotChange::Same,
-            items,
-        })
+        match settings_items(alloc, &config.kept) {
+            Ok(items) => Ok(Beside {
+                config: Some(config),
+                spot: SpotChange::Same,
+                items,
+            }),
+            Err(fault) => {
+                drop(config);
+                Err(fault)
+            }
+        }
     }
 }

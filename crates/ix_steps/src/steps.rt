@@ -10,9 +10,9 @@ use ix_base::{NoMemory as OutOfMemory, Sequence};
 use ix_channels::WorkFault;
 use ix_items::{FileList, Item};
 use ix_keep::Draft;
+use ix_kept::Storage;
 use ix_machine::{Config, Refusal};
 use ix_moves::MoveFault;
-use ix_state::Storage;
 
 /// What becomes of settings and spots.
 #[derive(Drop)]

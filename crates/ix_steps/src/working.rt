@@ -17,9 +17,9 @@ use ix_base::{Bytes, ChannelMeta, NoMemory, Sequence, Spot};
 use ix_channels::{ChannelChange, Worked, begin, block, direct, end, end_all};
 use ix_items::Item;
 use ix_keep::Draft;
+use ix_kept::{Held, Storage};
 use ix_machine::{Command, Config, DirectList};
 use ix_moves::{Base, Moved};
-use ix_state::{Held, Storage};
 use std::alloc::Global;
 
 /// What a command is worked out from.
@@ -87,24 +87,31 @@ fn join(
     ensures is { IfOk result (λ step. step ≡ step_with moved change said beside) }
     ensures proper { IfOk result (λ step. AllByRecursion HasSpelling step.draft.items) }
 {
-    let items = join_items(moved.items, said, beside.items, &moved.storage)?;
     let next = Next {
         config: beside.config,
         channels: change,
         spot: beside.spot,
         storage: moved.storage,
     };
-    let draft = Draft {
-        pieces: moved.pieces,
-        copies: moved.copies,
-        items,
-    };
-    Ok(Step {
-        next,
-        draft,
-        done_with: moved.done_with,
-        moved: moved.moved,
-    })
+    match join_items(moved.items, said, beside.items, &next.storage) {
+        Ok(items) => {
+            let draft = Draft {
+                pieces: moved.pieces,
+                copies: moved.copies,
+                items,
+            };
+            Ok(Step {
+                next,
+                draft,
+                done_with: moved.done_with,
+                moved: moved.moved,
+            })
+        }
+        Err(fault) => {
+            drop(next);
+            Err(fault)
+        }
+    }
 }
 
 impl Working<'_> {
@@ -132,9 +139,17 @@ impl Working<'_> {
         ensures full { IsErrOf result StepFault.Full → CannotDeal self.now worked }
     {
         let base = self.base();
-        let moved = base.deal(worked.outcomes)?;
-        let step = join(moved, worked.change, worked.items, beside)?;
-        Ok(step)
+        match base.deal(worked.outcomes) {
+            Ok(moved) => {
+                let step = join(moved, worked.change, worked.items, beside)?;
+                Ok(step)
+            }
+            Err(fault) => {
+                drop(worked.change);
+                drop(beside);
+                Err(StepFault::from(fault))
+            }
+        }
     }
 
     /// Nothing becomes of channels, settings and spots.
@@ -180,8 +195,13 @@ impl Working<'_> {
         ensures full { IsErrOf result StepFault.Full → IsOver (Block channel.now bytes.now spot) self.now }
     {
         let worked = self.fed(channel, bytes)?;
-        let beside = Beside::with_spot(self.alloc, self.held, spot)?;
-        self.dealt(worked, beside)
+        match Beside::with_spot(self.alloc, self.held, spot) {
+            Ok(beside) => self.dealt(worked, beside),
+            Err(_) => {
+                drop(worked);
+                Err(StepFault::NoMemory)
+            }
+        }
     }
 
     fn end(&self, channel: &[u8]) -> Result<Step, StepFault>
@@ -268,7 +288,10 @@ impl Working<'_> {
                 change,
                 items,
             }),
-            Err(fault) => Err(StepFault::from(fault)),
+            Err(fault) => {
+                drop(change);
+                Err(StepFault::from(fault))
+            }
         }
     }
 
@@ -278,16 +301,21 @@ impl Working<'_> {
         ensures usable { IfOk result (λ step. IsUsable self.now.held.now step) }
         ensures full { IsErrOf result StepFault.Full → IsOver (Configure config) self.now }
     {
-        let parts = self.parts(&config)?;
-        let beside = Beside::with_config(self.alloc, config)?;
-        let Parts {
-            moved,
-            change,
-            items,
-        } = parts;
-        match join(moved, change, items, beside) {
-            Ok(step) => Ok(step),
-            Err(_) => Err(StepFault::NoMemory),
+        match self.parts(&config) {
+            Ok(parts) => match Beside::with_config(self.alloc, config) {
+                Ok(beside) => {
+                    let step = join(parts.moved, parts.change, parts.items, beside)?;
+                    Ok(step)
+                }
+                Err(fault) => {
+                    drop(parts);
+                    Err(fault)
+                }
+            },
+            Err(fault) => {
+                drop(config);
+                Err(fault)
+            }
         }
     }
 

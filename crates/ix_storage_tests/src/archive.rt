@@ -1,11 +1,10 @@
 //! Copies of the first bytes of files.
 
-use ix_archive::{CopyFault, check, copy};
+use crate::said::{compare, note, say, shown};
+use ix_archive::{check, copy};
 use ix_base::{Area, FailPlan, Failed, File};
 use ix_disk::{Disk, HostDisk, MemDisk, OneFail, StopDisk};
 use std::alloc::Global;
-use std::process::Abort;
-use std::test::Fail;
 
 const FROM: File = File {
     area: Area::Cold,
@@ -26,101 +25,149 @@ fn put<D: Disk>(disk: &mut D, file: File, bytes: &[u8]) -> Result<(), Failed> {
     disk.sync(file)
 }
 
-/// The file holds these bytes, and is as long.
-fn holds<D: Disk>(rt: &impl Abort, disk: &mut D, file: File, want: &[u8]) -> Result<(), Failed> {
+/// Writes what the file holds, of 20 bytes at the most.
+fn note_held<D: Disk>(text: &mut String, disk: &mut D, file: File) {
     let mut buf = [0u8; 20];
-    let n = disk.read(file, 0, &mut buf)?;
-    assert!(*rt; n <= 20);
-    assert_eq!(*rt; &buf[..n], want, "in {file:?}");
-    Ok(())
+    let count = disk.read(file, 0, &mut buf).unwrap_or(0);
+    say(text, shown(buf.get(..count).unwrap_or(&[])));
 }
 
-fn run<D: Disk>(rt: &impl Abort, disk: &mut D) -> Result<(), Fail> {
-    disk.remove(FROM)?;
-    disk.remove(TO)?;
-    put(disk, FROM, TEXT)?;
-    put(disk, TO, b"0123456789!?")?;
-    for (len, size, want) in [
-        (0u64, 4usize, b"0123456789!?"),
-        (1, 4, b"a123456789!?"),
-        (4, 4, b"abcd456789!?"),
-        (7, 3, b"abcdefg789!?"),
-        (9, 16, b"abcdefghi9!?"),
-        (10, 1, b"abcdefghij!?"),
-    ] {
-        let mut buf = [0u8; 16];
-        assert!(*rt; 0 < size && size <= 16);
-        copy(disk, FROM, TO, len, &mut buf[..size])?;
-        holds(rt, disk, TO, want)?;
+/// Writes what a copy of so many bytes by pieces of a size answers, and what the file holds then that it went to.
+fn note_copy<D: Disk>(text: &mut String, disk: &mut D, to: File, len: u64, size: usize) {
+    let mut buf = [0u8; 16];
+    if let Some(piece) = buf.get_mut(..size)
+        && !piece.is_empty()
+    {
+        note(text, copy(disk, FROM, to, len, piece));
     }
-    for len in [11, u64::MAX] {
-        let done = copy(disk, FROM, TO, len, &mut [0u8; 4]);
-        assert_eq!(*rt; done, Err(CopyFault::Short { at: 10 }));
+    note_held(text, disk, to);
+}
+
+/// Lengths, and the sizes of the pieces.
+static COPIES: [(u64, usize); 8] = [
+    (0, 4),
+    (1, 4),
+    (4, 4),
+    (7, 3),
+    (9, 16),
+    (10, 1),
+    (11, 4),
+    (u64::MAX, 4),
+];
+
+const COPIED: &str =
+    "Ok(()) Ok(()) Ok(()) Ok(()) Ok(()) 0123456789!? Ok(()) a123456789!? Ok(()) abcd456789!? Ok(()) abcdefg789!? \
+    Ok(()) abcdefghi9!? Ok(()) abcdefghij!? Err(Short { at: 10 }) abcdefghij!? Err(Short { at: 10 }) abcdefghij!? \
+    Ok(()) abcdefghij Ok(true) Ok(true) Ok(false) Ok(true) Ok(false) ";
+
+static CHECKS: [(File, u64); 5] = [(FROM, 0), (FROM, 10), (FROM, 11), (TO, 12), (TO, u64::MAX)];
+
+/// Writes what calls answer on a disk from which the files are removed first.
+fn note_run<D: Disk>(text: &mut String, disk: &mut D) {
+    note(text, disk.remove(FROM));
+    note(text, disk.remove(TO));
+    note(text, put(disk, FROM, TEXT));
+    note(text, put(disk, TO, b"0123456789!?"));
+    for (len, size) in &COPIES {
+        note_copy(text, disk, TO, *len, *size);
     }
-    holds(rt, disk, TO, b"abcdefghij!?")?;
-    copy(disk, FROM, FROM, 10, &mut [0u8; 4])?;
-    holds(rt, disk, FROM, TEXT)?;
-    for (file, len, want) in [
-        (FROM, 0, true),
-        (FROM, 10, true),
-        (FROM, 11, false),
-        (TO, 12, true),
-        (TO, u64::MAX, false),
-    ] {
-        assert_eq!(*rt; check(disk, file, len)?, want);
+    note_copy(text, disk, FROM, 10, 4);
+    for (file, len) in &CHECKS {
+        note(text, check(disk, *file, *len));
     }
-    Ok(())
+}
+
+fn memory_said(alloc: Global) -> String {
+    let mut text = String::new(alloc);
+    let mut disk = MemDisk::new(alloc, FailPlan::none(alloc));
+    note_run(&mut text, &mut disk);
+    drop(disk);
+    text
+}
+
+fn machine_said(rt: &HostRuntime) -> String {
+    let mut text = String::new(rt.alloc());
+    let mut disk = HostDisk::new(rt);
+    note_run(&mut text, &mut disk);
+    drop(disk);
+    text
 }
 
 #[test]
-fn the_first_bytes_are_copied(rt: HostRuntime) -> Result<(), Fail> {
-    let alloc = rt.alloc();
-    run(&rt, &mut MemDisk::new(alloc, FailPlan::none(alloc)))?;
-    run(&rt, &mut HostDisk::new(rt.clone()?))
+fn the_first_bytes_are_copied(rt: HostRuntime) {
+    compare(&rt, memory_said(rt.alloc()), COPIED);
+    compare(&rt, machine_said(&rt), COPIED);
 }
 
 /// A disk with a file to copy.
-fn with_text(alloc: Global) -> Result<MemDisk, Failed> {
+fn with_text(alloc: Global) -> MemDisk {
     let mut disk = MemDisk::new(alloc, FailPlan::none(alloc));
-    put(&mut disk, FROM, TEXT)?;
-    Ok(disk)
+    let _ = put(&mut disk, FROM, TEXT);
+    disk
+}
+
+/// Writes what a crash leaves of a copy before one of whose calls the disk stops, and what the copy answers.
+fn note_stop(text: &mut String, alloc: Global, calls: u64, torn: bool) {
+    let mut stopped = StopDisk::new(with_text(alloc), calls);
+    let done = copy(&mut stopped, FROM, TO, 8, &mut [0u8; 4]);
+    let disk = stopped.into_inner();
+    if let Ok(mut left) = disk.crash(torn) {
+        note_held(text, &mut left, FROM);
+        if done.is_ok() {
+            note_held(text, &mut left, TO);
+        }
+        drop(left);
+    }
+    drop(disk);
+    note(text, done);
 }
 
 /// The length, two pieces of two calls each, and the sync.
 const CALLS: u64 = 6;
 
-#[test]
-fn a_copy_that_stops_leaves_the_source(rt: HostRuntime) -> Result<(), Fail> {
-    let alloc = rt.alloc();
+fn stops_said(alloc: Global) -> String {
+    let mut text = String::new(alloc);
     for calls in 0..=CALLS {
-        for torn in [false, true] {
-            let mut disk = StopDisk::new(with_text(alloc)?, calls);
-            let done = copy(&mut disk, FROM, TO, 8, &mut [0u8; 4]);
-            let mut left = disk.into_inner().crash(torn)?;
-            holds(&rt, &mut left, FROM, TEXT)?;
-            if calls == CALLS {
-                assert_eq!(rt; done, Ok(()));
-                holds(&rt, &mut left, TO, b"abcdefgh")?;
-            } else {
-                assert_eq!(rt; done, Err(CopyFault::Disk));
-            }
-        }
+        note_stop(&mut text, alloc, calls, false);
+        note_stop(&mut text, alloc, calls, true);
     }
-    Ok(())
+    text
 }
 
 #[test]
-fn a_call_that_fails_is_told(rt: HostRuntime) -> Result<(), Fail> {
-    let alloc = rt.alloc();
+fn a_copy_that_stops_leaves_the_source(rt: HostRuntime) {
+    let wanted =
+        "abcdefghij Err(Disk) abcdefghij Err(Disk) abcdefghij Err(Disk) abcdefghij Err(Disk) \
+        abcdefghij Err(Disk) abcdefghij Err(Disk) abcdefghij Err(Disk) abcdefghij Err(Disk) \
+        abcdefghij Err(Disk) abcdefghij Err(Disk) abcdefghij Err(Disk) abcdefghij Err(Disk) \
+        abcdefghij abcdefgh Ok(()) abcdefghij abcdefgh Ok(()) ";
+    compare(&rt, stops_said(rt.alloc()), wanted);
+}
+
+/// Writes what a copy of which one call fails answers, and the same copy again.
+fn note_fail(text: &mut String, alloc: Global, number: u64) {
+    let mut disk = OneFail::new(with_text(alloc), number);
+    note(text, copy(&mut disk, FROM, TO, 8, &mut [0u8; 4]));
+    note(text, copy(&mut disk, FROM, TO, 8, &mut [0u8; 4]));
+    note_held(text, &mut disk, TO);
+    drop(disk);
+}
+
+fn fails_said(alloc: Global) -> String {
+    let mut text = String::new(alloc);
     for number in 0..CALLS {
-        let mut disk = OneFail::new(with_text(alloc)?, number);
-        let done = copy(&mut disk, FROM, TO, 8, &mut [0u8; 4]);
-        assert_eq!(rt; done, Err(CopyFault::Disk));
-        copy(&mut disk, FROM, TO, 8, &mut [0u8; 4])?;
-        holds(&rt, &mut disk, TO, b"abcdefgh")?;
+        note_fail(&mut text, alloc, number);
     }
-    let mut disk = OneFail::new(with_text(alloc)?, 0);
-    assert_eq!(rt; check(&mut disk, FROM, 10), Err(Failed));
-    assert_eq!(rt; check(&mut disk, FROM, 10), Ok(true));
-    Ok(())
+    let mut disk = OneFail::new(with_text(alloc), 0);
+    note(&mut text, check(&mut disk, FROM, 10));
+    note(&mut text, check(&mut disk, FROM, 10));
+    drop(disk);
+    text
+}
+
+#[test]
+fn a_call_that_fails_is_told(rt: HostRuntime) {
+    let wanted = "Err(Disk) Ok(()) abcdefgh Err(Disk) Ok(()) abcdefgh Err(Disk) Ok(()) abcdefgh \
+        Err(Disk) Ok(()) abcdefgh Err(Disk) Ok(()) abcdefgh Err(Disk) Ok(()) abcdefgh Err(Failed) Ok(true) ";
+    compare(&rt, fails_said(rt.alloc()), wanted);
 }

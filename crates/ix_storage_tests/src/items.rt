@@ -1,146 +1,237 @@
 //! The items of a commit, against bytes that were spelled by hand from the layout.
 
-use ix_base::Bytes;
-use ix_items::{Item, ItemFault, KeptList, one_item, one_list, read_item, write_item};
-use std::alloc::{AllocError, Global};
-use std::str;
-use std::test::Fail;
+use crate::said::{bytes_of, compare, note, say, shown};
+use ix_base::{Bytes, ChannelMeta, Spot};
+use ix_items::{Entry, Item, ItemFault, KeptList, one_item, one_list, read_item, write_item};
+use std::alloc::Global;
 
 /// Items of each kind, and what they say.
 static ROWS: [(&[u8], &str); 15] = [
-    (b"\x01\x00\x00\x00\x00", "settings 0"),
+    (b"\x01\x00\x00\x00\x00", "settings 0 "),
     (
         b"\x01\x00\x00\x00\x02\x01\x00\x00\x00\x02s1\x00\x00\x00\x01k\x00\x00\x00\x01v\x04\x00\x00\x00\x00\x00\x00\x00\x00\x00\x00\x00\x00",
-        "settings 2",
+        "settings 2 ",
     ),
-    (b"\x02\x00\x00\x00\x00\x00\x00\x00\x01", "run 1"),
+    (b"\x02\x00\x00\x00\x00\x00\x00\x00\x01", "run 1 "),
     (
         b"\x03\x00\x00\x00\x00\x00\x00\x01\x02\xff\xff\xff\xff\xff\xff\xff\xfe",
-        "moments 258 -2",
+        "moments 258 -2 ",
     ),
     (
         b"\x04\x00\x00\x00\x01c\x00\x00\x00\x01h\x00\x00\x00\x01s\x01\x00\x00\x00\x01t\x00\x00\x00\x00\x02ab",
-        "channel c host h source s sourcetype t index - carry ab",
+        "channel c host h source s sourcetype t index - carry ab ",
     ),
-    (b"\x05\x00\x00\x00\x01c", "ended c"),
+    (b"\x05\x00\x00\x00\x01c", "ended c "),
     (
         b"\x06\x00\x00\x00\x04main\x00\x00\x00\x00\x00\x00\x00\x07\x03\x02\x00\x00\x00\x00\x00\x00\x00\x03\x00\x00\x00\x00\x00\x00\x00\x04\x00\x00\x00\x00\x00\x00\x00\x05\x00\x00\x00\x00\x00\x00\x00\x06\xff\xff\xff\xff\xff\xff\xff\xff\x00\x00\x00\x00\x00\x00\x00\x08\x00\x00\x00\x00\x00\x00\x00\x09",
-        "bucket main Bucket { id: 7, state: Warm, file: File { area: Home, number: 3 }, bytes: 4, count: 5, newest: 6, oldest: -1, used: 8, touched: 9 }",
+        "bucket main Bucket { id: 7, state: Warm, file: File { area: Home, number: 3 }, bytes: 4, count: 5, newest: 6, oldest: -1, used: 8, touched: 9 } ",
     ),
     (
         b"\x07\x00\x00\x00\x04main\x00\x00\x00\x00\x00\x00\x00\x07",
-        "gone main 7",
+        "gone main 7 ",
     ),
     (
         b"\x08\x00\x00\x00\x04main\x00\x00\x00\x00\x00\x00\x00\x07\x02\x00\x00\x00\x00\x00\x00\x00\x01\x00\x00\x00\x00\x00\x00\x00\x02\x00\x00\x00\x00\x00\x00\x00\x03\x00\x00\x00\x00\x00\x00\x00\x04\x00\x00\x00\x00\x00\x00\x00\x05\x00\x00\x00\x00\x00\x00\x00\x06",
-        "frozen main 7 Cold at 1: 2 events from 4 to 3 in 5 bytes, Some(6)",
+        "frozen main 7 Cold at 1 events 2 from 4 to 3 bytes 5 Some(6) ",
     ),
     (
         b"\x08\x00\x00\x00\x04main\x00\x00\x00\x00\x00\x00\x00\x07\x03\x00\x00\x00\x00\x00\x00\x00\x01\x00\x00\x00\x00\x00\x00\x00\x02\x00\x00\x00\x00\x00\x00\x00\x03\x00\x00\x00\x00\x00\x00\x00\x04\x00\x00\x00\x00\x00\x00\x00\x05\x00\x00\x00\x00\x00\x00\x00\x00",
-        "frozen main 7 Total at 1: 2 events from 4 to 3 in 5 bytes, None",
+        "frozen main 7 Total at 1 events 2 from 4 to 3 bytes 5 None ",
     ),
     (
         b"\x09\x00\x00\x00\x00\x00\x00\x00\x01\x00\x00\x00\x00\x00\x00\x00\x02\x00\x00\x00\x00\x00\x00\x00\x03\x00\x00\x00\x00\x00\x01\x00\x00",
-        "counts 1 2 3 65536",
+        "counts 1 2 3 65536 ",
     ),
     (
         b"\x0a\x00\x00\x00\x02/a\x00\x00\x00\x02xy\x00\x00\x00\x00\x00\x00\x00\x02",
-        "spot /a xy 2",
+        "spot /a xy 2 ",
     ),
     (
         b"\x0b\x80\x00\x00\x00\x00\x00\x00\x00",
-        "next file 9223372036854775808",
+        "next file 9223372036854775808 ",
     ),
     (
         b"\x0c\x00\x00\x00\x02\x03\x00\x00\x00\x00\x00\x00\x00\x01\x05\x00\x00\x00\x00\x00\x00\x00\x02",
-        "removals [File { area: Cold, number: 1 }, File { area: Thawed, number: 2 }]",
+        "removals [File { area: Cold, number: 1 }, File { area: Thawed, number: 2 }] ",
     ),
     (
         b"\x0d\x00\x00\x00\x04main\x00\x00\x00\x00\x00\x00\x00\x01",
-        "next id main 1",
+        "next id main 1 ",
     ),
 ];
 
-fn shown(bytes: &Bytes) -> &str {
-    str::from_utf8(bytes.as_slice()).unwrap_or("?")
-}
-
 fn shown_or_none(bytes: &Option<Bytes>) -> &str {
     match bytes {
-        Some(bytes) => shown(bytes),
+        Some(bytes) => shown(bytes.as_slice()),
         None => "-",
     }
 }
 
-fn said(alloc: Global, item: &Item) -> Result<String, AllocError> {
+fn note_bytes(text: &mut String, word: &str, bytes: &Bytes) {
+    say(text, word);
+    say(text, shown(bytes.as_slice()));
+}
+
+fn note_channel(text: &mut String, name: &Bytes, meta: &ChannelMeta, carry: &Bytes) {
+    note_bytes(text, "channel", name);
+    note_bytes(text, "host", &meta.host);
+    note_bytes(text, "source", &meta.source);
+    say(text, "sourcetype");
+    say(text, shown_or_none(&meta.sourcetype));
+    say(text, "index");
+    say(text, shown_or_none(&meta.index));
+    note_bytes(text, "carry", carry);
+}
+
+fn note_entry(text: &mut String, entry: &Entry) {
+    note_bytes(text, "frozen", &entry.index);
+    note(text, entry.id);
+    note(text, entry.rule);
+    say(text, "at");
+    note(text, entry.moment);
+    say(text, "events");
+    note(text, entry.count);
+    say(text, "from");
+    note(text, entry.oldest);
+    say(text, "to");
+    note(text, entry.newest);
+    say(text, "bytes");
+    note(text, entry.bytes);
+    note(text, entry.archive);
+}
+
+fn note_spot(text: &mut String, spot: &Spot) {
+    note_bytes(text, "spot", &spot.path);
+    say(text, shown(spot.head.as_slice()));
+    note(text, spot.offset);
+}
+
+fn note_counts(text: &mut String, counts: [u64; 4]) {
+    say(text, "counts");
+    for count in counts {
+        note(text, count);
+    }
+}
+
+/// Writes what an item of the store as a whole says.
+fn note_of_store(text: &mut String, item: &Item) {
     match item {
-        Item::Settings { kept } => format!(in alloc; "settings {}", kept.len()),
-        Item::Run { run } => format!(in alloc; "run {run}"),
-        Item::Moments { last, tick } => format!(in alloc; "moments {last} {tick}"),
-        Item::Channel { name, meta, carry } => format!(in alloc;
-            "channel {} host {} source {} sourcetype {} index {} carry {}",
-            shown(name),
-            shown(&meta.host),
-            shown(&meta.source),
-            shown_or_none(&meta.sourcetype),
-            shown_or_none(&meta.index),
-            shown(carry)
-        ),
-        Item::Ended { name } => format!(in alloc; "ended {}", shown(name)),
-        Item::Bucket { index, bucket } => {
-            format!(in alloc; "bucket {} {bucket:?}", shown(index))
+        Item::Settings { kept } => {
+            say(text, "settings");
+            note(text, kept.len());
         }
-        Item::Gone { index, id } => format!(in alloc; "gone {} {id}", shown(index)),
-        Item::Ledger { entry } => format!(in alloc;
-            "frozen {} {} {:?} at {}: {} events from {} to {} in {} bytes, {:?}",
-            shown(&entry.index),
-            entry.id,
-            entry.rule,
-            entry.moment,
-            entry.count,
-            entry.oldest,
-            entry.newest,
-            entry.bytes,
-            entry.archive
-        ),
+        Item::Run { run } => {
+            say(text, "run");
+            note(text, *run);
+        }
+        Item::Moments { last, tick } => {
+            say(text, "moments");
+            note(text, *last);
+            note(text, *tick);
+        }
         Item::Counts {
             settled,
             nulled,
             dropped,
             placed,
-        } => format!(in alloc; "counts {settled} {nulled} {dropped} {placed}"),
-        Item::Spot { spot } => format!(in alloc;
-            "spot {} {} {}",
-            shown(&spot.path),
-            shown(&spot.head),
-            spot.offset
-        ),
-        Item::NextFile { number } => format!(in alloc; "next file {number}"),
-        Item::Removals { files } => format!(in alloc; "removals {:?}", files.as_slice()),
-        Item::NextId { index, id } => format!(in alloc; "next id {} {id}", shown(index)),
+        } => note_counts(text, [*settled, *nulled, *dropped, *placed]),
+        Item::NextFile { number } => {
+            say(text, "next file");
+            note(text, *number);
+        }
+        Item::Removals { files } => {
+            say(text, "removals");
+            note(text, files.as_slice());
+        }
+        _ => say(text, "?"),
     }
 }
 
-#[test]
-fn each_kind_is_read_and_written_and_no_prefix_is_an_item(rt: HostRuntime) -> Result<(), Fail> {
-    let alloc = rt.alloc();
-    for (row, text) in &ROWS {
-        // One byte more stands behind the item.
-        let mut bytes = Bytes::copy_of(alloc, row)?;
-        bytes.push(1)?;
-        let (item, n) = read_item(alloc, bytes.as_slice())?;
-        assert_eq!(rt; (n, said(alloc, &item)?.as_str()), (row.len(), *text));
-        let mut out = Bytes::copy_of(alloc, b"ab")?;
-        write_item(&item, &mut out)?;
-        assert_eq!(rt; out.as_slice().strip_prefix(b"ab".as_slice()), Some(*row));
-        for cut in 0..row.len() {
-            assert!(rt;
-                matches!(read_item(alloc, &row[..cut]), Err(ItemFault::BadItem)),
-                "the first {cut} bytes of {text}"
-            );
+fn note_item(text: &mut String, item: &Item) {
+    match item {
+        Item::Channel { name, meta, carry } => note_channel(text, name, meta, carry),
+        Item::Ended { name } => note_bytes(text, "ended", name),
+        Item::Bucket { index, bucket } => {
+            note_bytes(text, "bucket", index);
+            note(text, *bucket);
         }
+        Item::Gone { index, id } => {
+            note_bytes(text, "gone", index);
+            note(text, *id);
+        }
+        Item::Ledger { entry } => note_entry(text, entry),
+        Item::Spot { spot } => note_spot(text, spot),
+        Item::NextId { index, id } => {
+            note_bytes(text, "next id", index);
+            note(text, *id);
+        }
+        _ => note_of_store(text, item),
     }
-    Ok(())
+}
+
+/// Says what is wrong where something is.
+fn note_unless(text: &mut String, is_right: bool, wrong: &str) {
+    if !is_right {
+        say(text, wrong);
+    }
+}
+
+fn is_bad(alloc: Global, bytes: &[u8]) -> bool {
+    match read_item(alloc, bytes) {
+        Ok((item, _)) => {
+            drop(item);
+            false
+        }
+        Err(fault) => fault == ItemFault::BadItem,
+    }
+}
+
+/// Whether no prefix of the bytes is an item.
+fn have_no_item(alloc: Global, bytes: &[u8]) -> bool {
+    let mut none = true;
+    for cut in 0..bytes.len() {
+        none = none && is_bad(alloc, &bytes[..cut]);
+    }
+    none
+}
+
+/// What is read of the item where one byte more stands behind it, and what of it is not as it should be.
+fn item_said(alloc: Global, row: &[u8]) -> String {
+    let mut text = String::new(alloc);
+    let mut bytes = bytes_of(alloc, row);
+    let _ = bytes.push(1);
+    if let Ok((item, len)) = read_item(alloc, bytes.as_slice()) {
+        note_item(&mut text, &item);
+        note_unless(&mut text, len == row.len(), "has another length");
+        let mut out = bytes_of(alloc, b"ab");
+        let is_written = write_item(&item, &mut out).is_ok()
+            && out.as_slice().strip_prefix(b"ab".as_slice()) == Some(row);
+        note_unless(&mut text, is_written, "is written otherwise");
+        drop(out);
+        drop(item);
+    }
+    drop(bytes);
+    note_unless(&mut text, have_no_item(alloc, row), "has an item in front");
+    text
+}
+
+/// What the rows say that say anything else than they should, each behind what it should say.
+fn unlike_said(alloc: Global) -> String {
+    let mut text = String::new(alloc);
+    for (row, wanted) in &ROWS {
+        let found = item_said(alloc, row);
+        if found.as_str() != *wanted {
+            say(&mut text, wanted);
+            say(&mut text, found.as_str());
+        }
+        drop(found);
+    }
+    text
+}
+
+#[test]
+fn each_kind_is_read_and_written_and_no_prefix_is_an_item(rt: HostRuntime) {
+    compare(&rt, unlike_said(rt.alloc()), "");
 }
 
 /// No prefix of these is an item.
@@ -169,24 +260,42 @@ static BAD: [&[u8]; 15] = [
     b"\x08\x00\x00\x00\x00\x00\x00\x00\x00\x00\x00\x00\x07\x04\x00\x00\x00\x00\x00\x00\x00\x01\x00\x00\x00\x00\x00\x00\x00\x02\x00\x00\x00\x00\x00\x00\x00\x03\x00\x00\x00\x00\x00\x00\x00\x04\x00\x00\x00\x00\x00\x00\x00\x05\x00\x00\x00\x00\x00\x00\x00\x00",
 ];
 
-#[test]
-fn bytes_that_are_no_item_are_refused(rt: HostRuntime) {
-    for bad in &BAD {
-        assert!(rt; matches!(read_item(rt.alloc(), bad), Err(ItemFault::BadItem)));
+/// Which of the bytes are an item, counted from 0.
+fn items_said(alloc: Global) -> String {
+    let mut text = String::new(alloc);
+    for (number, bytes) in BAD.iter().enumerate() {
+        if !is_bad(alloc, bytes) {
+            note(&mut text, number);
+        }
     }
+    text
 }
 
 #[test]
-fn the_first_body_of_a_store(rt: HostRuntime) -> Result<(), Fail> {
-    let mut out = Bytes::new(rt.alloc());
-    let kept = KeptList::new(rt.alloc());
-    write_item(&Item::Settings { kept }, &mut out)?;
-    write_item(&Item::Run { run: 1 }, &mut out)?;
-    assert_eq!(rt;
-        out.as_slice(),
-        b"\x01\x00\x00\x00\x00\x02\x00\x00\x00\x00\x00\x00\x00\x01".as_slice()
-    );
+fn bytes_that_are_no_item_are_refused(rt: HostRuntime) {
+    compare(&rt, items_said(rt.alloc()), "");
+}
+
+fn first_body(alloc: Global) -> String {
+    let mut text = String::new(alloc);
+    let mut out = Bytes::new(alloc);
+    let settings = Item::Settings {
+        kept: KeptList::new(alloc),
+    };
+    note(&mut text, write_item(&settings, &mut out));
+    drop(settings);
+    let run = Item::Run { run: 1 };
+    note(&mut text, write_item(&run, &mut out));
+    drop(run);
+    note(&mut text, out.as_slice());
+    drop(out);
+    text
+}
+
+#[test]
+fn the_first_body_of_a_store(rt: HostRuntime) {
+    let wanted = "Ok(()) Ok(()) [1, 0, 0, 0, 0, 2, 0, 0, 0, 0, 0, 0, 0, 1] ";
+    compare(&rt, first_body(rt.alloc()), wanted);
     one_item();
     one_list();
-    Ok(())
 }

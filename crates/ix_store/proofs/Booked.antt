@@ -23,11 +23,11 @@ use Rattle.ix_machine.specs.State.{Catalog}
 use Rattle.ix_machine.specs.Step.{after}
 use Rattle.ix_machine.specs.declared.commands.Order.{Order}
 use Rattle.ix_machine.proofs.Named.{by_test}
-use Rattle.ix_snapshot.specs.Contents.{contents_of}
-use Rattle.ix_snapshot.specs.Laws.{HasNoneFrom}
-use Rattle.ix_snapshot.specs.Snap.{left, leaves}
-use Rattle.ix_snapshot.proofs.Done.{done_has_none, done_stays}
-use Rattle.ix_snapshot.proofs.EarlierFiles.{earlier_none}
+use Rattle.ix_machine.specs.Contents.{contents_of}
+use Rattle.ix_machine.specs.OnDisk.{HasNoneFrom}
+use Rattle.ix_machine.specs.Snap.{left, leaves}
+use Rattle.ix_machine.proofs.Done.{done_has_none, done_stays}
+use Rattle.ix_machine.proofs.EarlierFiles.{earlier_none}
 use Rattle.ix_store.specs.Written.{over, IsOf, AreDone}
 use Rattle.ix_store.specs.Making.{LeadsOn, LeadsBy, LeadsThrough, with_last}
 

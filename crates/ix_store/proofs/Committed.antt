@@ -21,8 +21,8 @@ use Rattle.ix_machine.specs.Given.{Chooser}
 use Rattle.ix_machine.specs.Step.{after}
 use Rattle.ix_machine.specs.declared.commands.Order.{Order}
 use Rattle.ix_machine.proofs.Named.{by_test}
-use Rattle.ix_snapshot.specs.Snap.{left, leaves}
-use Rattle.ix_snapshot.proofs.Family.{family}
+use Rattle.ix_machine.specs.Snap.{left, leaves}
+use Rattle.ix_machine.proofs.Family.{family}
 use Rattle.ix_store.specs.Counting.{numbers, weights, has_turn, capped}
 use Rattle.ix_store.specs.Faults.{fault_of}
 use Rattle.ix_store.specs.Written.{over, IsOf, Stands, AreDone}

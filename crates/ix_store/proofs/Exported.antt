@@ -38,12 +38,12 @@ use Rattle.ix_machine.proofs.Renewing.{apart_after}
 use Rattle.ix_machine.proofs.Stepping.{sound_after}
 use Rattle.ix_shelves.specs.Lists.{find}
 use Rattle.ix_shelves.specs.Shelves.{view_name}
-use Rattle.ix_snapshot.specs.Contents.{Filed, archived, in_bucket, filed_by, filed_slot, filed_index, is_meta_area, contents_of}
-use Rattle.ix_snapshot.specs.Snap.{left}
-use Rattle.ix_snapshot.proofs.Areas.{IsApartFromLogs, SlotApart, IndexApart, apart_from_logs}
-use Rattle.ix_snapshot.proofs.Filing.{in_right, in_flat, found_in, in_filed, bytes_there}
-use Rattle.ix_snapshot.proofs.Listing.{among, or_fresh, find_fresh}
-use Rattle.ix_snapshot.proofs.Names.{find_map}
+use Rattle.ix_machine.specs.Contents.{Filed, archived, in_bucket, filed_by, filed_slot, filed_index, is_meta_area, contents_of}
+use Rattle.ix_machine.specs.Snap.{left}
+use Rattle.ix_machine.proofs.Areas.{IsApartFromLogs, SlotApart, IndexApart, apart_from_logs}
+use Rattle.ix_machine.proofs.Filing.{in_right, in_flat, found_in, in_filed, bytes_there}
+use Rattle.ix_machine.proofs.Listing.{among, or_fresh, find_fresh}
+use Rattle.ix_machine.proofs.Names.{find_map}
 use Rattle.ix_store.specs.Exporting.{is_seen, listed_in, listed_events, exported, HaveRecords}
 use Rattle.ix_store.specs.Faults.{export_fault_of}
 use Rattle.ix_store.specs.Holding.{Holds, IsUnchanged}

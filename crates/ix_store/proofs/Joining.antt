@@ -22,7 +22,7 @@ use Rattle.ix_machine.specs.Step.{after}
 use Rattle.ix_machine.specs.declared.answers.Accepted.{Accepted}
 use Rattle.ix_machine.specs.declared.commands.Command.TheVariants.{Tick}
 use Rattle.ix_machine.specs.declared.commands.Order.{Order}
-use Rattle.ix_snapshot.specs.Snap.{left, leaves}
+use Rattle.ix_machine.specs.Snap.{left, leaves}
 use Rattle.ix_store.specs.Counting.{number_of, weight_of, is_turn, numbers, weights, has_turn, capped}
 use Rattle.ix_store.specs.Written.{over, IsOf, AreDone}
 use Rattle.ix_store.specs.Making.{IsMade, LeadsThrough, with_last, with_order, with_tick}

@@ -8,7 +8,7 @@ use Rattle.ix_keep.specs.Undo.{HasSameLogs}
 use Rattle.ix_keep.proofs.Holding.{held_keeps}
 use Rattle.ix_machine.specs.Given.{Chooser}
 use Rattle.ix_machine.specs.declared.commands.Order.{Order}
-use Rattle.ix_snapshot.specs.Snap.{left}
+use Rattle.ix_machine.specs.Snap.{left}
 use Rattle.ix_store.specs.Written.{IsOf, Stands, StandsFrom}
 use Rattle.ix_store.specs.Holding.{Staged, Holds}
 use Rattle.ix_store.specs.declared.store.Store.{Store}

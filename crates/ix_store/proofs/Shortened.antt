@@ -19,7 +19,7 @@ use Rattle.ix_book.specs.Book.{Name, Book, named, is_same, after_item, empty, re
 use Rattle.ix_book.specs.Root.{Taken, roots, current}
 use Rattle.ix_book.proofs.Applying.{replay_behind}
 use Rattle.ix_book.proofs.Renaming.{same_name}
-use Rattle.ix_checkpoint.specs.Whole.{removal, whole_body}
+use Rattle.ix_book.specs.Whole.{removal, whole_body}
 use Rattle.ix_keep.specs.Shortening.{shortened, Tells}
 use Rattle.ix_keep.specs.Snapshot.{Snapshot, KeepsEither, AreFree, Held, IsIdle, log_of}
 use Rattle.ix_keep.proofs.Beginning.{held_always}
@@ -28,7 +28,7 @@ use Rattle.ix_machine.specs.Given.{Chooser}
 use Rattle.ix_machine.specs.Step.{after}
 use Rattle.ix_machine.specs.declared.commands.Order.{Order}
 use Rattle.ix_machine.proofs.Named.{by_test}
-use Rattle.ix_snapshot.specs.Snap.{left}
+use Rattle.ix_machine.specs.Snap.{left}
 use Rattle.ix_store.specs.Holding.{AreCounted, Holds}
 use Rattle.ix_store.specs.Telling.{with_run}
 use Rattle.ix_store.specs.Written.{over, IsOf, Stands, AreDone}

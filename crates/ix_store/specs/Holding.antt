@@ -15,7 +15,7 @@ use Rattle.ix_machine.specs.Judged.{draws, moved}
 use Rattle.ix_machine.specs.Step.{after, effective}
 use Rattle.ix_machine.specs.declared.answers.Accepted.{Accepted}
 use Rattle.ix_machine.specs.declared.commands.Order.{Order}
-use Rattle.ix_snapshot.specs.Snap.{left, leaves}
+use Rattle.ix_machine.specs.Snap.{left, leaves}
 use Rattle.ix_store.specs.Counting.{numbers, weights, has_turn, capped}
 use Rattle.ix_store.specs.Making.{with_order}
 use Rattle.ix_store.specs.Written.{IsOf, AreDone}

@@ -15,8 +15,8 @@ use Rattle.ix_machine.specs.Judged.{adds, moved, needs_tick}
 use Rattle.ix_machine.specs.Step.{after, effective}
 use Rattle.ix_machine.specs.declared.commands.Command.TheVariants.{Tick}
 use Rattle.ix_machine.specs.declared.commands.Order.{Order}
-use Rattle.ix_snapshot.specs.Laws.{HasNoneFrom}
-use Rattle.ix_snapshot.specs.Snap.{left}
+use Rattle.ix_machine.specs.OnDisk.{HasNoneFrom}
+use Rattle.ix_machine.specs.Snap.{left}
 use Rattle.ix_store.specs.Written.{over, AreDone}
 use Rattle.ix_store.specs.declared.memory.Made.{Made}
 

@@ -11,8 +11,8 @@ use Rattle.ix_keep.specs.Snapshot.{Snapshot, Keeps}
 use Rattle.ix_machine.specs.Given.{Chooser}
 use Rattle.ix_machine.specs.State.{Catalog}
 use Rattle.ix_machine.specs.declared.commands.Order.{Order}
-use Rattle.ix_snapshot.specs.Done.{IsDone}
-use Rattle.ix_snapshot.specs.Snap.{left, leaves}
+use Rattle.ix_machine.specs.Done.{IsDone}
+use Rattle.ix_machine.specs.Snap.{left, leaves}
 
 -- the book, under which a run and perhaps last removals stand too
 abbrev pub over : ℕ → Option Item → Book → Book

@@ -8,7 +8,7 @@ ghost use Rattle.ix_machine.specs.State.{spot_path, life_in};
 ghost use Rattle.ix_machine.specs.Step.{after};
 ghost use Rattle.ix_machine.specs.declared.commands.Order.{Order};
 ghost use Rattle.ix_shelves.specs.Lists.{find};
-ghost use Rattle.ix_snapshot.specs.Shelved.{IsSet};
+ghost use Rattle.ix_machine.specs.Shelved.{IsSet};
 ghost use Rattle.ix_store.specs.Showing.{IsViewOf};
 
 use crate::memory::Memory;

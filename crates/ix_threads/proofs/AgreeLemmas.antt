@@ -1,18 +1,19 @@
--- What is seen of a text that goes on decides the tests before its last 255 bytes.
+-- What is seen of a text that goes on decides the tests before its last two bytes, and those of lookaheads before its last 255.
 use Rattle.std.proofs.Common.{◌≡◌, ℕ, zero, suc, ◌+◌, ◌<◌, ◌≤◌, inl, inr, take, ◌&&◌, if◌then◌else◌, Bool, true, false, List, [], ◌∷◌, ◌++◌, length, Option, Some, refl, sym, ◌∙◌, ap, arith, length-append}
 use Rattle.std.specs.Prelude.{slice_get, ◌==◌, nat_le}
 use Rattle.ix_pattern.specs.Ways.{Text, ends_at, byte_before, at_end, here, finish_ways, is_word, is_word_byte, differ, word_ways, sight}
 use Rattle.ix_pattern.specs.Laws.{Continues}
 use Rattle.ix_pattern.proofs.Refining.{sight-improves}
 use Rattle.ix_threads.specs.Leaf.{at}
-use Rattle.ix_threads.specs.Agrees.{Agrees}
+use Rattle.ix_threads.specs.Agrees.{Agrees, SightsAgree, AreEnough}
+use Rattle.ix_threads.specs.declared.code.Ask.{Ask}
 use Rattle.ix_threads.specs.Ran.{Sees}
 use Rattle.ix_threads.proofs.HistoryLemmas.{get-left}
 use Rattle.std.proofs.lemmas.Option.{slice_get-get_or}
 use Rattle.std.proofs.Math.ListN.{get_or}
 
 pub agrees-refl : (text : Text) (p : ℕ) → p ≤ length text.bytes → Agrees text text p
-agrees-refl text p h = record { within = h; starts = refl; ends = λ lines. refl; words = refl; sights = refl }
+agrees-refl text p h = record { within = h; starts = refl; ends = λ lines. refl; words = refl }
 
 before-same : (o : Option ℕ) (bytes more : List ℕ) (p : ℕ) → p ≤ length bytes → byte_before o bytes p ≡ byte_before o (bytes ++ more) p
 before-same o bytes more zero h = refl
@@ -45,7 +46,7 @@ sight-same n seen text c h = elim (sight-improves n seen text c) [
   | inr d ↦ absurd (let e : true ≡ false = sym d.unfinished ∙ sight-stops n seen h in grind (arith, e))
 ]
 
-pub agrees-on : (seen text : Text) (p : ℕ) → Continues seen text → p + 255 ≤ length seen.bytes → Agrees seen text p
+pub agrees-on : (seen text : Text) (p : ℕ) → Continues seen text → p + 2 ≤ length seen.bytes → Agrees seen text p
 agrees-on seen text p c h =
     let longer : length text.bytes ≡ length seen.bytes + length c.more = ap length c.bytes ∙ length-append seen.bytes c.more in
     let got : slice_get seen.bytes p ≡ Some (get_or seen.bytes p 0) = slice_get-get_or seen.bytes p 0 (omega (arith, h)) in
@@ -63,13 +64,18 @@ agrees-on seen text p c h =
           ap (word_ways seen (at p [])) got
           ∙ ap (λ o. here (differ (is_word o) (is_word_byte (get_or seen.bytes p 0))) (at p [])) starts
           ∙ sym (ap (word_ways text (at p [])) same);
-      sights = sight-same (p + 255) seen text c h;
     }
 
--- a text that goes on from what is seen of it has its tests and bytes up to the last byte
-pub sees-on : (seen text : Text) (to : ℕ) → Continues seen text → to + 254 ≤ length seen.bytes → Sees seen text to
-sees-on seen text to c h k lt =
-    (agrees-on seen text k c (omega (arith, h, lt)), ap (λ l. slice_get l k) c.bytes ∙ get-left seen.bytes c.more k (omega (arith, h, lt)))
+pub sights-on : (asks : List Ask) (n : ℕ) (seen text : Text) (p : ℕ) → Continues seen text → AreEnough asks n → p + n ≤ length seen.bytes → SightsAgree asks seen text p
+sights-on asks n seen text p c e h k ask got = sight-same (p + 255) seen text c (let some = e.for_asks k ask got in omega (arith, h, some))
 
-pub sees-refl : (text : Text) (to : ℕ) → to ≤ length text.bytes → Sees text text to
-sees-refl text to h k lt = (agrees-refl text k (omega (arith, h, lt)), refl)
+-- a text that goes on from what is seen of it has its tests and bytes up to a place with enough bytes behind it
+pub sees-on : (asks : List Ask) (n : ℕ) (seen text : Text) (to : ℕ) → Continues seen text → AreEnough asks n → to + n ≤ length seen.bytes → Sees asks seen text to
+sees-on asks n seen text to c e h k lt = (
+  agrees-on seen text k c (let two = e.two in omega (arith, h, lt, two)),
+  sights-on asks n seen text k c e (omega (arith, h, lt)),
+  ap (λ l. slice_get l k) c.bytes ∙ get-left seen.bytes c.more k (let two = e.two in omega (arith, h, lt, two)),
+)
+
+pub sees-refl : (asks : List Ask) (text : Text) (to : ℕ) → to ≤ length text.bytes → Sees asks text text to
+sees-refl asks text to h k lt = (agrees-refl text k (omega (arith, h, lt)), λ i ask got. refl, refl)

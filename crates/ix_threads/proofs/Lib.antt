@@ -19,3 +19,5 @@ pub mod AskLemmas
 pub mod TableLemmas
 pub mod TestLemmas
 pub mod ChainLemmas
+pub mod AttemptLemmas
+pub mod FinderLemmas

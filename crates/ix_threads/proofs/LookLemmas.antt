@@ -10,6 +10,7 @@ use Rattle.ix_threads.specs.declared.code.Ask.{Ask}
 use Rattle.ix_threads.specs.declared.leaf.Leaf.{Leaf}
 use Rattle.ix_threads.specs.Leaf.{leaf_ways, at}
 use Rattle.ix_threads.specs.Looks.{IsLook, AreLooks}
+use Rattle.ix_threads.specs.Agrees.{SightsAgree}
 use Rattle.ix_threads.specs.Programs.{AreAsks, AllAsked, AllLooked}
 
 pub look-is : (piece inside : Piece) (wanted : Bool) (text seen : Text) (p : ℕ) → piece ≡ ahead inside wanted → seen ≡ sight (p + 255) text →
@@ -59,10 +60,10 @@ looked-more n asks looks rows text p ask leaf got fits same all k a h e = by (eq
 
 -- what was put down is so in a text of which is seen as much
 pub looks-real : (asks : List Ask) (inner code : List Instr) (looks : List Leaf) (rows : Rows) (seen real : Text) (p : ℕ) → AllAsked asks code → AreAsks rows inner asks →
-    AllLooked (length asks) asks looks rows seen p → sight (p + 255) seen ≡ sight (p + 255) real → AreLooks code looks rows real p
+    AllLooked (length asks) asks looks rows seen p → SightsAgree asks seen real p → AreLooks code looks rows real p
 looks-real asks inner code looks rows seen real p asked are looked sees pc piece next e =
     let a = asked pc piece next e in
     let l = looked a.k a.ask (slice_get_within asks a.k a.ask a.at) a.at in
     let i = are a.k a.ask a.at in
     subst (λ q. IsLook looks rows real p q) a.is
-    (record { leaf = l.leaf; kept = l.kept; same = l.same ∙ look-sight (piece_at rows a.ask.piece) i.inside a.ask.wanted seen real p i.is sees })
+    (record { leaf = l.leaf; kept = l.kept; same = l.same ∙ look-sight (piece_at rows a.ask.piece) i.inside a.ask.wanted seen real p i.is (sees a.k a.ask a.at) })

@@ -142,7 +142,7 @@ row-set rows (Look piece next) h = tt
 pub program-sets : (rows : Rows) (piece : Piece) (code : List Instr) (start n : ℕ) → IsProgram rows piece code start → n ≡ length rows → HasSets n code
 program-sets rows piece code start n pr e pc i f = subst (λ k. HasSet k i) (sym e) (row-set rows i (pr.fits.right pc i f).row)
 
-onward-stop : (xs : List Way) → onward (λ r. ends_at r ∷ []) xs ≡ xs
+pub onward-stop : (xs : List Way) → onward (λ r. ends_at r ∷ []) xs ≡ xs
 onward-stop [] = refl
 onward-stop (edge ∷ xs) = ap (λ l. edge ∷ l) (onward-stop xs)
 onward-stop (ends_at r ∷ xs) = ap (λ l. ends_at r ∷ l) (onward-stop xs)

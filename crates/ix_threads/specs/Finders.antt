@@ -7,12 +7,26 @@ use Rattle.ix_threads.specs.Tests.{IsTable}
 use Rattle.ix_threads.specs.Written.{IsWritten}
 use Rattle.ix_threads.specs.declared.finder.Finder.{Finder}
 use Rattle.ix_threads.specs.declared.plan.Room.{Room}
+use Rattle.ix_threads.specs.declared.program.Program.{Program}
 
 -- it is for the pattern with these pieces
 pub record IsFinder (rows : Rows) (finder : Finder) : Type 0 where
   pub program : IsWritten rows finder.program
   pub all : length finder.table.items ≡ 256 * finder.width
   pub table : IsTable finder.table.items finder.width rows
+
+-- it has the same code
+pub record IsSameProgram (program copy : Program) : Type 0 where
+  pub code : copy.code.items ≡ program.code.items
+  pub start : copy.start ≡ program.start
+  pub asks : copy.asks.items ≡ program.asks.items
+  pub inner : copy.inner.items ≡ program.inner.items
+
+-- it has the same code and the same table
+pub record IsSameFinder (finder copy : Finder) : Type 0 where
+  pub program : IsSameProgram finder.program copy.program
+  pub table : copy.table.items ≡ finder.table.items
+  pub width : copy.width ≡ finder.width
 
 -- there is room for it
 pub record HasRoom (finder : Finder) (room : Room) : Type 0 where

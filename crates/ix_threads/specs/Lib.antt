@@ -17,3 +17,4 @@ pub mod Written
 pub mod Replays
 pub mod Outcomes
 pub mod Finders
+pub mod Attempts

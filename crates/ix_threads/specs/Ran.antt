@@ -1,14 +1,15 @@
 -- All bytes of a text.
-use Rattle.std.specs.Prelude.{◌≡◌, ℕ, ◌+◌, ◌<◌, ◌≤◌, List, [], ◌++◌, length, Bool, false, Option, slice_get, slice_index_or}
+use Rattle.std.specs.Prelude.{◌≡◌, ℕ, ◌<◌, ◌≤◌, List, [], ◌++◌, length, Bool, false, Option, slice_get, slice_index_or}
 use Rattle.ix_pattern.specs.Piece.{in_set}
 use Rattle.ix_pattern.specs.Ways.{Text, Way}
 use Rattle.ix_pattern.specs.Rows.{Rows}
 use Rattle.ix_threads.specs.Code.{Mean, Meaning, set_in, best_ways}
-use Rattle.ix_threads.specs.Agrees.{Agrees}
+use Rattle.ix_threads.specs.Agrees.{Agrees, SightsAgree}
 use Rattle.ix_threads.specs.Looks.{AreLooks}
 use Rattle.ix_threads.specs.declared.leaf.Leaf.{Leaf}
 use Rattle.ix_threads.specs.Settled.{HasHead}
 use Rattle.ix_threads.specs.declared.code.Instr.{Instr}
+use Rattle.ix_threads.specs.declared.code.Ask.{Ask}
 use Rattle.ix_threads.specs.declared.cells.Cell.{Cell}
 use Rattle.ix_threads.specs.declared.cells.Thread.{Thread}
 use Rattle.ix_threads.specs.declared.cells.Best.{Best}
@@ -44,9 +45,11 @@ Ends known code text start place cells best =
     (rows : Rows) (blank : List (Option (ℕ × ℕ))) (mean : Mean) (rank : ℕ → ℕ) → Meaning code rows text blank mean rank → known rows →
     slice_get (mean start [] place) 0 ≡ slice_get (best_ways blank cells best) 0
 
--- What is seen of a text decides the tests at the places before this one, and has its bytes.
-abbrev pub Sees : Text → Text → ℕ → Type 0
-Sees seen real to = (k : ℕ) → k < to → Agrees seen real k × (slice_get real.bytes k ≡ slice_get seen.bytes k)
+-- What is seen of a text decides the tests at the places before this one, those of lookaheads among them, and has its
+-- bytes.
+abbrev pub Sees : List Ask → Text → Text → ℕ → Type 0
+Sees asks seen real to = (k : ℕ) → k < to →
+    Agrees seen real k × SightsAgree asks seen real k × (slice_get real.bytes k ≡ slice_get seen.bytes k)
 
 -- a row of n answers to a byte was added
 pub record Row (old new : List Bool) (n : ℕ) (sets : List (List Bool)) (byte : ℕ) : Type 0 where

@@ -5,7 +5,7 @@ ghost use Rattle.ix_pattern.specs.Ways.{ways};
 ghost use Rattle.ix_pattern.specs.Rows.{tree, byte_pieces};
 ghost use Rattle.ix_threads.specs.Leaf.{text_of, at};
 ghost use Rattle.ix_threads.specs.Outcomes.{head_of};
-ghost use Rattle.ix_threads.specs.Finders.{IsFinder, HasRoom};
+ghost use Rattle.ix_threads.specs.Finders.{IsFinder, HasRoom, IsSameFinder};
 ghost use Rattle.ix_threads.specs.Plans.{IsPlan, Knows};
 
 use crate::code::Ask;
@@ -27,6 +27,21 @@ pub struct Finder {
     pub program: Program,
     pub table: Vec<bool>,
     pub width: usize,
+}
+
+impl Finder {
+    /// A copy of it, with its table.
+    pub fn copy(&self) -> Result<Finder, NoMemory>
+        ensures { IfOk result (λ copy. IsSameFinder self.now copy) }
+    {
+        let program = self.program.copy()?;
+        let table = self.table.to_vec(*self.table.allocator())?;
+        Ok(Finder {
+            program,
+            table,
+            width: self.width,
+        })
+    }
 }
 
 /// For a pattern, whose byte pieces are asked when a byte is met.
@@ -90,8 +105,23 @@ pub fn room_of(alloc: Global, p: &Pattern, finder: &Finder) -> Result<Room, NoMe
     Ok(room)
 }
 
+/// As much room as that.
+pub fn room_again(alloc: Global, finder: &Finder, room: &Room) -> Result<Room, NoMemory>
+    requires { HasRoom finder.now room.now }
+    ensures { IfOk result (λ r. HasRoom finder.now r) }
+{
+    let looks = room.looks.to_vec(*room.looks.allocator())?;
+    let room = Room::new(
+        alloc,
+        finder.program.code.len(),
+        finder.program.inner.len(),
+        looks,
+    )?;
+    Ok(room)
+}
+
 /// The plan of a pattern that was written out.
-fn plan_of<'a>(p: &'a Pattern, finder: &'a Finder) -> Plan<'a>
+pub fn plan_of<'a>(p: &'a Pattern, finder: &'a Finder) -> Plan<'a>
     requires { IsFinder p.now.rows finder.now }
     ensures plan { IsPlan result }
     ensures knows { Knows result p.now.rows }

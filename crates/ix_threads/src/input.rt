@@ -5,7 +5,7 @@ ghost use Rattle.ix_pattern.specs.Ways.{byte_before, sight};
 ghost use Rattle.ix_threads.specs.Leaf.{text_of};
 
 /// How many bytes a lookahead sees.
-const SIGHT: usize = 255;
+pub const SIGHT: usize = 255;
 
 /// A text, or what has come of it.
 #[derive(Clone, Copy)]

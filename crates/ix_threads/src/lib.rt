@@ -3,6 +3,7 @@
 
 mod acts;
 pub mod ahead;
+pub mod attempt;
 pub mod cells;
 mod chain;
 pub mod code;

@@ -5,6 +5,7 @@ ghost use Rattle.ix_pattern.specs.Piece.{Piece, ahead, IsSound, IsPlain};
 ghost use Rattle.ix_pattern.specs.Rows.{tree, piece_at};
 ghost use Rattle.ix_threads.specs.Aims.{HasRow};
 ghost use Rattle.ix_threads.specs.Programs.{IsProgram, IsAsked};
+ghost use Rattle.ix_threads.specs.Finders.{IsSameProgram};
 ghost use Rattle.ix_threads.specs.Written.{Collecting, StillAsked, IsNamed, IsCollected, IsWritten};
 
 use crate::code::{Ask, Instr, ask_at, instr_at};
@@ -20,6 +21,23 @@ pub struct Program {
     pub start: usize,
     pub asks: Vec<Ask>,
     pub inner: Vec<Instr>,
+}
+
+impl Program {
+    /// A copy of it.
+    pub fn copy(&self) -> Result<Program, NoMemory>
+        ensures { IfOk result (λ copy. IsSameProgram self.now copy) }
+    {
+        let code = self.code.to_vec(*self.code.allocator())?;
+        let asks = self.asks.to_vec(*self.asks.allocator())?;
+        let inner = self.inner.to_vec(*self.inner.allocator())?;
+        Ok(Program {
+            code,
+            start: self.start,
+            asks,
+            inner,
+        })
+    }
 }
 
 /// Writes the whole of a pattern. The answer is where it begins.

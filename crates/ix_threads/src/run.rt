@@ -4,7 +4,7 @@ ghost use Rattle.std.specs.Prelude.{◌≡◌, ℕ, ◌+◌, ◌<◌, ◌≤◌,
 ghost use Rattle.ix_pattern.specs.Ways.{Text};
 ghost use Rattle.ix_threads.specs.Leaf.{text_of};
 ghost use Rattle.ix_threads.specs.Code.{best_ways};
-ghost use Rattle.ix_threads.specs.Agrees.{Agrees};
+ghost use Rattle.ix_threads.specs.Agrees.{Agrees, SightsAgree};
 ghost use Rattle.ix_threads.specs.Acts.{AllKnown};
 ghost use Rattle.ix_threads.specs.Settled.{AllBytes};
 ghost use Rattle.ix_threads.specs.Ran.{Rounds, Goes, Ends, Sees, Grown};
@@ -36,7 +36,7 @@ fn round<L: Ledger>(
     requires room { IsRoom plan room.old }
     requires known { AllKnown (length plan.code.now) (length room.old.main.cells.items) room.old.main.stack.items }
     requires within { place ≤ length input.bytes.now }
-    ensures rounds { IfOk result (λ after. (real : Text) → Agrees (text_of input.entry) real place →
+    ensures rounds { IfOk result (λ after. (real : Text) → Agrees (text_of input.entry) real place → SightsAgree plan.entry.asks.now (text_of input.entry) real place →
         Rounds (Knows plan.entry) plan.entry.code.now real place room.old.main.cells.items room.old.main.stack.items room.new.main.cells.items room.new.main.ready.items best after) }
     ensures bytes { OnOk result (AllBytes plan.entry.code.now room.new.main.ready.items) }
     ensures known { OnOk result (AllKnown (length plan.entry.code.now) (length room.new.main.cells.items) room.new.main.ready.items) }
@@ -100,8 +100,8 @@ pub fn walk<L: Ledger>(
     Ok(best)
 }
 
-/// Goes on from the threads of a place to those of a later one, behind which a lookahead sees all that it may see. That
-/// holds for each text that goes on from what is seen.
+/// Goes on from the threads of a place to those of a later one. That holds for each text of which what is seen decides the
+/// tests before that place.
 pub fn move_on<L: Ledger>(
     plan: Plan<'_>,
     input: Input<'_>,
@@ -116,7 +116,7 @@ pub fn move_on<L: Ledger>(
     requires known { AllKnown (length plan.code.now) (length room.old.main.cells.items) room.old.main.stack.items }
     requires order { from ≤ to }
     requires within { to ≤ length input.bytes.now }
-    ensures moves { IfOk result (λ best. (real : Text) → Sees (text_of input.entry) real to → (start place : ℕ) →
+    ensures moves { IfOk result (λ best. (real : Text) → Sees plan.entry.asks.now (text_of input.entry) real to → (start place : ℕ) →
         Goes (Knows plan.entry) plan.entry.code.now real start place from room.old.main.cells.items room.old.main.stack.items first →
         Goes (Knows plan.entry) plan.entry.code.now real start place to room.new.main.cells.items room.new.main.stack.items best) }
     ensures known { OnOk result (AllKnown (length plan.entry.code.now) (length room.new.main.cells.items) room.new.main.stack.items) }

@@ -6,9 +6,9 @@ use Rattle.ix_machine.specs.Given.{Chooser}
 use Rattle.ix_machine.specs.Step.{after}
 use Rattle.ix_machine.specs.declared.commands.Order.{Order}
 use Rattle.ix_replay.specs.Fits.{fits}
-use Rattle.ix_state.specs.declared.held.Held.{Held}
+use Rattle.ix_kept.specs.declared.held.Held.{Held}
 use Rattle.ix_store.specs.Making.{IsMade, with_order}
-use Rattle.ix_listed.proofs.Within.{within_fits}
+use Rattle.ix_recall.proofs.Within.{within_fits}
 use Rattle.ix_tier.specs.Made.{MayFollow, IsPair}
 use Rattle.ix_steps.specs.Next.{IsReady}
 use Rattle.ix_steps.specs.declared.next.Next.{Next}

@@ -9,7 +9,7 @@ use Rattle.ix_machine.specs.declared.commands.Order.{Order}
 use Rattle.ix_machine.proofs.Named.{by_test}
 use Rattle.ix_recall.specs.First.{is_first}
 use Rattle.ix_replay.specs.Fits.{fits}
-use Rattle.ix_state.specs.declared.held.Held.{Held}
+use Rattle.ix_kept.specs.declared.held.Held.{Held}
 use Rattle.ix_steps.specs.Next.{IsReady}
 use Rattle.ix_steps.specs.declared.next.Next.{Next}
 use Rattle.ix_store.specs.Making.{IsMade, with_order}

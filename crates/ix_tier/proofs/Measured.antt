@@ -12,9 +12,9 @@ use Rattle.ix_machine.specs.Step.{after}
 use Rattle.ix_machine.specs.declared.commands.Order.{Order}
 use Rattle.ix_parse.specs.Standing.{Kept}
 use Rattle.ix_shelves.specs.Lists.{update}
-use Rattle.ix_state.specs.Held.{IsOpen}
-use Rattle.ix_state.specs.declared.held.Held.{Held}
-use Rattle.ix_state.specs.declared.held.Open.{Open}
+use Rattle.ix_kept.specs.Held.{IsOpen}
+use Rattle.ix_kept.specs.declared.held.Held.{Held}
+use Rattle.ix_kept.specs.declared.held.Open.{Open}
 use Rattle.ix_tier.specs.Seen.{named, parts_of}
 use Rattle.ix_steps.specs.Steps.{IsStep}
 use Rattle.ix_steps.specs.declared.steps.Step.{Step}

@@ -6,10 +6,10 @@ use Rattle.ix_machine.specs.State.{State, Life, life_name}
 use Rattle.ix_machine.proofs.Named.{by_test}
 use Rattle.ix_shelves.specs.Lists.{find}
 use Rattle.ix_shelves.specs.declared.shelves.Shelves.{Shelves}
-use Rattle.ix_state.specs.Causes.{has_name}
-use Rattle.ix_state.specs.Held.{IsOpen, SeesStorage, shelves_of}
-use Rattle.ix_state.specs.declared.held.Held.{Held}
-use Rattle.ix_state.specs.declared.held.Open.{Open}
+use Rattle.ix_kept.specs.Causes.{has_name}
+use Rattle.ix_kept.specs.Held.{IsOpen, SeesStorage, shelves_of}
+use Rattle.ix_kept.specs.declared.held.Held.{Held}
+use Rattle.ix_kept.specs.declared.held.Open.{Open}
 use Rattle.ix_store.specs.Showing.{IsViewOf}
 
 pub open_is : (lives : List Life) (opens : List Open) (name : List ℕ) → AllZip IsOpen lives opens → list_any (has_name name) opens ≡ is_some (find life_name name lives)

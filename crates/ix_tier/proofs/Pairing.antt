@@ -24,18 +24,18 @@ use Rattle.ix_machine.specs.declared.commands.Order.{Order}
 use Rattle.ix_machine.proofs.Following.{after_more}
 use Rattle.ix_machine.proofs.Renewing.{renews_after}
 use Rattle.ix_machine.proofs.Stepping.{sound_after}
-use Rattle.ix_snapshot.specs.Laws.{HasNoneFrom}
-use Rattle.ix_snapshot.specs.Snap.{left}
-use Rattle.ix_snapshot.specs.Shelved.{IsSet}
-use Rattle.ix_state.specs.Held.{IsOpen, SeesChannels, ledger_of}
-use Rattle.ix_state.specs.declared.held.Held.{Held}
-use Rattle.ix_state.specs.declared.held.Open.{Open}
-use Rattle.ix_state.specs.declared.held.Storage.{Storage}
+use Rattle.ix_machine.specs.OnDisk.{HasNoneFrom}
+use Rattle.ix_machine.specs.Snap.{left}
+use Rattle.ix_machine.specs.Shelved.{IsSet}
+use Rattle.ix_kept.specs.Held.{IsOpen, SeesChannels, ledger_of}
+use Rattle.ix_kept.specs.declared.held.Held.{Held}
+use Rattle.ix_kept.specs.declared.held.Open.{Open}
+use Rattle.ix_kept.specs.declared.held.Storage.{Storage}
 use Rattle.ix_store.specs.Making.{LeadsOn, with_order}
 use Rattle.ix_store.specs.Written.{AreDone}
 use Rattle.ix_store.proofs.Booked.{all_more, done_later}
-use Rattle.ix_ticks.specs.Ticked.{IsTicked}
-use Rattle.ix_ticks.proofs.Ticking.{ticks}
+use Rattle.ix_bounds.specs.Ticked.{IsTicked}
+use Rattle.ix_bounds.proofs.Ticking.{ticks}
 use Rattle.ix_tier.specs.Made.{MayFollow, IsPair, IsBegun, Begins, TickMayCome, IsTickOf, pair_with, done_with_more}
 use Rattle.ix_steps.specs.Next.{IsReady}
 use Rattle.ix_tier.specs.Seen.{parts_of}

@@ -15,7 +15,7 @@ use Rattle.ix_machine.specs.declared.commands.Command.{Command}
 use Rattle.ix_machine.specs.declared.commands.Command.TheVariants.{Begin, Block, End, Tick, Roll, Thaw, Configure, Direct}
 use Rattle.ix_machine.specs.declared.commands.Direct.{Direct as DirectEvent}
 use Rattle.ix_machine.specs.declared.commands.Order.{Order}
-use Rattle.ix_state.specs.declared.held.Held.{Held}
+use Rattle.ix_kept.specs.declared.held.Held.{Held}
 use Rattle.ix_steps.specs.Faults.{refusal_of}
 use Rattle.ix_steps.specs.declared.steps.StepFault.{StepFault}
 use Rattle.ix_steps.specs.declared.steps.StepFault.TheVariants as faults

@@ -13,11 +13,11 @@ use Rattle.ix_base.specs.declared.files.File.{File}
 use Rattle.ix_machine.specs.declared.commands.Command.{Command}
 use Rattle.ix_machine.specs.declared.commands.Command.TheVariants.{Tick}
 use Rattle.ix_machine.specs.declared.commands.Order.{Order}
-use Rattle.ix_snapshot.specs.Laws.{HasNoneFrom}
-use Rattle.ix_snapshot.specs.Snap.{left}
-use Rattle.ix_state.specs.Held.{Holds, shelves_of}
-use Rattle.ix_state.specs.declared.held.Held.{Held}
-use Rattle.ix_state.specs.declared.held.Storage.{Storage}
+use Rattle.ix_machine.specs.OnDisk.{HasNoneFrom}
+use Rattle.ix_machine.specs.Snap.{left}
+use Rattle.ix_kept.specs.Held.{Holds, shelves_of}
+use Rattle.ix_kept.specs.declared.held.Held.{Held}
+use Rattle.ix_kept.specs.declared.held.Storage.{Storage}
 use Rattle.ix_store.specs.Making.{AreProper, LeadsBy, with_order, with_tick}
 use Rattle.ix_store.specs.Written.{AreDone}
 use Rattle.ix_steps.specs.Next.{HasRoom, IsReady}

@@ -7,8 +7,8 @@ use Rattle.ix_machine.specs.Step.{after}
 use Rattle.ix_machine.specs.declared.answers.Refusal.{Refusal}
 use Rattle.ix_machine.specs.declared.commands.Order.{Order}
 use Rattle.ix_replay.specs.Fits.{fits}
-use Rattle.ix_state.specs.Held.{Holds}
-use Rattle.ix_state.specs.declared.held.Held.{Held}
+use Rattle.ix_kept.specs.Held.{Holds}
+use Rattle.ix_kept.specs.declared.held.Held.{Held}
 use Rattle.ix_steps.specs.Next.{IsReady}
 use Rattle.ix_steps.specs.declared.next.Next.{Next}
 use Rattle.ix_store.specs.Making.{IsMade}

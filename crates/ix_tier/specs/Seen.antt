@@ -3,9 +3,9 @@ use Rattle.std.specs.Prelude.{ℕ, List, map}
 use Rattle.ix_base.specs.declared.events.ChannelMeta.{ChannelMeta}
 use Rattle.ix_bounds.specs.Parts.{Parts}
 use Rattle.ix_channels.specs.Changes as channels
-use Rattle.ix_state.specs.Held.{ledger_of}
-use Rattle.ix_state.specs.declared.held.Held.{Held}
-use Rattle.ix_state.specs.declared.held.Open.{Open}
+use Rattle.ix_kept.specs.Held.{ledger_of}
+use Rattle.ix_kept.specs.declared.held.Held.{Held}
+use Rattle.ix_kept.specs.declared.held.Open.{Open}
 use Rattle.ix_steps.specs.Settings.{config_after}
 use Rattle.ix_steps.specs.Spots as spots
 use Rattle.ix_steps.specs.declared.next.Next.{Next}

@@ -4,8 +4,8 @@ use Rattle.std.specs.List.{list_all}
 use Rattle.ix_machine.specs.Given.{Chooser}
 use Rattle.ix_machine.specs.declared.commands.Order.{Order}
 use Rattle.ix_recall.specs.First.{is_first}
-use Rattle.ix_state.specs.Held.{Holds}
-use Rattle.ix_state.specs.declared.held.Held.{Held}
+use Rattle.ix_kept.specs.Held.{Holds}
+use Rattle.ix_kept.specs.declared.held.Held.{Held}
 use Rattle.ix_steps.specs.Next.{IsReady}
 use Rattle.ix_steps.specs.declared.next.Next.{Next}
 

@@ -1,13 +1,13 @@
 //! What stands in memory of indexes and counts, copied for a command to be worked out from.
 
 ghost use Rattle.std.specs.Prelude.{◌≡◌, None, IfOk};
-ghost use Rattle.ix_state.specs.Held.{shelves_of};
+ghost use Rattle.ix_kept.specs.Held.{shelves_of};
 
 use ix_base::{NoMemory, Sequence};
 use ix_items::Bucket;
+use ix_kept::{Held, Storage};
 use ix_life::{BucketList, IndexView, IndexViewList};
 use ix_shelves::Shelves;
-use ix_state::{Held, Storage};
 use std::alloc::Global;
 
 fn copy_buckets(alloc: Global, buckets: &[Bucket]) -> Result<BucketList, NoMemory>

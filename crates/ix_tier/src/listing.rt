@@ -5,14 +5,14 @@ ghost use Rattle.std.specs.Prelude.{true};
 use crate::tier::Tier;
 use ix_base::NoMemory;
 use ix_items::Item;
-use ix_shorten::ItemWalk;
+use ix_recall::items_of;
+use ix_replay::ItemWalk;
 use ix_store::{ListFault, Listing};
-use ix_whole::items_of;
 use std::alloc::Global;
 
 impl Listing for Tier {
-    ghost use Rattle.ix_shorten.specs.Walk.{ahead};
-    ghost use Rattle.ix_listed.proofs.Shortened.{fits_with_log};
+    ghost use Rattle.ix_replay.specs.Walk.{ahead};
+    ghost use Rattle.ix_recall.proofs.Shortened.{fits_with_log};
 
     type Walk = ItemWalk;
 

@@ -11,8 +11,8 @@ use crate::measuring::is_within;
 use crate::pairs::{Pair, Ticked};
 use ix_base::{File, NoMemory};
 use ix_items::FileList;
+use ix_kept::{Held, Storage};
 use ix_machine::{Command, Order};
-use ix_state::{Held, Storage};
 use ix_steps::{Step, StepFault, Working};
 use std::alloc::Global;
 
@@ -33,7 +33,10 @@ fn with_files(step: Step, files: &[File]) -> Result<Step, NoMemory>
     let mut step = step;
     match add_files(&mut step.done_with, files) {
         Ok(()) => Ok(step),
-        Err(fault) => Err(fault),
+        Err(fault) => {
+            drop(step);
+            Err(fault)
+        }
     }
 }
 
@@ -56,6 +59,9 @@ fn tick<'a>(
     };
     let step = work.tick()?;
     let next = step.next;
+    drop(next.config);
+    drop(next.channels);
+    drop(next.spot);
     Ok(Ticked {
         storage: next.storage,
         draft: step.draft,
@@ -142,6 +148,7 @@ pub(crate) fn make_within(alloc: Global, held: &Held, order: Order) -> Result<Pa
     if is_within(held, &pair.step.next) {
         Ok(pair)
     } else {
+        drop(pair);
         Err(StepFault::Full)
     }
 }

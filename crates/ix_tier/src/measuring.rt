@@ -6,7 +6,7 @@ ghost use Rattle.ix_bounds.specs.Totals.{AreChannels, AreSpots};
 ghost use Rattle.ix_bounds.specs.Within.{AreWithin};
 ghost use Rattle.ix_channels.specs.Changes.{changed, with_channel, HasRoom as HasChannelRoom};
 ghost use Rattle.ix_shelves.specs.Lists.{update};
-ghost use Rattle.ix_state.specs.Held.{ledger_of};
+ghost use Rattle.ix_kept.specs.Held.{ledger_of};
 ghost use Rattle.ix_steps.specs.Next.{HasRoom};
 ghost use Rattle.ix_tier.specs.Seen.{named, parts_of};
 ghost use Rattle.ix_steps.specs.Settings.{config_after};
@@ -16,8 +16,8 @@ use ix_base::Spot;
 use ix_bounds::{Channels, Spots, keeps_bounds, spots_of};
 use ix_channels::ChannelChange;
 use ix_items::{Entry, Kept};
+use ix_kept::{Held, Open};
 use ix_parse::Channel;
-use ix_state::{Held, Open};
 use ix_steps::{Next, SpotChange};
 
 /// Open channels in sum.

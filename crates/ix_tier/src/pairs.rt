@@ -2,7 +2,7 @@
 
 use ix_items::FileList;
 use ix_keep::Draft;
-use ix_state::Storage;
+use ix_kept::Storage;
 use ix_steps::Step;
 
 /// What a Tick leads to that comes before a command.

@@ -7,7 +7,7 @@ ghost use Rattle.ix_kept.specs.Taken.{IsTakenCommand};
 ghost use Rattle.ix_machine.specs.Judged.{draws};
 ghost use Rattle.ix_machine.specs.State.{spot_path};
 ghost use Rattle.ix_shelves.specs.Lists.{find};
-ghost use Rattle.ix_state.specs.Causes.{has_name};
+ghost use Rattle.ix_kept.specs.Causes.{has_name};
 ghost use Rattle.ix_steps.specs.Next.{HasRoom};
 ghost use Rattle.ix_store.specs.Counting.{text_length, weight_of};
 ghost use Rattle.ix_store.specs.Making.{AreProper};
@@ -17,11 +17,11 @@ use crate::making::make_within;
 use crate::pairs::Pair;
 use ix_base::Spot;
 use ix_items::KeptList;
+use ix_kept::{Held, Open};
 use ix_life::{LimitSet, View};
 use ix_machine::{Command, Direct, Order, Refusal};
 use ix_recall::{RecallFault, Recalled, recall};
 use ix_replay::Replayed;
-use ix_state::{Held, Open};
 use ix_steps::{Next, Step, refusal_of};
 use ix_store::{BookFault, Made, Memory};
 use std::alloc::Global;
@@ -176,6 +176,7 @@ impl Memory for Tier {
 
     fn prepare(&self, alloc: Global, order: Order, drawn: u64) -> Result<Made<Next>, Refusal> {
         if let Some(refusal) = hindrance(&self.held, &order, drawn) {
+            drop(order);
             return Err(refusal);
         }
         make_order(alloc, &self.held, order)

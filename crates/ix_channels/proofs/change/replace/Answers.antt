@@ -1,7 +1,7 @@
 use Rattle.std.proofs.Common.{◌<◌, ◌∙◌, ap, set, length, arith}
 use Rattle.ix_shelves.proofs.Updates.{set_update}
 use Rattle.ix_channels.specs.Changes.{with_channel}
-use Rattle.ix_state.specs.declared.held.Open.{Open}
+use Rattle.ix_kept.specs.declared.held.Open.{Open}
 use Rattle.ix_channels.proofs.change.replace.Goals as goal
 
 pub returns : goal.returns

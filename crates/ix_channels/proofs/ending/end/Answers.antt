@@ -4,8 +4,8 @@ use Rattle.std.specs.List.{position}
 use Rattle.ix_items.specs.declared.items.Item.{Item}
 use Rattle.ix_items.specs.declared.items.Item.TheVariants as items
 use Rattle.ix_machine.specs.declared.commands.Command.TheVariants.{End}
-use Rattle.ix_state.specs.Causes.{has_name}
-use Rattle.ix_state.specs.declared.held.Open.{Open}
+use Rattle.ix_kept.specs.Causes.{has_name}
+use Rattle.ix_kept.specs.declared.held.Open.{Open}
 use Rattle.ix_channels.specs.declared.change.ChannelChange.TheVariants as change
 use Rattle.ix_channels.specs.declared.working.WorkFault.TheVariants as faults
 use Rattle.ix_channels.proofs.Alike.{alike}

@@ -5,8 +5,8 @@ use Rattle.ix_items.specs.Spelling.{HasSpelling}
 use Rattle.ix_machine.specs.Step.{after}
 use Rattle.ix_machine.specs.declared.commands.Command.TheVariants.{Configure}
 use Rattle.ix_shelves.specs.Numbers.{HasRecord}
-use Rattle.ix_state.specs.Held.{IsOpen}
-use Rattle.ix_state.specs.declared.held.Open.{Open}
+use Rattle.ix_kept.specs.Held.{IsOpen}
+use Rattle.ix_kept.specs.declared.held.Open.{Open}
 use Rattle.ix_channels.specs.Ended.{AreEnded}
 use Rattle.ix_channels.specs.declared.working.WorkFault.TheVariants as faults
 use Rattle.ix_channels.proofs.EndedLemmas.{end_all_works}

@@ -4,8 +4,8 @@ use Rattle.std.proofs.Common.{◌≡◌, ◌<◌, List, subst, length, rules}
 use Rattle.std.specs.Prelude.{IsErrOf, Some, None}
 use Rattle.std.specs.List.{position}
 use Rattle.ix_machine.specs.declared.commands.Command.TheVariants.{Block}
-use Rattle.ix_state.specs.Causes.{has_name}
-use Rattle.ix_state.specs.declared.held.Open.{Open}
+use Rattle.ix_kept.specs.Causes.{has_name}
+use Rattle.ix_kept.specs.declared.held.Open.{Open}
 use Rattle.ix_channels.specs.declared.change.ChannelChange.TheVariants as change
 use Rattle.ix_channels.specs.declared.working.WorkFault.TheVariants as faults
 use Rattle.ix_channels.proofs.Alike.{alike}

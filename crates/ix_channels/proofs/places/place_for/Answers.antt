@@ -1,6 +1,6 @@
 use Rattle.std.proofs.Common.{sym}
 use Rattle.std.specs.Prelude.{not}
-use Rattle.ix_state.specs.declared.held.Open.{Open}
+use Rattle.ix_kept.specs.declared.held.Open.{Open}
 use Rattle.ix_channels.specs.Places.{is_before}
 use Rattle.ix_channels.proofs.Channels.{found_none}
 use Rattle.ix_channels.proofs.places.place_for.Goals as goal

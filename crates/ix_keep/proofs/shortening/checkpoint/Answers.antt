@@ -7,7 +7,7 @@ use Rattle.ix_disk.specs.Moments.{Goes}
 use Rattle.ix_log.specs.Log.{IsAtEnd, file_of}
 use Rattle.ix_book.specs.Book.{IsBody}
 use Rattle.ix_book.specs.Root.{log_file, roots}
-use Rattle.ix_checkpoint.specs.Whole.{whole, whole_body}
+use Rattle.ix_book.specs.Whole.{whole, whole_body}
 use Rattle.ix_keep.specs.Snapshot.{log_of}
 use Rattle.ix_keep.specs.Shortening.{HasOneBody}
 use Rattle.ix_keep.proofs.Settling.{anyhow_on, loosely}

@@ -1,7 +1,7 @@
 use Rattle.std.proofs.Common.{◌≡◌, arith, refl, ap}
 use Rattle.std.specs.Prelude.{Err}
 use Rattle.std.proofs.lemmas.Result.{err_from_is_err_and}
-use Rattle.ix_checkpoint.specs.declared.fault.CheckpointFault.{CheckpointFault}
+use Rattle.ix_book.specs.declared.fault.CheckpointFault.{CheckpointFault}
 use Rattle.ix_keep.specs.declared.fault.CommitFault.TheVariants as commits
 use Rattle.ix_run.specs.Resting.{is_failed}
 use Rattle.ix_run.proofs.Gone.{settled_short, settled_none, stood_here, stood_either, stood_short}

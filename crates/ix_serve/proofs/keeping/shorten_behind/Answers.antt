@@ -1,7 +1,7 @@
 use Rattle.std.proofs.Common.{◌∙◌, length, sym, ap, subst, refl, inl, Err}
 use Rattle.std.specs.Prelude.{Result, IsErrOf}
-use Rattle.ix_checkpoint.specs.declared.fault.CheckpointFault.{CheckpointFault}
-use Rattle.ix_checkpoint.specs.declared.fault.CheckpointFault.TheVariants as faults
+use Rattle.ix_book.specs.declared.fault.CheckpointFault.{CheckpointFault}
+use Rattle.ix_book.specs.declared.fault.CheckpointFault.TheVariants as faults
 use Rattle.ix_serve.proofs.Standing.{committing}
 use Rattle.ix_serve.proofs.Behind.{ok_err, all_in, shortened_images, shortened_held}
 use Rattle.ix_serve.proofs.keeping.shorten_behind.Goals as goal

@@ -16,9 +16,9 @@ loop-at-preserved g c =
           let s = sees c.loop-at.at (omega arith) in
           goes-on (Knows c.args.plan) c.args.plan.code.now real start place c.loop-at.at _ c.loop-at.room.main.cells.items c.round.new.room.main.cells.items
           c.loop-at.room.main.stack.items c.round.new.room.main.ready.items c.step.new.stack.items c.loop-at.best c.in_ok-best.best (answers_to c.args.plan.tests.pattern.now.rows (get_or c.args.input.bytes.now c.loop-at.at 0))
-          (c.in_ok-best.ensures.rounds real s.0)
+          (c.in_ok-best.ensures.rounds real s.0 s.1)
           (subst (λ r. Steps c.args.plan.code.now (answers_to c.args.plan.tests.pattern.now.rows (get_or c.args.input.bytes.now c.loop-at.at 0)) r c.step.new.stack.items) c.deref.ensures.value c.in_ok-step.ensures.steps)
-          (s.1 ∙ slice_get-get_or c.args.input.bytes.now c.loop-at.at 0 (omega arith)) (λ rows t. are-answers c.args.plan.tests.pattern.now.rows rows (get_or c.args.input.bytes.now c.loop-at.at 0) t.same)
+          (s.2 ∙ slice_get-get_or c.args.input.bytes.now c.loop-at.at 0 (omega arith)) (λ rows t. are-answers c.args.plan.tests.pattern.now.rows rows (get_or c.args.input.bytes.now c.loop-at.at 0) t.same)
           (c.loop-at.invariant.moves real sees start place g);
       known = c.in_ok-step.ensures.known (length c.round.new.room.main.cells.items) (subst (AllKnown (length c.args.plan.code.now) (length c.round.new.room.main.cells.items)) (sym c.deref.ensures.value) c.in_ok-best.ensures.known);
       room = c.in_ok-best.ensures.room;

@@ -18,14 +18,14 @@ returns-then-is_empty-clause-head g c =
     let none : length c.round.new.room.main.ready.items ≡ 0 = search rules in
     λ start place g. ends-none (Knows c.args.plan) c.args.plan.code.now (text_of c.args.input) start place c.loop-at.at c.loop-at.room.main.cells.items c.round.new.room.main.cells.items
     c.loop-at.room.main.stack.items c.round.new.room.main.ready.items c.loop-at.best c.in_ok-best.best
-    (c.in_ok-best.ensures.rounds (text_of c.args.input) (agrees-refl (text_of c.args.input) c.loop-at.at (omega arith))) (nil_from_length c.round.new.room.main.ready.items none) (c.loop-at.invariant.goes start place g)
+    (c.in_ok-best.ensures.rounds (text_of c.args.input) (agrees-refl (text_of c.args.input) c.loop-at.at (omega arith)) (λ k ask got. refl)) (nil_from_length c.round.new.room.main.ready.items none) (c.loop-at.invariant.goes start place g)
 
 pub loop-at-preserved : goal.loop-at-preserved
 loop-at-preserved g c =
     record {
       goes = λ start place g. goes-on (Knows c.args.plan) c.args.plan.code.now (text_of c.args.input) start place c.loop-at.at _ c.loop-at.room.main.cells.items c.round.new.room.main.cells.items
           c.loop-at.room.main.stack.items c.round.new.room.main.ready.items c.step.new.stack.items c.loop-at.best c.in_ok-best.best (answers_to c.args.plan.tests.pattern.now.rows (get_or c.args.input.bytes.now c.loop-at.at 0))
-          (c.in_ok-best.ensures.rounds (text_of c.args.input) (agrees-refl (text_of c.args.input) c.loop-at.at (omega arith)))
+          (c.in_ok-best.ensures.rounds (text_of c.args.input) (agrees-refl (text_of c.args.input) c.loop-at.at (omega arith)) (λ k ask got. refl))
           (subst (λ r. Steps c.args.plan.code.now (answers_to c.args.plan.tests.pattern.now.rows (get_or c.args.input.bytes.now c.loop-at.at 0)) r c.step.new.stack.items) c.deref.ensures.value c.in_ok-step.ensures.steps)
           (slice_get-get_or c.args.input.bytes.now c.loop-at.at 0 (omega arith)) (λ rows t. are-answers c.args.plan.tests.pattern.now.rows rows (get_or c.args.input.bytes.now c.loop-at.at 0) t.same)
           (c.loop-at.invariant.goes start place g);
@@ -41,7 +41,7 @@ returns-then-not-is_empty-clause-head g c =
     let some : length c.round-2.new.room.main.ready.items ≡ 0 → ⊥ = search rules in
     λ start place g. ends-open (Knows c.args.plan) c.args.plan.code.now (text_of c.args.input) start place (length c.args.input.bytes.now) c.loop-at.room.main.cells.items c.round-2.new.room.main.cells.items
     c.loop-at.room.main.stack.items c.round-2.new.room.main.ready.items c.loop-at.best c.in_ok-best-2.best
-    (c.in_ok-best-2.ensures.rounds (text_of c.args.input) (agrees-refl (text_of c.args.input) (length c.args.input.bytes.now) (omega arith))) c.in_ok-best-2.ensures.bytes refl c.if-input.true (λ e. some (ap length e))
+    (c.in_ok-best-2.ensures.rounds (text_of c.args.input) (agrees-refl (text_of c.args.input) (length c.args.input.bytes.now) (omega arith)) (λ k ask got. refl)) c.in_ok-best-2.ensures.bytes refl c.if-input.true (λ e. some (ap length e))
     (subst (λ p. Goes (Knows c.args.plan) c.args.plan.code.now (text_of c.args.input) start place p c.loop-at.room.main.cells.items c.loop-at.room.main.stack.items c.loop-at.best) last (c.loop-at.invariant.goes start place g))
 
 pub returns-clause-head : goal.returns-clause-head
@@ -53,11 +53,11 @@ returns-clause-head g c =
           (let none : length c.round-2.new.room.main.ready.items ≡ 0 = search rules in
           ends-none (Knows c.args.plan) c.args.plan.code.now (text_of c.args.input) start place (length c.args.input.bytes.now) c.loop-at.room.main.cells.items c.round-2.new.room.main.cells.items
           c.loop-at.room.main.stack.items c.round-2.new.room.main.ready.items c.loop-at.best c.in_ok-best-2.best
-          (c.in_ok-best-2.ensures.rounds (text_of c.args.input) (agrees-refl (text_of c.args.input) (length c.args.input.bytes.now) (omega arith))) (nil_from_length c.round-2.new.room.main.ready.items none) goes)
+          (c.in_ok-best-2.ensures.rounds (text_of c.args.input) (agrees-refl (text_of c.args.input) (length c.args.input.bytes.now) (omega arith)) (λ k ask got. refl)) (nil_from_length c.round-2.new.room.main.ready.items none) goes)
       | else-input-via-else-input w ↦
           ends-closed (Knows c.args.plan) c.args.plan.code.now (text_of c.args.input) start place (length c.args.input.bytes.now) c.loop-at.room.main.cells.items c.round-2.new.room.main.cells.items
           c.loop-at.room.main.stack.items c.round-2.new.room.main.ready.items c.loop-at.best c.in_ok-best-2.best
-          (c.in_ok-best-2.ensures.rounds (text_of c.args.input) (agrees-refl (text_of c.args.input) (length c.args.input.bytes.now) (omega arith))) c.in_ok-best-2.ensures.bytes refl w.if-input.false goes
+          (c.in_ok-best-2.ensures.rounds (text_of c.args.input) (agrees-refl (text_of c.args.input) (length c.args.input.bytes.now) (omega arith)) (λ k ask got. refl)) c.in_ok-best-2.ensures.bytes refl w.if-input.false goes
     ])
 
 pub loop-at-init : goal.loop-at-init

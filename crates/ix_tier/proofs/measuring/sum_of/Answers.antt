@@ -2,7 +2,7 @@ use Rattle.std.proofs.Common.{ℕ, List, [], ◌∷◌, ◌++◌, map, take, ap,
 use Rattle.std.proofs.lemmas.List.{map-append, take_all, take_more}
 use Rattle.ix_base.specs.declared.events.ChannelMeta.{ChannelMeta}
 use Rattle.ix_bounds.specs.Totals.{AreChannels}
-use Rattle.ix_state.specs.declared.held.Open.{Open}
+use Rattle.ix_kept.specs.declared.held.Open.{Open}
 use Rattle.ix_tier.specs.Seen.{named}
 use Rattle.ix_tier.proofs.measuring.sum_of.Goals as goal
 

@@ -1,7 +1,7 @@
 use Rattle.std.proofs.Common.{ℕ, List, [], ◌∷◌, ◌++◌, map, take, drop, subst}
 use Rattle.ix_base.specs.declared.events.ChannelMeta.{ChannelMeta}
 use Rattle.ix_bounds.specs.Totals.{AreChannels}
-use Rattle.ix_state.specs.declared.held.Open.{Open}
+use Rattle.ix_kept.specs.declared.held.Open.{Open}
 use Rattle.ix_tier.specs.Seen.{named}
 use Rattle.ix_tier.proofs.Measured.{named_insert, rest}
 use Rattle.ix_tier.proofs.measuring.with_one.Goals as goal

@@ -1,8 +1,10 @@
-use Rattle.std.proofs.Common.{rules, arith, ◌≡◌, ◌∙◌, sym, ap, inl, IfOk}
-use Rattle.ix_match.specs.Scans.{Scanned}
+use Rattle.std.proofs.Common.{rules, arith, ◌≡◌, ◌<◌, ◌∙◌, ap, inr, subst, length, IfOk, sym}
+use Rattle.ix_match.specs.Scans.{Scanned, GoesOn}
+use Rattle.ix_lines.specs.Begun.{Breaking, IsBegun}
 use Rattle.ix_lines.specs.Breaks.{breaks_by}
 use Rattle.ix_lines.specs.Seek.{look_of}
 use Rattle.ix_lines.proofs.Attempts.{breaks-stable}
+use Rattle.ix_lines.proofs.Looking.{any-ok, given-these, no-tests}
 use Rattle.ix_lines.proofs.SeekLemmas.{answer-sized}
 use Rattle.ix_lines.proofs.RunBreaks.{counted-look}
 use Rattle.ix_lines.proofs.breaks.Breaker.look.Goals as goal
@@ -18,12 +20,21 @@ returns-then-self-clause-is g c =
     let i = c.self.inside in
     c.run_at.ensures
     ∙ counted-look i.pattern i.scan.starts c.self.invariant.2 (c.self.invariant.4 c.if-self.true) c.args.before c.args.bytes.now c.args.unfinished (λ k. omega (arith, c.type_inv.bytes k))
-    ∙ ap (λ q. breaks_by q c.args.before c.args.bytes.now c.args.unfinished) c.self.view_is
+    ∙ ap (λ (b : Breaking). breaks_by b.pattern c.args.before c.args.bytes.now c.args.unfinished) c.self.view_is
 
 pub advance-requires : goal.advance-requires
 advance-requires g c =
-    let emptied = c.reset.ensures in
     record {
-      pattern = sym (ap (λ (s : Scanned). s.pattern) emptied ∙ c.self.invariant.3);
-      goes_on = inl (ap (λ (s : Scanned). s.given) emptied);
+      pattern = sym c.self.invariant.3;
+      goes_on = subst (λ (b : Breaking). GoesOn b.scan c.args.before c.args.bytes.now) (sym c.self.view_is) c.requires;
     }
+
+pub returns-clause-goes_on : goal.returns-clause-goes_on
+returns-clause-goes_on g c = any-ok c.match-branch-2.result (given-these c.advance.new.self c.self.inside.scan c.args.before c.args.bytes.now c.in_ok-found.ensures.given)
+
+pub returns-clause-begun : goal.returns-clause-begun
+returns-clause-begun g c = any-ok c.match-branch-2.result (λ some. inr (subst (λ (s : Scanned). 0 < length s.given) (sym c.in_ok-found.ensures.given) some))
+
+pub returns-clause-again : goal.returns-clause-again
+returns-clause-again g c = λ begun.
+    no-tests c.self.inside.scan c.self.inside.counts _ c.if-self.false c.advance.ensures.goes_on (subst IsBegun (sym c.self.view_is) begun)

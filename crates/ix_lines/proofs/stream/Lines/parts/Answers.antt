@@ -7,6 +7,6 @@ use Rattle.ix_lines.proofs.stream.Lines.parts.Goals as goal
 
 pub returns-clause-pending : goal.returns-clause-pending
 returns-clause-pending c =
-    let look = c.self.inside.cutter.breaker in
+    let look = c.self.inside.cutter.breaker.pattern in
     rw (← c.self.view_is) (λ stream stands.
     few-carried (breaks_by look) reach (breaks-wait look) reach-some c.self.inside.cutter.truncate stream _ c.in_ok-pending.pending stands c.in_ok-pending.ensures)

@@ -4,7 +4,7 @@ use Rattle.ix_machine.specs.Step.{after}
 use Rattle.ix_moves.specs.Moving.{IsMoved}
 use Rattle.ix_moves.specs.declared.moved.Moved.{Moved}
 use Rattle.ix_moves.proofs.Configured.{reshelved, configure_moves, configure_full}
-use Rattle.ix_snapshot.specs.Shelved.{shelved_indexes}
+use Rattle.ix_machine.specs.Shelved.{shelved_indexes}
 use Rattle.ix_moves.proofs.moved.Base.configure.Goals as goal
 
 pub returns-clause-done : goal.returns-clause-done

@@ -1,4 +1,4 @@
-use Rattle.std.proofs.Common.{◌∙◌, ap, sym, subst, ◌++◌, w64}
+use Rattle.std.proofs.Common.{◌∙◌, ap, sym, subst, ◌++◌, ◌+◌, ◌*◌, ◌<◌, ◌≤◌, length, w64}
 use Rattle.std.specs.List.{All}
 use Rattle.std.proofs.lemmas.List.Elements.{All-nil}
 use mir.Val.{SFits}
@@ -7,6 +7,7 @@ use Rattle.ix_base.specs.Clocks.{clamped}
 use Rattle.ix_base.specs.Stream.{dated}
 use Rattle.ix_lines.specs.Breaks.{breaks_by}
 use Rattle.ix_lines.specs.Lines.{effective, IsShort}
+use Rattle.ix_lines.specs.Parts.{Held, moved}
 use Rattle.ix_parse.specs.Standing.{Kept}
 use Rattle.ix_parse.proofs.LineLemmas.{fed-lines}
 use Rattle.ix_parse.proofs.StandLemmas.{marked_of, copied, as-stated, goes-on}
@@ -43,3 +44,15 @@ returns-clause-settles g c = λ settings meta stream is.
       },
       o.settles,
     )
+
+pub returns-clause-counted : goal.returns-clause-counted
+returns-clause-counted g c =
+    let n = length c.args.bytes.now in
+    subst (λ (old : Held). c.feed.new.steps ≤ c.args.steps.now + old.breaker.weight * 512 * (moved old n c.feed.new.self + 1))
+    (c.in_ok-lines.ensures ∙ ap (λ (v : Kept). v.lines) c.self.view_is) c.in_ok-feed.ensures.counted
+
+pub returns-clause-again : goal.returns-clause-again
+returns-clause-again g c =
+    let n = length c.args.bytes.now in
+    subst (λ (old : Held). 0 < length old.parts.pending → c.feed.new.steps ≤ c.args.steps.now + old.breaker.weight * 512 * moved old n c.feed.new.self)
+    (c.in_ok-lines.ensures ∙ ap (λ (v : Kept). v.lines) c.self.view_is) c.in_ok-feed.ensures.again

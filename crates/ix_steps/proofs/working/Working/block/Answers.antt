@@ -4,7 +4,7 @@ use Rattle.std.specs.declared.result.Result.{Result}
 use Rattle.std.proofs.lemmas.Result.{IfOk-weaker, err_from_is_err_and}
 use Rattle.ix_machine.specs.declared.commands.Command.TheVariants.{Block}
 use Rattle.ix_machine.specs.declared.commands.Config.{Config}
-use Rattle.ix_snapshot.specs.Said.{spot_item}
+use Rattle.ix_machine.specs.Said.{spot_item}
 use Rattle.ix_steps.specs.Settings.{config_after}
 use Rattle.ix_steps.specs.Steps.{IsBeside}
 use Rattle.ix_steps.specs.declared.steps.StepFault.{StepFault}
@@ -14,20 +14,20 @@ use Rattle.ix_steps.proofs.working.Working.block.Goals as goal
 again : {T U : Type 0} (e : StepFault) → ◌≡◌ {A = Result T StepFault} (Err e) (Err faults.Full) → ◌≡◌ {A = Result U StepFault} (Err e) (Err faults.Full)
 again e h = cc
 
-pub returns-clause-done : goal.returns-clause-done
-returns-clause-done c =
+pub returns-in-Ok-clause-done : goal.returns-in-Ok-clause-done
+returns-in-Ok-clause-done c =
     IfOk-weaker c.dealt.result _ _
     (λ step done. done.steps (Block c.args.channel.now c.args.bytes.now c.args.spot) tt
     (record {
-      items_are = c.in_ok-beside.ensures.items ∙ sym (append-nil (spot_item c.args.spot));
-      config_is = ap (λ (o : Option Config). config_after c.args.self.now.held.now.config o) c.in_ok-beside.ensures.config;
-      spots_are = c.in_ok-beside.ensures.spot;
+      items_are = c.in-Ok.ensures.items ∙ sym (append-nil (spot_item c.args.spot));
+      config_is = ap (λ (o : Option Config). config_after c.args.self.now.held.now.config o) c.in-Ok.ensures.config;
+      spots_are = c.in-Ok.ensures.spot;
     })
     (c.in_ok-worked.ensures.done.works c.args.spot))
     c.dealt.ensures.done
 
-pub returns-clause-full : goal.returns-clause-full
-returns-clause-full c =
+pub returns-in-Ok-clause-full : goal.returns-in-Ok-clause-full
+returns-in-Ok-clause-full c =
     λ full. (c.dealt.ensures.full full).over (Block c.args.channel.now c.args.bytes.now c.args.spot) tt (c.in_ok-worked.ensures.done.works c.args.spot)
 
 pub returns-in_err-worked-clause-full : goal.returns-in_err-worked-clause-full

@@ -2,7 +2,7 @@ use Rattle.std.proofs.Common.{refl, ap, ◌∙◌, length}
 use Rattle.std.specs.Prelude.{Err}
 use Rattle.ix_keep.specs.declared.mounting.MountFault.{MountFault as KeptFault}
 use Rattle.ix_keep.proofs.Reading.{begun_has_run}
-use Rattle.ix_snapshot.specs.Snap.{leaves}
+use Rattle.ix_machine.specs.Snap.{leaves}
 use Rattle.ix_store.specs.declared.memory.BookFault.{BookFault}
 use Rattle.ix_store.proofs.Committed.{family_from, holds_mounted, none_unsound, kept_damaged, kept_full}
 use Rattle.ix_store.proofs.Undamaged.{keeps_undamaged}

@@ -1,8 +1,8 @@
 use Rattle.std.proofs.Common.{◌∙◌, List, ap}
 use Rattle.std.specs.List.{list_any}
 use Rattle.ix_machine.specs.Step.{after}
-use Rattle.ix_state.specs.Causes.{has_name}
-use Rattle.ix_state.specs.declared.held.Open.{Open}
+use Rattle.ix_kept.specs.Causes.{has_name}
+use Rattle.ix_kept.specs.declared.held.Open.{Open}
 use Rattle.ix_tier.proofs.Opened.{open_is}
 use Rattle.ix_tier.proofs.tier.TierMemory.has_channel.Goals as goal
 

@@ -1,0 +1,19 @@
+//! Tests of the whole program, by `top`, over the forms in memory: the commands without a store, those over one, and the
+//! requests that it serves; and of a checkpoint, which the store is asked for.
+
+mod btool;
+mod checkpointed;
+mod connections;
+mod damage;
+mod events;
+mod examples;
+mod exchanges;
+mod hostile;
+mod program;
+mod requests;
+mod runs;
+mod settings;
+mod shortened;
+mod shows;
+mod sockets;
+mod stops;

@@ -1,0 +1,67 @@
+use Rattle.std.proofs.Common.{◌≡◌, ℕ, List, [], ◌∷◌, ◌++◌, refl, ap, subst, sym, ◌∙◌, inl}
+use Rattle.ix_base.specs.declared.files.File.{File}
+use Rattle.ix_disk.specs.Image.{Apart}
+use Rattle.ix_disk.specs.Moments.{Goes}
+use Rattle.ix_items.specs.Spelling.{item_bytes, body_bytes}
+use Rattle.ix_items.specs.declared.items.Item.{Item}
+use Rattle.ix_log.specs.Log.{IsAtEnd, IsPutting, WithOrWithout, file_of}
+use Rattle.ix_book.specs.Whole.{removal}
+use Rattle.ix_book.proofs.PutItems.{apart_of, apart_more, is_whole, body_end}
+use Rattle.ix_book.proofs.writing.write_log.Goals as goal
+
+pub returns-in_err-last-clause-images : goal.returns-in_err-last-clause-images
+returns-in_err-last-clause-images g c =
+    let file = c.args.file in
+    apart_more g.D.Disk c.args.disk.now c.begin.new.disk c.put_items.new.disk file c.begin.ensures.images
+    (subst (λ (f : File). Goes g.D.Disk c.begin.new.disk c.put_items.new.disk (Apart f)) c.in_ok-log.ensures.file c.put_items.ensures.images)
+
+pub returns-in_err-put_item-clause-images : goal.returns-in_err-put_item-clause-images
+returns-in_err-put_item-clause-images g c =
+    let file = c.args.file in
+    let begun = c.in_ok-log.ensures.file in
+    apart_more g.D.Disk c.args.disk.now c.put_items.new.disk c.put_item.new.disk file
+    (apart_more g.D.Disk c.args.disk.now c.begin.new.disk c.put_items.new.disk file c.begin.ensures.images
+    (subst (λ (f : File). Goes g.D.Disk c.begin.new.disk c.put_items.new.disk (Apart f)) begun c.put_items.ensures.images))
+    (subst (λ (f : File). Goes g.D.Disk c.put_items.new.disk c.put_item.new.disk (Apart f)) (c.put_items.ensures.file ∙ begun) c.put_item.ensures.images)
+
+pub returns-in_err-finish-clause-images : goal.returns-in_err-finish-clause-images
+returns-in_err-finish-clause-images g c =
+    let file = c.args.file in
+    let begun = c.in_ok-log.ensures.file in
+    let told = body_bytes (g.W.Whole.left c.args.state.now) in
+    let ready = c.in_ok-put_items.ensures.put [] (inl (c.in_ok-log.ensures.empty, refl)) in
+    let putting = c.in_ok-put_item.ensures.put told ready in
+    apart_more g.D.Disk c.args.disk.now c.put_item.new.disk c.finish.new.disk file
+    (apart_more g.D.Disk c.args.disk.now c.put_items.new.disk c.put_item.new.disk file
+    (apart_more g.D.Disk c.args.disk.now c.begin.new.disk c.put_items.new.disk file c.begin.ensures.images
+    (subst (λ (f : File). Goes g.D.Disk c.begin.new.disk c.put_items.new.disk (Apart f)) begun c.put_items.ensures.images))
+    (subst (λ (f : File). Goes g.D.Disk c.put_items.new.disk c.put_item.new.disk (Apart f)) (c.put_items.ensures.file ∙ begun) c.put_item.ensures.images))
+    (subst (λ (f : File). Goes g.D.Disk c.put_item.new.disk c.finish.new.disk (Apart f)) (c.put_item.ensures.file ∙ c.put_items.ensures.file ∙ begun)
+    (apart_of g.D.Disk c.put_item.new.disk c.finish.new.disk (file_of c.put_item.new.log) (WithOrWithout [] (told ++ item_bytes c.in_ok-last.last)) (c.finish.ensures.images [] (told ++ item_bytes c.in_ok-last.last) putting)))
+
+pub returns-clause-images : goal.returns-clause-images
+returns-clause-images g c =
+    let file = c.args.file in
+    let begun = c.in_ok-log.ensures.file in
+    let told = body_bytes (g.W.Whole.left c.args.state.now) in
+    let ready = c.in_ok-put_items.ensures.put [] (inl (c.in_ok-log.ensures.empty, refl)) in
+    let putting = c.in_ok-put_item.ensures.put told ready in
+    apart_more g.D.Disk c.args.disk.now c.put_item.new.disk c.finish.new.disk file
+    (apart_more g.D.Disk c.args.disk.now c.put_items.new.disk c.put_item.new.disk file
+    (apart_more g.D.Disk c.args.disk.now c.begin.new.disk c.put_items.new.disk file c.begin.ensures.images
+    (subst (λ (f : File). Goes g.D.Disk c.begin.new.disk c.put_items.new.disk (Apart f)) begun c.put_items.ensures.images))
+    (subst (λ (f : File). Goes g.D.Disk c.put_items.new.disk c.put_item.new.disk (Apart f)) (c.put_items.ensures.file ∙ begun) c.put_item.ensures.images))
+    (subst (λ (f : File). Goes g.D.Disk c.put_item.new.disk c.finish.new.disk (Apart f)) (c.put_item.ensures.file ∙ c.put_items.ensures.file ∙ begun)
+    (apart_of g.D.Disk c.put_item.new.disk c.finish.new.disk (file_of c.put_item.new.log) (WithOrWithout [] (told ++ item_bytes c.in_ok-last.last)) (c.finish.ensures.images [] (told ++ item_bytes c.in_ok-last.last) putting)))
+
+pub returns-clause-written : goal.returns-clause-written
+returns-clause-written g c =
+    let items = g.W.Whole.left c.args.state.now in
+    let told = body_bytes items in
+    let ready = c.in_ok-put_items.ensures.put [] (inl (c.in_ok-log.ensures.empty, refl)) in
+    let putting = c.in_ok-put_item.ensures.put told ready in
+    let bytes = ap (λ (item : Item). told ++ item_bytes item) c.in_ok-last.ensures.is ∙ sym (body_end items (removal c.args.done)) in
+    subst (λ (b : List ℕ). IsAtEnd g.D.Disk c.finish.new.self c.finish.new.disk (b ∷ [])) bytes (c.in_ok-finish.ensures.finished [] (told ++ item_bytes c.in_ok-last.last) putting)
+
+pub returns-clause-body : goal.returns-clause-body
+returns-clause-body g c = is_whole (g.W.Whole.left c.args.state.now) c.args.done c.in_ok-put_items.ensures.proper c.in_ok-last.ensures.proper

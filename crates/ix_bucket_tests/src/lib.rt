@@ -1,5 +1,0 @@
-//! Tests of event records, by public calls.
-#![tactic(auto)]
-
-#[cfg(test)]
-mod bucket;

@@ -1,5 +1,0 @@
-//! Tests of disks, by public calls.
-#![tactic(auto)]
-
-#[cfg(test)]
-mod disk;

@@ -1,0 +1,192 @@
+//! Words and what they ask for, worked by hand. Where memory is lacking a text stays too short, and is not what is wanted.
+
+use indexd_words::{Refusal, lend_words, read_words};
+use ix_base::Text;
+use std::alloc::Global;
+use std::fmt::Debug;
+use std::process::Abort;
+
+/// Writes an answer.
+fn note<T: Debug + Drop>(text: &mut String, answer: T) {
+    let _ = write!(text, "{answer:?}");
+}
+
+/// Compares what was found with what is wanted.
+fn compare(rt: &impl Abort, found: String, wanted: &str) {
+    assert_eq!(rt; found.as_str(), wanted);
+}
+
+fn add_word(alloc: Global, words: &mut Vec<Text>, word: &str) {
+    if let Ok(word) = String::from_str(alloc, word) {
+        let _ = words.push(Text::from_string(word));
+    }
+}
+
+/// The words of a line, which has `|` between them; an empty line has none.
+fn words_of(alloc: Global, line: &str) -> Vec<Text> {
+    let mut words = Vec::new(alloc);
+    if !line.is_empty() {
+        for word in line.split('|') {
+            add_word(alloc, &mut words, word);
+        }
+    }
+    words
+}
+
+/// Writes the order of these words, or why there is none.
+fn note_order(text: &mut String, alloc: Global, words: &[&str]) {
+    match read_words(alloc, words) {
+        Ok(order) => note(text, order),
+        Err(Refusal::Usage) => {
+            let _ = text.push_str("usage");
+        }
+        Err(Refusal::NoMemory) => {
+            let _ = text.push_str("no memory");
+        }
+    }
+}
+
+/// What the words of a line come to.
+fn outcome(alloc: Global, line: &str) -> String {
+    let mut text = String::new(alloc);
+    let words = words_of(alloc, line);
+    if let Ok(lent) = lend_words(alloc, &words) {
+        note_order(&mut text, alloc, &lent);
+        drop(lent);
+    }
+    drop(words);
+    text
+}
+
+static CASES: [(&str, &str); 51] = [
+    (
+        "preview|--host|web 1|--source|/var/log/x",
+        "Preview { origin: Origin { host: \"web 1\", source: \"/var/log/x\", sourcetype: None, index: None }, store: false }",
+    ),
+    // options in any order, some with `=`
+    (
+        "preview|--store|--index=|--source=-|--sourcetype|t|--host=-h",
+        "Preview { origin: Origin { host: \"-h\", source: \"-\", sourcetype: Some(\"t\"), index: Some(\"\") }, store: true }",
+    ),
+    (
+        "preview|--host|-|--source|=|--",
+        "Preview { origin: Origin { host: \"-\", source: \"=\", sourcetype: None, index: None }, store: false }",
+    ),
+    ("preview|--host|h", "usage"),
+    ("preview|--source|s", "usage"),
+    ("preview|--host|h|--source", "usage"),
+    ("preview|--host|h|--source|", "usage"),
+    ("preview|--host=|--source|s", "usage"),
+    ("preview|--host|h|--source|s|--sourcetype=", "usage"),
+    ("preview|--host|-h|--source|s", "usage"),
+    ("preview|--host|h|--host|h|--source|s", "usage"),
+    ("preview|--host|h|--source|s|--store=true", "usage"),
+    ("preview|--host|h|--source|s|more", "usage"),
+    ("--host|h|--source|s|preview", "usage"),
+    ("btool|props", "Btool { file: \"props\" }"),
+    ("btool|zones", "Btool { file: \"zones\" }"),
+    ("btool|--|inputs", "Btool { file: \"inputs\" }"),
+    ("btool|server", "usage"),
+    ("btool", "usage"),
+    ("btool|props|list", "usage"),
+    ("feed", "Feed"),
+    ("feed|x", "usage"),
+    (
+        "serve|--port|0|--requests|1",
+        "Serve { port: 0, requests: 1 }",
+    ),
+    (
+        "serve|--requests=1000000|--port=65535",
+        "Serve { port: 65535, requests: 1000000 }",
+    ),
+    ("serve|--port|65536|--requests|1", "usage"),
+    ("serve|--port|1|--requests|0", "usage"),
+    ("serve|--port|1|--requests|1000001", "usage"),
+    ("serve|--port|+1|--requests|1", "usage"),
+    ("serve|--port|01|--requests|1", "usage"),
+    ("serve|--port|1", "usage"),
+    ("monitor", "Monitor { close: false }"),
+    ("monitor|--close", "Monitor { close: true }"),
+    ("monitor|--closed", "usage"),
+    ("buckets", "Buckets"),
+    (
+        "export|main",
+        "Export { index: \"main\", range: Range { earliest: None, latest: None } }",
+    ),
+    (
+        "export|--latest|00000000007|main|--earliest=-99999999999",
+        "Export { index: \"main\", range: Range { earliest: Some(-99999999999), latest: Some(7) } }",
+    ),
+    ("export|main|--latest=100000000000", "usage"),
+    ("export|main|--earliest=", "usage"),
+    ("export|main|--earliest=-", "usage"),
+    ("export|main|--earliest|-5", "usage"),
+    ("export|main|--latest=1.5", "usage"),
+    ("roll|", "Roll { index: \"\" }"),
+    (
+        "thaw|main|18446744073709551615",
+        "Thaw { index: \"main\", id: 18446744073709551615 }",
+    ),
+    ("thaw|main|18446744073709551616", "usage"),
+    ("tick", "Tick"),
+    ("selftest|7|30000", "Selftest { seed: 7, count: 30000 }"),
+    ("selftest|7|1000001", "usage"),
+    ("", "usage"),
+    ("help", "usage"),
+    ("--help", "usage"),
+    ("preview|--help", "usage"),
+];
+
+/// The lines that come to anything else than they should, each with what it comes to.
+fn lines_unlike(alloc: Global) -> String {
+    let mut text = String::new(alloc);
+    for (line, wanted) in &CASES {
+        let found = outcome(alloc, line);
+        if found.as_str() != *wanted {
+            note(&mut text, *line);
+            note(&mut text, found.as_str());
+        }
+        drop(found);
+    }
+    text
+}
+
+#[test]
+fn words_ask_for_commands(rt: HostRuntime) {
+    compare(&rt, lines_unlike(rt.alloc()), "");
+}
+
+/// Writes whether these names are taken.
+fn note_names(text: &mut String, alloc: Global, name: &str, sourcetype: &str) {
+    let words = [
+        "preview",
+        "--host",
+        name,
+        "--source",
+        name,
+        "--sourcetype",
+        sourcetype,
+    ];
+    note(text, read_words(alloc, &words).is_ok());
+}
+
+fn many(alloc: Global, count: usize) -> String {
+    "n".repeat(alloc, count).unwrap_or(String::new(alloc))
+}
+
+fn names_said(alloc: Global) -> String {
+    let mut text = String::new(alloc);
+    let name = many(alloc, 1024);
+    let longer = many(alloc, 1025);
+    note_names(&mut text, alloc, name.as_str(), name.as_str());
+    note_names(&mut text, alloc, name.as_str(), longer.as_str());
+    drop(longer);
+    drop(name);
+    text
+}
+
+/// The longest names, and one byte more.
+#[test]
+fn names_have_their_length(rt: HostRuntime) {
+    compare(&rt, names_said(rt.alloc()), "truefalse");
+}

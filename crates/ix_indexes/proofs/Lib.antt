@@ -1,5 +1,0 @@
-pub mod Volumes
-pub mod Limited
-pub mod Shelved
-pub mod Numbered
-pub mod Steps

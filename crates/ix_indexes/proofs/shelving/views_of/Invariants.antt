@@ -1,6 +1,0 @@
-use Rattle.std.proofs.Common.{◌≡◌, map}
-use Rattle.ix_indexes.specs.Shelving.{view_of}
-use Rattle.ix_indexes.proofs.shelving.views_of.Given as goal
-
-abbrev pub invariant-loop-index : goal.invariant-loop-index
-invariant-loop-index l = l.list.items ≡ map (view_of l.set) l.yielded

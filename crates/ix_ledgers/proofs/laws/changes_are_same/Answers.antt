@@ -1,5 +1,0 @@
-use Rattle.ix_ledgers.proofs.Orders.{changes_same}
-use Rattle.ix_ledgers.proofs.laws.changes_are_same.Goals as goal
-
-pub returns : goal.returns
-returns c = λ ledger other more old new h. changes_same ledger other h more old new

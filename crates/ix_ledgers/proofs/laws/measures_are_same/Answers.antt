@@ -1,5 +1,0 @@
-use Rattle.ix_ledgers.proofs.Orders.{measures_same}
-use Rattle.ix_ledgers.proofs.laws.measures_are_same.Goals as goal
-
-pub returns : goal.returns
-returns c = λ ledger other shelves h. measures_same ledger other h shelves

@@ -1,4 +1,0 @@
-pub mod Among
-pub mod Listed
-pub mod Told
-pub mod Laws

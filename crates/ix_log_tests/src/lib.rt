@@ -1,5 +1,0 @@
-//! Tests of the log of commits, by public calls.
-#![tactic(auto)]
-
-#[cfg(test)]
-mod log;

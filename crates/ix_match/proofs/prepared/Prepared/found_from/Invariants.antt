@@ -1,0 +1,17 @@
+use Rattle.std.proofs.Common.{◌≡◌, ℕ, ◌+◌, ◌-◌, ◌≤◌, ◌<◌, [], length}
+use Rattle.ix_threads.specs.Finders.{HasRoom}
+use Rattle.ix_match.specs.Matches.{ways_from}
+use Rattle.ix_match.proofs.prepared.Prepared.found_from.Given as goal
+
+-- no place so far has a way
+abbrev pub invariant-loop-found : goal.invariant-loop-found
+invariant-loop-found g l =
+    record {
+      later : l.from ≤ l.at;
+      within : l.at ≤ length l.text;
+      none : (place : ℕ) → l.from ≤ place → place < l.at → ways_from l.self.pattern l.text place ≡ [];
+      room : HasRoom l.self.program l.room;
+    }
+
+abbrev pub decreases-loop-found : goal.decreases-loop-found
+decreases-loop-found g l = length l.text + 1 - l.at

@@ -1,0 +1,200 @@
+//! A pattern with all that a search for it needs.
+
+ghost use Rattle.std.specs.Prelude.{◌≡◌, ℕ, ◌<◌, ◌≤◌, length, IfOk, OnOk, IfSome};
+ghost use Rattle.ix_pattern.specs.Rows.{Rows};
+ghost use Rattle.ix_threads.specs.Finders.{IsFinder, HasRoom};
+ghost use Rattle.ix_match.specs.Fronts.{IsCandidate};
+ghost use Rattle.ix_match.specs.Matches.{MatchesAt, IsFirst, LiesIn};
+ghost use Rattle.ix_match.specs.Prepared.{IsPrepared, SameProgram};
+
+use crate::first::{Found, GroupList};
+use crate::prefilter::Prefilter;
+use ix_base::{NoMemory, Steps};
+use ix_pattern::Pattern;
+use ix_threads::finder::{Finder as Written, finder_of, head, room_of};
+use ix_threads::input::Input;
+use ix_threads::plan::Room;
+use ix_threads::program::Program;
+use ix_threads::run::Outcome;
+use std::alloc::Global;
+use std::marker::Brand;
+use std::sync::ledger::{Blank, Ledger};
+
+/// A pattern, where its matches may begin, and the pattern written out.
+#[derive(Drop)]
+pub struct Prepared {
+    pub pattern: Pattern,
+    pub prefilter: Prefilter,
+    pub program: Written,
+}
+
+/// A copy of a pattern that was written out.
+fn copy_program(alloc: Global, program: &Program) -> Result<Program, NoMemory>
+    ensures { IfOk result (λ copy. SameProgram copy program.now) }
+{
+    Ok(Program {
+        code: program.code.to_vec(alloc)?,
+        start: program.start,
+        asks: program.asks.to_vec(alloc)?,
+        inner: program.inner.to_vec(alloc)?,
+    })
+}
+
+/// A copy of a pattern that was written out, with its table.
+fn copy_written(alloc: Global, written: &Written) -> Result<Written, NoMemory>
+    ensures { IfOk result (λ copy. (rows : Rows) → IsFinder rows written.now → IsFinder rows copy) }
+{
+    let program = copy_program(alloc, &written.program)?;
+    let table = written.table.to_vec(alloc)?;
+    Ok(Written {
+        program,
+        table,
+        width: written.width,
+    })
+}
+
+impl Prepared {
+    /// All that a search for this pattern needs.
+    pub fn of(alloc: Global, pattern: Pattern) -> Result<Prepared, NoMemory>
+        ensures is { IfOk result (λ prepared. prepared.pattern ≡ pattern) }
+        ensures prepared { IfOk result IsPrepared }
+    {
+        let prefilter = Prefilter::of(alloc, &pattern)?;
+        let program = finder_of(alloc, &pattern)?;
+        Ok(Prepared {
+            pattern,
+            prefilter,
+            program,
+        })
+    }
+
+    /// The first place from this one on at which a match may begin. There is none where no match begins from here on.
+    fn candidate(&self, text: &[u8], place: usize) -> Option<usize>
+        requires prepared { IsPrepared self.now }
+        requires place { place ≤ length text.now }
+        ensures { IsCandidate self.now.pattern text.now place result }
+    {
+        self.prefilter.candidate(text, place)
+    }
+
+    /// The preferred one of the matches that begin at a place, if there is one.
+    fn found_at<L: Ledger>(
+        &self,
+        alloc: Global,
+        room: &mut Room,
+        text: &[u8],
+        place: usize,
+        steps: &mut Steps<L>,
+    ) -> Result<Option<Found>, NoMemory>
+        requires prepared { IsPrepared self.now }
+        requires room { HasRoom self.now.program room.old }
+        requires place { place ≤ length text.now }
+        ensures preferred { IfOk result (λ found. MatchesAt self.now.pattern text.now place found) }
+        ensures lies { IfOk result (λ found. IfSome found (λ f. LiesIn text.now place self.now.pattern.groups f)) }
+        ensures room { OnOk result (HasRoom self.now.program room.new) }
+    {
+        let input = Input {
+            before: None,
+            bytes: text,
+            unfinished: false,
+        };
+        match head(
+            alloc,
+            &self.pattern,
+            &self.program,
+            input,
+            place,
+            room,
+            steps,
+        )? {
+            Outcome::End { place: end, groups } => Ok(Some(Found {
+                start: place,
+                end,
+                groups: GroupList::from_vec(groups),
+            })),
+            Outcome::No | Outcome::More => Ok(None),
+        }
+    }
+
+    /// The first match that begins at this place or later.
+    fn found_from<L: Ledger>(
+        &self,
+        alloc: Global,
+        room: &mut Room,
+        text: &[u8],
+        from: usize,
+        steps: &mut Steps<L>,
+    ) -> Result<Option<Found>, NoMemory>
+        requires prepared { IsPrepared self.now }
+        requires room { HasRoom self.now.program room.old }
+        requires place { from ≤ length text.now }
+        ensures first { IfOk result (λ found. IsFirst self.now.pattern text.now from found) }
+        ensures lies { IfOk result (λ found. IfSome found (λ f. LiesIn text.now from self.now.pattern.groups f)) }
+    {
+        let mut at = from;
+        loop {
+            if let Some(found) = self.found_at(alloc, room, text, at, steps)? {
+                return Ok(Some(found));
+            }
+            if at == text.len() {
+                return Ok(None);
+            }
+            let Some(next) = self.candidate(text, at + 1) else {
+                return Ok(None);
+            };
+            at = next;
+        }
+    }
+
+    /// The first match. Room for the search is made only where one may begin. Steps are counted in the ledger that the
+    /// blank one opens, which nobody reads.
+    fn find_uncounted<L: Ledger>(
+        &self,
+        alloc: Global,
+        text: &[u8],
+        from: usize,
+        blank: Blank,
+    ) -> Result<Option<Found>, NoMemory>
+        requires prepared { IsPrepared self.now }
+        requires place { from ≤ length text.now }
+        requires name { blank.name ≡ L.name }
+        requires parts { blank.parts ≡ L.parts }
+        requires some { 0 < blank.parts }
+        ensures first { IfOk result (λ found. IsFirst self.now.pattern text.now from found) }
+        ensures lies { IfOk result (λ found. IfSome found (λ f. LiesIn text.now from self.now.pattern.groups f)) }
+    {
+        let mut steps = Steps::<L>::new(blank);
+        let Some(place) = self.candidate(text, from) else {
+            return Ok(None);
+        };
+        let mut room = room_of(alloc, &self.pattern, &self.program)?;
+        let found = self.found_from(alloc, &mut room, text, place, &mut steps)?;
+        Ok(found)
+    }
+
+    /// The first match that begins at the place `from` or later.
+    pub fn find(&self, alloc: Global, text: &[u8], from: usize) -> Result<Option<Found>, NoMemory>
+        requires prepared { IsPrepared self.now }
+        requires place { from ≤ length text.now }
+        ensures first { IfOk result (λ found. IsFirst self.now.pattern text.now from found) }
+        ensures lies { IfOk result (λ found. IfSome found (λ f. LiesIn text.now from self.now.pattern.groups f)) }
+    {
+        self.find_uncounted::<Brand>(alloc, text, from, Blank::new(1))
+    }
+
+    /// A copy of it.
+    pub fn copy(&self) -> Result<Prepared, NoMemory>
+        requires { IsPrepared self.now }
+        ensures is { IfOk result (λ copy. copy.pattern ≡ self.now.pattern) }
+        ensures prepared { IfOk result IsPrepared }
+    {
+        let pattern = self.pattern.copy()?;
+        let prefilter = self.prefilter.copy()?;
+        let program = copy_written(*self.program.table.allocator(), &self.program)?;
+        Ok(Prepared {
+            pattern,
+            prefilter,
+            program,
+        })
+    }
+}

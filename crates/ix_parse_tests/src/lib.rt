@@ -1,5 +1,0 @@
-//! Tests of channels by their public calls.
-#![tactic(auto)]
-
-#[cfg(test)]
-mod parse;

@@ -1,0 +1,85 @@
+//! What stands once in a state, as items: the settings, the moments, the counts and the number of the next file.
+
+ghost use Rattle.std.specs.Prelude.{◌≡◌, ◌++◌, ◌∷◌, [], IfOk, OnOk};
+ghost use Rattle.std.specs.List.{AllByRecursion};
+ghost use Rattle.ix_items.specs.Spelling.{IsInRange};
+ghost use Rattle.ix_items.specs.declared.items.Item.TheVariants as items;
+ghost use Rattle.ix_recall.specs.Putting.{setting_items, count_items};
+
+use ix_base::{NoMemory, Sequence};
+use ix_items::{Item, Kept, KeptList};
+use ix_kept::Held;
+use std::alloc::Global;
+
+fn copy_kept(kept: &Kept) -> Result<Kept, NoMemory>
+    ensures { IfOk result (λ copy. copy ≡ kept.now) }
+{
+    Ok(Kept {
+        file: kept.file,
+        stanza: kept.stanza.copy()?,
+        key: kept.key.copy()?,
+        value: kept.value.copy()?,
+    })
+}
+
+fn copy_all(alloc: Global, kept: &[Kept]) -> Result<KeptList, NoMemory>
+    ensures { IfOk result (λ copies. copies ≡ kept.now) }
+{
+    let mut copies = Sequence::new(alloc);
+    for one in kept {
+        copies.push(copy_kept(one)?)?;
+    }
+    Ok(copies)
+}
+
+fn moments(last: i64, tick: i64) -> Item
+    ensures value { result ≡ items.Moments last tick }
+    ensures ranged { IsInRange result }
+{
+    Item::Moments { last, tick }
+}
+
+fn counts(settled: u64, nulled: u64, dropped: u64, placed: u64) -> Item
+    ensures value { result ≡ items.Counts settled nulled dropped placed }
+    ensures ranged { IsInRange result }
+{
+    Item::Counts {
+        settled,
+        nulled,
+        dropped,
+        placed,
+    }
+}
+
+fn next_file(number: u64) -> Item
+    ensures value { result ≡ items.NextFile number }
+    ensures ranged { IsInRange result }
+{
+    Item::NextFile { number }
+}
+
+/// Puts the settings in force.
+pub(crate) fn put_settings(
+    alloc: Global,
+    held: &Held,
+    said: &mut Sequence<Item>,
+) -> Result<(), NoMemory>
+    ensures put { OnOk result (said.new ≡ said.old ++ setting_items held.now) }
+    ensures ranged { OnOk result (AllByRecursion IsInRange (setting_items held.now)) }
+{
+    let kept = copy_all(alloc, held.config.kept.as_slice())?;
+    said.push(Item::Settings { kept })?;
+    Ok(())
+}
+
+/// Puts the moments, the counts and the number of the next file.
+pub(crate) fn put_counts(held: &Held, said: &mut Sequence<Item>) -> Result<(), NoMemory>
+    ensures put { OnOk result (said.new ≡ said.old ++ count_items held.now) }
+    ensures ranged { OnOk result (AllByRecursion IsInRange (count_items held.now)) }
+{
+    said.push(moments(held.last, held.tick))?;
+    let view = &held.view;
+    said.push(counts(view.settled, view.nulled, view.dropped, held.placed))?;
+    said.push(next_file(held.next_file))?;
+    Ok(())
+}

@@ -1,0 +1,346 @@
+//! Buckets in memory that are exported. What an export answers and the texts of the events that it writes are put into a
+//! text, which is compared. Where memory is lacking a text stays too short, and is not what is wanted.
+
+ghost use Rattle.std.specs.Prelude.{◌<◌, ◌^◌, length, IsTrue};
+ghost use Rattle.ix_bucket.specs.Record.{event_bytes};
+
+use ix_base::{Area, Bytes, Event, FailPlan, Failed, File, MemSink, Range};
+use ix_bucket::{append, encode};
+use ix_disk::{Disk, MemDisk, OneFail};
+use ix_export::export_buckets;
+use ix_items::{Bucket, State};
+use std::alloc::Global;
+use std::fmt::Debug;
+use std::process::Abort;
+use std::str;
+
+/// Writes what a call answered.
+fn note<T: Debug + Drop>(text: &mut String, answer: T) {
+    let _ = write!(text, "{answer:?} ");
+}
+
+/// Compares what calls answered with what they are to answer.
+fn compare(rt: &impl Abort, found: String, wanted: &str) {
+    assert_eq!(rt; found.as_str(), wanted);
+}
+
+/// Says what was found where something else is wanted.
+fn note_unlike(text: &mut String, found: String, wanted: &str) {
+    if found.as_str() != wanted {
+        note(text, found.as_str());
+        note(text, wanted);
+    }
+    drop(found);
+}
+
+const HOME: File = File {
+    area: Area::Home,
+    number: 1,
+};
+
+const COLD: File = File {
+    area: Area::Cold,
+    number: 1,
+};
+
+/// The events of two files: where, when in microseconds, and the text. The record of each has 58 bytes.
+static STORED: [(File, i64, &[u8]); 5] = [
+    (HOME, 1_000_000, b"a"),
+    (HOME, 2_000_000, b"b"),
+    (COLD, 1_999_999, b"c"),
+    (COLD, -1, b"d"),
+    (COLD, 3_000_000, b"e"),
+];
+
+/// The bucket in a file, of which so many bytes count.
+fn bucket(file: File, bytes: u64) -> Bucket {
+    Bucket {
+        id: 0,
+        state: State::Warm,
+        file,
+        bytes,
+        count: bytes / 58,
+        newest: 0,
+        oldest: 0,
+        used: 0,
+        touched: 0,
+    }
+}
+
+/// Two buckets. The last event of the second file does not count.
+fn two_buckets() -> [Bucket; 2] {
+    [bucket(HOME, 116), bucket(COLD, 116)]
+}
+
+const WHOLE: &str = "main\t1.000000\th\ts\tunknown\t\ta\nmain\t2.000000\th\ts\tunknown\t\tb\n\
+    main\t1.999999\th\ts\tunknown\t\tc\nmain\t-0.000001\th\ts\tunknown\t\td\n";
+
+const ALL: Range = Range {
+    earliest: None,
+    latest: None,
+};
+
+fn bytes_of(alloc: Global, bytes: &[u8]) -> Bytes {
+    Bytes::copy_of(alloc, bytes).unwrap_or(Bytes::new(alloc))
+}
+
+fn event(alloc: Global, time: i64, raw: &[u8]) -> Event {
+    Event {
+        time,
+        arrival: 0,
+        index: bytes_of(alloc, b"main"),
+        host: bytes_of(alloc, b"h"),
+        source: bytes_of(alloc, b"s"),
+        sourcetype: bytes_of(alloc, b"unknown"),
+        meta: Bytes::new(alloc),
+        raw: bytes_of(alloc, raw),
+    }
+}
+
+#[tactic(auto, using(ix_bucket::proofs::Sizes::length_fields, ix_bucket::proofs::Sizes::length_event_bytes))]
+fn is_small(event: &Event) -> bool
+    ensures { IsTrue result → length (event_bytes event.now) < 2 ^ 32 }
+{
+    let most = 1 << 28;
+    event.index.len() < most
+        && event.host.len() < most
+        && event.source.len() < most
+        && event.sourcetype.len() < most
+        && event.meta.len() < most
+        && event.raw.len() < most
+}
+
+fn record(alloc: Global, time: i64, raw: &[u8]) -> Bytes {
+    let mut out = Bytes::new(alloc);
+    let event = event(alloc, time, raw);
+    if is_small(&event) {
+        let _ = encode(&event, &mut out);
+    }
+    drop(event);
+    out
+}
+
+/// Puts bytes at the end of a file.
+fn put<D: Disk>(disk: &mut D, file: File, bytes: &[u8]) -> Result<(), Failed> {
+    let at = disk.length(file)?;
+    append(disk, file, at, bytes)
+}
+
+/// Puts an event of this moment and raw text at the end of a file.
+fn store(alloc: Global, disk: &mut MemDisk, file: File, time: i64, raw: &[u8]) {
+    let record = record(alloc, time, raw);
+    let _ = put(disk, file, record.as_slice());
+    drop(record);
+}
+
+fn empty(alloc: Global) -> MemDisk {
+    MemDisk::new(alloc, FailPlan::none(alloc))
+}
+
+/// A disk with the events.
+fn stored(alloc: Global) -> MemDisk {
+    let mut disk = empty(alloc);
+    for (file, time, raw) in &STORED {
+        store(alloc, &mut disk, *file, *time, raw);
+    }
+    disk
+}
+
+/// Writes the last letter of each line, which is the text of its event.
+fn note_letters(text: &mut String, lines: &[u8]) {
+    let mut last = b' ';
+    for byte in lines {
+        if *byte == b'\n' {
+            let _ = text.push(last as char);
+        }
+        last = *byte;
+    }
+}
+
+/// What an export answers, and the texts of the events that it writes.
+fn exported<D: Disk>(alloc: Global, disk: &mut D, buckets: &[Bucket], range: Range) -> String {
+    let mut text = String::new(alloc);
+    let mut out = MemSink::new(alloc, FailPlan::none(alloc));
+    note(
+        &mut text,
+        export_buckets(alloc, disk, buckets, &range, &mut out),
+    );
+    note_letters(&mut text, out.bytes());
+    drop(out);
+    text
+}
+
+fn lines_said(alloc: Global) -> String {
+    let mut text = String::new(alloc);
+    let mut disk = stored(alloc);
+    let mut out = MemSink::new(alloc, FailPlan::none(alloc));
+    note(
+        &mut text,
+        export_buckets(alloc, &mut disk, &two_buckets(), &ALL, &mut out),
+    );
+    drop(disk);
+    note(
+        &mut text,
+        str::from_utf8(out.bytes()).unwrap_or("?") == WHOLE,
+    );
+    drop(out);
+    text
+}
+
+#[test]
+fn the_lines_of_two_buckets_are_written_without_what_does_not_count(rt: HostRuntime) {
+    compare(&rt, lines_said(rt.alloc()), "Ok(4) true ");
+}
+
+static RANGES: [(Option<i64>, Option<i64>, &str); 9] = [
+    (None, None, "Ok(4) abcd"),
+    (Some(2), None, "Ok(1) b"),
+    (None, Some(2), "Ok(3) acd"),
+    (Some(1), Some(2), "Ok(2) ac"),
+    (Some(0), None, "Ok(3) abc"),
+    (Some(-1), Some(0), "Ok(1) d"),
+    (Some(i64::MIN), Some(i64::MAX), "Ok(4) abcd"),
+    (Some(i64::MAX), None, "Ok(0) "),
+    (None, Some(i64::MIN), "Ok(0) "),
+];
+
+fn range_said(alloc: Global, range: Range) -> String {
+    let mut disk = stored(alloc);
+    let said = exported(alloc, &mut disk, &two_buckets(), range);
+    drop(disk);
+    said
+}
+
+fn ranges_unlike(alloc: Global) -> String {
+    let mut text = String::new(alloc);
+    for (earliest, latest, wanted) in &RANGES {
+        let range = Range {
+            earliest: *earliest,
+            latest: *latest,
+        };
+        note_unlike(&mut text, range_said(alloc, range), wanted);
+    }
+    text
+}
+
+#[test]
+fn a_range_has_its_first_second_and_not_its_last(rt: HostRuntime) {
+    compare(&rt, ranges_unlike(rt.alloc()), "");
+}
+
+/// A disk with an event, and the first 42 bytes of a second one's record behind it.
+fn cut(alloc: Global) -> MemDisk {
+    let mut disk = empty(alloc);
+    store(alloc, &mut disk, HOME, 1, b"a");
+    let second = record(alloc, 1, b"b");
+    let _ = put(&mut disk, HOME, second.as_slice().get(..42).unwrap_or(b""));
+    drop(second);
+    disk
+}
+
+/// Files and the bytes that count in each: a file that is cut, one that is missing, and records that go on behind these bytes.
+static CUT: [(&[(File, u64)], &str); 5] = [
+    (
+        &[(HOME, 116)],
+        "Err(Damaged { file: File { area: Home, number: 1 }, at: 58 }) a",
+    ),
+    (&[(HOME, 58), (COLD, 0)], "Ok(1) a"),
+    (
+        &[(HOME, 58), (COLD, 58)],
+        "Err(Damaged { file: File { area: Cold, number: 1 }, at: 0 }) a",
+    ),
+    (
+        &[(HOME, 57)],
+        "Err(Damaged { file: File { area: Home, number: 1 }, at: 0 }) ",
+    ),
+    (
+        &[(HOME, 59), (COLD, 0)],
+        "Err(Damaged { file: File { area: Home, number: 1 }, at: 58 }) a",
+    ),
+];
+
+fn cut_said(alloc: Global, files: &[(File, u64)]) -> String {
+    let mut buckets = Vec::new(alloc);
+    for (file, bytes) in files {
+        let _ = buckets.push(bucket(*file, *bytes));
+    }
+    let mut disk = cut(alloc);
+    let said = exported(alloc, &mut disk, buckets.as_slice(), ALL);
+    drop(disk);
+    drop(buckets);
+    said
+}
+
+fn cuts_unlike(alloc: Global) -> String {
+    let mut text = String::new(alloc);
+    for (files, wanted) in &CUT {
+        note_unlike(&mut text, cut_said(alloc, files), wanted);
+    }
+    text
+}
+
+#[test]
+fn what_is_cut_is_told_behind_the_lines_before_it(rt: HostRuntime) {
+    compare(&rt, cuts_unlike(rt.alloc()), "");
+}
+
+/// The export makes three calls for a bucket: one for the length of its file and two reads.
+static FAILED: [(u64, &str); 4] = [
+    (0, "Err(Disk) "),
+    (2, "Err(Disk) "),
+    (5, "Err(Disk) ab"),
+    (6, "Ok(4) abcd"),
+];
+
+fn failed_said(alloc: Global, number: u64) -> String {
+    let mut disk = OneFail::new(stored(alloc), number);
+    let said = exported(alloc, &mut disk, &two_buckets(), ALL);
+    drop(disk);
+    said
+}
+
+fn reads_unlike(alloc: Global) -> String {
+    let mut text = String::new(alloc);
+    for (number, wanted) in &FAILED {
+        note_unlike(&mut text, failed_said(alloc, *number), wanted);
+    }
+    text
+}
+
+#[test]
+fn a_read_that_fails_is_told_behind_the_lines_before_it(rt: HostRuntime) {
+    compare(&rt, reads_unlike(rt.alloc()), "");
+}
+
+/// Writes what an export answers whose write with this number fails, and whether a front of the lines that is not all of them
+/// is left. Each line is one write.
+fn note_stop(text: &mut String, alloc: Global, number: u64) {
+    let mut disk = stored(alloc);
+    let failing = [number].to_vec(alloc).unwrap_or(Vec::new(alloc));
+    let mut out = MemSink::new(alloc, FailPlan::new(failing));
+    note(
+        text,
+        export_buckets(alloc, &mut disk, &two_buckets(), &ALL, &mut out),
+    );
+    drop(disk);
+    let left = out.bytes();
+    note(
+        text,
+        WHOLE.as_bytes().starts_with(left) && left.len() < WHOLE.len(),
+    );
+    drop(out);
+}
+
+fn writes_said(alloc: Global) -> String {
+    let mut text = String::new(alloc);
+    for number in 0..4u64 {
+        note_stop(&mut text, alloc, number);
+    }
+    text
+}
+
+#[test]
+fn a_write_that_fails_leaves_a_front_of_the_lines(rt: HostRuntime) {
+    let wanted = "Err(Output) true Err(Output) true Err(Output) true Err(Output) true ";
+    compare(&rt, writes_said(rt.alloc()), wanted);
+}

@@ -1,0 +1,18 @@
+use Rattle.std.proofs.Common.{sym, ap, subst}
+use Rattle.ix_threads.specs.Plans.{Knows}
+use Rattle.ix_threads.specs.Attempts.{so_far, Lasts}
+use Rattle.ix_threads.specs.declared.attempt.Attempt.{Attempt}
+use Rattle.ix_threads.proofs.AttemptLemmas.{lasts-same}
+use Rattle.ix_threads.proofs.attempt.advance.Goals as goal
+use Rattle.ix_threads.proofs.attempt.advance.Goals.{in-More+in_ok-kept_up, in_default}
+
+pub returns-clause-lasts : goal.returns-clause-lasts
+returns-clause-lasts g c = λ start lasts.
+    let stays = lasts-same (Knows c.args.plan) c.args.plan.code.now (so_far c.args.input.before c.args.input.bytes.now) start _ _ _ _ _ _ _ _
+    (sym c.looked_at.ensures.place) (sym c.in_ok-outcome.ensures.cells) (ap (λ v. v.items) (sym c.looked_at.ensures.threads)) (sym c.looked_at.ensures.best) lasts in
+    elim c.match-outcome.branch [
+      | in-More+in_ok-kept_up w ↦ subst (λ (a : Attempt). Lasts (Knows c.args.plan) c.args.plan.code.now (so_far c.args.input.before c.args.input.bytes.now) start a.place a.cells.items a.threads.items a.best)
+          (sym w.attempt-is) (w.in_ok-kept_up.ensures.lasts start stays)
+      | in_default w ↦ subst (λ (a : Attempt). Lasts (Knows c.args.plan) c.args.plan.code.now (so_far c.args.input.before c.args.input.bytes.now) start a.place a.cells.items a.threads.items a.best)
+          (sym w.attempt-is) stays
+    ]

@@ -1,0 +1,14 @@
+use Rattle.std.proofs.Common.{arith, inl, inr}
+use Rattle.ix_threads.specs.Leaf.{text_of}
+use Rattle.ix_threads.specs.Attempts.{IsSettled}
+use Rattle.ix_threads.proofs.AttemptLemmas.{settled-sees}
+use Rattle.ix_threads.proofs.attempt.keep_up.Goals as goal
+
+pub returns-clause-lasts : goal.returns-clause-lasts
+returns-clause-lasts g c = λ start lasts real goes_on.
+    let seen = text_of c.args.input in
+    let settled : IsSettled c.args.plan.asks.now seen c.settled_place-to.result = elim c.settled_place-to.ensures.settled [
+      | inl e ↦ absurd (let other = c.if-to-attempt.false in omega (arith, e, other))
+      | inr s ↦ s
+    ] in
+    c.in_ok-best.ensures.moves real (settled-sees c.args.plan.asks.now seen real c.settled_place-to.result settled goes_on) start 0 (lasts real goes_on)

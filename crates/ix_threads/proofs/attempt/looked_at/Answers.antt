@@ -1,0 +1,24 @@
+use Rattle.std.proofs.Common.{rules, ◌≡◌, length, sym, ◌∙◌, ap}
+use Rattle.std.specs.Prelude.{replicate, None, slice_get}
+use Rattle.ix_threads.specs.Leaf.{text_of}
+use Rattle.ix_threads.specs.Code.{best_ways}
+use Rattle.ix_threads.specs.Plans.{Knows}
+use Rattle.ix_threads.specs.Attempts.{so_far}
+use Rattle.ix_threads.proofs.AttemptLemmas.{continues-self, lasts-same}
+use Rattle.ix_threads.proofs.RunLemmas.{take-grown}
+use Rattle.ix_threads.proofs.attempt.looked_at.Goals as goal
+
+pub returns-clause-head : goal.returns-clause-head
+returns-clause-head g c = λ start lasts rows mean rank m kn.
+    let text = text_of c.args.input in
+    let count = c.args.count in
+    let begun = lasts-same (Knows c.args.plan) c.args.plan.code.now (so_far c.args.input.before c.args.input.bytes.now) start _ _ _ _ _ _ _ _ (sym c.take_up.ensures.place)
+    (ap (λ v. v.items) (sym c.take_up.ensures.cells)) (sym c.in_ok-take_up.ensures.stack) (sym c.take_up.ensures.best) lasts in
+    c.in_ok-best.ensures.head start 0 (begun text (continues-self text)) rows (replicate count None) mean rank m kn
+    ∙ ap (λ l. slice_get (best_ways (replicate count None) l c.in_ok-best.best) 0) (sym c.deref.ensures.value)
+    ∙ c.in_ok-outcome.ensures
+
+pub returns-clause-cells : goal.returns-clause-cells
+returns-clause-cells g c =
+    let kept : c.len-kept.result ≡ length c.take_up.new.work.cells.items = search rules in
+    ap (λ v. v.items) c.swap.ensures.y_after ∙ c.truncate.ensures.items ∙ take-grown _ _ c.len-kept.result c.in_ok-best.ensures.grown kept ∙ ap (λ v. v.items) c.take_up.ensures.cells

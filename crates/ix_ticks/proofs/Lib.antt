@@ -1,3 +1,0 @@
-pub mod Sums
-pub mod Bounded
-pub mod Ticking

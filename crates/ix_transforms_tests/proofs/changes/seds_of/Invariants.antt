@@ -1,6 +1,0 @@
-use Rattle.std.proofs.Common.{All}
-use Rattle.ix_values.specs.Seds.{IsApplicable}
-use Rattle.ix_transforms_tests.proofs.changes.seds_of.Given as goal
-
-abbrev pub invariant-loop-text : goal.invariant-loop-text
-invariant-loop-text l = All (λ sed. IsApplicable sed) l.seds

@@ -1,9 +1,0 @@
-mod Putting
-mod Carried
-mod Said
-mod Resting
-mod Found
-mod Held
-mod Brief
-mod Written
-mod Sound
