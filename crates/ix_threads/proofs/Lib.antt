@@ -21,3 +21,5 @@ pub mod TestLemmas
 pub mod ChainLemmas
 pub mod AttemptLemmas
 pub mod FinderLemmas
+pub mod SeekLemmas
+pub mod PlaceLemmas

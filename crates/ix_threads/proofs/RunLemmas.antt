@@ -58,7 +58,7 @@ last-ways code rows text blank mean rank m cells t is =
     same false = refl
 
 -- at the end of a closed text no thread has a way
-closed-ways : (code : List Instr) (rows : Rows) (text : Text) (blank : List (Option (ℕ × ℕ))) (mean : Mean) (rank : ℕ → ℕ) → Meaning code rows text blank mean rank →
+pub closed-ways : (code : List Instr) (rows : Rows) (text : Text) (blank : List (Option (ℕ × ℕ))) (mean : Mean) (rank : ℕ → ℕ) → Meaning code rows text blank mean rank →
     text.unfinished ≡ false → (cells : List Cell) (ts : List Thread) → AllBytes code ts → list_ways (thread_ways mean cells (length text.bytes)) ts ≡ []
 closed-ways code rows text blank mean rank m closed cells [] a = refl
 closed-ways code rows text blank mean rank m closed cells (t ∷ ts) a =

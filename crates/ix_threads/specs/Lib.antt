@@ -18,3 +18,5 @@ pub mod Replays
 pub mod Outcomes
 pub mod Finders
 pub mod Attempts
+pub mod Seeks
+pub mod Places

@@ -47,4 +47,11 @@ impl Room {
             looks,
         })
     }
+
+    /// At how many places threads were followed in it so far: what its runs have cost.
+    pub fn followed(&self) -> u64
+        ensures { result ≡ self.now.main.stamp }
+    {
+        self.main.stamp
+    }
 }

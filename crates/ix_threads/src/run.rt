@@ -24,7 +24,7 @@ use std::alloc::Global;
 use std::sync::ledger::Ledger;
 
 /// Follows the threads of a place, behind its lookaheads.
-fn round<L: Ledger>(
+pub fn round<L: Ledger>(
     plan: Plan<'_>,
     input: Input<'_>,
     place: usize,
