@@ -23,3 +23,4 @@ pub mod AttemptLemmas
 pub mod FinderLemmas
 pub mod SeekLemmas
 pub mod PlaceLemmas
+pub mod TidyLemmas

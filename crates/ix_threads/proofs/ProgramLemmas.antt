@@ -122,6 +122,7 @@ meaning-of rows aims code text blank f =
       falls = λ pc i e. falls-of rows aims pc i ((f.right pc i e).is refl);
       same = λ pc p h k none. Like-nil (mean_of aims text blank pc h p) (mean_of aims text blank pc k p)
           (f.even pc text (replay blank h).began (replay blank k).began (record { place = p; groups = (replay blank h).groups }) (record { place = p; groups = (replay blank k).groups }) refl) none;
+      spans = λ pc p h k e. ap (λ s. (aim_at aims pc).gives text s.began (record { place = p; groups = s.groups })) e;
     }
 
 pub program-code : (rows : Rows) (piece : Piece) (code : List Instr) (start : ℕ) → IsProgram rows piece code start → IsCode code

@@ -134,6 +134,8 @@ pub record Meaning (code : List Instr) (rows : Rows) (text : Text) (blank : List
   pub falls : (pc : ℕ) (i : Instr) → slice_get code pc ≡ Some i → Falls rank (rank pc) i
   -- whether there is a way does not depend on what came before
   pub same : (pc p : ℕ) (h k : List Event) → mean pc h p ≡ [] → mean pc k p ≡ []
+  -- the ways depend on what came before by the groups that it comes to alone
+  pub spans : (pc p : ℕ) (h k : List Event) → replay blank h ≡ replay blank k → mean pc h p ≡ mean pc k p
 
 abbrev pub IsCode : List Instr → Type 0
 IsCode code = (pc : ℕ) (i : Instr) → slice_get code pc ≡ Some i → Targets (length code) i

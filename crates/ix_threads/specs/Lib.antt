@@ -16,6 +16,7 @@ pub mod Plans
 pub mod Written
 pub mod Replays
 pub mod Outcomes
+pub mod Tidied
 pub mod Finders
 pub mod Attempts
 pub mod Seeks

@@ -21,4 +21,5 @@ mod seek;
 mod settle;
 mod step;
 mod table;
+mod tidy;
 pub mod work;

@@ -18,6 +18,7 @@ use crate::groups::groups_of;
 use crate::input::Input;
 use crate::plan::{Plan, Room};
 use crate::step::step;
+use crate::tidy::{FEW, keep_short};
 use crate::work::follow;
 use ix_base::{NoMemory, Steps};
 use std::alloc::Global;
@@ -167,6 +168,49 @@ pub fn outcome_of(
     }
 }
 
+/// Goes on from the threads of a place to the end of the text, as `walk` does. What the threads have come through is written
+/// anew whenever it has become long, so that it takes no more memory for a longer text.
+fn sweep<L: Ledger>(
+    plan: Plan<'_>,
+    input: Input<'_>,
+    from: usize,
+    first: Best,
+    room: &mut Room,
+    steps: &mut Steps<L>,
+) -> Result<Best, NoMemory>
+    requires plan { IsPlan plan }
+    requires room { IsRoom plan room.old }
+    requires known { AllKnown (length plan.code.now) (length room.old.main.cells.items) room.old.main.stack.items }
+    requires within { from ≤ length input.bytes.now }
+    ensures head { IfOk result (λ best. (start place : ℕ) → Goes (Knows plan.entry) plan.entry.code.now (text_of input.entry) start place from room.old.main.cells.items room.old.main.stack.items first →
+        Ends (Knows plan.entry) plan.entry.code.now (text_of input.entry) start place room.new.main.cells.items best) }
+    ensures room { OnOk result (IsRoom plan.entry room.new) }
+    ensures counts { Counts plan.entry.tests steps.old steps.new }
+{
+    let mut best = first;
+    let mut limit = FEW;
+    for at in from..input.bytes.len() {
+        best = round(plan, input, at, best, room, steps)?;
+        if room.main.ready.is_empty() {
+            return Ok(best);
+        }
+        step(
+            plan.code,
+            plan.tests,
+            input.bytes[at],
+            &room.main.ready,
+            &mut room.main.stack,
+            steps,
+        )?;
+        best = keep_short(&mut room.main, best, &mut limit)?;
+    }
+    best = round(plan, input, input.bytes.len(), best, room, steps)?;
+    if input.unfinished && !room.main.ready.is_empty() {
+        return Ok(Best::More);
+    }
+    Ok(best)
+}
+
 /// The head of the ways of an instruction at a place of a text.
 pub fn run<L: Ledger>(
     plan: Plan<'_>,
@@ -190,6 +234,6 @@ pub fn run<L: Ledger>(
         pc: start,
         trail: 0,
     })?;
-    let best = walk(plan, input, place, Best::No, room, steps)?;
+    let best = sweep(plan, input, place, Best::No, room, steps)?;
     Ok(best)
 }

@@ -1,0 +1,11 @@
+use Rattle.std.proofs.Common.{[], take}
+use Rattle.ix_threads.specs.Ran.{Grown}
+use Rattle.ix_threads.specs.Tidied.{ComesTo, over}
+use Rattle.ix_threads.proofs.tidy.add_groups.Given as goal
+
+abbrev pub invariant-loop-at : goal.invariant-loop-at
+invariant-loop-at l =
+    record {
+      trail : ComesTo l.cells.items l.trail (λ before. record { began = []; groups = over before (take l.at l.groups) });
+      grown : Grown l.fn.cells.items l.cells.items;
+    }
