@@ -1,9 +1,9 @@
 -- A history written anew comes to the same.
-use Rattle.std.proofs.Common.{◌≡◌, ℕ, zero, suc, ◌+◌, ◌-◌, ◌<◌, ◌≤◌, List, [], ◌∷◌, ◌++◌, length, Option, Some, None, refl, sym, ◌∙◌, ap, subst, arith, append_assoc, length-append, length-set, reverse, replicate, drop, take}
+use Rattle.std.proofs.Common.{◌≡◌, ℕ, zero, suc, ◌+◌, ◌*◌, ◌-◌, ◌<◌, ◌≤◌, List, [], ◌∷◌, ◌++◌, length, Some, None, refl, sym, ◌∙◌, ap, subst, arith, length-append, length-set, reverse, replicate, drop, take}
 use Rattle.std.specs.Prelude.{slice_get, slice_set}
 use Rattle.std.proofs.lemmas.List.{append-nil, reverse-append}
 use Rattle.std.proofs.lemmas.Option.{slice_get_within}
-use Rattle.ix_pattern.specs.Ways.{Text, Way, ends_at, edge}
+use Rattle.ix_pattern.specs.Ways.{Text, ends_at}
 use Rattle.ix_pattern.specs.Rows.{Rows}
 use Rattle.ix_threads.specs.declared.code.Instr.{Instr}
 use Rattle.ix_threads.specs.declared.cells.Event.{Event}
@@ -16,7 +16,7 @@ use Rattle.ix_threads.specs.Code.{Mean, Meaning, Spans, ended, replay, history, 
 use Rattle.ix_threads.specs.Replays.{replay_one, spans}
 use Rattle.ix_threads.specs.Acts.{AllKnown}
 use Rattle.ix_threads.specs.Ran.{Goes, Grown}
-use Rattle.ix_threads.specs.Tidied.{Groups, AllFit, over, ComesTo, comes, IsAnew, AreAnew, IsBestAnew, Tidies}
+use Rattle.ix_threads.specs.Tidied.{Groups, AllFit, over, ComesTo, comes, IsAnew, AreAnew, IsBestAnew, IsNarrow, AllNarrow, Tidies}
 use Rattle.ix_threads.proofs.HistoryLemmas.{history-stays, history-newest}
 use Rattle.ix_threads.proofs.ReplayLemmas.{replay-cons}
 use Rattle.ix_threads.proofs.CoverLemmas.{list_ways-append}
@@ -115,6 +115,37 @@ fit-ended m n i k number place events e got h lt f =
 pub fit-none : (n : ℕ) (events : List Event) → AllFit n (drop (length events) events)
 fit-none n [] = tt
 fit-none n (e ∷ events) = fit-none n events
+
+fit-rest : (n : ℕ) (e : Event) (events : List Event) → AllFit n (e ∷ events) → AllFit n events
+fit-rest n (Began place) events f = f
+fit-rest n (Ended number place) events f = f.1
+
+pub fit-at : (n : ℕ) (events : List Event) (i number place : ℕ) → slice_get events i ≡ Some (Ended number place) → AllFit n events → number - 1 < n
+fit-at n [] i number place e f = absurd (let h = slice_get_within [] i (Ended number place) e in omega (arith, h))
+fit-at n (x ∷ events) zero number place e f = let is : x ≡ Ended number place = cc in (subst (λ y. AllFit n (y ∷ events)) is f).0
+fit-at n (x ∷ events) (suc i) number place e f = fit-at n events i number place e (fit-rest n x events f)
+
+length-reverse : {A : Type 0} (xs : List A) → length (reverse xs) ≡ length xs
+length-reverse [] = refl
+length-reverse (x ∷ xs) = ap length (reverse-append (x ∷ []) xs) ∙ length-append (reverse xs) (x ∷ []) ∙ (let l = length-reverse xs in omega (arith, l))
+
+pub trail-short : (m groups nested : ℕ) (cells : List Cell) (trail : ℕ) (events : List Event) (began : List ℕ) (made : Groups) → events ≡ history cells trail → AllFit m events →
+    ((n : ℕ) → AllFit n events → m ≤ n) → spans began made ≡ apart m events → IsNarrow groups nested (history cells trail) → 2 * length made + length began ≤ 2 * groups + nested
+trail-short m groups nested cells trail events began made is fit least s narrow =
+    let few = least groups (subst (AllFit groups) (sym is) narrow.fit) in
+    let all : length made ≡ m = ap (λ t. length t.groups) s ∙ apart-length m events in
+    let same : (replay [] events).began ≡ reverse began = ap (λ t. t.began) (replay-over m events fit []) ∙ sym (ap (λ t. t.began) s) in
+    let long : length began ≡ length (replay [] (history cells trail)).began = sym (length-reverse began) ∙ ap length (sym same) ∙ ap (λ h. length (replay [] h).began) is in
+    let left = narrow.left in
+    omega (arith, few, all, long, left)
+
+pub narrow-at : (groups nested : ℕ) (cells : List Cell) (ts : List Thread) (i : ℕ) (t : Thread) → slice_get ts i ≡ Some t → AllNarrow groups nested cells ts → IsNarrow groups nested (history cells t.trail)
+narrow-at groups nested cells [] i t e a = absurd (let h = slice_get_within [] i t e in omega (arith, h))
+narrow-at groups nested cells (s ∷ ts) zero t e a = let is : s ≡ t = cc in subst (λ u. IsNarrow groups nested (history cells u.trail)) is a.0
+narrow-at groups nested cells (s ∷ ts) (suc i) t e a = narrow-at groups nested cells ts i t e a.1
+
+pub times-more : (k w : ℕ) → (k + 1) * w ≡ k * w + w
+times-more k w = omega arith
 
 -- ---- trails
 

@@ -1,5 +1,5 @@
 -- The histories of threads, written anew.
-use Rattle.std.specs.Prelude.{◌≡◌, ℕ, ◌-◌, ◌<◌, ◌≤◌, List, [], ◌∷◌, length, Option, Some, None}
+use Rattle.std.specs.Prelude.{◌≡◌, ℕ, ◌+◌, ◌*◌, ◌-◌, ◌<◌, ◌≤◌, List, [], ◌∷◌, length, Option, Some, None}
 use Rattle.ix_pattern.specs.Ways.{Text, Way}
 use Rattle.ix_pattern.specs.Rows.{Rows}
 use Rattle.ix_threads.specs.Code.{Mean, Meaning, Spans, replay, history}
@@ -54,6 +54,25 @@ abbrev pub IsBestAnew : List Cell → Best → List Cell → Best → Type 0
 IsBestAnew old No new after = after ≡ No
 IsBestAnew old (End place trail) new after = (u : ℕ) × (after ≡ End place u) × ComesTo new u (comes old trail)
 IsBestAnew old More new after = after ≡ More
+
+-- the events are of groups up to a number, and so many groups are open behind them
+pub record IsNarrow (groups nested : ℕ) (events : List Event) : Type 0 where
+  pub fit : AllFit groups events
+  pub left : length (replay [] events).began ≤ nested
+
+-- what the threads have come through is
+abbrev pub AllNarrow : ℕ → ℕ → List Cell → List Thread → Type 0
+AllNarrow groups nested cells [] = Unit {0}
+AllNarrow groups nested cells (t ∷ ts) = IsNarrow groups nested (history cells t.trail) × AllNarrow groups nested cells ts
+
+abbrev pub IsBestNarrow : ℕ → ℕ → List Cell → Best → Type 0
+IsBestNarrow groups nested cells No = Unit {0}
+IsBestNarrow groups nested cells (End place trail) = IsNarrow groups nested (history cells trail)
+IsBestNarrow groups nested cells More = Unit {0}
+
+-- so many cells are enough for a number of threads and the best: for each group two, and one for each that is open
+abbrev pub room_for : ℕ → ℕ → ℕ → ℕ
+room_for threads groups nested = (threads + 1) * (2 * groups + nested)
 
 -- the threads and the best have the head of the ways that they had, whatever pattern and text the code is for
 abbrev pub Tidies : List Instr → List Cell → List Thread → Best → List Cell → List Thread → Best → Type 0

@@ -1,12 +1,12 @@
-//! What the threads have come through, written anew in its shortest form, so that a search takes no more memory for a longer
-//! text.
+//! What the threads have come through, written anew in its shortest form. The search of a whole text does that whenever it has
+//! become long, so that a longer text takes no more memory.
 
-ghost use Rattle.std.specs.Prelude.{◌≡◌, ℕ, ◌+◌, ◌<◌, List, [], ◌∷◌, ◌++◌, Some, IfOk, OnOk, length, reverse, slice_get};
+ghost use Rattle.std.specs.Prelude.{◌≡◌, ℕ, ◌+◌, ◌*◌, ◌<◌, ◌≤◌, max, List, [], ◌∷◌, ◌++◌, Some, IfOk, OnOk, length, reverse, slice_get};
 ghost use Rattle.ix_threads.specs.Acts.{AllKnown};
 ghost use Rattle.ix_threads.specs.Ran.{Grown};
-ghost use Rattle.ix_threads.specs.Code.{Spans};
+ghost use Rattle.ix_threads.specs.Code.{Spans, history};
 ghost use Rattle.ix_threads.specs.Replays.{replay_one};
-ghost use Rattle.ix_threads.specs.Tidied.{Groups, AllFit, over, ComesTo, comes, AreAnew, IsBestAnew, Tidies};
+ghost use Rattle.ix_threads.specs.Tidied.{Groups, AllFit, over, ComesTo, comes, AreAnew, IsBestAnew, IsNarrow, AllNarrow, IsBestNarrow, room_for, Tidies};
 ghost use Rattle.ix_threads.specs.declared.code.Instr.{Instr};
 
 use crate::cells::{Best, Cell, Event, Thread};
@@ -16,20 +16,21 @@ use crate::work::Work;
 use ix_base::NoMemory;
 use std::alloc::Global;
 
-/// So many cells are kept before they are written anew.
+/// So many cells may stand before they are written anew.
 pub const FEW: usize = 4096;
 
-/// A number of groups that no group of the events is above.
+/// The least number of groups that no group of the events is above.
 fn groups_in(events: &[Event]) -> usize
-    ensures { AllFit result events.now }
+    ensures fit { AllFit result events.now }
+    ensures least { (n : ℕ) → AllFit n events.now → result ≤ n }
 {
-    let mut count = 1;
+    let mut count = 0;
     let mut at = events.len();
     while at > 0 {
         at -= 1;
         match event_at(events, at) {
             Event::Began { .. } => {}
-            Event::Ended { number, .. } => count = number.max(count),
+            Event::Ended { number, .. } => count = number.max(1).max(count),
         }
     }
     count
@@ -39,6 +40,7 @@ fn groups_in(events: &[Event]) -> usize
 fn add(event: Event, earlier: usize, cells: &mut Vec<Cell>) -> Result<usize, NoMemory>
     ensures trail { IfOk result (λ t. (spans : Groups → Spans) → ComesTo cells.old.items earlier spans → ComesTo cells.new.items t (λ before. replay_one event (spans before))) }
     ensures grown { OnOk result (Grown cells.old.items cells.new.items) }
+    ensures short { OnOk result (length cells.new.items ≡ length cells.old.items + 1) }
 {
     let trail = cells.len() + 1;
     cells.push(Cell { event, earlier })?;
@@ -56,6 +58,7 @@ fn add_group(
         ComesTo cells.old.items earlier (λ before. record { began = []; groups = over before groups }) →
         ComesTo cells.new.items t (λ before. record { began = []; groups = over before (groups ++ group ∷ []) })) }
     ensures grown { OnOk result (Grown cells.old.items cells.new.items) }
+    ensures short { OnOk result (length cells.new.items ≤ length cells.old.items + 2) }
 {
     match group {
         None => Ok(earlier),
@@ -78,6 +81,7 @@ fn group_at(groups: &[Option<(usize, usize)>], i: usize) -> Option<(usize, usize
 fn add_groups(groups: &[Option<(usize, usize)>], cells: &mut Vec<Cell>) -> Result<usize, NoMemory>
     ensures trail { IfOk result (λ t. ComesTo cells.new.items t (λ before. record { began = []; groups = over before groups.now })) }
     ensures grown { OnOk result (Grown cells.old.items cells.new.items) }
+    ensures short { OnOk result (length cells.new.items ≤ length cells.old.items + 2 * length groups.now) }
 {
     let mut trail = 0;
     for at in 0..groups.len() {
@@ -91,6 +95,7 @@ fn add_open(began: &[usize], earlier: usize, cells: &mut Vec<Cell>) -> Result<us
     ensures trail { IfOk result (λ t. (groups : Groups → Groups) → ComesTo cells.old.items earlier (λ before. record { began = []; groups = groups before }) →
         ComesTo cells.new.items t (λ before. record { began = reverse began.now; groups = groups before })) }
     ensures grown { OnOk result (Grown cells.old.items cells.new.items) }
+    ensures short { OnOk result (length cells.new.items ≤ length cells.old.items + length began.now) }
 {
     let mut trail = earlier;
     for at in 0..began.len() {
@@ -109,6 +114,7 @@ fn trail_anew(
 ) -> Result<usize, NoMemory>
     ensures trail { IfOk result (λ t. ComesTo cells.new.items t (comes old.now trail)) }
     ensures grown { OnOk result (Grown cells.old.items cells.new.items) }
+    ensures short { OnOk result ((groups nested : ℕ) → IsNarrow groups nested (history old.now trail) → length cells.new.items ≤ length cells.old.items + (2 * groups + nested)) }
 {
     let events = events_of(alloc, old, trail)?;
     let count = groups_in(&events);
@@ -126,6 +132,8 @@ fn threads_anew(
     cells: &mut Vec<Cell>,
 ) -> Result<Vec<Thread>, NoMemory>
     ensures threads { IfOk result (λ new. AreAnew old.now threads.now cells.new.items new.items) }
+    ensures short { OnOk result ((groups nested : ℕ) → AllNarrow groups nested old.now threads.now →
+        length cells.new.items ≤ length cells.old.items + length threads.now * (2 * groups + nested)) }
 {
     let mut anew = Vec::new(alloc);
     for at in 0..threads.len() {
@@ -148,6 +156,7 @@ fn best_anew(
 ) -> Result<Best, NoMemory>
     ensures best { IfOk result (λ after. IsBestAnew old.now best cells.new.items after) }
     ensures grown { OnOk result (Grown cells.old.items cells.new.items) }
+    ensures short { OnOk result ((groups nested : ℕ) → IsBestNarrow groups nested old.now best → length cells.new.items ≤ length cells.old.items + (2 * groups + nested)) }
 {
     match best {
         Best::No => Ok(Best::No),
@@ -164,6 +173,8 @@ fn tidy(work: &mut Work, best: Best) -> Result<Best, NoMemory>
     ensures tidies { IfOk result (λ after. (code : List Instr) →
         Tidies code work.old.cells.items work.old.stack.items best work.new.cells.items work.new.stack.items after) }
     ensures known { OnOk result ((n : ℕ) → AllKnown n (length work.old.cells.items) work.old.stack.items → AllKnown n (length work.new.cells.items) work.new.stack.items) }
+    ensures short { OnOk result ((groups nested : ℕ) → AllNarrow groups nested work.old.cells.items work.old.stack.items → IsBestNarrow groups nested work.old.cells.items best →
+        length work.new.cells.items ≤ room_for (length work.old.stack.items) groups nested) }
     ensures marks { work.new.marks ≡ work.old.marks }
     ensures stamp { work.new.stamp ≡ work.old.stamp }
 {
@@ -181,6 +192,9 @@ pub fn keep_short(work: &mut Work, best: Best, limit: &mut usize) -> Result<Best
     ensures tidies { IfOk result (λ after. (code : List Instr) →
         Tidies code work.old.cells.items work.old.stack.items best work.new.cells.items work.new.stack.items after) }
     ensures known { OnOk result ((n : ℕ) → AllKnown n (length work.old.cells.items) work.old.stack.items → AllKnown n (length work.new.cells.items) work.new.stack.items) }
+    ensures short { OnOk result ((groups nested : ℕ) → AllNarrow groups nested work.old.cells.items work.old.stack.items → IsBestNarrow groups nested work.old.cells.items best →
+        length work.new.cells.items ≤ max limit.old (room_for (length work.old.stack.items) groups nested)) }
+    ensures limit { OnOk result (limit.new ≤ max limit.old (max 4096 (2 * length work.new.cells.items))) }
     ensures marks { work.new.marks ≡ work.old.marks }
     ensures stamp { work.new.stamp ≡ work.old.stamp }
 {

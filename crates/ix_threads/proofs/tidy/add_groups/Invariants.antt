@@ -1,4 +1,4 @@
-use Rattle.std.proofs.Common.{[], take}
+use Rattle.std.proofs.Common.{◌+◌, ◌≤◌, ◌*◌, [], length, take}
 use Rattle.ix_threads.specs.Ran.{Grown}
 use Rattle.ix_threads.specs.Tidied.{ComesTo, over}
 use Rattle.ix_threads.proofs.tidy.add_groups.Given as goal
@@ -7,5 +7,6 @@ abbrev pub invariant-loop-at : goal.invariant-loop-at
 invariant-loop-at l =
     record {
       trail : ComesTo l.cells.items l.trail (λ before. record { began = []; groups = over before (take l.at l.groups) });
+      short : length l.cells.items ≤ length l.fn.cells.items + 2 * l.at;
       grown : Grown l.fn.cells.items l.cells.items;
     }

@@ -7,7 +7,7 @@ use Rattle.ix_threads.proofs.TidyLemmas.{comes-open, take-next}
 use Rattle.ix_threads.proofs.tidy.add_open.Goals as goal
 
 pub loop-at-init : goal.loop-at-init
-loop-at-init c = record { trail = λ groups is. is; grown = grown-none c.args.cells.now.items }
+loop-at-init c = record { trail = λ groups is. is; short = omega arith; grown = grown-none c.args.cells.now.items }
 
 pub loop-at-preserved : goal.loop-at-preserved
 loop-at-preserved c =
@@ -16,6 +16,7 @@ loop-at-preserved c =
           (sym (take-next c.args.began.now c.loop-at.at (get_or c.args.began.now c.loop-at.at 0) (slice_get-get_or c.args.began.now c.loop-at.at 0 (omega arith))))
           (comes-open c.add.new.cells.items c.in_ok-trail.trail (get_or c.args.began.now c.loop-at.at 0) (take c.loop-at.at c.args.began.now) groups
           (c.in_ok-trail.ensures.trail (λ before. record { began = reverse (take c.loop-at.at c.args.began.now); groups = groups before }) (c.loop-at.invariant.trail groups is)));
+      short = omega (arith, c.loop-at.invariant.short, c.in_ok-trail.ensures.short);
       grown = grown-both c.loop-at.invariant.grown c.in_ok-trail.ensures.grown;
     }
 

@@ -1,4 +1,4 @@
-use Rattle.std.proofs.Common.{[], take, reverse}
+use Rattle.std.proofs.Common.{◌+◌, ◌≤◌, [], length, take, reverse}
 use Rattle.ix_threads.specs.Ran.{Grown}
 use Rattle.ix_threads.specs.Tidied.{Groups, ComesTo}
 use Rattle.ix_threads.proofs.tidy.add_open.Given as goal
@@ -8,5 +8,6 @@ invariant-loop-at l =
     record {
       trail : (groups : Groups → Groups) → ComesTo l.fn.cells.items l.earlier (λ before. record { began = []; groups = groups before }) →
           ComesTo l.cells.items l.trail (λ before. record { began = reverse (take l.at l.began); groups = groups before });
+      short : length l.cells.items ≤ length l.fn.cells.items + l.at;
       grown : Grown l.fn.cells.items l.cells.items;
     }

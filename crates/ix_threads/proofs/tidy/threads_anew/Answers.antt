@@ -1,12 +1,24 @@
-use Rattle.std.proofs.Common.{refl, sym, subst, take}
+use Rattle.std.proofs.Common.{◌≡◌, ◌+◌, ◌*◌, ◌≤◌, length, refl, sym, subst, arith, take}
 use Rattle.ix_threads.specs.Tidied.{AreAnew}
-use Rattle.ix_threads.proofs.TidyLemmas.{anew-grown, anew-push, take-next}
+use Rattle.ix_threads.proofs.TidyLemmas.{anew-grown, anew-push, narrow-at, take-next, times-more}
 use Rattle.ix_threads.proofs.tidy.threads_anew.Goals as goal
 
 pub loop-at-preserved : goal.loop-at-preserved
 loop-at-preserved c =
-    subst (λ l. AreAnew c.args.old.now l c.trail_anew.new.cells.items c.push.new.self.items) (sym (take-next c.args.threads.now c.loop-at.at c.thread_at-thread.result c.thread_at-thread.ensures))
-    (subst (AreAnew c.args.old.now _ c.trail_anew.new.cells.items) (sym c.in_ok-push.ensures.items)
-    (anew-push c.args.old.now (take c.loop-at.at c.args.threads.now) c.trail_anew.new.cells.items c.loop-at.anew.items c.thread_at-thread.result _
-    (anew-grown c.args.old.now (take c.loop-at.at c.args.threads.now) c.loop-at.cells.items c.trail_anew.new.cells.items c.loop-at.anew.items c.in_ok-trail.ensures.grown c.loop-at.invariant)
-    (record { pc = refl; trail = c.in_ok-trail.ensures.trail })))
+    record {
+      threads = subst (λ l. AreAnew c.args.old.now l c.trail_anew.new.cells.items c.push.new.self.items) (sym (take-next c.args.threads.now c.loop-at.at c.thread_at-thread.result c.thread_at-thread.ensures))
+          (subst (AreAnew c.args.old.now _ c.trail_anew.new.cells.items) (sym c.in_ok-push.ensures.items)
+          (anew-push c.args.old.now (take c.loop-at.at c.args.threads.now) c.trail_anew.new.cells.items c.loop-at.anew.items c.thread_at-thread.result _
+          (anew-grown c.args.old.now (take c.loop-at.at c.args.threads.now) c.loop-at.cells.items c.trail_anew.new.cells.items c.loop-at.anew.items c.in_ok-trail.ensures.grown c.loop-at.invariant.threads)
+          (record { pc = refl; trail = c.in_ok-trail.ensures.trail })));
+      short = λ groups nested narrow.
+          let old = c.loop-at.invariant.short groups nested narrow in
+          let one = c.in_ok-trail.ensures.short groups nested (narrow-at groups nested c.args.old.now c.args.threads.now c.loop-at.at c.thread_at-thread.result c.thread_at-thread.ensures narrow) in
+          let on = times-more c.loop-at.at (2 * groups + nested) in
+          omega (arith, old, one, on);
+    }
+
+pub returns-clause-short : goal.returns-clause-short
+returns-clause-short c = λ groups nested narrow.
+    let last : c.loop-at.at ≡ length c.args.threads.now = omega arith in
+    subst (λ n. length c.loop-at.cells.items ≤ length c.args.cells.now.items + n * (2 * groups + nested)) last (c.loop-at.invariant.short groups nested narrow)

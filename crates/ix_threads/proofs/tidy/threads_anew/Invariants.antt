@@ -1,6 +1,10 @@
-use Rattle.std.proofs.Common.{take}
-use Rattle.ix_threads.specs.Tidied.{AreAnew}
+use Rattle.std.proofs.Common.{ℕ, ◌+◌, ◌*◌, ◌≤◌, length, take}
+use Rattle.ix_threads.specs.Tidied.{AreAnew, AllNarrow}
 use Rattle.ix_threads.proofs.tidy.threads_anew.Given as goal
 
 abbrev pub invariant-loop-at : goal.invariant-loop-at
-invariant-loop-at l = AreAnew l.old (take l.at l.threads) l.cells.items l.anew.items
+invariant-loop-at l =
+    record {
+      threads : AreAnew l.old (take l.at l.threads) l.cells.items l.anew.items;
+      short : (groups nested : ℕ) → AllNarrow groups nested l.old l.threads → length l.cells.items ≤ length l.fn.cells.items + l.at * (2 * groups + nested);
+    }
