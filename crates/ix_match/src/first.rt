@@ -5,6 +5,7 @@ ghost use Rattle.ix_match.specs.Matches.{MatchesAt, IsFirst, LiesIn};
 ghost use Rattle.ix_match.specs.Fronts.{IsFront};
 ghost use Rattle.ix_match.specs.Searches.{IsSearch};
 
+use crate::budget::is_spent;
 use crate::front::{Front, candidate, front_of};
 use crate::search::Search;
 use ix_base::{NoMemory, Sequence, Steps};
@@ -56,7 +57,29 @@ fn find_at<L: Ledger>(
     }
 }
 
-/// The first match that begins at this place or later.
+/// The first match that begins at this place or later, by a walk over the rest of the text.
+fn find_walked<L: Ledger>(
+    p: &Pattern,
+    search: &mut Search,
+    text: &[u8],
+    from: usize,
+    steps: &mut Steps<L>,
+) -> Result<Option<Found>, NoMemory>
+    requires search { IsSearch p.now.rows search.old }
+    requires place { from ≤ length text.now }
+    ensures first { IfOk result (λ found. IsFirst p.now text.now from found) }
+    ensures lies { IfOk result (λ found. IfSome found (λ f. LiesIn text.now from p.now.groups f)) }
+    ensures search { OnOk result (IsSearch p.now.rows search.new) }
+{
+    let Some(at) = search.first_place(p, text, from, steps)? else {
+        return Ok(None);
+    };
+    let found = find_at(p, search, text, at, steps)?;
+    Ok(found)
+}
+
+/// The first match that begins at this place or later. Where attempts at one place after the other have cost too much, a
+/// walk over the rest of the text tells it.
 fn find_from<L: Ledger>(
     p: &Pattern,
     front: &Front,
@@ -74,6 +97,10 @@ fn find_from<L: Ledger>(
 {
     let mut place = from;
     while let Some(at) = candidate(p, front, text, place, steps) {
+        if is_spent(&search.room, text.len() - from) {
+            let found = find_walked(p, search, text, at, steps)?;
+            return Ok(found);
+        }
         if let Some(found) = find_at(p, search, text, at, steps)? {
             return Ok(Some(found));
         }

@@ -2,6 +2,7 @@
 //! is `ix_threads`'.
 #![tactic(auto)]
 
+mod budget;
 mod few;
 mod finder;
 mod first;

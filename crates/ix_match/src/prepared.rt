@@ -7,12 +7,14 @@ ghost use Rattle.ix_match.specs.Fronts.{IsCandidate};
 ghost use Rattle.ix_match.specs.Matches.{MatchesAt, IsFirst, LiesIn};
 ghost use Rattle.ix_match.specs.Prepared.{IsPrepared, SameProgram};
 
+use crate::budget::is_spent;
 use crate::first::{Found, GroupList};
 use crate::prefilter::Prefilter;
 use ix_base::{NoMemory, Steps};
 use ix_pattern::Pattern;
 use ix_threads::finder::{Finder as Written, finder_of, head, room_of};
 use ix_threads::input::Input;
+use ix_threads::place::first_place;
 use ix_threads::plan::Room;
 use ix_threads::program::Program;
 use ix_threads::run::Outcome;
@@ -116,7 +118,31 @@ impl Prepared {
         }
     }
 
-    /// The first match that begins at this place or later.
+    /// The first match that begins at this place or later, by a walk over the rest of the text.
+    fn found_walked<L: Ledger>(
+        &self,
+        alloc: Global,
+        room: &mut Room,
+        text: &[u8],
+        from: usize,
+        steps: &mut Steps<L>,
+    ) -> Result<Option<Found>, NoMemory>
+        requires prepared { IsPrepared self.now }
+        requires room { HasRoom self.now.program room.old }
+        requires place { from ≤ length text.now }
+        ensures first { IfOk result (λ found. IsFirst self.now.pattern text.now from found) }
+        ensures lies { IfOk result (λ found. IfSome found (λ f. LiesIn text.now from self.now.pattern.groups f)) }
+    {
+        let place = first_place(&self.pattern, &self.program, text, from, room, steps)?;
+        let Some(at) = place else {
+            return Ok(None);
+        };
+        let found = self.found_at(alloc, room, text, at, steps)?;
+        Ok(found)
+    }
+
+    /// The first match that begins at this place or later. Where attempts at one place after the other have cost too much,
+    /// a walk over the rest of the text tells it.
     fn found_from<L: Ledger>(
         &self,
         alloc: Global,
@@ -133,6 +159,10 @@ impl Prepared {
     {
         let mut at = from;
         loop {
+            if is_spent(room, text.len() - from) {
+                let found = self.found_walked(alloc, room, text, at, steps)?;
+                return Ok(found);
+            }
             if let Some(found) = self.found_at(alloc, room, text, at, steps)? {
                 return Ok(Some(found));
             }

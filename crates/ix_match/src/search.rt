@@ -7,6 +7,8 @@ ghost use Rattle.ix_threads.specs.Leaf.{text_of, at};
 ghost use Rattle.ix_threads.specs.Outcomes.{head_of};
 ghost use Rattle.ix_threads.specs.Attempts.{Stands};
 ghost use Rattle.ix_threads.specs.Finders.{HasRoom, IsSameProgram};
+ghost use Rattle.ix_threads.specs.Places.{IsPlace};
+ghost use Rattle.ix_match.specs.Matches.{closed};
 ghost use Rattle.ix_match.specs.Searches.{IsSearch, IsKept};
 
 use ix_base::{NoMemory, Steps};
@@ -14,6 +16,7 @@ use ix_pattern::Pattern;
 use ix_threads::attempt::{Attempt, go_on};
 use ix_threads::finder::{Finder, finder_of, head, room_again, room_of, tabled_finder};
 use ix_threads::input::Input;
+use ix_threads::place::first_place;
 use ix_threads::plan::Room;
 use ix_threads::run::Outcome;
 use std::alloc::Global;
@@ -87,6 +90,23 @@ impl Search {
             steps,
         )?;
         Ok(outcome)
+    }
+
+    /// The first place of a whole text from this one on at which the pattern has a way.
+    pub fn first_place<L: Ledger>(
+        &mut self,
+        p: &Pattern,
+        text: &[u8],
+        from: usize,
+        steps: &mut Steps<L>,
+    ) -> Result<Option<usize>, NoMemory>
+        requires search { IsSearch p.now.rows self.old }
+        requires from { from ≤ length text.now }
+        ensures place { IfOk result (λ place. IsPlace p.now (closed text.now) from place) }
+        ensures search { OnOk result (IsSearch p.now.rows self.new) }
+    {
+        let place = first_place(p, &self.finder, text, from, &mut self.room, steps)?;
+        Ok(place)
     }
 
     /// Goes on with an attempt at the first place of a text: the head of the ordered list of ways there, where no group has

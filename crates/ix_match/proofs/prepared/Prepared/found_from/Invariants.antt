@@ -4,8 +4,8 @@ use Rattle.ix_match.specs.Matches.{ways_from}
 use Rattle.ix_match.proofs.prepared.Prepared.found_from.Given as goal
 
 -- no place so far has a way
-abbrev pub invariant-loop-found : goal.invariant-loop-found
-invariant-loop-found g l =
+abbrev pub invariant-loop-room : goal.invariant-loop-room
+invariant-loop-room g l =
     record {
       later : l.from ≤ l.at;
       within : l.at ≤ length l.text;
@@ -13,5 +13,5 @@ invariant-loop-found g l =
       room : HasRoom l.self.program l.room;
     }
 
-abbrev pub decreases-loop-found : goal.decreases-loop-found
-decreases-loop-found g l = length l.text + 1 - l.at
+abbrev pub decreases-loop-room : goal.decreases-loop-room
+decreases-loop-room g l = length l.text + 1 - l.at
