@@ -4,6 +4,7 @@ pub mod Seds
 pub mod Queues
 pub mod Values
 pub mod Transforms
+pub mod Prepared
 pub mod Changes
 pub mod Sizes
 pub mod Laws

@@ -11,5 +11,5 @@ mod swapping;
 mod transforms;
 mod writing;
 
-pub use changes::apply;
+pub use changes::{Changer, apply};
 pub use laws::matches_are_in_turn;

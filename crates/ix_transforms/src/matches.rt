@@ -5,8 +5,7 @@ ghost use Rattle.ix_match.specs.Matches.{LiesIn};
 ghost use Rattle.ix_transforms.specs.Matches.{first, behind, matches};
 
 use ix_base::NoMemory;
-use ix_match::{Found, find};
-use ix_pattern::Pattern;
+use ix_match::{Finder, Found};
 use std::alloc::Global;
 
 /// Where the search goes on: at the end of a match, or behind the byte at which an empty one stands.
@@ -20,7 +19,7 @@ pub fn behind(found: &Found) -> usize
 /// The first match that begins at this place or later. There is none behind the text's end.
 pub fn next_match(
     alloc: Global,
-    pattern: &Pattern,
+    pattern: &Finder,
     text: &[u8],
     from: usize,
 ) -> Result<Option<Found>, NoMemory>
@@ -30,14 +29,14 @@ pub fn next_match(
     if from > text.len() {
         return Ok(None);
     }
-    let found = find(alloc, pattern, text, from)?;
+    let found = pattern.find(alloc, text, from)?;
     Ok(found)
 }
 
 /// The match of this number, counted from 1.
 pub fn nth_match(
     alloc: Global,
-    pattern: &Pattern,
+    pattern: &Finder,
     text: &[u8],
     number: u32,
 ) -> Result<Option<Found>, NoMemory>

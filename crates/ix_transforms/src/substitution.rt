@@ -10,8 +10,7 @@ ghost use Rattle.ix_transforms.specs.Seds.{replaced, substituted, cut, raw_limit
 use crate::matches::{behind, next_match, nth_match};
 use crate::writing::{Groups, add_parts, add_within};
 use ix_base::{Bytes, NoMemory};
-use ix_match::Found;
-use ix_pattern::Pattern;
+use ix_match::{Finder, Found};
 use ix_values::{Part, Which};
 use std::alloc::Global;
 
@@ -21,7 +20,7 @@ pub const RAW_LIMIT: usize = 8_388_608;
 /// A substitution in a text.
 #[derive(Clone, Copy)]
 pub struct Substitution<'a> {
-    pub pattern: &'a Pattern,
+    pub pattern: &'a Finder,
     /// What is written in place of a match.
     pub parts: &'a [Part],
     pub text: &'a [u8],

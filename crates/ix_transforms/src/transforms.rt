@@ -1,4 +1,4 @@
-//! What transforms do to an event and to its queue.
+//! What transforms do to an event and to its queue. The changes of events call it.
 
 ghost use Rattle.std.specs.Prelude.{◌≡◌, ◌++◌, take, IfOk};
 ghost use Rattle.std.specs.Option.{option_map};
@@ -10,10 +10,41 @@ ghost use Rattle.ix_transforms.specs.Transforms.{destination, front, value_after
 use crate::matches::next_match;
 use crate::queues::{Queued, limit_of};
 use crate::writing::{Groups, add_parts, add_within, first_bytes};
-use ix_base::{Bytes, NoMemory};
-use ix_match::Found;
+use ix_base::{Bytes, NoMemory, Sequence};
+use ix_match::{Finder, Found};
 use ix_values::{Key, Transform, TransformList};
 use std::alloc::Global;
+use std::marker::Model;
+
+/// A transform that is made to many events. Its pattern is written out once. Contracts see the transform.
+pub struct PreparedTransform<'a> {
+    transform: &'a Transform,
+    regex: Finder,
+}
+
+/// Transforms, the first one first.
+pub type PreparedTransforms<'a> = Sequence<PreparedTransform<'a>>;
+
+/// It is written out, so that each place where one is let go is a call of it, which is proved once.
+impl Drop for PreparedTransform<'_> {
+    fn drop(self) {
+        let PreparedTransform {
+            transform: _,
+            regex: _,
+        } = self;
+    }
+}
+
+impl<'a> Model for PreparedTransform<'a> {
+    ghost use Rattle.std.specs.Prelude.{◌≡◌};
+    ghost use Rattle.ix_values.specs.declared.transforms.Transform.{Transform};
+
+    ghost Value = { Transform };
+
+    ghost view = { λ t. t.transform.now };
+
+    ghost invariant = { λ t. t.regex ≡ t.transform.now.regex };
+}
 
 /// The key that is written: `_meta` where the value is added to the indexed fields, else that of `DEST_KEY`.
 fn destination(transform: &Transform) -> Key
@@ -90,43 +121,64 @@ fn value_without(
     Ok(Some(value))
 }
 
-/// The value that the destination then has; `None` where nothing is written.
-fn value_after(
-    alloc: Global,
-    transform: &Transform,
-    queued: &Queued,
-) -> Result<Option<Bytes>, NoMemory>
-    ensures { IfOk result (λ value. value ≡ value_after transform.now queued.now) }
-{
-    let source = queued.value(alloc, transform.source)?;
-    let text = first_bytes(source.as_slice(), transform.lookahead as usize);
-    match next_match(alloc, &transform.regex, text, 0)? {
-        Some(found) => Ok(Some(value_at_match(alloc, transform, queued, text, &found)?)),
-        None => Ok(value_without(alloc, transform, queued)?),
+impl<'a> PreparedTransform<'a> {
+    /// What this transform is made with.
+    fn new(alloc: Global, transform: &'a Transform) -> Result<PreparedTransform<'a>, NoMemory>
+        ensures { IfOk result (λ prepared. prepared ≡ transform.entry.now) }
+    {
+        let regex = Finder::new(alloc, transform.regex.copy()?)?;
+        Ok(PreparedTransform { transform, regex })
+    }
+
+    /// The value that the destination then has; `None` where nothing is written.
+    fn value_after(&self, alloc: Global, queued: &Queued) -> Result<Option<Bytes>, NoMemory>
+        ensures { IfOk result (λ value. value ≡ value_after self.now queued.now) }
+    {
+        let transform = self.transform;
+        let source = queued.value(alloc, transform.source)?;
+        let text = first_bytes(source.as_slice(), transform.lookahead as usize);
+        match next_match(alloc, &self.regex, text, 0)? {
+            Some(found) => Ok(Some(value_at_match(alloc, transform, queued, text, &found)?)),
+            None => Ok(value_without(alloc, transform, queued)?),
+        }
+    }
+
+    /// What the transform leaves.
+    fn transform(&self, alloc: Global, queued: Queued) -> Result<Queued, NoMemory>
+        ensures { IfOk result (λ next. next ≡ transformed queued self.now) }
+    {
+        match self.value_after(alloc, &queued)? {
+            Some(value) => Ok(queued.with_value(destination(self.transform), value)?),
+            None => Ok(queued),
+        }
     }
 }
 
-/// What one transform leaves.
-fn transform(alloc: Global, queued: Queued, by: &Transform) -> Result<Queued, NoMemory>
-    ensures { IfOk result (λ next. next ≡ transformed queued by.now) }
+/// What these transforms are made with.
+pub fn prepare_transforms<'a>(
+    alloc: Global,
+    transforms: &'a TransformList,
+) -> Result<PreparedTransforms<'a>, NoMemory>
+    ensures { IfOk result (λ prepared. prepared ≡ transforms.entry.now) }
 {
-    match value_after(alloc, by, &queued)? {
-        Some(value) => Ok(queued.with_value(destination(by), value)?),
-        None => Ok(queued),
+    let mut prepared = Sequence::new(alloc);
+    for transform in transforms.as_slice() {
+        prepared.push(PreparedTransform::new(alloc, transform)?)?;
     }
+    Ok(prepared)
 }
 
 /// What all transforms leave, the first one first.
 pub fn transform_all(
     alloc: Global,
-    transforms: &TransformList,
+    transforms: &PreparedTransforms<'_>,
     queued: Queued,
 ) -> Result<Queued, NoMemory>
     ensures { IfOk result (λ next. next ≡ transformed_by transforms.now queued) }
 {
     let mut now = queued;
     for by in transforms.as_slice() {
-        now = transform(alloc, now, by)?;
+        now = by.transform(alloc, now)?;
     }
     Ok(now)
 }
