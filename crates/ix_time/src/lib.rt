@@ -10,4 +10,5 @@ mod window;
 
 pub use chosen::{Origin, TimeFound};
 pub use laws::{first_match_ends, first_offset_reads};
-pub use read::{has_date, time_of};
+pub use read::{TimeReader, has_date, time_of};
+pub use window::finder_of;

@@ -1,27 +1,38 @@
-//! In which part of a text its time is read: behind the prefix, and as far as the lookahead goes.
+//! In which part of a text its time is read: behind the prefix, and as far as the lookahead goes. The readers of times call it.
 
 ghost use Rattle.std.specs.Prelude.{◌≡◌, ◌≤◌, IfOk, IfSome, IsOk, None, length, take};
 ghost use Rattle.ix_time.specs.Window as Window;
 
 use ix_base::NoMemory;
-use ix_match::find;
+use ix_match::Finder;
 use ix_pattern::Pattern;
 use std::alloc::Global;
+
+/// A finder for a pattern, where one is set. Without one nothing is allocated.
+pub fn finder_of(alloc: Global, pattern: &Option<Pattern>) -> Result<Option<Finder>, NoMemory>
+    ensures value { IfOk result (λ finder. finder ≡ pattern.now) }
+    ensures plain { pattern.now ≡ None → IsOk result }
+{
+    match pattern {
+        Some(pattern) => Ok(Some(Finder::new(alloc, pattern.copy()?)?)),
+        None => Ok(None),
+    }
+}
 
 /// The place of the time, if the prefix has a match. Without a prefix nothing is allocated.
 pub(crate) fn place_of(
     alloc: Global,
-    prefix: &Option<Pattern>,
+    prefix: &Option<Finder>,
     text: &[u8],
 ) -> Result<Option<usize>, NoMemory>
     ensures value { IfOk result (λ place. place ≡ Window.place_of prefix.now text.now) }
     ensures within { IfOk result (λ place. IfSome place (λ p. p ≤ length text.now)) }
     ensures plain { prefix.now ≡ None → IsOk result }
 {
-    let Some(pattern) = prefix else {
+    let Some(finder) = prefix else {
         return Ok(Some(0));
     };
-    match find(alloc, pattern, text, 0)? {
+    match finder.find(alloc, text, 0)? {
         Some(found) => Ok(Some(found.end)),
         None => Ok(None),
     }
