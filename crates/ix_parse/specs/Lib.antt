@@ -1,4 +1,5 @@
 pub mod Marks
+pub mod Finders
 pub mod Settled
 pub mod Stage
 pub mod Limits

@@ -5,6 +5,7 @@ mod channel;
 mod laws;
 mod marks;
 mod outcomes;
+mod stages;
 
 ghost use Rattle.ix_pattern.specs.Piece.{IsSound};
 ghost use Rattle.ix_pattern.specs.Rows.{tree};

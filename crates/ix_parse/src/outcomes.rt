@@ -7,17 +7,16 @@ ghost use Rattle.ix_lines.specs.Lines.{IsShort};
 ghost use Rattle.ix_merge.specs.Stands.{Holds};
 ghost use Rattle.ix_merge.specs.Starts.{MarkedLine};
 ghost use Rattle.ix_values.specs.Seds.{IsApplicable};
-ghost use Rattle.ix_values.specs.Transforms.{HasDestination};
+ghost use Rattle.ix_parse.specs.Finders.{IsEventStageOf, IsLineStageOf};
 ghost use Rattle.ix_parse.specs.Limits.{KeepsLimits, IsSmall};
 ghost use Rattle.ix_parse.specs.Settled.{event_of, latest_with};
 ghost use Rattle.ix_parse.specs.Stage.{with_events, Takes, TakesEnd};
 
-use crate::marks::marks_of;
+use crate::stages::{EventStage, LineStage};
 use ix_base::{Bytes, ChannelMeta, Event, Line, LineList, NoMemory, RoutedList};
 use ix_merge::{Merge, Whole};
 use ix_props::Settings;
-use ix_time::{Origin, TimeFound, time_of};
-use ix_transforms::apply;
+use ix_time::{Origin, TimeFound};
 use std::alloc::Global;
 
 /// Whose events they are.
@@ -74,19 +73,25 @@ impl Owner<'_> {
     }
 
     /// Dates an event, makes the changes, and adds what it comes to.
-    fn settle(&self, event: Whole, outcomes: &mut Outcomes) -> Result<(), NoMemory>
+    fn settle(
+        &self,
+        stage: &EventStage<'_>,
+        event: Whole,
+        outcomes: &mut Outcomes,
+    ) -> Result<(), NoMemory>
+        requires stage { IsEventStageOf self.now.settings.now stage.now }
         requires seds { AllByRecursion IsApplicable self.now.settings.now.seds }
-        requires transforms { AllByRecursion HasDestination self.now.settings.now.transforms }
         ensures added { OnOk result (outcomes.new ≡ with_events self.now.settings.now self.now.meta.now outcomes.old (event ∷ [])) }
         ensures small { OnOk result (KeepsLimits self.now.settings.now self.now.meta.now → All IsSmall outcomes.old.routed → All IsSmall outcomes.new.routed) }
     {
-        let settings = self.settings;
         let raw = event.raw.as_slice();
         let arrival = event.moment;
-        let found = time_of(self.alloc, &settings.time, raw, arrival, outcomes.latest)?;
+        let found = stage
+            .times
+            .time_of(self.alloc, raw, arrival, outcomes.latest)?;
         let latest = latest_with(found, outcomes.latest);
         let event = self.event(found.time, event)?;
-        let routed = apply(self.alloc, &settings.seds, &settings.transforms, event)?;
+        let routed = stage.changer.apply(self.alloc, event)?;
         outcomes.latest = latest;
         outcomes.routed.push(routed)
     }
@@ -94,13 +99,14 @@ impl Owner<'_> {
     /// Takes in the next line, and adds what the event comes to that it ends.
     fn take_line(
         &self,
+        stage: &LineStage<'_>,
         line: Line,
         merge: &mut Merge,
         outcomes: &mut Outcomes,
     ) -> Result<(), NoMemory>
+        requires stage { IsLineStageOf self.now.settings.now stage.now }
         requires short { IsShort line }
         requires seds { AllByRecursion IsApplicable self.now.settings.now.seds }
-        requires transforms { AllByRecursion HasDestination self.now.settings.now.transforms }
         ensures takes { OnOk result ((earlier : List MarkedLine) → Holds earlier merge.old →
             Takes self.now.settings.now self.now.meta.now earlier (line ∷ []) merge.old merge.new outcomes.old outcomes.new) }
         ensures small { OnOk result (KeepsLimits self.now.settings.now self.now.meta.now → All IsSmall outcomes.old.routed → All IsSmall outcomes.new.routed) }
@@ -108,10 +114,10 @@ impl Owner<'_> {
         ensures on { merge.new.on ≡ merge.old.on }
         ensures max_lines { merge.new.max_lines ≡ merge.old.max_lines }
     {
-        let settings = self.settings;
-        let marks = marks_of(self.alloc, &settings.merge, &settings.time, &line)?;
+        let events = &stage.events;
+        let marks = stage.marker.marks_of(self.alloc, &events.times, &line)?;
         match merge.add(line, marks)? {
-            Some(event) => self.settle(event, outcomes),
+            Some(event) => self.settle(events, event, outcomes),
             None => Ok(()),
         }
     }
@@ -125,7 +131,6 @@ impl Owner<'_> {
     ) -> Result<(), NoMemory>
         requires short { All IsShort lines }
         requires seds { AllByRecursion IsApplicable self.now.settings.now.seds }
-        requires transforms { AllByRecursion HasDestination self.now.settings.now.transforms }
         requires whole { IsFalse merge.old.broken }
         ensures takes { OnOk result ((earlier : List MarkedLine) → Holds earlier merge.old →
             Takes self.now.settings.now self.now.meta.now earlier lines merge.old merge.new outcomes.old outcomes.new) }
@@ -134,8 +139,12 @@ impl Owner<'_> {
         ensures on { merge.new.on ≡ merge.old.on }
         ensures max_lines { merge.new.max_lines ≡ merge.old.max_lines }
     {
+        if lines.is_empty() {
+            return Ok(());
+        }
+        let stage = LineStage::new(self.alloc, self.settings)?;
         for line in lines.into_vec() {
-            self.take_line(line, merge, outcomes)?;
+            self.take_line(&stage, line, merge, outcomes)?;
         }
         Ok(())
     }
@@ -143,15 +152,15 @@ impl Owner<'_> {
     /// Takes in the end of the lines, and adds what the event comes to that is open.
     pub fn take_end(&self, merge: Merge, outcomes: &mut Outcomes) -> Result<(), NoMemory>
         requires seds { AllByRecursion IsApplicable self.now.settings.now.seds }
-        requires transforms { AllByRecursion HasDestination self.now.settings.now.transforms }
         requires whole { IsFalse merge.broken }
         ensures takes { OnOk result ((lines : List MarkedLine) → Holds lines merge →
             TakesEnd self.now.settings.now self.now.meta.now lines merge outcomes.old outcomes.new) }
         ensures small { OnOk result (KeepsLimits self.now.settings.now self.now.meta.now → All IsSmall outcomes.old.routed → All IsSmall outcomes.new.routed) }
     {
-        match merge.close() {
-            Some(event) => self.settle(event, outcomes),
-            None => Ok(()),
-        }
+        let Some(event) = merge.close() else {
+            return Ok(());
+        };
+        let stage = EventStage::new(self.alloc, self.settings)?;
+        self.settle(&stage, event, outcomes)
     }
 }
