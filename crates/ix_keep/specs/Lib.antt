@@ -3,6 +3,7 @@ pub mod Contents
 pub mod Copies
 pub mod Cuts
 pub mod Drafts
+pub mod Growing
 pub mod Mounting
 pub mod Parts
 pub mod Reads

@@ -1,6 +1,6 @@
 //! A commit: what is staged is made durable, in one body of the log.
 
-ghost use Rattle.std.specs.Prelude.{◌≡◌, ◌≢◌, ◌<◌, ◌≤◌, ℕ, length, Some, Ok, Err, OnOk, OnErr, IsErrOf, true};
+ghost use Rattle.std.specs.Prelude.{◌≡◌, ◌≢◌, ◌<◌, ◌≤◌, ◌++◌, ◌∷◌, ℕ, List, [], length, Some, Ok, Err, OnOk, OnErr, IsErrOf, true};
 ghost use Rattle.ix_base.specs.Faults.{Rose};
 ghost use Rattle.ix_base.specs.Told.{Told};
 ghost use Rattle.ix_base.specs.declared.files.Area.TheVariants.{Meta};
@@ -9,7 +9,8 @@ ghost use Rattle.ix_disk.specs.Image.{Image, bytes_in};
 ghost use Rattle.ix_disk.specs.Moments.{Always, Goes};
 ghost use Rattle.ix_book.specs.Book.{empty, replay, removals_in};
 ghost use Rattle.ix_book.specs.Replaying.{first_after};
-ghost use Rattle.ix_book.specs.Slots.{items_of};
+ghost use Rattle.ix_book.specs.Slots.{bytes_of, items_of};
+ghost use Rattle.ix_log.specs.Log.{IsAtEnd};
 ghost use Rattle.ix_keep.specs.Committing.{IsShort};
 ghost use Rattle.ix_keep.specs.Contents.{Filling, Spares, HoldsFilling, Keeping, Anyhow};
 ghost use Rattle.ix_keep.specs.Parts.{AreParts};
@@ -60,6 +61,8 @@ fn commit_staged<D: Disk, B: Replay>(keeper: &mut Keeper, disk: &mut D) -> Resul
     ensures done { (old new : Snapshot) → Held D.Disk B.fits keeper.old disk.old old new → OnOk result (Held D.Disk B.fits keeper.new disk.new new new) }
     ensures over { OnOk result (IsOver D.Disk keeper.new disk.new) }
     ensures idle { OnOk result (IsIdle keeper.new) }
+    ensures body { (bodies : List (List ℕ)) → IsAtEnd D.Disk keeper.old.log disk.old bodies → 0 < length keeper.old.slots →
+        OnOk result (IsAtEnd D.Disk keeper.new.log disk.new (bodies ++ bytes_of keeper.old.slots ∷ [])) }
     ensures comes { Goes D.Disk disk.old disk.new Anyhow }
     ensures closed { OnErr result (keeper.new.closed ≡ true) }
     ensures file { log_of keeper.new ≡ log_of keeper.old }
@@ -116,6 +119,9 @@ pub fn commit<D: Disk, B: Replay>(keeper: &mut Keeper, disk: &mut D) -> Result<(
     ensures none { IsIdle keeper.old → (result ≡ Ok tt) × ((keeper.new ≡ keeper.old) × (disk.new ≡ disk.old)) }
     // The keeper knows how long the log is.
     ensures measured { (IsIdle keeper.old → IsMeasured D.Disk keeper.old disk.old) → OnOk result (IsMeasured D.Disk keeper.new disk.new) }
+    // Where items are staged, the log has one body more then, of their bytes.
+    ensures body { (bodies : List (List ℕ)) → IsAtEnd D.Disk keeper.old.log disk.old bodies → 0 < length keeper.old.slots →
+        OnOk result (IsAtEnd D.Disk keeper.new.log disk.new (bodies ++ bytes_of keeper.old.slots ∷ [])) }
     // Each image comes from one at the start.
     ensures comes { Goes D.Disk disk.old disk.new Anyhow }
     ensures closed { OnErr result (keeper.new.closed ≡ true) }

@@ -9,7 +9,7 @@ ghost use Rattle.ix_keep.specs.declared.keeper.StageFault.TheVariants as stages;
 use crate::copied::Copied;
 use crate::parts::{Part, cut_parts, extend_part, home, lengths_of, part_of};
 use crate::piece::Piece;
-use ix_base::{Bytes, Failed, NoMemory as OutOfMemory, Sequence};
+use ix_base::{Bytes, Failed, File, NoMemory as OutOfMemory, Sequence};
 use ix_book::{Slot, drop_older, log_file};
 use ix_disk::Disk;
 use ix_items::{Item, write_item};
@@ -128,6 +128,13 @@ impl Keeper {
         self.closed
     }
 
+    /// The file of the current log.
+    pub fn current(&self) -> File
+        ensures { result ≡ log_file self.now.number }
+    {
+        log_file(self.number)
+    }
+
     /// Whether something is staged.
     pub fn is_staged(&self) -> bool
         ensures { IsTrue result ↔ (0 < length self.now.parts + length self.now.copies + length self.now.slots) }
@@ -178,6 +185,7 @@ impl Keeper {
         ensures copies { self.new.copies ≡ self.old.copies }
         ensures size { OnOk result (self.new.size ≡ self.old.size + length (item_bytes item)) }
         ensures some { OnOk result (0 < length self.new.slots) }
+        ensures items { OnOk result (items_of self.new.slots ≡ items_of self.old.slots ++ item ∷ []) }
         ensures full { IsErrOf result StageFault.Full → 2 ^ 32 ≤ self.old.size + length (item_bytes item) }
     {
         let mut bytes = Bytes::new(alloc);

@@ -1,6 +1,6 @@
 //! Mounting: the logs are read, the state is replayed, and the next run begins.
 
-ghost use Rattle.std.specs.Prelude.{◌≡◌, ◌≢◌, ◌≤◌, ◌<◌, ◌+◌, ◌-◌, ◌^◌, ◌⊎◌, ℕ, [], length, Some, Err, OnOk, OnErr, IfOk, IsErrOf, true, false, not};
+ghost use Rattle.std.specs.Prelude.{◌≡◌, ◌≢◌, ◌≤◌, ◌<◌, ◌+◌, ◌-◌, ◌^◌, ◌++◌, ◌∷◌, ◌⊎◌, ℕ, List, [], length, Some, Err, OnOk, OnErr, IfOk, IsErrOf, true, false, not};
 ghost use Rattle.ix_base.specs.Faults.{Rose};
 ghost use Rattle.ix_base.specs.Told.{Told};
 ghost use Rattle.ix_base.specs.declared.files.File.{File};
@@ -12,9 +12,11 @@ ghost use Rattle.ix_log.specs.Log.{IsAtEnd, IsAsRead, file_of};
 ghost use Rattle.ix_book.specs.Book.{Book, empty, after_item, run_in, removals_in, has_settings};
 ghost use Rattle.ix_book.specs.Root.{Taken, roots, log_file, IsBadRoot};
 ghost use Rattle.ix_book.specs.Replaying.{IsReplayed, IsBadGate};
+ghost use Rattle.ix_book.specs.Slots.{items_of};
 ghost use Rattle.ix_keep.specs.Contents.{Anyhow};
 ghost use Rattle.ix_keep.specs.Snapshot.{Snapshot, KeepsEither, Held, IsOver, IsIdle, IsMeasured, Stages, log_of, with_item, begun};
-ghost use Rattle.ix_keep.specs.Reads.{OrGone, ReadsNone, IsBegunFrom, HasNoRun};
+ghost use Rattle.ix_keep.specs.Growing.{EndsWith, HasGrown};
+ghost use Rattle.ix_keep.specs.Reads.{OrGone, ReadsNone, IsBegunFrom, HasNoRun, first_items};
 ghost use Rattle.ix_keep.specs.Undo.{HasSameLogs};
 ghost use Rattle.ix_keep.specs.Mounting.{IsRead, IsFamily, AllKeep, KeepsOneOf, IsMountedAt, IsBadMount, IsBadLog, as_mount, as_mount_too};
 
@@ -153,6 +155,7 @@ fn enter<B: Replay>(
     ensures parts { keeper.new.parts ≡ keeper.old.parts }
     ensures copies { keeper.new.copies ≡ keeper.old.copies }
     ensures some { OnOk result (0 < length keeper.new.slots) }
+    ensures items { OnOk result (items_of keeper.new.slots ≡ items_of keeper.old.slots ++ item ∷ []) }
     ensures memory { OnErr result (result ≡ Err MountFault.NoMemory) }
 {
     if state.apply(item).is_err() {
@@ -179,6 +182,7 @@ fn enter_run<B: Replay>(
     ensures parts { keeper.new.parts ≡ keeper.old.parts }
     ensures copies { keeper.new.copies ≡ keeper.old.copies }
     ensures some { OnOk result (0 < length keeper.new.slots) }
+    ensures items { OnOk result (items_of keeper.new.slots ≡ items_of keeper.old.slots ++ first_items fresh run) }
     ensures memory { OnErr result (result ≡ Err MountFault.NoMemory) }
 {
     if !fresh {
@@ -214,6 +218,8 @@ fn begin<D: Disk, B: Replay>(
     ensures over { OnOk result (IsOver D.Disk keeper.new disk.new) }
     ensures idle { OnOk result (IsIdle keeper.new) }
     ensures measured { OnOk result (IsMeasured D.Disk keeper.new disk.new) }
+    ensures grown { (bodies : List (List ℕ)) → IsIdle keeper.old → IsAtEnd D.Disk keeper.old.log disk.old bodies →
+        OnOk result (EndsWith D.Disk keeper.new.log disk.new bodies (first_items (not (has_settings (B.stands state.old))) run)) }
     ensures file { log_of keeper.new ≡ log_of keeper.old }
     ensures told { Told Anyhow (D.Disk.seen disk.old) (D.Disk.seen disk.new) }
     ensures seen { keeper.old.parts ≡ [] → keeper.old.copies ≡ [] → (other : File) → other ≢ log_of keeper.old → Told (OrGone other) (D.Disk.seen disk.old) (D.Disk.seen disk.new) }
@@ -257,6 +263,9 @@ pub fn mount<D: Disk, B: Replay>(
     ensures measured { IfOk result (λ keeper. IsMeasured D.Disk keeper disk.new) }
     // As the disk reads, its logs lead to a book, and the state stands for that one with the next run begun.
     ensures read { OnOk result ((image : Image) → D.Disk.seen disk.old ≡ Some image → IsBegunFrom B.fits image (B.stands state.new)) }
+    // Behind the bodies that it has read then, the current log has the one that begins the run, and no other.
+    ensures grown { IfOk result (λ keeper. (first second : Image) → D.Disk.seen disk.old ≡ Some first → D.Disk.seen disk.new ≡ Some second →
+        HasGrown B.fits keeper.number first second (B.stands state.new)) }
     // Then the files that the last removals name are gone.
     ensures removed { IfOk result (λ keeper. ReadsNone D.Disk disk.new (log_of keeper) (removals_in (B.stands state.new))) }
     // A disk that tells what it reads goes on telling.

@@ -1,13 +1,16 @@
-use Rattle.std.proofs.Common.{rules, ◌≡◌, ◌≢◌, ◌∙◌, List, Option, Err, [], refl, ap, subst, sym, inl}
+use Rattle.std.proofs.Common.{rules, ◌≡◌, ◌≢◌, ◌∙◌, List, Option, Err, [], ◌∷◌, ◌++◌, length, refl, ap, subst, sym, inl, arith}
 use Rattle.std.specs.Prelude.{All}
 use Rattle.std.proofs.lemmas.List.Elements.{All-nil}
 use Rattle.std.proofs.lemmas.Result.{err_from_is_err_and}
 use Rattle.ix_base.specs.declared.files.File.{File}
 use Rattle.ix_base.specs.Told.{Told}
-use Rattle.ix_disk.specs.Image.{Image}
+use Rattle.ix_disk.specs.Image.{Image, Stays}
+use Rattle.ix_log.specs.Log.{IsAtEnd, file_of}
+use Rattle.ix_log.specs.declared.log.Log.{Log}
+use Rattle.ix_log.proofs.Elsewhere.{at_end_stays}
 use Rattle.ix_book.specs.Book.{empty, replay, removals_in}
 use Rattle.ix_book.specs.Root.{log_file}
-use Rattle.ix_book.specs.Slots.{items_of}
+use Rattle.ix_book.specs.Slots.{bytes_of, items_of}
 use Rattle.ix_book.specs.declared.slot.Slot.{Slot}
 use Rattle.ix_keep.specs.Contents.{Anyhow}
 use Rattle.ix_keep.specs.Reads.{OrGone, IsGone}
@@ -106,3 +109,17 @@ returns-clause-told g c =
 
 pub returns-clause-removed : goal.returns-clause-removed
 returns-clause-removed g c = λ image told. c.in_ok-commit_staged.ensures.removed image (sym c.measure.ensures.same ∙ told)
+
+pub returns-then-not-is_staged-clause-body : goal.returns-then-not-is_staged-clause-body
+returns-then-not-is_staged-clause-body g c = λ bodies end some.
+    let untrue = c.if-not-is_staged.true in
+    let staged = c.is_staged.ensures in
+    let idle = idle_of c.args.keeper.now (search rules) in
+    absurd (omega (arith, some, ap length idle.1.1))
+
+pub returns-clause-body : goal.returns-clause-body
+returns-clause-body g c = λ bodies end some.
+    let all = bodies ++ bytes_of c.args.keeper.now.slots ∷ [] in
+    let put = c.in_ok-commit_staged.ensures.body bodies end some in
+    let stays = at_end_stays g.D.Disk c.commit_staged.new.disk c.measure.new.disk c.commit_staged.new.keeper.log all Stays (λ a b same. ap (λ (image : Image). image (file_of c.commit_staged.new.keeper.log)) same) c.measure.ensures.images put in
+    subst (λ (l : Log). IsAtEnd g.D.Disk l c.measure.new.disk all) (sym c.measure.ensures.file) stays

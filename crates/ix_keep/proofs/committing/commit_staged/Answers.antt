@@ -20,7 +20,8 @@ use Rattle.ix_keep.specs.declared.parts.Part.{Part}
 use Rattle.ix_keep.specs.declared.copied.Copied.{Copied}
 use Rattle.ix_keep.proofs.Reading.{told_through, told_as, told_on, root_elsewhere, gone_behind}
 use Rattle.ix_keep.proofs.Settling.{loosely, loosely_on, anyhow_on}
-use Rattle.ix_keep.proofs.Holding.{meta, commit_first, commit_end, commit_put, commit_images, commit_done, removals_free, over_end, over_after}
+use Rattle.ix_log.proofs.Elsewhere.{at_end_stays}
+use Rattle.ix_keep.proofs.Holding.{over_meta, meta, commit_first, commit_end, commit_put, commit_images, commit_done, removals_free, over_end, over_after}
 use Rattle.ix_keep.proofs.committing.commit_staged.Goals as goal
 
 pub returns-in_err-fill-clause-images : goal.returns-in_err-fill-clause-images
@@ -234,3 +235,16 @@ returns-in_err-fill-clause-sound g c = λ old new held image told file at is.
     let w : c.fill.result ≡ Err c.in_err-fill.field-0.0 = c.in_err-fill.was in
     let was : c.fill.result ≡ Err (faults.Damaged file at) = cc in
     c.fill.ensures.sound (file_of keeper.log) (filling old.contents) held.stages.grown m parts copies held.committed.contents image told file at was
+
+pub returns-clause-body : goal.returns-clause-body
+returns-clause-body g c = λ bodies end some.
+    let keeper = c.args.keeper.now in
+    let first = c.args.disk.now in
+    let mid = c.fill.new.disk in
+    let last = c.put_body.new.disk in
+    let log = c.put_body.new.log in
+    let filled = at_end_stays g.D.Disk first mid keeper.log bodies (Keeping (file_of keeper.log)) (λ a b same. same) (c.fill.ensures.logs (file_of keeper.log) (over_meta g.D.Disk keeper first c.requires)) end in
+    let put = subst (λ (s : List Slot). 0 < length s → IsAtEnd g.D.Disk log last (bodies ++ bytes_of s ∷ [])) c.as_slice-3.ensures (c.in_ok-put_body.ensures.finished bodies filled) in
+    let kept = subst (λ (f : File). Goes g.D.Disk last c.remove_all.new.disk (KeepsLogs f)) c.log_file.ensures c.remove_all.ensures.logs in
+    at_end_stays g.D.Disk last c.remove_all.new.disk log (bodies ++ bytes_of keeper.slots ∷ []) (KeepsLogs (log_file keeper.number))
+    (λ a b same. subst (λ (f : File). b f ≡ a f) (sym (c.put_body.ensures.file ∙ c.requires.file)) same.log_stays) kept (put some)

@@ -1,16 +1,23 @@
-use Rattle.std.proofs.Common.{rules, ◌≡◌, ◌≢◌, List, [], Option, refl, ap, subst, sym, ◌∙◌, inl}
+use Rattle.std.proofs.Common.{rules, ◌≡◌, ◌≢◌, List, [], ◌++◌, Bool, Option, None, refl, ap, subst, sym, ◌∙◌, inl}
 use Rattle.std.proofs.lemmas.List.Elements.{All-nil}
 use Rattle.ix_base.specs.declared.files.File.{File}
 use Rattle.ix_log.specs.Log.{file_of}
 use Rattle.ix_keep.specs.Copies.{target}
 use Rattle.ix_keep.specs.Parts.{file_in}
-use Rattle.ix_keep.specs.Reads.{OrGone, IsElsewhere}
+use Rattle.ix_keep.specs.Reads.{OrGone, IsElsewhere, first_items}
 use Rattle.ix_keep.specs.declared.copied.Copied.{Copied}
 use Rattle.ix_keep.specs.declared.parts.Part.{Part}
 use Rattle.ix_keep.proofs.Reading.{told_same, anyhow_same, nothing_elsewhere}
 use Rattle.std.specs.Prelude.{not}
-use Rattle.ix_book.specs.Book.{has_settings}
-use Rattle.ix_keep.specs.Snapshot.{begun}
+use Rattle.ix_items.specs.declared.items.Item.{Item}
+use Rattle.ix_log.specs.Log.{IsAtEnd}
+use Rattle.ix_log.specs.declared.log.Log.{Log}
+use Rattle.ix_book.specs.Book.{has_settings, IsBody}
+use Rattle.ix_book.specs.Slots.{bytes_of, items_of}
+use Rattle.ix_book.specs.declared.slot.Slot.{Slot}
+use Rattle.ix_book.proofs.Bodies.{slots_body}
+use Rattle.ix_keep.specs.Snapshot.{Snapshot, begun}
+use Rattle.ix_keep.proofs.Holding.{nothing_staged}
 use Rattle.ix_keep.proofs.Beginning.{over_same, held_always, begin_held}
 use Rattle.ix_keep.proofs.mounting.begin.Goals as goal
 
@@ -93,3 +100,21 @@ returns-in-Ok-false-clause-entered g c = λ full s is.
 
 pub returns-clause-taken : goal.returns-clause-taken
 returns-clause-taken g c = subst g.B.Replay.fits (sym c.judge.ensures.same) (c.in-Ok-true.ensures.judged.0 (search rules))
+
+pub returns-clause-grown : goal.returns-clause-grown
+returns-clause-grown g c = λ bodies idle end.
+    let keeper = c.args.keeper.now in
+    let after = c.enter_run.new.keeper in
+    let book = g.B.Replay.stands c.args.state.now in
+    let s : Snapshot = record { book = book; contents = λ file. None } in
+    let stages = c.in_ok-enter_run.ensures.staged s s (nothing_staged keeper s idle.0 idle.1.0 idle.1.1) in
+    let items : items_of after.slots ≡ first_items (not (has_settings book)) c.args.run =
+    c.in_ok-enter_run.ensures.items
+    ∙ ap (λ (l : List Slot). items_of l ++ first_items (not c.has_settings-fresh.result) c.args.run) idle.1.1
+    ∙ ap (λ (t : Bool). first_items (not t) c.args.run) c.has_settings-fresh.ensures in
+    let some = c.in_ok-enter_run.ensures.some in
+    record {
+      body = bytes_of after.slots;
+      is = subst (λ (l : List Item). IsBody l (bytes_of after.slots)) items (slots_body after.slots stages.proper some);
+      end = c.in_ok-commit.ensures.body bodies (subst (λ (l : Log). IsAtEnd g.D.Disk l c.args.disk.now bodies) (sym c.enter_run.ensures.logs.log) end) some;
+    }

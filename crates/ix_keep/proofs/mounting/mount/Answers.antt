@@ -1,15 +1,19 @@
-use Rattle.std.proofs.Common.{rules, ◌≡◌, ◌≢◌, ◌+◌, ◌<◌, ◌≤◌, ℕ, List, [], Option, Some, Err, refl, ap, subst, sym, ◌∙◌, inl, inr, arith}
+use Rattle.std.proofs.Common.{rules, ◌≡◌, ◌≢◌, ◌+◌, ◌<◌, ◌≤◌, ℕ, List, [], ◌∷◌, ◌++◌, Option, Some, Err, refl, ap, subst, sym, ◌∙◌, inl, inr, arith}
 use Rattle.std.specs.Prelude.{All, None, not}
 use Rattle.std.proofs.lemmas.Result.{err_from_is_err_and}
 use Rattle.ix_keep.specs.declared.mounting.MountFault.TheVariants as mounts
 use Rattle.ix_base.specs.declared.files.File.{File}
 use Rattle.ix_base.specs.Told.{Told}
-use Rattle.ix_disk.specs.Image.{Image}
+use Rattle.ix_disk.specs.Image.{Image, bytes_in}
+use Rattle.ix_log.specs.Log.{HasBodies, file_of}
+use Rattle.ix_log.proofs.Elsewhere.{at_end_stays}
 use Rattle.ix_disk.specs.Moments.{Goes}
 use Rattle.ix_disk.proofs.Runs.{always_still, always_on, still_all}
-use Rattle.ix_book.specs.Book.{run_in, removals_in, has_settings}
-use Rattle.ix_keep.specs.Contents.{Contents, IsFree, Spares, Anyhow, filling}
-use Rattle.ix_keep.specs.Reads.{OrGone, Removing, IsGone, ReadsNone, next_run}
+use Rattle.ix_book.specs.Book.{run_in, removals_in, has_settings, IsBody, empty, Replays}
+use Rattle.ix_book.specs.Root.{Taken, roots, current}
+use Rattle.ix_book.proofs.Bodies.{end_bodies}
+use Rattle.ix_keep.specs.Contents.{Contents, IsFree, Spares, KeepsLogs, Anyhow, filling}
+use Rattle.ix_keep.specs.Reads.{OrGone, Removing, IsGone, ReadsNone, first_items, next_run}
 use Rattle.ix_keep.specs.Snapshot.{Snapshot, log_of}
 use Rattle.ix_keep.specs.Mounting.{KeepsOneOf}
 use Rattle.ix_keep.proofs.Settling.{loosely}
@@ -217,3 +221,40 @@ returns-clause-removed g c = λ image told.
     c.removals.ensures ∙ sym (removals_next (not (has_settings book)) (c.run-run.result + 1) s) ∙ sym (ap removals_in (c.in_ok-begin.ensures.made s refl)) in
     subst (λ (f : File). All (IsGone f image) (removals_in (g.B.Replay.stands c.begin.new.state))) (sym c.begin.ensures.file)
     (subst (λ (l : List File). All (IsGone (log_of keeper) image) l) named behind)
+
+pub returns-clause-grown : goal.returns-clause-grown
+returns-clause-grown g c = λ one two told told_two.
+    let fits = g.B.Replay.fits in
+    let keeper = c.in_ok-keeper.keeper in
+    let mid = c.read.new.disk in
+    let del = c.remove_all.new.disk in
+    let last = c.begin.new.disk in
+    let after = c.begin.new.keeper in
+    let book = g.B.Replay.stands c.read.new.state in
+    let read = c.in_ok-keeper.ensures.read in
+    let left = g.met.D.Disk.seen_may_stay mid one (c.read.ensures.same ∙ told) in
+    let current_is : c.log_file.result ≡ log_of keeper = c.log_file.ensures ∙ sym (read_over g.D.Disk fits keeper mid book read).file in
+    let kept = subst (λ (f : File). Goes g.D.Disk mid del (KeepsLogs f)) current_is c.remove_all.ensures.logs in
+    let removed = at_end_stays g.D.Disk mid del keeper.log read.bodies (KeepsLogs (log_of keeper)) (λ a b same. same.log_stays) kept read.end in
+    let ends = c.in_ok-begin.ensures.grown read.bodies (read.no_parts, (read.no_copies, read.no_slots)) removed in
+    let over = c.in_ok-begin.ensures.over in
+    let file : log_of after ≡ current read.checkpoints = c.begin.ensures.file ∙ read.file in
+    let run : c.run-run.result ≡ run_in book = c.run-run.ensures in
+    let s : Snapshot = record { book = book; contents = λ file. None } in
+    record {
+      before = book;
+      leads = record {
+        checkpoints = read.checkpoints;
+        in_root = subst (λ (f : File). HasBodies (roots read.checkpoints) (bytes_in one f)) read.root_file
+            (end_bodies keeper.root.closed (roots read.checkpoints) (bytes_in one (file_of keeper.root)) (read.root.images one left));
+        bodies = read.bodies;
+        in_log = subst (λ (f : File). HasBodies read.bodies (bytes_in one f)) read.file (end_bodies keeper.log.closed read.bodies (bytes_in one (log_of keeper)) (read.end.images one left));
+        replayed = subst (λ (f : File). Replays (Taken fits f) read.bodies empty book) read.file read.replayed;
+      };
+      counted = ap (λ (f : File). f.number) (sym over.file ∙ file);
+      is = c.in_ok-begin.ensures.made s refl ∙ begun_next book (c.run-run.result + 1) s refl (ap (λ (n : ℕ). n + 1) run);
+      body = ends.body;
+      begins = subst (λ (n : ℕ). IsBody (first_items (not (has_settings book)) (n + 1)) ends.body) run ends.is;
+      grown = subst (λ (f : File). HasBodies (read.bodies ++ ends.body ∷ []) (bytes_in two f)) file
+          (end_bodies after.log.closed (read.bodies ++ ends.body ∷ []) (bytes_in two (log_of after)) (ends.end.images two (g.met.D.Disk.seen_may_stay last two told_two)));
+    }
