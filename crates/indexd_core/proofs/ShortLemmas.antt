@@ -27,7 +27,7 @@ stop_as : (stop : Stop) → is_short_at (status_of stop) ≡ runs.is_short_at st
 stop_as stops.Memory = refl
 stop_as stops.Disk = refl
 stop_as (stops.Damaged file at) = refl
-stop_as stops.Unsound = refl
+stop_as stops.Inconsistent = refl
 stop_as stops.NotFound = refl
 stop_as stops.TooManyChannels = refl
 stop_as stops.Full = refl

@@ -109,7 +109,7 @@ of_disk : (stop : Stop) → statuses.DiskFault ≡ status_of stop → stop ≡ s
 of_disk stops.Memory is = absurd (cc)
 of_disk stops.Disk is = refl
 of_disk (stops.Damaged file at) is = absurd (cc)
-of_disk stops.Unsound is = absurd (cc)
+of_disk stops.Inconsistent is = absurd (cc)
 of_disk stops.NotFound is = absurd (cc)
 of_disk stops.TooManyChannels is = absurd (cc)
 of_disk stops.Full is = absurd (cc)
@@ -124,7 +124,7 @@ of_output : (stop : Stop) → statuses.Output ≡ status_of stop → (is_output 
 of_output stops.Memory is = absurd (cc)
 of_output stops.Disk is = absurd (cc)
 of_output (stops.Damaged file at) is = absurd (cc)
-of_output stops.Unsound is = absurd (cc)
+of_output stops.Inconsistent is = absurd (cc)
 of_output stops.NotFound is = absurd (cc)
 of_output stops.TooManyChannels is = absurd (cc)
 of_output stops.Full is = absurd (cc)
@@ -139,7 +139,7 @@ of_input : (stop : Stop) → statuses.Input ≡ status_of stop → (is_input sto
 of_input stops.Memory is = absurd (cc)
 of_input stops.Disk is = absurd (cc)
 of_input (stops.Damaged file at) is = absurd (cc)
-of_input stops.Unsound is = absurd (cc)
+of_input stops.Inconsistent is = absurd (cc)
 of_input stops.NotFound is = absurd (cc)
 of_input stops.TooManyChannels is = absurd (cc)
 of_input stops.Full is = absurd (cc)
@@ -154,7 +154,7 @@ of_usage : (stop : Stop) → statuses.Usage ≡ status_of stop → ⊥
 of_usage stops.Memory is = cc
 of_usage stops.Disk is = cc
 of_usage (stops.Damaged file at) is = cc
-of_usage stops.Unsound is = cc
+of_usage stops.Inconsistent is = cc
 of_usage stops.NotFound is = cc
 of_usage stops.TooManyChannels is = cc
 of_usage stops.Full is = cc
@@ -169,7 +169,7 @@ of_listener : (stop : Stop) → statuses.ListenerFault ≡ status_of stop → �
 of_listener stops.Memory is = cc
 of_listener stops.Disk is = cc
 of_listener (stops.Damaged file at) is = cc
-of_listener stops.Unsound is = cc
+of_listener stops.Inconsistent is = cc
 of_listener stops.NotFound is = cc
 of_listener stops.TooManyChannels is = cc
 of_listener stops.Full is = cc
@@ -184,7 +184,7 @@ of_done : (stop : Stop) → statuses.Done ≡ status_of stop → ⊥
 of_done stops.Memory is = cc
 of_done stops.Disk is = cc
 of_done (stops.Damaged file at) is = cc
-of_done stops.Unsound is = cc
+of_done stops.Inconsistent is = cc
 of_done stops.NotFound is = cc
 of_done stops.TooManyChannels is = cc
 of_done stops.Full is = cc
@@ -196,11 +196,11 @@ pub done_stop : (ended : Status) (stop : Stop) → ended ≡ status_of stop → 
 done_stop ended stop is at = of_done stop (sym at ∙ is)
 
 -- the log has no history, or a file is blamed
-pub by_blame : (stop : Stop) (P : Type 0) → status_of stop ≡ statuses.Damaged → (stop ≡ stops.Unsound → P) → ((file : File) (at : ℕ) → stop ≡ stops.Damaged file at → P) → P
+pub by_blame : (stop : Stop) (P : Type 0) → status_of stop ≡ statuses.Damaged → (stop ≡ stops.Inconsistent → P) → ((file : File) (at : ℕ) → stop ≡ stops.Damaged file at → P) → P
 by_blame stops.Memory P is unsound damaged = absurd (cc)
 by_blame stops.Disk P is unsound damaged = absurd (cc)
 by_blame (stops.Damaged file at) P is unsound damaged = damaged file at refl
-by_blame stops.Unsound P is unsound damaged = unsound refl
+by_blame stops.Inconsistent P is unsound damaged = unsound refl
 by_blame stops.NotFound P is unsound damaged = absurd (cc)
 by_blame stops.TooManyChannels P is unsound damaged = absurd (cc)
 by_blame stops.Full P is unsound damaged = absurd (cc)

@@ -35,12 +35,12 @@ use Rattle.indexd_core.specs.declared.status.Status.TheVariants.{Done, Memory, U
 
 -- ---- statuses and their lines
 
--- What the log says and no commands lead to is damage of the log.
+-- What contradicts itself in memory counts as damage of the log. It comes of no disk that stands for a history.
 abbrev pub status_of : Stop → Status
 status_of stops.Memory = Memory
 status_of stops.Disk = DiskFault
 status_of (stops.Damaged file at) = Damaged
-status_of stops.Unsound = Damaged
+status_of stops.Inconsistent = Damaged
 status_of stops.NotFound = NotFound
 status_of stops.TooManyChannels = TooManyChannels
 status_of stops.Full = Full
@@ -68,7 +68,7 @@ abbrev pub line_of : List ℕ → Stop → List ℕ
 line_of named stops.Memory = status_text Memory
 line_of named stops.Disk = status_text DiskFault
 line_of named (stops.Damaged file at) = damaged_line file at
-line_of named stops.Unsound = damaged_line first_log 0
+line_of named stops.Inconsistent = damaged_line first_log 0
 line_of named stops.NotFound = not_found_line named
 line_of named stops.TooManyChannels = status_text TooManyChannels
 line_of named stops.Full = status_text Full

@@ -46,7 +46,7 @@ fn status_of(stop: Stop) -> Status
     match stop {
         Stop::Memory => Status::Memory,
         Stop::Disk => Status::DiskFault,
-        Stop::Damaged { .. } | Stop::Unsound => Status::Damaged,
+        Stop::Damaged { .. } | Stop::Inconsistent => Status::Damaged,
         Stop::NotFound => Status::NotFound,
         Stop::TooManyChannels => Status::TooManyChannels,
         Stop::Full => Status::Full,
@@ -152,14 +152,14 @@ pub fn say_stop<W: Sink>(stop: Stop, named: Named<'_>, output: &mut W) -> Status
     let status = status_of(stop);
     match stop {
         Stop::Damaged { file, at } => say_damaged(file, at, output),
-        Stop::Unsound => say_damaged(FIRST_LOG, 0, output),
+        Stop::Inconsistent => say_damaged(FIRST_LOG, 0, output),
         Stop::NotFound => say_missing(named, output),
         _ => say(status, output),
     }
     status
 }
 
-/// The file that a store always has. What is unsound has no place of its own.
+/// The file that a store always has. What contradicts itself in memory has no place of its own.
 const FIRST_LOG: File = File {
     area: Area::Meta,
     number: 1,

@@ -95,8 +95,8 @@ pub fn run_serve<M: Listing + Drop, D: Disk, C: Clock, L: Listener>(
         Begins D.Disk M.Book.fits choose history k disk.old → (image : Image) → D.Disk.seen disk.old ≡ Some image → ⊥ }
     ensures unbroken { (file : File) (at : ℕ) → result ≡ Ok (ServeEnd.Damaged file at) → (choose : Chooser) (history : List Order) (k : ℕ) → M.is_chooser choose →
         AllByRecursion M.takes history → Begins D.Disk M.Book.fits choose history k disk.old → (image : Image) → D.Disk.seen disk.old ≡ Some image → ⊥ }
-    // and it is sound.
-    ensures sound { IsErrOf result Stop.Unsound → (choose : Chooser) (history : List Order) (k : ℕ) → M.is_chooser choose → AllByRecursion M.takes history →
+    // and what is in memory contradicts nothing.
+    ensures sound { IsErrOf result Stop.Inconsistent → (choose : Chooser) (history : List Order) (k : ℕ) → M.is_chooser choose → AllByRecursion M.takes history →
         Begins D.Disk M.Book.fits choose history k disk.old → (image : Image) → D.Disk.seen disk.old ≡ Some image → ⊥ }
     ensures quiet { IfErr result (λ stop. is_output stop ≡ false) }
     ensures still { IfErr result (λ stop. is_input stop ≡ false) }

@@ -82,7 +82,7 @@ behind choose h o P so = subst (λ (s : State). P s.channels) (sym (after_more c
 
 abbrev IsInTurn : Option Refusal → Type 0
 IsInTurn None = Unit {0}
-IsInTurn (Some refusal) = of_refusal refusal ≡ stops.Unsound → ⊥
+IsInTurn (Some refusal) = of_refusal refusal ≡ stops.Inconsistent → ⊥
 
 abbrev AreInTurn : Chooser → List Order → List Order → Type 0
 AreInTurn choose h [] = Unit {0}
@@ -127,7 +127,7 @@ rest_in_turn : (choose : Chooser) (h given rest : List Order) → AreInTurn choo
 rest_in_turn choose h [] rest all = all
 rest_in_turn choose h (o ∷ given) rest all = rest_in_turn choose (with_order choose h o) given rest all.1
 
-not_out : (choose : Chooser) (drawn : ℕ) (m : State) (o : Order) (refusal : Refusal) → IsInTurn (judged m o.command) → IsRefused choose false drawn m o refusal → of_refusal refusal ≡ stops.Unsound → ⊥
+not_out : (choose : Chooser) (drawn : ℕ) (m : State) (o : Order) (refusal : Refusal) → IsInTurn (judged m o.command) → IsRefused choose false drawn m o refusal → of_refusal refusal ≡ stops.Inconsistent → ⊥
 not_out choose drawn m o refusals.Closed so why is = (subst IsInTurn why so) is
 not_out choose drawn m o refusals.NoChannel so why is = (subst IsInTurn why so) is
 not_out choose drawn m o refusals.ChannelOpen so why is = (subst IsInTurn why so) is
@@ -140,7 +140,7 @@ not_out choose drawn m o refusals.Full so why is = cc
 not_out choose drawn m o refusals.NoMemory so why is = cc
 
 pub next_in_turn : (choose : Chooser) (drawn : ℕ) (h given rest : List Order) (origin : ChannelMeta) (moment : ℤ) (pieces : List (List ℕ)) (refusal : Refusal) →
-    storing (is_begun (after choose h) tilde) origin moment pieces ≡ given ++ rest → IsNextRefused choose drawn (after choose (given_all choose h given)) refusal rest → of_refusal refusal ≡ stops.Unsound → ⊥
+    storing (is_begun (after choose h) tilde) origin moment pieces ≡ given ++ rest → IsNextRefused choose drawn (after choose (given_all choose h given)) refusal rest → of_refusal refusal ≡ stops.Inconsistent → ⊥
 next_in_turn choose drawn h given rest origin moment pieces refusal parts why is =
     by rest (rest_in_turn choose h given rest (subst (λ (os : List Order). AreInTurn choose h os) parts (stored_in_turn choose moment h origin pieces (is_begun (after choose h) tilde) refl))) why where
       by : (rest : List Order) → AreInTurn choose (given_all choose h given) rest → IsNextRefused choose drawn (after choose (given_all choose h given)) refusal rest → ⊥

@@ -145,7 +145,7 @@ pub why_unexported : (choose : Chooser) (h : List Order) (index : List ℕ) (tas
 why_unexported choose h index task moment stops.Memory unseen why = tt
 why_unexported choose h index task moment stops.Disk unseen why = tt
 why_unexported choose h index task moment (stops.Damaged file at) unseen why = tt
-why_unexported choose h index task moment stops.Unsound unseen why = why
+why_unexported choose h index task moment stops.Inconsistent unseen why = why
 why_unexported choose h index task moment stops.NotFound unseen why = inl (unseen why)
 why_unexported choose h index task moment stops.TooManyChannels unseen why = why
 why_unexported choose h index task moment stops.Full unseen why = absurd why

@@ -123,19 +123,17 @@ unset choose drawn h config moment stop (inl why) =
 unset choose drawn h config moment stop (inr why) =
     subst (λ (s : Stop). IsUnset choose h (configuring config moment) s) (sym why.1) (settings_uncommitted choose h (configuring config moment) why.0)
 
-pub sound_settings : (choose : Chooser) (h : List Order) (order : Order) (stop : Stop) → stop ≡ stops.Unsound → IsUnset choose h order stop → ⊥
+pub sound_settings : (choose : Chooser) (h : List Order) (order : Order) (stop : Stop) → stop ≡ stops.Inconsistent → IsUnset choose h order stop → ⊥
 sound_settings choose h order stop unsound why = subst (λ (s : Stop). IsUnset choose h order s) unsound why
 
-pub unsound_of_mount : (fault : MountFault) → of_mount fault ≡ stops.Unsound → fault ≡ mounts.Unsound
-unsound_of_mount mounts.Disk is = cc
-unsound_of_mount (mounts.Damaged file at) is = cc
-unsound_of_mount mounts.Unsound is = refl
-unsound_of_mount mounts.Full is = cc
-unsound_of_mount mounts.NoMemory is = cc
+pub consistent_mount : (fault : MountFault) → of_mount fault ≡ stops.Inconsistent → ⊥
+consistent_mount mounts.Disk is = cc
+consistent_mount (mounts.Damaged file at) is = cc
+consistent_mount mounts.Full is = cc
+consistent_mount mounts.NoMemory is = cc
 
 pub full_of_mount : (fault : MountFault) → of_mount fault ≡ stops.Full → fault ≡ mounts.Full
 full_of_mount mounts.Disk is = cc
 full_of_mount (mounts.Damaged file at) is = cc
-full_of_mount mounts.Unsound is = cc
 full_of_mount mounts.Full is = refl
 full_of_mount mounts.NoMemory is = cc

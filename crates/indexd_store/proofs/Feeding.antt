@@ -85,7 +85,7 @@ none_taken stop left not = record { taken = []; took = took_none left; read = (o
 -- ---- why no more was given
 
 so : (choose : Chooser) (base : ℕ) (h given rest : List Order) (origin : ChannelMeta) (moment : ℤ) (refusal : Refusal) →
-    IsNextRefused choose (numbers (drop base (given_all choose h given))) (after choose (given_all choose h given)) refusal rest → (of_refusal refusal ≡ stops.Unsound → ⊥) →
+    IsNextRefused choose (numbers (drop base (given_all choose h given))) (after choose (given_all choose h given)) refusal rest → (of_refusal refusal ≡ stops.Inconsistent → ⊥) →
     IsWhy choose base h origin moment (of_refusal refusal) given rest
 so choose base h given rest origin moment refusals.Closed why sound = absurd (sound refl)
 so choose base h given rest origin moment refusals.NoChannel why sound = absurd (sound refl)
@@ -141,8 +141,8 @@ module _ {D : Type 0} (g : Ghosts D) {M : Type 0} (fits : Book → Type 0) (hold
       unfed_as fault stop is read given = subst (λ (s : Stop). Ends (loses s) g fits holds choose h base (Fed choose base h origin moment (Err s) left left') store first last) (sym is) (unfed fault read given)
 
   -- an input is not stopped by what stands on the disk
-  pub fed_sound : (origin : ChannelMeta) (moment : ℤ) (result : Result Unit Stop) (left left' : Option (List ℕ)) → result ≡ Err stops.Unsound → Ends (loses_in result) g fits holds choose h base (Fed choose base h origin moment result left left') store first last → ⊥
+  pub fed_sound : (origin : ChannelMeta) (moment : ℤ) (result : Result Unit Stop) (left left' : Option (List ℕ)) → result ≡ Err stops.Inconsistent → Ends (loses_in result) g fits holds choose h base (Fed choose base h origin moment result left left') store first last → ⊥
   fed_sound origin moment result left left' is ends =
-      let was : IsLeft g fits holds choose h base (Fed choose base h origin moment (Err stops.Unsound) left left') store first last =
+      let was : IsLeft g fits holds choose h base (Fed choose base h origin moment (Err stops.Inconsistent) left left') store first last =
       subst (λ (r : Result Unit Stop). Ends (loses_in r) g fits holds choose h base (Fed choose base h origin moment r left left') store first last) is ends in
       was.allowed.end

@@ -59,7 +59,7 @@ asked_once order orders ahead ahead' is told = subst (λ (os : List Order). Asks
 
 -- what stands on the disk is sound
 pub shut_sound : (stop : Stop) {D : Type 0} (g : Ghosts D) (fits : Book → Type 0) (choose : Chooser) (h : List Order) (k : ℕ) (config : Config) (ahead ahead' : Option Moments) (first last : D) →
-    stop ≡ stops.Unsound → HasShut stop g fits choose h k config ahead ahead' first last → ⊥
+    stop ≡ stops.Inconsistent → HasShut stop g fits choose h k config ahead ahead' first last → ⊥
 shut_sound stop g fits choose h k config ahead ahead' first last unsound (inl not) = not.sound unsound
 shut_sound stop g fits choose h k config ahead ahead' first last unsound (inr run) =
     sound_settings choose (take run.count h) (configuring config run.allowed.moment) stop unsound run.allowed.why

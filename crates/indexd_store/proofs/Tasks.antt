@@ -74,7 +74,7 @@ unsaid_unread task view stop (inl is) = ap is_input is
 unsaid_unread task view stop (inr (inl is)) = ap is_input is
 unsaid_unread task view stop (inr (inr is)) = ap is_input is.0
 
-pub unsaid_by : (task : Task) (view : View) (stop : Stop) → (stop ≡ stops.Memory) ⊎ ((stop ≡ stops.Unsound) × IsUnnamed task view) → IsUnsaid task view stop
+pub unsaid_by : (task : Task) (view : View) (stop : Stop) → (stop ≡ stops.Memory) ⊎ ((stop ≡ stops.Inconsistent) × IsUnnamed task view) → IsUnsaid task view stop
 unsaid_by task view stop (inl is) = inl is
 unsaid_by task view stop (inr is) = inr (inr is)
 
@@ -107,7 +107,7 @@ output_is : (stop : Stop) → is_output stop ≡ true → stop ≡ stops.Output
 output_is stops.Memory out = cc
 output_is stops.Disk out = cc
 output_is (stops.Damaged file at) out = cc
-output_is stops.Unsound out = cc
+output_is stops.Inconsistent out = cc
 output_is stops.NotFound out = cc
 output_is stops.TooManyChannels out = cc
 output_is stops.Full out = cc

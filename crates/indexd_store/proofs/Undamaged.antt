@@ -23,7 +23,6 @@ use Rattle.indexd_store.specs.declared.task.Task.{Task}
 pub damaged_of_mount : (fault : MountFault) (file : File) (at : ℕ) → of_mount fault ≡ stops.Damaged file at → fault ≡ mounts.Damaged file at
 damaged_of_mount mounts.Disk file at is = cc
 damaged_of_mount (mounts.Damaged f a) file at is = cc
-damaged_of_mount mounts.Unsound file at is = cc
 damaged_of_mount mounts.Full file at is = cc
 damaged_of_mount mounts.NoMemory file at is = cc
 
@@ -63,7 +62,7 @@ damaged_of_export exports.NoMemory file at is = cc
 pub unsaid_undamaged : (task : Task) (view : View) (file : File) (at : ℕ) → IsUnsaid task view (stops.Damaged file at) → ⊥
 unsaid_undamaged task view file at (inl is) = cc
 unsaid_undamaged task view file at (inr (inl is)) = cc
-unsaid_undamaged task view file at (inr (inr is)) = let e : stops.Damaged file at ≡ stops.Unsound = is.0 in cc
+unsaid_undamaged task view file at (inr (inr is)) = let e : stops.Damaged file at ≡ stops.Inconsistent = is.0 in cc
 
 -- an object that tells goes on telling
 pub seen_on : (step : Image → Image → Type 0) (old new : Option Image) (image : Image) → Told step old new → old ≡ Some image → (later : Image) × (new ≡ Some later)

@@ -59,7 +59,7 @@ abbrev pub IsUnset : Chooser → List Order → Order → Stop → Type 0
 IsUnset choose mounted order stops.Memory = Unit {0}
 IsUnset choose mounted order stops.Disk = Unit {0}
 IsUnset choose mounted order (stops.Damaged file at) = Unit {0}
-IsUnset choose mounted order stops.Unsound = ⊥
+IsUnset choose mounted order stops.Inconsistent = ⊥
 IsUnset choose mounted order stops.NotFound = ⊥
 IsUnset choose mounted order stops.TooManyChannels = ⊥
 IsUnset choose mounted order stops.Full = IsFull choose false 0 (after choose mounted) order
@@ -115,12 +115,12 @@ pub record HasRun (lost : Bool) {D : Type 0} (d : Ghosts D) (fits : Book → Typ
       StandsFrom fits choose (given_all choose (given_all choose (take count history) configured) orders)
       (lasting lost count (length (given_all choose (given_all choose (take count history) configured) orders))) image
 
--- Nothing was mounted: the clock was not asked, and every image stands for what was there, which is sound. A store is full then where, as the
+-- Nothing was mounted: the clock was not asked, and every image stands for what was there. A store is full then where, as the
 -- disk reads, no further run is left; with one that was mounted a run was.
 pub record HasNotMounted (stop : Stop) {D : Type 0} (d : Ghosts D) (fits : Book → Type 0) (choose : Chooser) (history : List Order) (k : ℕ) (ahead ahead' : Option Moments) (before disk : D) : Type 0 where
   pub fault : MountFault
   pub stop_is : stop ≡ of_mount fault
-  pub sound : stop ≡ stops.Unsound → ⊥
+  pub sound : stop ≡ stops.Inconsistent → ⊥
   pub spent : stop ≡ stops.Full → HasHadItsRuns d fits before
   pub not_asked : ahead' ≡ ahead
   pub stood : Always d before disk (StandsFrom fits choose history k)

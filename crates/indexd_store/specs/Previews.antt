@@ -58,7 +58,7 @@ abbrev pub IsWhy : Chooser → ℕ → List Order → ChannelMeta → ℤ → St
 IsWhy choose base begun origin moment stops.Memory given rest = Unit {0}
 IsWhy choose base begun origin moment stops.Disk given rest = Unit {0}
 IsWhy choose base begun origin moment (stops.Damaged file at) given rest = Unit {0}
-IsWhy choose base begun origin moment stops.Unsound given rest = ⊥
+IsWhy choose base begun origin moment stops.Inconsistent given rest = ⊥
 IsWhy choose base begun origin moment stops.NotFound given rest =
     ((given ≡ []) × Misses choose begun origin true) ⊎ IsRefusedSo choose base begun stops.NotFound given rest
 IsWhy choose base begun origin moment stops.TooManyChannels given rest = IsRefusedSo choose base begun stops.TooManyChannels given rest

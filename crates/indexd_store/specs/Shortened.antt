@@ -13,7 +13,7 @@ abbrev pub is_short_at : Stop → Bool
 is_short_at stops.Memory = false
 is_short_at stops.Disk = false
 is_short_at (stops.Damaged file at) = false
-is_short_at stops.Unsound = false
+is_short_at stops.Inconsistent = false
 is_short_at stops.NotFound = true
 is_short_at stops.TooManyChannels = true
 is_short_at stops.Full = true

@@ -24,14 +24,13 @@ use Rattle.indexd_store.specs.declared.stop.Stop.TheVariants as stops
 abbrev pub of_mount : MountFault → Stop
 of_mount mounts.Disk = stops.Disk
 of_mount (mounts.Damaged file at) = stops.Damaged file at
-of_mount mounts.Unsound = stops.Unsound
 of_mount mounts.Full = stops.Full
 of_mount mounts.NoMemory = stops.Memory
 
 abbrev pub of_refusal : Refusal → Stop
-of_refusal refusals.Closed = stops.Unsound
-of_refusal refusals.NoChannel = stops.Unsound
-of_refusal refusals.ChannelOpen = stops.Unsound
+of_refusal refusals.Closed = stops.Inconsistent
+of_refusal refusals.NoChannel = stops.Inconsistent
+of_refusal refusals.ChannelOpen = stops.Inconsistent
 of_refusal refusals.UnknownIndex = stops.NotFound
 of_refusal refusals.NoBucket = stops.NotFound
 of_refusal refusals.NotArchived = stops.NotFound
@@ -53,7 +52,7 @@ of_give (Refused refusal) = of_refusal refusal
 of_give (Commit fault) = of_commit fault
 
 abbrev pub of_export : ExportFault → Stop
-of_export exports.Closed = stops.Unsound
+of_export exports.Closed = stops.Inconsistent
 of_export exports.UnknownIndex = stops.NotFound
 of_export exports.Disk = stops.Disk
 of_export (exports.Damaged file at) = stops.Damaged file at
@@ -70,7 +69,7 @@ abbrev pub loses : Stop → Bool
 loses stops.Memory = false
 loses stops.Disk = true
 loses (stops.Damaged file at) = true
-loses stops.Unsound = false
+loses stops.Inconsistent = false
 loses stops.NotFound = false
 loses stops.TooManyChannels = false
 loses stops.Full = false
@@ -88,7 +87,7 @@ abbrev pub is_output : Stop → Bool
 is_output stops.Memory = false
 is_output stops.Disk = false
 is_output (stops.Damaged file at) = false
-is_output stops.Unsound = false
+is_output stops.Inconsistent = false
 is_output stops.NotFound = false
 is_output stops.TooManyChannels = false
 is_output stops.Full = false
@@ -101,7 +100,7 @@ abbrev pub is_input : Stop → Bool
 is_input stops.Memory = false
 is_input stops.Disk = false
 is_input (stops.Damaged file at) = false
-is_input stops.Unsound = false
+is_input stops.Inconsistent = false
 is_input stops.NotFound = false
 is_input stops.TooManyChannels = false
 is_input stops.Full = false

@@ -68,7 +68,7 @@ abbrev pub IsUnexported : Chooser → List Order → List ℕ → Stop → Type 
 IsUnexported choose history index stops.Memory = Unit {0}
 IsUnexported choose history index stops.Disk = Unit {0}
 IsUnexported choose history index (stops.Damaged file at) = Unit {0}
-IsUnexported choose history index stops.Unsound = ⊥
+IsUnexported choose history index stops.Inconsistent = ⊥
 IsUnexported choose history index stops.NotFound = is_seen (after choose history) index ≡ false
 IsUnexported choose history index stops.TooManyChannels = ⊥
 IsUnexported choose history index stops.Full = ⊥
@@ -89,7 +89,7 @@ abbrev pub IsWhy : Chooser → List Order → Task → ℤ → Stop → Type 0
 IsWhy choose history task moment stops.Memory = Unit {0}
 IsWhy choose history task moment stops.Disk = Unit {0}
 IsWhy choose history task moment (stops.Damaged file at) = Unit {0}
-IsWhy choose history task moment stops.Unsound = ⊥
+IsWhy choose history task moment stops.Inconsistent = ⊥
 IsWhy choose history task moment stops.NotFound = IsUnseen choose history task ⊎ IsRefusedSo choose history (command_in task) moment stops.NotFound
 IsWhy choose history task moment stops.TooManyChannels = ⊥
 IsWhy choose history task moment stops.Full = IsRefusedSo choose history (command_in task) moment stops.Full
@@ -183,7 +183,7 @@ IsUnnamed (tasks.Thaw index id) view = entry_of index.now id view.ledger ≡ Non
 IsUnnamed tasks.Tick view = ⊥
 
 abbrev pub IsUnsaid : Task → View → Stop → Type 0
-IsUnsaid task view stop = (stop ≡ stops.Memory) ⊎ ((stop ≡ stops.Output) ⊎ ((stop ≡ stops.Unsound) × IsUnnamed task view))
+IsUnsaid task view stop = (stop ≡ stops.Memory) ⊎ ((stop ≡ stops.Output) ⊎ ((stop ≡ stops.Inconsistent) × IsUnnamed task view))
 
 -- ---- the whole
 

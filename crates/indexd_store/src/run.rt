@@ -238,8 +238,8 @@ pub fn run_task<M: Listing + Drop, D: Disk, C: Clock, W: Sink>(
     // What is on the disk is not damaged where it keeps what was committed and tells what it reads,
     ensures undamaged { (file : File) (at : ℕ) → result ≡ Err (Stop.Damaged file at) → (choose : Chooser) (history : List Order) (k : ℕ) → M.is_chooser choose → AllByRecursion M.takes history →
         Begins D.Disk M.Book.fits choose history k disk.old → (image : Image) → D.Disk.seen disk.old ≡ Some image → ⊥ }
-    // and it is sound.
-    ensures sound { IsErrOf result Stop.Unsound → (choose : Chooser) (history : List Order) (k : ℕ) → M.is_chooser choose → AllByRecursion M.takes history →
+    // and what is in memory contradicts nothing.
+    ensures sound { IsErrOf result Stop.Inconsistent → (choose : Chooser) (history : List Order) (k : ℕ) → M.is_chooser choose → AllByRecursion M.takes history →
         Begins D.Disk M.Book.fits choose history k disk.old → (image : Image) → D.Disk.seen disk.old ≡ Some image → ⊥ }
     // Its log is not long then, as the disk reads, whatever it stops for; but where memory was short, or the disk has failed or is not sound.
     ensures short { EndsShort D.Disk M.Book.fits result disk.old disk.new }

@@ -19,8 +19,9 @@ pub enum Stop {
     Disk,
     /// In this file, from this place on, does not stand what was committed.
     Damaged { file: File, at: u64 },
-    /// No commands lead to what the log says, though each of its bodies counts, or to what is in memory.
-    Unsound,
+    /// What is in memory contradicts a command of the run: it is refused in its turn, or lacks what it was just given for. A run over a disk
+    /// that stands for a history never stops so (`sound` of the runs).
+    Inconsistent,
     /// What is named is not there.
     NotFound,
     /// 256 channels are open.
@@ -51,7 +52,7 @@ pub(crate) fn loses(stop: Stop) -> bool
 {
     match stop {
         Stop::Disk | Stop::Damaged { .. } => true,
-        Stop::Memory | Stop::Unsound | Stop::NotFound => false,
+        Stop::Memory | Stop::Inconsistent | Stop::NotFound => false,
         Stop::TooManyChannels | Stop::Full => false,
         Stop::Output | Stop::Input | Stop::Endless => false,
     }
@@ -64,7 +65,6 @@ pub fn of_mount(fault: MountFault) -> Stop
     match fault {
         MountFault::Disk => Stop::Disk,
         MountFault::Damaged { file, at } => Stop::Damaged { file, at },
-        MountFault::Unsound => Stop::Unsound,
         MountFault::Full => Stop::Full,
         MountFault::NoMemory => Stop::Memory,
     }
@@ -76,7 +76,7 @@ pub fn of_refusal(refusal: Refusal) -> Stop
     ensures { result ≡ defs.of_refusal refusal }
 {
     match refusal {
-        Refusal::Closed | Refusal::NoChannel | Refusal::ChannelOpen => Stop::Unsound,
+        Refusal::Closed | Refusal::NoChannel | Refusal::ChannelOpen => Stop::Inconsistent,
         Refusal::UnknownIndex => Stop::NotFound,
         Refusal::NoBucket | Refusal::NotArchived | Refusal::AlreadyThawed => Stop::NotFound,
         Refusal::TooManyChannels => Stop::TooManyChannels,
@@ -120,7 +120,7 @@ pub fn of_export(fault: ExportFault) -> Stop
     ensures { result ≡ defs.of_export fault }
 {
     match fault {
-        ExportFault::Closed => Stop::Unsound,
+        ExportFault::Closed => Stop::Inconsistent,
         ExportFault::UnknownIndex => Stop::NotFound,
         ExportFault::Disk => Stop::Disk,
         ExportFault::Damaged { file, at } => Stop::Damaged { file, at },

@@ -90,21 +90,21 @@ fn entry_of<'a>(entries: &'a [Entry], index: &[u8], id: u64) -> Option<&'a Entry
 /// The line of a bucket that was thawed. The ledger has an entry of it.
 fn name_line(alloc: Global, view: &View, index: &[u8], id: u64) -> Result<Bytes, Stop>
     ensures line { IfOk result (λ line. defs.IsThawed (defs.entry_of index.now id view.now.ledger) line) }
-    ensures stopped { IfErr result (λ stop. (stop ≡ Stop.Memory) ⊎ ((stop ≡ Stop.Unsound) × (defs.entry_of index.now id view.now.ledger ≡ None))) }
+    ensures stopped { IfErr result (λ stop. (stop ≡ Stop.Memory) ⊎ ((stop ≡ Stop.Inconsistent) × (defs.entry_of index.now id view.now.ledger ≡ None))) }
 {
     match entry_of(view.ledger.as_slice(), index, id) {
         Some(entry) => match thawed_line(alloc, entry) {
             Ok(line) => Ok(line),
             Err(_) => Err(Stop::Memory),
         },
-        None => Err(Stop::Unsound),
+        None => Err(Stop::Inconsistent),
     }
 }
 
 /// The text of a command that moved so many buckets. The lines of an export are written as they are read, and it has no other text.
 fn text_of(alloc: Global, view: &View, task: Task<'_>, count: u64) -> Result<Bytes, Stop>
     ensures text { IfOk result (λ text. defs.IsText task.entry view.now count text) }
-    ensures stopped { IfErr result (λ stop. (stop ≡ Stop.Memory) ⊎ ((stop ≡ Stop.Unsound) × defs.IsUnnamed task.entry view.now)) }
+    ensures stopped { IfErr result (λ stop. (stop ≡ Stop.Memory) ⊎ ((stop ≡ Stop.Inconsistent) × defs.IsUnnamed task.entry view.now)) }
 {
     let made = match task {
         Task::Buckets => listing(alloc, view),

@@ -45,6 +45,7 @@ use Rattle.ix_kept.specs.Held.{IsOpen, shelves_of, Holds}
 use Rattle.ix_kept.specs.declared.held.Held.{Held}
 use Rattle.ix_kept.specs.declared.held.Open.{Open}
 use Rattle.ix_store.specs.Written.{over}
+use Rattle.ix_store.specs.declared.subject.Subject.{Subject}
 use Rattle.ix_recall.specs.Listed.{left_items, removal_item, all_items}
 use Rattle.ix_recall.proofs.ListFitting.{as_removals, fits_within}
 use Rattle.ix_recall.proofs.Listing.{states_are_listed}
@@ -241,12 +242,12 @@ has_config : (force kept : List Kept) → IsForce force → kept ≡ force → (
 has_config force kept (inl none) same some refused = some (same ∙ none)
 has_config force kept (inr found) same some refused = refused found.0 found.1 (found.2 ∙ sym same)
 
-pub not_refused : (choose : Chooser) (history : List Order) (said : List Item) → AreListed said → IsLog choose history said → IsNoState (all_taken said nothing) → ⊥
-not_refused choose history said listed log (inl refused) =
-    has_config (after choose history).force (all_taken said nothing).kept (lives_kept choose history log.given).force (log_gathered choose history said listed log).kept refused.some refused.none
-not_refused choose history said listed log (inr refused) =
+pub not_refused : (choose : Chooser) (history : List Order) (said : List Item) (subject : Subject) → AreListed said → IsLog choose history said → IsNoState subject (all_taken said nothing) → ⊥
+not_refused choose history said subject listed log (inl refused) =
+    has_config (after choose history).force (all_taken said nothing).kept (lives_kept choose history log.given).force (log_gathered choose history said listed log).kept refused.1.some refused.1.none
+not_refused choose history said subject listed log (inr refused) =
     let m = after choose history in
     let is = log_gathered choose history said listed log in
-    let sorted = channels_same m (all_taken said nothing).channels refused.has_none.sorted (in_order_after choose history).channels is.channels refused.has_none.in_order in
+    let sorted = channels_same m (all_taken said nothing).channels refused.has_bad.sorted (in_order_after choose history).channels is.channels refused.has_bad.in_order in
     none_refused choose m.force refused.config log.chooser refused.is_config (refused.kept ∙ is.kept) m.channels (lives_kept choose history log.given).lives
-    (subst (Any (IsNoChannel refused.config.props)) sorted refused.has_none.none)
+    (let bad = refused.has_bad.bad in subst (Any (IsNoChannel refused.config.props)) sorted (bad.0, bad.1, bad.2, bad.3, bad.4.1))

@@ -45,3 +45,4 @@ pub mod Shortened
 pub mod Sized
 pub mod Parted
 pub mod Ledgers
+pub mod Blamed

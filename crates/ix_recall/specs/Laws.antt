@@ -6,6 +6,7 @@ use Rattle.ix_machine.specs.declared.commands.Order.{Order}
 use Rattle.ix_replay.specs.Lists.{AreListed}
 use Rattle.ix_kept.specs.Held.{Holds}
 use Rattle.ix_kept.specs.declared.held.Held.{Held}
+use Rattle.ix_store.specs.declared.subject.Subject.{Subject}
 use Rattle.ix_recall.specs.Gathered.{nothing, all_taken}
 use Rattle.ix_recall.specs.Recalled.{IsRecalled, IsNoState, IsLog}
 
@@ -18,4 +19,5 @@ LogsAreHeld =
 -- and they make one
 abbrev pub NoLogIsRefused : Type 0
 NoLogIsRefused =
-    (choose : Chooser) (history : List Order) (said : List Item) → AreListed said → IsLog choose history said → IsNoState (all_taken said nothing) → ⊥
+    (choose : Chooser) (history : List Order) (said : List Item) (subject : Subject) → AreListed said → IsLog choose history said →
+    IsNoState subject (all_taken said nothing) → ⊥

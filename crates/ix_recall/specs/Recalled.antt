@@ -9,6 +9,7 @@ use Rattle.ix_carry.specs.declared.carry.Carry.{Carry}
 use Rattle.ix_book.specs.Book.{empty, replay}
 use Rattle.ix_items.specs.declared.items.Bucket.{Bucket}
 use Rattle.ix_items.specs.declared.items.Item.{Item}
+use Rattle.ix_items.specs.declared.items.Item.TheVariants as items
 use Rattle.ix_items.specs.declared.items.Kept.{Kept}
 use Rattle.ix_kept.specs.Configs.{IsChooser, IsConfig}
 use Rattle.ix_kept.specs.Taken.{AreGiven}
@@ -34,6 +35,8 @@ use Rattle.ix_machine.specs.Snap.{left}
 use Rattle.ix_kept.specs.declared.held.Held.{Held}
 use Rattle.ix_kept.specs.declared.held.Open.{Open}
 use Rattle.ix_store.specs.Written.{over}
+use Rattle.ix_store.specs.declared.subject.Subject.{Subject}
+use Rattle.ix_store.specs.declared.subject.Subject.TheVariants as subjects
 use Rattle.ix_recall.specs.declared.gathering.Carried.{Carried}
 use Rattle.ix_recall.specs.declared.gathering.Gathered.{Gathered}
 use Rattle.ix_recall.specs.declared.gathering.Placed.{Placed}
@@ -80,11 +83,15 @@ pub record AreResumed (given : List Carried) (props : List PropsEntry) (channels
 abbrev pub IsNoChannel : List PropsEntry → Carried → Type 0
 IsNoChannel props carried = (carried.meta.index ≡ None) ⊎ HasNoCarry props carried
 
--- one of them cannot go on
-pub record HasNone (given : List Carried) (props : List PropsEntry) : Type 0 where
+-- it is that of the subject
+abbrev pub IsBadChannel : List PropsEntry → Subject → Carried → Type 0
+IsBadChannel props subject carried = (subject ≡ subjects.Channel carried.name) × IsNoChannel props carried
+
+-- one of them, that of the subject, cannot go on
+pub record HasBad (given : List Carried) (props : List PropsEntry) (subject : Subject) : Type 0 where
   pub sorted : List Carried
   pub in_order : AreSorted carried_name given sorted
-  pub none : Any (IsNoChannel props) sorted
+  pub bad : Any (IsBadChannel props subject) sorted
 
 -- ---- buckets
 
@@ -135,20 +142,33 @@ pub record IsRecalled (g : Gathered) (held : Held) : Type 0 where
   pub last : held.last ≡ g.last
   pub tick : held.tick ≡ g.tick
 
--- the settings give no values: they are some, and those of no Config
-pub record HasNoConfig (g : Gathered) : Type 0 where
-  pub some : g.kept ≡ [] → ⊥
-  pub none : (config : Config) → IsConfig config → config.kept ≡ g.kept → ⊥
+-- settings that give no values: they are some, and those of no Config
+pub record HaveNoValues (kept : List Kept) : Type 0 where
+  pub some : kept ≡ [] → ⊥
+  pub none : (config : Config) → IsConfig config → config.kept ≡ kept → ⊥
 
--- by the settings, one of the channels cannot go on
-pub record HasNoChannel (g : Gathered) : Type 0 where
+-- by the settings, the channel of the subject cannot go on
+pub record HasBadChannel (g : Gathered) (subject : Subject) : Type 0 where
   pub config : Config
   pub is_config : IsConfig config
   pub kept : config.kept ≡ g.kept
-  pub has_none : HasNone g.channels config.props
+  pub has_bad : HasBad g.channels config.props subject
 
-abbrev pub IsNoState : Gathered → Type 0
-IsNoState g = HasNoConfig g ⊎ HasNoChannel g
+abbrev pub IsNoState : Subject → Gathered → Type 0
+IsNoState subject g = ((subject ≡ subjects.Settings) × HaveNoValues g.kept) ⊎ HasBadChannel g subject
+
+-- by settings that give values, a channel that cannot go on
+pub record CannotGoOn (kept : List Kept) (carried : Carried) : Type 0 where
+  pub config : Config
+  pub is_config : IsConfig config
+  pub is_kept : config.kept ≡ kept
+  pub none : IsNoChannel config.props carried
+
+-- Of which items no state comes, by the settings that are kept: settings without values, and an open channel that cannot go on.
+abbrev pub GivesNone : List Kept → Item → Type 0
+GivesNone force (items.Settings kept) = HaveNoValues kept
+GivesNone force (items.Channel name meta carry) = CannotGoOn force (record { name = name; meta = meta; carry = carry })
+GivesNone force other = ⊥
 
 -- ---- histories
 

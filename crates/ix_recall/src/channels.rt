@@ -1,41 +1,58 @@
 //! Open channels from what is carried of them. `recall` goes on with each of them by the settings in force.
 
-ghost use Rattle.std.specs.Prelude.{◌≡◌, IfOk, IsErrOf};
+ghost use Rattle.std.specs.Prelude.{◌≡◌, Err, IfOk};
 ghost use Rattle.std.specs.List.{AllZip, Any};
-ghost use Rattle.ix_recall.specs.Recalled.{IsResumed, AreResumed, IsNoChannel, HasNone};
+ghost use Rattle.ix_recall.specs.Recalled.{IsResumed, AreResumed, IsBadChannel, HasBad};
+ghost use Rattle.ix_store.specs.declared.subject.Subject.{Subject};
+ghost use Rattle.ix_store.specs.declared.subject.Subject.TheVariants as subjects;
 
 use crate::faults::RecallFault;
 use crate::gathering::Carried;
 use crate::sorting::channels_by_name;
+use ix_base::Bytes;
+use ix_carry::ResumeFault;
 use ix_kept::Open;
 use ix_parse::Channel;
 use ix_props::Props;
+use ix_store::Subject;
 use std::alloc::Global;
 
 /// The channel goes on, by the settings that are chosen for it.
 fn resume_one(alloc: Global, props: &Props, carried: &Carried) -> Result<Open, RecallFault>
     ensures opened { IfOk result (λ opened. IsResumed props.now carried.now opened) }
-    ensures unsound { IsErrOf result RecallFault.Unsound → IsNoChannel props.now carried.now }
+    ensures bad { (subject : Subject) → result ≡ Err (RecallFault.Bad subject) → IsBadChannel props.now subject carried.now }
 {
-    if carried.meta.index.is_none() {
-        return Err(RecallFault::Unsound);
-    }
     let name = carried.name.copy()?;
+    if carried.meta.index.is_none() {
+        return Err(bad_channel(name));
+    }
     let meta = carried.meta.copy()?;
     let stated = carried.meta.copy()?;
     let settings = props.settings(alloc, &carried.meta)?;
-    let channel = Channel::resume(alloc, settings, stated, carried.carry.as_slice())?;
-    Ok(Open {
-        name,
-        meta,
-        channel,
-    })
+    match Channel::resume(alloc, settings, stated, carried.carry.as_slice()) {
+        Ok(channel) => Ok(Open {
+            name,
+            meta,
+            channel,
+        }),
+        Err(ResumeFault::BadCarry) => Err(bad_channel(name)),
+        Err(ResumeFault::NoMemory) => Err(RecallFault::NoMemory),
+    }
+}
+
+/// The channel of this name cannot go on.
+fn bad_channel(name: Bytes) -> RecallFault
+    ensures { result ≡ RecallFault.Bad (subjects.Channel name) }
+{
+    RecallFault::Bad {
+        subject: Subject::Channel { name },
+    }
 }
 
 /// All of them go on.
 fn resume_all(alloc: Global, props: &Props, carried: &[Carried]) -> Result<Vec<Open>, RecallFault>
     ensures opened { IfOk result (λ channels. AllZip (IsResumed props.now) carried.now channels.items) }
-    ensures unsound { IsErrOf result RecallFault.Unsound → Any (IsNoChannel props.now) carried.now }
+    ensures bad { (subject : Subject) → result ≡ Err (RecallFault.Bad subject) → Any (IsBadChannel props.now subject) carried.now }
 {
     let mut channels = Vec::new(alloc);
     for one in carried {
@@ -52,7 +69,7 @@ pub fn channels_of(
     given: Vec<Carried>,
 ) -> Result<Vec<Open>, RecallFault>
     ensures opened { IfOk result (λ channels. AreResumed given.items props.now channels.items) }
-    ensures unsound { IsErrOf result RecallFault.Unsound → HasNone given.items props.now }
+    ensures bad { (subject : Subject) → result ≡ Err (RecallFault.Bad subject) → HasBad given.items props.now subject }
 {
     let sorted = channels_by_name(given);
     resume_all(alloc, props, sorted.as_slice())

@@ -1,19 +1,19 @@
 //! Why no state is made of the items of a log.
 
 ghost use Rattle.std.specs.Prelude.{◌≡◌};
-ghost use Rattle.ix_recall.specs.Faults.{by_config, by_resume};
+ghost use Rattle.ix_recall.specs.Faults.{by_config};
 ghost use Rattle.ix_recall.specs.declared.faults.RecallFault.TheVariants as faults;
 
 use ix_base::NoMemory as OutOfMemory;
-use ix_carry::ResumeFault;
 use ix_kept::ConfigFault;
+use ix_store::Subject;
 use std::alloc::AllocFailed;
 
 /// Why no state is made of the items of a log.
-#[derive(Clone, Copy, Debug, PartialEq, Eq)]
+#[derive(Drop)]
 pub enum RecallFault {
-    /// No history of commands leaves such items: the settings cannot be loaded, or what is carried of a channel is no carry.
-    Unsound,
+    /// None comes of the item of this subject: the settings cannot be loaded, or what is carried of the channel is no carry.
+    Bad { subject: Subject },
     /// There was no room in memory.
     NoMemory,
 }
@@ -34,23 +34,14 @@ impl<T: Drop> From<AllocFailed<T>> for RecallFault {
     }
 }
 
-impl From<ResumeFault> for RecallFault {
-    ghost from_gives = { λ fault e. e ≡ by_resume fault };
-
-    fn from(fault: ResumeFault) -> RecallFault {
-        match fault {
-            ResumeFault::BadCarry => RecallFault::Unsound,
-            ResumeFault::NoMemory => RecallFault::NoMemory,
-        }
-    }
-}
-
 impl From<ConfigFault> for RecallFault {
     ghost from_gives = { λ fault e. e ≡ by_config fault };
 
     fn from(fault: ConfigFault) -> RecallFault {
         match fault {
-            ConfigFault::Unsound => RecallFault::Unsound,
+            ConfigFault::Unsound => RecallFault::Bad {
+                subject: Subject::Settings,
+            },
             ConfigFault::NoMemory => RecallFault::NoMemory,
         }
     }

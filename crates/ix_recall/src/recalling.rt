@@ -1,6 +1,6 @@
 //! The state of a store from the items of its log. A mount calls `recall` once the log is read.
 
-ghost use Rattle.std.specs.Prelude.{◌≡◌, ℕ, List, reverse, Option, IfOk, IsErrOf};
+ghost use Rattle.std.specs.Prelude.{◌≡◌, ℕ, List, reverse, Option, Err, IfOk};
 ghost use Rattle.std.specs.List.{filter_map, list_any};
 ghost use Rattle.ix_book.specs.Book.{empty, replay};
 ghost use Rattle.ix_items.specs.declared.items.Item.{Item as Logged};
@@ -11,10 +11,12 @@ ghost use Rattle.ix_machine.specs.declared.commands.Order.{Order};
 ghost use Rattle.ix_replay.specs.Fits.{fits};
 ghost use Rattle.ix_machine.specs.Snap.{left};
 ghost use Rattle.ix_kept.specs.Held.{Holds};
+ghost use Rattle.ix_store.specs.Finding.{IsBadIn};
 ghost use Rattle.ix_store.specs.Written.{over};
+ghost use Rattle.ix_store.specs.declared.subject.Subject.{Subject};
 ghost use Rattle.ix_recall.specs.First.{is_first, is_moments};
 ghost use Rattle.ix_recall.specs.Gathered.{entry_in};
-ghost use Rattle.ix_recall.specs.Recalled.{IsRecalled, IsNoState};
+ghost use Rattle.ix_recall.specs.Recalled.{IsRecalled, IsNoState, GivesNone};
 
 use crate::channels::channels_of;
 use crate::faults::RecallFault;
@@ -48,7 +50,7 @@ fn turned(entries: EntryList) -> EntryList
 /// The state of what was gathered.
 fn hold(alloc: Global, gathered: Gathered) -> Result<Held, RecallFault>
     ensures recalled { IfOk result (λ held. IsRecalled gathered held) }
-    ensures unsound { IsErrOf result RecallFault.Unsound → IsNoState gathered }
+    ensures bad { (subject : Subject) → result ≡ Err (RecallFault.Bad subject) → IsNoState subject gathered }
 {
     let Gathered {
         kept,
@@ -112,8 +114,8 @@ fn say_moments(items: &[Item]) -> bool
     items.iter().any(|item| is_moments(item))
 }
 
-/// The state that the history of a log leads to. `Unsound` comes of no log that a history leaves: its settings cannot be loaded,
-/// or what is carried of a channel is no carry.
+/// The state that the history of a log leads to. `Bad` comes of no log that a history leaves: its settings cannot be loaded, or what is
+/// carried of a channel is no carry by them.
 pub fn recall(alloc: Global, book: Replayed) -> Result<Recalled, RecallFault>
     ensures done { IfOk result (λ recalled. (choose : Chooser) (history : List Order) (run : ℕ) (removed : Option Logged) →
         IsChooser choose → AreGiven history → fits (replay book empty) → replay book empty ≡ over run removed (left choose history).book →
@@ -122,7 +124,10 @@ pub fn recall(alloc: Global, book: Replayed) -> Result<Recalled, RecallFault>
         replay book empty ≡ over run removed (left choose history).book → is_first history ≡ recalled.fresh) }
     // The ledger stands as its items do.
     ensures ledger { IfOk result (λ recalled. recalled.held.view.ledger ≡ filter_map entry_in book) }
-    ensures sound { IsErrOf result RecallFault.Unsound → (choose : Chooser) (history : List Order) (run : ℕ) (removed : Option Logged) →
+    // Of the item that stands for the subject no state comes,
+    ensures bad { (subject : Subject) → result ≡ Err (RecallFault.Bad subject) → IsBadIn GivesNone subject (replay book empty) }
+    // and no history is written so.
+    ensures sound { (subject : Subject) → result ≡ Err (RecallFault.Bad subject) → (choose : Chooser) (history : List Order) (run : ℕ) (removed : Option Logged) →
         IsChooser choose → AreGiven history → fits (replay book empty) → replay book empty ≡ over run removed (left choose history).book → ⊥ }
 {
     let items = book.into_items();

@@ -8,3 +8,4 @@ pub mod Numbered
 pub mod Lawful
 pub mod Exported
 pub mod Shortened
+pub mod Said

@@ -1,5 +1,6 @@
 pub mod Faults
 pub mod Filing
+pub mod Finding
 pub mod Counting
 pub mod Written
 pub mod Telling

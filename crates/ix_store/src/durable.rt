@@ -9,14 +9,15 @@ ghost use Rattle.ix_disk.specs.Image.{Image, bytes_in};
 ghost use Rattle.ix_disk.specs.Moments.{Always};
 ghost use Rattle.ix_keep.specs.Committing.{IsShort};
 ghost use Rattle.ix_keep.specs.Contents.{Anyhow};
-ghost use Rattle.ix_keep.specs.Mounting.{IsBadLog};
 ghost use Rattle.ix_keep.specs.Reads.{HasNoRun};
 ghost use Rattle.ix_keep.specs.Snapshot.{IsOver, IsIdle, IsMeasured};
 ghost use Rattle.ix_machine.specs.Given.{Chooser};
 ghost use Rattle.ix_machine.specs.declared.commands.Order.{Order};
+ghost use Rattle.ix_store.specs.Finding.{IsBadStore};
 ghost use Rattle.ix_store.specs.Written.{Stands, StandsFrom};
 
 use crate::fault::{MountFault, fault_of};
+use crate::finding::blame;
 use crate::group::Group;
 use crate::memory::{BookFault, Memory};
 use crate::store::Store;
@@ -77,13 +78,13 @@ impl<M: Memory + Drop> Store<M> {
         ensures measured { IfOk result (λ store. IsMeasured D.Disk store.keeper disk.new) }
         // A disk that tells what it reads goes on telling.
         ensures told { Told Anyhow (D.Disk.seen disk.old) (D.Disk.seen disk.new) }
-        // It names the gate of the first bad body of the root log or the current one, as the disk reads.
-        ensures damaged { (named : File) (at : ℕ) → result ≡ Err (MountFault.Damaged named at) → (image : Image) → D.Disk.seen disk.old ≡ Some image → IsBadLog M.Book.fits named at image }
-        // A disk of whose every image some commands may be read is not damaged,
+        // It names the gate of the first bad body of the root log or the current one, as the disk reads; where all bodies count, that of
+        // the last one that says the settings or the channel of which no state comes.
+        ensures damaged { (named : File) (at : ℕ) → result ≡ Err (MountFault.Damaged named at) → (image : Image) → D.Disk.seen disk.old ≡ Some image →
+            IsBadStore M.Book.fits M.gives_none named at image }
+        // A disk of whose every image some commands may be read is not damaged.
         ensures undamaged { (named : File) (at : ℕ) → result ≡ Err (MountFault.Damaged named at) → (choose : Chooser) (history : List Order) (k : ℕ) →
-            ((image : Image) → D.Disk.may_leave disk.old image → StandsFrom M.Book.fits choose history k image) → (image : Image) → D.Disk.seen disk.old ≡ Some image → ⊥ }
-        // and it is sound.
-        ensures sound { IsErrOf result MountFault.Unsound → (choose : Chooser) (history : List Order) (k : ℕ) → M.is_chooser choose → AllByRecursion M.takes history →
+            M.is_chooser choose → AllByRecursion M.takes history →
             ((image : Image) → D.Disk.may_leave disk.old image → StandsFrom M.Book.fits choose history k image) → (image : Image) → D.Disk.seen disk.old ≡ Some image → ⊥ }
         // Full comes exactly where no further run has a number, or there is no room for it, as the disk reads, unless another fault or want of
         // memory comes first.
@@ -109,7 +110,7 @@ impl<M: Memory + Drop> Store<M> {
                 group: Group::none(alloc),
                 closed: false,
             }),
-            Err(BookFault::Unsound) => Err(MountFault::Unsound),
+            Err(BookFault::Bad { subject }) => Err(blame(alloc, disk, keeper.current(), &subject)),
             Err(BookFault::NoMemory) => Err(MountFault::NoMemory),
         }
     }

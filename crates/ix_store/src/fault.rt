@@ -12,10 +12,9 @@ use ix_keep::MountFault as KeptFault;
 pub enum MountFault {
     /// The disk has failed.
     Disk,
-    /// In this log, behind the gate at this place, stands no body that counts.
+    /// In this log, behind the gate at this place, stands no body that counts, or one that says settings or a channel of which no state
+    /// comes.
     Damaged { file: File, at: u64 },
-    /// The bodies of the current log count, and no commands lead to what they say together.
-    Unsound,
     /// No further run has a number, or a new store has no room for its first body.
     Full,
     /// There was no room in memory.

@@ -5,6 +5,7 @@
 mod durable;
 mod exporting;
 mod fault;
+mod finding;
 mod group;
 mod laws;
 mod memory;
@@ -12,9 +13,11 @@ mod numbers;
 mod shortening;
 mod showing;
 mod store;
+mod subject;
 
 pub use fault::{ExportFault, MountFault};
 pub use laws::{accepted_is_held, given_are_taken, prefixes_stand, what_is_held_stands};
 pub use memory::{BookFault, Made, Memory};
 pub use shortening::{ListFault, Listing};
 pub use store::Store;
+pub use subject::Subject;

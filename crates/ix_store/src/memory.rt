@@ -1,9 +1,11 @@
 //! The state in memory, as a store takes it: the store is generic over it, and the crate of the state implements it.
 
-ghost use Rattle.std.specs.Prelude.{◌≡◌, ℕ, ℤ, List, IfOk, IfErr, IsErrOf, Option, is_some, false};
+ghost use Rattle.std.specs.Prelude.{◌≡◌, ℕ, ℤ, List, [], Err, IfOk, IfErr, Option, is_some, false};
 ghost use Rattle.std.specs.List.{AllByRecursion};
 ghost use Rattle.std.specs.Option.{option_copied};
 ghost use Rattle.ix_items.specs.declared.items.Item.{Item};
+ghost use Rattle.ix_items.specs.declared.items.Item.TheVariants.{Settings};
+ghost use Rattle.ix_items.specs.declared.items.Kept.{Kept};
 ghost use Rattle.ix_book.specs.Book.{empty};
 ghost use Rattle.ix_machine.specs.Bounds.{IsRefused};
 ghost use Rattle.ix_machine.specs.Given.{Chooser};
@@ -16,10 +18,13 @@ ghost use Rattle.ix_machine.specs.Shelved.{IsSet};
 ghost use Rattle.ix_machine.specs.Snap.{left};
 ghost use Rattle.ix_store.specs.Counting.{weight_of};
 ghost use Rattle.ix_store.specs.Exporting.{HaveRecords};
+ghost use Rattle.ix_store.specs.Finding.{IsBadIn};
 ghost use Rattle.ix_store.specs.Written.{over};
 ghost use Rattle.ix_store.specs.Making.{AreProper, IsMade};
 ghost use Rattle.ix_store.specs.Showing.{IsViewOf};
+ghost use Rattle.ix_store.specs.declared.subject.Subject.{Subject};
 
+use crate::subject::Subject;
 use ix_base::Spot;
 use ix_book::Replay;
 use ix_items::{FileList, KeptList};
@@ -46,10 +51,10 @@ pub struct Made<N> {
 }
 
 /// Why the items of a log give no state.
-#[derive(Clone, Copy, Debug, PartialEq, Eq)]
+#[derive(Drop)]
 pub enum BookFault {
-    /// No commands lead to them.
-    Unsound,
+    /// None comes of the item of this subject.
+    Bad { subject: Subject },
     /// There was no room in memory.
     NoMemory,
 }
@@ -76,6 +81,9 @@ pub trait Memory: Sized {
 
     /// Whether this can be taken without memory.
     ghost has_room: { Self → Self.Next → Type 0 };
+
+    /// Of which items of a log no state comes, by the settings that are kept: of settings, and of an open channel.
+    ghost gives_none: { List Kept → Item → Type 0 };
 
     /// Works out what a command leads to in a run that has drawn so many numbers, or why it is refused. Nothing is changed.
     fn prepare(&self, alloc: Global, order: Order, drawn: u64) -> Result<Made<Self::Next>, Refusal>
@@ -121,8 +129,14 @@ pub trait Memory: Sized {
     fn from_book(alloc: Global, book: Self::Book) -> Result<Self, BookFault>
         ensures held { IfOk result (λ memory. (choose : Chooser) (history : List Order) (run : ℕ) (removed : Option Item) → is_chooser choose → AllByRecursion takes history →
             Self.Book.fits (Self.Book.stands book) → Self.Book.stands book ≡ over run removed (left choose history).book → holds choose history memory) }
-        ensures sound { IsErrOf result BookFault.Unsound → (choose : Chooser) (history : List Order) (run : ℕ) (removed : Option Item) → is_chooser choose → AllByRecursion takes history →
-            Self.Book.fits (Self.Book.stands book) → Self.Book.stands book ≡ over run removed (left choose history).book → ⊥ };
+        // Of the item that stands there for the subject no state comes,
+        ensures bad { (subject : Subject) → result ≡ Err (BookFault.Bad subject) → IsBadIn gives_none subject (Self.Book.stands book) }
+        // and no history is written so.
+        ensures sound { (subject : Subject) → result ≡ Err (BookFault.Bad subject) → (choose : Chooser) (history : List Order) (run : ℕ) (removed : Option Item) →
+            is_chooser choose → AllByRecursion takes history → Self.Book.fits (Self.Book.stands book) → Self.Book.stands book ≡ over run removed (left choose history).book → ⊥ };
+
+    /// Settings that set nothing are no cause that no state comes.
+    ghost none_set_is_good: { (force : List Kept) → gives_none force (Settings []) → ⊥ };
 
     /// An accepted command may bring a Tick, of any moment.
     ghost ticks_are_taken: { (moment : ℤ) → takes (record { command = Tick; moment = moment }) };

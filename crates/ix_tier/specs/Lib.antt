@@ -3,3 +3,4 @@ pub mod Made
 pub mod Orders
 pub mod Recorded
 pub mod Standing
+pub mod Settled

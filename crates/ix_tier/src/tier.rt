@@ -153,7 +153,9 @@ fn make_order(alloc: Global, held: &Held, order: Order) -> Result<Made<Next>, Re
 impl Memory for Tier {
     ghost use Rattle.ix_kept.specs.Configs.{IsChooser};
     ghost use Rattle.ix_kept.specs.Taken.{IsTaken};
+    ghost use Rattle.ix_recall.specs.Recalled.{GivesNone};
     ghost use Rattle.ix_tier.specs.Recorded.{events_have_records};
+    ghost use Rattle.ix_tier.specs.Settled.{none_set_is_good};
     ghost use Rattle.ix_tier.specs.Standing.{Stands, WillStand};
 
     type Next = Next;
@@ -169,6 +171,10 @@ impl Memory for Tier {
     ghost ready = { λ choose history tier next. WillStand choose history tier.held next };
 
     ghost has_room = { λ tier next. HasRoom tier.held next };
+
+    ghost gives_none = { GivesNone };
+
+    ghost none_set_is_good = { none_set_is_good };
 
     ghost ticks_are_taken = { λ moment. tt };
 
@@ -214,7 +220,7 @@ impl Memory for Tier {
     fn from_book(alloc: Global, book: Replayed) -> Result<Tier, BookFault> {
         match recall(alloc, book) {
             Ok(Recalled { held, fresh }) => Ok(Tier { held, fresh }),
-            Err(RecallFault::Unsound) => Err(BookFault::Unsound),
+            Err(RecallFault::Bad { subject }) => Err(BookFault::Bad { subject }),
             Err(RecallFault::NoMemory) => Err(BookFault::NoMemory),
         }
     }

@@ -9,7 +9,7 @@ use Rattle.indexd_store.specs.Opened.{configuring, IsUnset}
 use Rattle.indexd_store.specs.Stops.{of_mount, loses}
 use Rattle.indexd_store.specs.declared.stop.Stop.{Stop}
 use Rattle.indexd_store.specs.declared.stop.Stop.TheVariants as stops
-use Rattle.indexd_store.proofs.Ending.{unset, unsound_of_mount, full_of_mount}
+use Rattle.indexd_store.proofs.Ending.{unset, consistent_mount, full_of_mount}
 use Rattle.indexd_store.proofs.Joining.{front_has, committed, configured_as, opened_same, opened_by, stopped_by}
 use Rattle.indexd_store.proofs.Shortening.{by_end, damaged_end, stopped_short, most_taken}
 use Rattle.indexd_store.proofs.Undamaged.{damaged_of_mount, seen_on}
@@ -63,9 +63,8 @@ returns-in-Err-clause-stopped g c = λ choose history k chooser taken begins ima
   fault = c.in-Err.fault;
   stop_is = c.of_mount.ensures;
   sound = λ unsound.
-      let is : of_mount c.in-Err.fault ≡ stops.Unsound = cc (unsound, c.of_mount.ensures) in
-      let mount_is : c.in-Err.fault ≡ mounts.Unsound = unsound_of_mount c.in-Err.fault is in
-      c.in-Err.ensures.sound (cc (mount_is)) choose history k chooser taken begins image seen;
+      let is : of_mount c.in-Err.fault ≡ stops.Inconsistent = cc (unsound, c.of_mount.ensures) in
+      consistent_mount c.in-Err.fault is;
   spent = λ full.
       let is : of_mount c.in-Err.fault ≡ stops.Full = cc (full, c.of_mount.ensures) in
       let mount_is : c.in-Err.fault ≡ mounts.Full = full_of_mount c.in-Err.fault is in
@@ -79,7 +78,7 @@ returns-in-Err-clause-undamaged g c = λ file at is choose history k chooser tak
     let stop : of_mount c.in-Err.fault ≡ stops.Damaged file at = cc (is, c.of_mount.ensures) in
     let fault = damaged_of_mount c.in-Err.fault file at stop in
     let was : c.mount.result ≡ Err (mounts.Damaged file at) = cc (fault, c.in-Err.is) in
-    c.mount.ensures.undamaged file at was choose history k begins image seen
+    c.mount.ensures.undamaged file at was choose history k chooser taken begins image seen
 
 pub returns-in-Err-run_last-clause-undamaged : goal.returns-in-Err-run_last-clause-undamaged
 returns-in-Err-run_last-clause-undamaged g c = λ file at is choose history k chooser taken begins image seen.

@@ -51,7 +51,7 @@ returns-clause-sound g c = λ unsound choose history k chooser taken begins imag
     let opened = c.in-Ok.ensures.opened choose history k chooser taken begins image seen in
     let taken_now = begun_taken g.M.Memory.takes g.met.M.Memory.ticks_are_taken choose (take opened.count history) c.args.config (is_configured choose (take opened.count history) c.args.config) opened.configured
     c.requires.settings (front_has g.M.Memory.takes opened.count history taken) opened.configures in
-    at_err c.carry_out.result stops.Unsound _ unsound c.carry_out.ensures.why choose (given_all choose (take opened.count history) opened.configured) opened.count chooser taken_now opened.hold
+    at_err c.carry_out.result stops.Inconsistent _ unsound c.carry_out.ensures.why choose (given_all choose (take opened.count history) opened.configured) opened.count chooser taken_now opened.hold
 
 pub returns-in-Err-clause-undamaged : goal.returns-in-Err-clause-undamaged
 returns-in-Err-clause-undamaged g c = λ file at is.

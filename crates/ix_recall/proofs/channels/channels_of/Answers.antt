@@ -10,5 +10,5 @@ returns c =
     subst (AreSorted carried_name c.args.given.items) (sym c.as_slice.ensures.value) c.channels_by_name-sorted.ensures in
     record {
       opened = IfOk-weaker c.resume_all.result _ _ (λ channels zipped. record { sorted = sorted; in_order = in_order; resumed = zipped }) c.resume_all.ensures.opened;
-      unsound = λ is. record { sorted = sorted; in_order = in_order; none = c.resume_all.ensures.unsound is };
+      bad = λ subject is. record { sorted = sorted; in_order = in_order; bad = c.resume_all.ensures.bad subject is };
     }

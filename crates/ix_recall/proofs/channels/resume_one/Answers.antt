@@ -1,29 +1,34 @@
-use Rattle.std.proofs.Common.{◌≡◌, List, rules, ap, inr, subst, sym}
-use Rattle.std.specs.Prelude.{ℕ, Err}
+use Rattle.std.proofs.Common.{◌≡◌, List, rules, ap, inr, subst, sym, ◌∙◌}
+use Rattle.std.specs.Prelude.{ℕ, Result, Err}
 use Rattle.ix_base.specs.declared.events.ChannelMeta.{ChannelMeta}
 use Rattle.ix_carry.specs.Form.{IsCarryOf}
 use Rattle.ix_parse.specs.Carry.{rules_of, carry_of}
 use Rattle.ix_parse.specs.Standing.{StandsFor}
+use Rattle.ix_store.specs.declared.subject.Subject.{Subject}
+use Rattle.ix_store.specs.declared.subject.Subject.TheVariants as subjects
+use Rattle.ix_recall.specs.declared.faults.RecallFault.{RecallFault}
 use Rattle.ix_recall.specs.declared.faults.RecallFault.TheVariants as faults
-use Rattle.ix_recall.specs.Faults.{by_resume}
-use Rattle.ix_recall.proofs.Refusals.{bad_carry}
 use Rattle.ix_recall.proofs.channels.resume_one.Goals as goal
 
-pub returns-in_err-channel-clause-unsound : goal.returns-in_err-channel-clause-unsound
-returns-in_err-channel-clause-unsound c = λ is.
-    let fault = c.in_err-channel.field-0.0 in
-    let gives : faults.Unsound ≡ by_resume fault = rw is at (c.from_residual-in_err-channel.ensures).1 in
-    inr (record {
-      settings = c.in_ok-settings.settings;
-      chosen = c.in_ok-settings.ensures.chosen;
-      usable = c.in_ok-settings.ensures.usable;
-      none = λ said carries.
-          c.in_err-channel.ensures.bad (ap (λ f. Err f) (bad_carry fault gives)) said
-          (subst (λ (bytes : List ℕ). IsCarryOf (rules_of c.in_ok-settings.settings) bytes said) (sym c.as_slice.ensures) carries);
-    })
+named : {T : Type 0} (fault : RecallFault) (name : List ℕ) (subject : Subject) → fault ≡ faults.Bad (subjects.Channel name) → ◌≡◌ {A = Result T RecallFault} (Err fault) (Err (faults.Bad subject)) →
+    subject ≡ subjects.Channel name
+named fault name subject is same = cc
 
-pub returns-clause-opened : goal.returns-clause-opened
-returns-clause-opened c =
+pub returns-in-Err-BadCarry-clause-bad : goal.returns-in-Err-BadCarry-clause-bad
+returns-in-Err-BadCarry-clause-bad c = λ subject is. (
+  named c.bad_channel-in-Err-BadCarry.result c.in_ok-name.name subject c.bad_channel-in-Err-BadCarry.ensures is ∙ ap (λ (name : List ℕ). subjects.Channel name) c.in_ok-name.ensures,
+  inr (record {
+    settings = c.in_ok-settings.settings;
+    chosen = c.in_ok-settings.ensures.chosen;
+    usable = c.in_ok-settings.ensures.usable;
+    none = λ said carries.
+        c.in-Err-BadCarry.ensures.bad (ap (λ f. Err f) c.in-Err-BadCarry.field-0-is) said
+        (subst (λ (bytes : List ℕ). IsCarryOf (rules_of c.in_ok-settings.settings) bytes said) (sym c.as_slice.ensures) carries);
+  }),
+)
+
+pub returns-in-Ok-clause-opened : goal.returns-in-Ok-clause-opened
+returns-in-Ok-clause-opened c =
     let settings = c.in_ok-settings.settings in
     record {
       name = search rules;
@@ -32,7 +37,7 @@ returns-clause-opened c =
       chosen = c.in_ok-settings.ensures.chosen;
       usable = c.in_ok-settings.ensures.usable;
       stands = λ stream carries.
-          subst (λ (meta : ChannelMeta). StandsFor settings meta stream c.in_ok-channel.channel) c.in_ok-stated.ensures
-          (c.in_ok-channel.ensures.stands stream
+          subst (λ (meta : ChannelMeta). StandsFor settings meta stream c.in-Ok.channel) c.in_ok-stated.ensures
+          (c.in-Ok.ensures.stands stream
           (subst (λ (bytes : List ℕ). IsCarryOf (rules_of settings) bytes (carry_of settings stream)) (sym c.as_slice.ensures) carries));
     }

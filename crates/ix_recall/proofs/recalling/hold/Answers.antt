@@ -1,12 +1,13 @@
 use Rattle.std.proofs.Common.{◌≡◌, List, ℕ, rules, refl, sym, ap, subst, inl, inr}
 use Rattle.std.specs.Prelude.{Err}
+use Rattle.std.proofs.lemmas.Result.{err_from_is_err_and}
 use Rattle.ix_base.specs.declared.events.Spot.{Spot}
 use Rattle.ix_machine.specs.State.{spot_path}
 use Rattle.ix_recall.specs.declared.faults.RecallFault.TheVariants as faults
 use Rattle.ix_recall.specs.declared.gathering.Carried.{Carried}
 use Rattle.ix_recall.specs.declared.gathering.Placed.{Placed}
 use Rattle.ix_recall.specs.Faults.{by_config}
-use Rattle.ix_recall.specs.Recalled.{AreSorted, AreResumed, AreShelved, HasNone}
+use Rattle.ix_recall.specs.Recalled.{AreSorted, AreResumed, AreShelved, HasBad}
 use Rattle.ix_recall.proofs.Refusals.{bad_config}
 use Rattle.ix_recall.proofs.recalling.hold.Goals as goal
 
@@ -31,22 +32,31 @@ returns-clause-recalled c =
       tick = search rules;
     }
 
-pub returns-in_err-config-clause-unsound : goal.returns-in_err-config-clause-unsound
-returns-in_err-config-clause-unsound c = λ is.
-    let gives : faults.Unsound ≡ by_config c.in_err-config.field-0.0 = rw is at (c.from_residual.ensures).1 in
-    let fault = bad_config c.in_err-config.field-0.0 gives in
-    inl (record {
-      some = λ none. c.in_err-config.ensures.empty none (ap (λ f. Err f) fault);
-      none = λ config is_config kept. c.in_err-config.ensures.unsound (ap (λ f. Err f) fault) config is_config kept;
-    })
+pub returns-in_err-config-clause-bad : goal.returns-in_err-config-clause-bad
+returns-in_err-config-clause-bad c = λ subject is.
+    let p = err_from_is_err_and c.from_residual.result c.from_residual.ensures.1 in
+    let p1 = p.1 in
+    let p2 = p.2 in
+    let gives : faults.Bad subject ≡ by_config c.in_err-config.field-0.0 = cc in
+    let fault = bad_config c.in_err-config.field-0.0 subject gives in
+    inl (
+      fault.1,
+      record {
+        some = λ none. c.in_err-config.ensures.empty none (ap (λ f. Err f) fault.0);
+        none = λ config is_config kept. c.in_err-config.ensures.unsound (ap (λ f. Err f) fault.0) config is_config kept;
+      },
+    )
 
-pub returns-in_err-channels-clause-unsound : goal.returns-in_err-channels-clause-unsound
-returns-in_err-channels-clause-unsound c = λ is.
-    let gives : faults.Unsound ≡ c.in_err-channels.field-0.0 = rw is at (c.from_residual-in_err-channels.ensures).1 in
+pub returns-in_err-channels-clause-bad : goal.returns-in_err-channels-clause-bad
+returns-in_err-channels-clause-bad c = λ subject is.
+    let p = err_from_is_err_and c.from_residual-in_err-channels.result c.from_residual-in_err-channels.ensures.1 in
+    let p1 = p.1 in
+    let p2 = p.2 in
+    let gives : c.in_err-channels.field-0.0 ≡ faults.Bad subject = cc in
     inr (record {
       config = c.in_ok-config.config;
       is_config = c.in_ok-config.ensures.ok.0;
       kept = c.in_ok-config.ensures.ok.1;
-      has_none = subst (λ (given : List Carried). HasNone given c.in_ok-config.config.props) c.into_vec-2.ensures
-          (c.in_err-channels.ensures.unsound (ap (λ f. Err f) (sym gives)));
+      has_bad = subst (λ (given : List Carried). HasBad given c.in_ok-config.config.props subject) c.into_vec-2.ensures
+          (c.in_err-channels.ensures.bad subject (ap (λ f. Err f) gives));
     })

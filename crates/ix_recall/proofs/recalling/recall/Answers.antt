@@ -1,5 +1,5 @@
 use Rattle.std.proofs.Common.{◌≡◌, Bool, List, subst, sym, ap, ◌∙◌}
-use Rattle.std.specs.Prelude.{not, reverse, IsErrOf, Err}
+use Rattle.std.specs.Prelude.{not, reverse, Result, Err}
 use Rattle.std.specs.List.{list_any}
 use Rattle.ix_items.specs.declared.items.Item.{Item}
 use Rattle.ix_replay.specs.Lists.{AreListed}
@@ -7,11 +7,12 @@ use Rattle.ix_recall.specs.declared.gathering.Gathered.{Gathered}
 use Rattle.ix_recall.specs.First.{is_moments}
 use Rattle.ix_recall.specs.Gathered.{nothing, all_taken}
 use Rattle.ix_recall.specs.Recalled.{IsRecalled, IsNoState}
+use Rattle.ix_recall.proofs.Blamed.{bad_stands}
 use Rattle.ix_recall.proofs.Firsts.{first_is, turned}
 use Rattle.ix_recall.proofs.Holding.{holds, not_refused}
 use Rattle.ix_recall.proofs.recalling.recall.Goals as goal
 
-same_fault : {T E : Type 0} {a b : E} → IsErrOf {T = T} {E = E} (Err a) b → a ≡ b
+same_fault : {T E : Type 0} {a b : E} → ◌≡◌ {A = Result T E} (Err a) (Err b) → a ≡ b
 same_fault e = cc
 
 pub returns-in-Ok-clause-done : goal.returns-in-Ok-clause-done
@@ -33,10 +34,17 @@ returns-in-Ok-clause-ledger c =
     let gathered = c.in_ok-gathered.ensures ∙ ap (λ l. all_taken l nothing) c.into_items-items.ensures.same in
     c.in-Ok.ensures.recalled.ledger ∙ ap (λ (g : Gathered). reverse g.entries) gathered ∙ turned c.args.book
 
-pub returns-in-Err-clause-sound : goal.returns-in-Err-clause-sound
-returns-in-Err-clause-sound c = λ err choose history run removed chooser given fit is.
+pub returns-in-Err-clause-bad : goal.returns-in-Err-clause-bad
+returns-in-Err-clause-bad c = λ subject is.
     let same = c.into_items-items.ensures.same in
     let listed : AreListed c.args.book = subst AreListed same c.into_items-items.ensures.lists.listed in
     let gathered = c.in_ok-gathered.ensures ∙ ap (λ l. all_taken l nothing) same in
-    not_refused choose history c.args.book listed (record { chooser = chooser; given = given; fits_it = fit; run = run; removed = removed; is = is })
-    (subst IsNoState gathered (c.in-Err.ensures.unsound (ap (λ f. Err f) (same_fault err))))
+    bad_stands c.args.book subject listed (subst (IsNoState subject) gathered (c.in-Err.ensures.bad subject (ap (λ f. Err f) (same_fault is))))
+
+pub returns-in-Err-clause-sound : goal.returns-in-Err-clause-sound
+returns-in-Err-clause-sound c = λ subject err choose history run removed chooser given fit is.
+    let same = c.into_items-items.ensures.same in
+    let listed : AreListed c.args.book = subst AreListed same c.into_items-items.ensures.lists.listed in
+    let gathered = c.in_ok-gathered.ensures ∙ ap (λ l. all_taken l nothing) same in
+    not_refused choose history c.args.book subject listed (record { chooser = chooser; given = given; fits_it = fit; run = run; removed = removed; is = is })
+    (subst (IsNoState subject) gathered (c.in-Err.ensures.bad subject (ap (λ f. Err f) (same_fault err))))

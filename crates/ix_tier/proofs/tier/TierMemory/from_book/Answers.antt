@@ -8,5 +8,8 @@ returns-in-Ok-clause-held c = λ choose history run removed chooser given fit is
   first = c.in-Ok.ensures.fresh choose history run removed is;
 }
 
-pub returns-in-Err-Unsound-clause-sound : goal.returns-in-Err-Unsound-clause-sound
-returns-in-Err-Unsound-clause-sound c = λ is. c.in-Err-Unsound.ensures.sound (ap (λ e. Err e) c.in-Err-Unsound.field-0-is)
+pub returns-in-Err-Bad-clause-bad : goal.returns-in-Err-Bad-clause-bad
+returns-in-Err-Bad-clause-bad c = λ subject is. c.in-Err-Bad.ensures.bad subject cc
+
+pub returns-in-Err-Bad-clause-sound : goal.returns-in-Err-Bad-clause-sound
+returns-in-Err-Bad-clause-sound c = λ subject is. c.in-Err-Bad.ensures.sound subject cc
