@@ -1,5 +1,10 @@
-use Rattle.std.proofs.Common.{ap}
-use Rattle.std.specs.Prelude.{Err}
+use Rattle.std.proofs.Common.{◌≡◌, ap, ◌∙◌}
+use Rattle.std.specs.Prelude.{Result, Err}
+use Rattle.ix_recall.specs.declared.faults.RecallFault.{RecallFault}
+use Rattle.ix_recall.specs.declared.faults.RecallFault.TheVariants as faults
+use Rattle.ix_store.specs.declared.memory.BookFault.{BookFault}
+use Rattle.ix_store.specs.declared.memory.BookFault.TheVariants as books
+use Rattle.ix_store.specs.declared.subject.Subject.{Subject}
 use Rattle.ix_tier.proofs.tier.TierMemory.from_book.Goals as goal
 
 pub returns-in-Ok-clause-held : goal.returns-in-Ok-clause-held
@@ -8,8 +13,13 @@ returns-in-Ok-clause-held c = λ choose history run removed chooser given fit is
   first = c.in-Ok.ensures.fresh choose history run removed is;
 }
 
+same_subject : {T : Type 0} (a b : Subject) → ◌≡◌ {A = Result T BookFault} (Err (books.Bad a)) (Err (books.Bad b)) → a ≡ b
+same_subject a b is = cc
+
 pub returns-in-Err-Bad-clause-bad : goal.returns-in-Err-Bad-clause-bad
-returns-in-Err-Bad-clause-bad c = λ subject is. c.in-Err-Bad.ensures.bad subject cc
+returns-in-Err-Bad-clause-bad c = λ subject is.
+    c.in-Err-Bad.ensures.bad subject (ap (λ (e : RecallFault). Err e) (c.in-Err-Bad.field-0-is ∙ ap (λ (s : Subject). faults.Bad s) (same_subject c.in-Err-Bad.subject subject is)))
 
 pub returns-in-Err-Bad-clause-sound : goal.returns-in-Err-Bad-clause-sound
-returns-in-Err-Bad-clause-sound c = λ subject is. c.in-Err-Bad.ensures.sound subject cc
+returns-in-Err-Bad-clause-sound c = λ subject is.
+    c.in-Err-Bad.ensures.sound subject (ap (λ (e : RecallFault). Err e) (c.in-Err-Bad.field-0-is ∙ ap (λ (s : Subject). faults.Bad s) (same_subject c.in-Err-Bad.subject subject is)))
