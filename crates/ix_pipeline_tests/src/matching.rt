@@ -261,6 +261,37 @@ fn a_lookahead_sees_so_far(rt: HostRuntime) -> Result<(), Fail> {
     Ok(())
 }
 
+/// 3,000 bytes of x, with others before and behind them.
+fn among_x(alloc: Global, before: &[u8], behind: &[u8]) -> Result<Vec<u8>, NoMemory> {
+    let mut text = Vec::new(alloc);
+    text.extend_from_slice(before)?;
+    for _ in 0..3000 {
+        text.push(b'x')?;
+    }
+    text.extend_from_slice(behind)?;
+    Ok(text)
+}
+
+/// Where an attempt at each place would take long, one walk tells where the match begins; and a group that turns often is that of its last turn.
+#[test]
+fn long_searches_find_the_same(rt: HostRuntime) -> Result<(), Fail> {
+    for (pattern, before, behind, want) in [
+        (
+            b"(x+x+)+y".as_slice(),
+            b"".as_slice(),
+            b"".as_slice(),
+            "none",
+        ),
+        (b"(x+x+)+y", b"", b"zxxxy", "3001-3005 3001-3004"),
+        (b"^(?:(x)|(z))+y", b"z", b"y", "0-3002 3000-3001 0-1"),
+    ] {
+        let text = among_x(rt.alloc(), before, behind)?;
+        let found = found_in(rt.alloc(), pattern, &text, 0)?;
+        assert_eq!(rt; found.as_str(), want);
+    }
+    Ok(())
+}
+
 /// A text at whose first place is looked.
 #[derive(Clone, Copy)]
 struct Text<'a> {
