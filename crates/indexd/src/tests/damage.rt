@@ -148,7 +148,8 @@ fn place_of(bytes: &[u8], sought: &[u8]) -> usize {
     bytes.len()
 }
 
-/// A mark of an open channel that is none makes the log damaged, at the gate of the last body that says the channel.
+/// A mark of an open channel that is none makes the log damaged, at the gate of the last body that says the channel: behind the first
+/// one, and that of the begin, which was committed with the turn of housekeeping before it.
 #[test]
 fn a_carry_that_is_none_is_named(rt: HostRuntime) -> Result<(), Fail> {
     let alloc = rt.alloc();
@@ -168,7 +169,7 @@ fn a_carry_that_is_none_is_named(rt: HostRuntime) -> Result<(), Fail> {
     )?;
     let told = shown(alloc, &mut disk, run(&[], "buckets", "", ""))?;
     assert!(rt;
-        told.as_str() == "6: indexd: damaged: meta/1 at 19\n",
+        told.as_str() == "6: indexd: damaged: meta/1 at 128\n",
         "{place}: {told}"
     );
     Ok(())
