@@ -8,3 +8,4 @@ pub mod Few
 pub mod Leads
 pub mod Prefilters
 pub mod Prepared
+pub mod Tries

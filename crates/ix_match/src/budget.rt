@@ -1,7 +1,7 @@
 //! When the search for the first match in a text goes over from attempts at one place after the other to a walk over the
 //! whole rest. `find` and the prepared search ask it before each attempt.
 
-ghost use Rattle.std.specs.Prelude.{◌≡◌, ◌-◌, ◌/◌, nat_lt};
+ghost use Rattle.std.specs.Prelude.{◌≡◌, ◌+◌, ◌-◌, ◌*◌, ◌/◌, ◌^◌, min, nat_lt};
 
 use ix_threads::plan::Room;
 
@@ -19,4 +19,11 @@ pub fn is_spent(room: &Room, left: usize) -> bool
     ensures { result ≡ nat_lt left ((room.now.main.stamp - 4096) / 16) }
 {
     room.followed().saturating_sub(FREE) / TURNS > left as u64
+}
+
+/// How many turns attempts that try one way after the other may take at so many bytes.
+pub fn turns_for(bytes: usize) -> u64
+    ensures { result ≡ min (bytes * 16 + 4096) (2 ^ 64 - 1) }
+{
+    (bytes as u64).saturating_mul(TURNS).saturating_add(FREE)
 }

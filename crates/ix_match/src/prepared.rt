@@ -6,10 +6,12 @@ ghost use Rattle.ix_threads.specs.Finders.{IsFinder, HasRoom};
 ghost use Rattle.ix_match.specs.Fronts.{IsCandidate};
 ghost use Rattle.ix_match.specs.Matches.{MatchesAt, IsFirst, LiesIn};
 ghost use Rattle.ix_match.specs.Prepared.{IsPrepared, SameProgram};
+ghost use Rattle.ix_match.specs.Tries.{IsTriedAt, IsTried, LiesIfFound};
 
-use crate::budget::is_spent;
+use crate::budget::{is_spent, turns_for};
 use crate::first::{Found, GroupList};
 use crate::prefilter::Prefilter;
+use ix_backtrack::tries::{Tries, backtracked};
 use ix_base::{NoMemory, Steps};
 use ix_pattern::Pattern;
 use ix_threads::finder::{Finder as Written, finder_of, head, room_of};
@@ -28,6 +30,15 @@ pub struct Prepared {
     pub pattern: Pattern,
     pub prefilter: Prefilter,
     pub program: Written,
+}
+
+/// What trying one way after the other comes to.
+#[derive(Drop)]
+pub enum Tried {
+    Found(Found),
+    No,
+    /// It was given up. No match begins before this place.
+    From(usize),
 }
 
 /// A copy of a pattern that was written out.
@@ -176,8 +187,82 @@ impl Prepared {
         }
     }
 
-    /// The first match. Room for the search is made only where one may begin. Steps are counted in the ledger that the
-    /// blank one opens, which nobody reads.
+    /// The preferred one of the matches that begin at a place, if one way after the other is tried within the turns that are
+    /// left.
+    fn tried_at<L: Ledger>(
+        &self,
+        alloc: Global,
+        tries: &mut Tries,
+        left: &mut u64,
+        text: &[u8],
+        place: usize,
+        steps: &mut Steps<L>,
+    ) -> Result<Tried, NoMemory>
+        requires prepared { IsPrepared self.now }
+        requires place { place ≤ length text.now }
+        ensures is { IfOk result (λ tried. IsTriedAt self.now.pattern text.now place tried) }
+        ensures lies { IfOk result (λ tried. LiesIfFound text.now place self.now.pattern.groups tried) }
+    {
+        let input = Input {
+            before: None,
+            bytes: text,
+            unfinished: false,
+        };
+        match backtracked(
+            alloc,
+            &self.pattern,
+            &self.program,
+            input,
+            place,
+            tries,
+            left,
+            steps,
+        )? {
+            Some(Outcome::End { place: end, groups }) => Ok(Tried::Found(Found {
+                start: place,
+                end,
+                groups: GroupList::from_vec(groups),
+            })),
+            Some(Outcome::No | Outcome::More) => Ok(Tried::No),
+            None => Ok(Tried::From(place)),
+        }
+    }
+
+    /// The first match that begins at this place or later, by attempts that try one way after the other. They are given up
+    /// where they have taken more turns than the rest of the text is worth.
+    fn tried_from<L: Ledger>(
+        &self,
+        alloc: Global,
+        text: &[u8],
+        from: usize,
+        steps: &mut Steps<L>,
+    ) -> Result<Tried, NoMemory>
+        requires prepared { IsPrepared self.now }
+        requires place { from ≤ length text.now }
+        ensures is { IfOk result (λ tried. IsTried self.now.pattern text.now from tried) }
+        ensures lies { IfOk result (λ tried. LiesIfFound text.now from self.now.pattern.groups tried) }
+    {
+        let mut tries = Tries::new(alloc);
+        let mut left = turns_for(text.len() - from);
+        let mut at = from;
+        loop {
+            match self.tried_at(alloc, &mut tries, &mut left, text, at, steps)? {
+                Tried::Found(found) => return Ok(Tried::Found(found)),
+                Tried::From(place) => return Ok(Tried::From(place)),
+                Tried::No => {}
+            }
+            if at == text.len() {
+                return Ok(Tried::No);
+            }
+            let Some(next) = self.candidate(text, at + 1) else {
+                return Ok(Tried::No);
+            };
+            at = next;
+        }
+    }
+
+    /// The first match. Room for the list of threads is made only where trying one way after the other was given up. Steps
+    /// are counted in the ledger that the blank one opens, which nobody reads.
     fn find_uncounted<L: Ledger>(
         &self,
         alloc: Global,
@@ -197,9 +282,15 @@ impl Prepared {
         let Some(place) = self.candidate(text, from) else {
             return Ok(None);
         };
-        let mut room = room_of(alloc, &self.pattern, &self.program)?;
-        let found = self.found_from(alloc, &mut room, text, place, &mut steps)?;
-        Ok(found)
+        match self.tried_from(alloc, text, place, &mut steps)? {
+            Tried::Found(found) => Ok(Some(found)),
+            Tried::No => Ok(None),
+            Tried::From(at) => {
+                let mut room = room_of(alloc, &self.pattern, &self.program)?;
+                let found = self.found_from(alloc, &mut room, text, at, &mut steps)?;
+                Ok(found)
+            }
+        }
     }
 
     /// The first match that begins at the place `from` or later.

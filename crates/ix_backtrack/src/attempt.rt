@@ -1,0 +1,93 @@
+//! An attempt at one place: one way after the other.
+
+ghost use Rattle.std.specs.Prelude.{◌≡◌, ◌≤◌, ◌<◌, length, IfOk, None};
+ghost use Rattle.ix_threads.specs.Leaf.{text_of};
+ghost use Rattle.ix_backtrack.specs.Tried.{IsPlainCode, Settled};
+
+use crate::frames::{Frame, Turn};
+use crate::turn::turn;
+use ix_base::{NoMemory, Steps};
+use ix_pattern::Pattern;
+use ix_threads::cells::{Best, Cell};
+use ix_threads::code::Instr;
+use ix_threads::input::Input;
+use std::sync::ledger::Ledger;
+
+/// What an attempt came to, where it was not given up, and how many turns it took.
+#[derive(Clone, Copy)]
+pub struct Tried {
+    pub best: Option<Best>,
+    pub taken: u64,
+}
+
+/// What stands for the head of the ways of an instruction at a place of a text. It is given up after so many turns.
+pub fn attempt<L: Ledger>(
+    p: &Pattern,
+    code: &[Instr],
+    start: usize,
+    input: Input<'_>,
+    place: usize,
+    limit: u64,
+    stack: &mut Vec<Frame>,
+    cells: &mut Vec<Cell>,
+    steps: &mut Steps<L>,
+) -> Result<Tried, NoMemory>
+    requires code { IsPlainCode p.now.rows code.now }
+    requires start { start < length code.now }
+    requires within { place ≤ length input.bytes.now }
+    ensures settled { IfOk result (λ t. Settled p.now.rows code.now (text_of input.entry) start place cells.new.items t.best) }
+    ensures spent { IfOk result (λ t. t.best ≡ None → t.taken ≡ limit) }
+    ensures within { IfOk result (λ t. t.taken ≤ limit) }
+{
+    stack.clear();
+    cells.clear();
+    let mut frame = Frame {
+        pc: start,
+        trail: 0,
+        place,
+    };
+    for taken in 0..limit {
+        match turn(p, code, input, frame, cells, steps)? {
+            Turn::On(next) => {
+                frame = next;
+                continue;
+            }
+            Turn::Fork { first, other } => {
+                stack.push(other)?;
+                frame = first;
+                continue;
+            }
+            Turn::Back => match stack.pop() {
+                Some(next) => {
+                    frame = next;
+                    continue;
+                }
+                None => {
+                    return Ok(Tried {
+                        best: Some(Best::No),
+                        taken,
+                    });
+                }
+            },
+            Turn::End => {
+                return Ok(Tried {
+                    best: Some(Best::End {
+                        place: frame.place,
+                        trail: frame.trail,
+                    }),
+                    taken,
+                });
+            }
+            Turn::Edge => {
+                return Ok(Tried {
+                    best: Some(Best::More),
+                    taken,
+                });
+            }
+        }
+    }
+    Ok(Tried {
+        best: None,
+        taken: limit,
+    })
+}

@@ -1,0 +1,8 @@
+//! Searching a text for a pattern at one place, one way after the other, within a budget of steps.
+#![tactic(auto)]
+
+mod attempt;
+mod behind;
+pub mod frames;
+pub mod tries;
+mod turn;
