@@ -208,7 +208,7 @@ impl Prepared {
             bytes: text,
             unfinished: false,
         };
-        match backtracked(
+        let tried = backtracked(
             alloc,
             &self.pattern,
             &self.program,
@@ -217,14 +217,17 @@ impl Prepared {
             tries,
             left,
             steps,
-        )? {
-            Some(Outcome::End { place: end, groups }) => Ok(Tried::Found(Found {
+        )?;
+        let Some(outcome) = tried else {
+            return Ok(Tried::From(place));
+        };
+        match outcome {
+            Outcome::End { place: end, groups } => Ok(Tried::Found(Found {
                 start: place,
                 end,
                 groups: GroupList::from_vec(groups),
             })),
-            Some(Outcome::No | Outcome::More) => Ok(Tried::No),
-            None => Ok(Tried::From(place)),
+            Outcome::No | Outcome::More => Ok(Tried::No),
         }
     }
 
@@ -254,10 +257,10 @@ impl Prepared {
             if at == text.len() {
                 return Ok(Tried::No);
             }
-            let Some(next) = self.candidate(text, at + 1) else {
+            let Some(further) = self.candidate(text, at + 1) else {
                 return Ok(Tried::No);
             };
-            at = next;
+            at = further;
         }
     }
 
