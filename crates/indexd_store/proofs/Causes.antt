@@ -2,7 +2,6 @@
 use Rattle.std.proofs.Common.{◌≡◌, ◌+◌, if◌then◌else◌, ap, ℕ, ℤ, Bool, true, false, not, List, [], ◌∷◌, ◌++◌, refl, sym, ◌∙◌, subst, inl, inr}
 use Rattle.std.specs.Prelude.{Option, Some, None, is_some, option_to_list, slice_get, filter}
 use Rattle.std.specs.List.{sum_by}
-use Rattle.std.specs.List.Sorted.{IsPermutation}
 use Rattle.std.proofs.lemmas.List.Sorted.{sum_by-IsPermutation}
 use Rattle.std.proofs.lemmas.List.Sums.{sum_by-cons}
 use Rattle.ix_items.specs.declared.items.Entry.{Entry}
@@ -12,6 +11,7 @@ use Rattle.ix_life.specs.declared.views.View.{View}
 use Rattle.ix_machine.proofs.Following.{after_more}
 use Rattle.ix_machine.proofs.Freezing.{filter_sum}
 use Rattle.ix_machine.proofs.Ledgers.{ticks_alone}
+use Rattle.ix_machine.proofs.Ranking.{ranked_moved}
 use Rattle.ix_machine.proofs.Singles.{whole_after}
 use Rattle.ix_machine.specs.Bounds.{IsAllowed, IsRefused}
 use Rattle.ix_machine.specs.Buckets.{Standing, live, frozen, Slot}
@@ -19,6 +19,8 @@ use Rattle.ix_machine.specs.Given.{Chooser}
 use Rattle.ix_machine.specs.Judged.{judged, is_known, by_slot, by_standing, by_thawed, draws}
 use Rattle.ix_machine.specs.Keeping.{entered_at}
 use Rattle.ix_machine.specs.Ledger as ledgers
+use Rattle.ix_machine.specs.Ranked.{ranked}
+use Rattle.ix_machine.specs.Shown as shown
 use Rattle.ix_machine.specs.Shown.{whole_ledger}
 use Rattle.ix_machine.specs.State.{State, slots_in, empty}
 use Rattle.ix_machine.specs.Step.{after, effective}
@@ -29,7 +31,6 @@ use Rattle.ix_machine.specs.declared.commands.Command.TheVariants as commands
 use Rattle.ix_machine.specs.declared.commands.Order.{Order}
 use Rattle.ix_run.specs.Giving.{given_all}
 use Rattle.ix_store.specs.Exporting.{is_seen}
-use Rattle.ix_store.specs.Showing.{IsViewOf}
 use Rattle.indexd_store.proofs.Ending.{undrawn, undrawn_allowed}
 use Rattle.indexd_store.specs.Stops.{of_refusal, of_commit, Caused}
 use Rattle.indexd_store.specs.Tasks.{command_in, orders_in, IsRefusedSo, IsUnexported, IsUnseen, IsWhy, IsFine, is_of, entry_of, is_export, IsUnnamed, IsUnsaid}
@@ -208,17 +209,20 @@ module _ (choose : Chooser) (h : List Order) (index : List ℕ) (id : ℕ) (mome
       filter_sum (λ (e : Entry). 1) (ledgers.is_of index id) (whole_ledger (after choose h)) in
       sym filtered ∙ (whole_after choose h).each index id (λ (e : Entry). 1) ∙ entered_one slot_at there
 
-  named_thaw : IsAllowed choose false 0 (after choose h) thaw → IsPermutation view.ledger (whole_ledger (after choose (h ++ thaw ∷ []))) → entry_of index id view.ledger ≡ None → ⊥
-  named_thaw allowed permutes none = zero_one (
+  named_thaw : IsAllowed choose false 0 (after choose h) thaw → view ≡ shown.view (after choose (h ++ thaw ∷ [])) → entry_of index id view.ledger ≡ None → ⊥
+  named_thaw allowed seen none =
+      let later = whole_ledger (after choose (h ++ thaw ∷ [])) in
+      zero_one (
       sym (none_counted index id view.ledger none)
-      ∙ sym (sum_by-IsPermutation (counts_of index id) view.ledger (whole_ledger (after choose (h ++ thaw ∷ []))) permutes)
+      ∙ ap (λ (v : View). counted v.ledger) seen
+      ∙ sum_by-IsPermutation (counts_of index id) later (ranked later) (ranked_moved later)
       ∙ ap counted ledger_is
       ∙ frozen_once (slot_is_there (is_known (after choose h) index) (by_slot slot_at) allowed.no_cause))
 
-pub named : (choose : Chooser) (h : List Order) (task : Task) (moment : ℤ) (view : View) → IsFine choose h task moment → IsViewOf (after choose (given_all choose h (orders_in task moment))) view →
+pub named : (choose : Chooser) (h : List Order) (task : Task) (moment : ℤ) (view : View) → IsFine choose h task moment → view ≡ shown.view (after choose (given_all choose h (orders_in task moment))) →
     IsUnnamed task view → ⊥
 named choose h tasks.Buckets moment view fine seen none = none
 named choose h (tasks.Export index range) moment view fine seen none = none
 named choose h (tasks.Roll index) moment view fine seen none = none
-named choose h (tasks.Thaw index id) moment view fine seen none = named_thaw choose h index.now id moment view fine seen.ledger none
+named choose h (tasks.Thaw index id) moment view fine seen none = named_thaw choose h index.now id moment view fine seen none
 named choose h tasks.Tick moment view fine seen none = none

@@ -5,6 +5,7 @@ use Rattle.ix_life.specs.declared.views.View.{View}
 use Rattle.ix_machine.specs.Bounds.{IsAllowed, IsRefused}
 use Rattle.ix_machine.specs.Given.{Chooser}
 use Rattle.ix_machine.specs.Judged.{moved}
+use Rattle.ix_machine.specs.Shown.{view}
 use Rattle.ix_machine.specs.State.{State}
 use Rattle.ix_machine.specs.Step.{after, effective}
 use Rattle.ix_machine.specs.declared.answers.Refusal.{Refusal}
@@ -21,7 +22,6 @@ use Rattle.ix_store.specs.Exporting.{is_seen, exported}
 use Rattle.ix_report.specs.Listing.{listing}
 use Rattle.ix_report.specs.Names.{closed_name}
 use Rattle.ix_run.specs.Giving.{given_all}
-use Rattle.ix_store.specs.Showing.{IsViewOf}
 use Rattle.indexd_store.specs.Asked.{Asks}
 use Rattle.indexd_store.specs.Stops.{of_refusal, is_output}
 use Rattle.indexd_store.specs.declared.stop.Stop.{Stop}
@@ -144,10 +144,8 @@ Writing = List ℕ → Option (List ℕ) → Option (List ℕ) → Type 0
 
 -- the text of a command that was given behind a history
 pub record HasSaid (writes : Writing) (choose : Chooser) (history : List Order) (task : Task) (moment : ℤ) (out out' : Option (List ℕ)) : Type 0 where
-  pub view : View
-  pub is_view : IsViewOf (after choose (given_all choose history (orders_in task moment))) view
   pub text : List ℕ
-  pub is_text : IsText task view (moved_by (after choose history) (command_in task) moment) text
+  pub is_text : IsText task (view (after choose (given_all choose history (orders_in task moment)))) (moved_by (after choose history) (command_in task) moment) text
   pub written : writes text out out'
 
 -- the lines of the events that the history put into an index, where the disk tells what it reads

@@ -1,11 +1,12 @@
 -- What a store has in memory of the state that a history leads to.
 use Rattle.std.specs.Prelude.{◌≡◌, ℤ, List, Option, Some, None}
 use Rattle.std.specs.List.{AllZip}
-use Rattle.std.specs.List.Sorted.{IsPermutation}
+use Rattle.std.specs.List.Sorted.{IsPermutation, IsSortedBy}
 use Rattle.ix_items.specs.declared.items.Entry.{Entry}
 use Rattle.ix_kept.specs.Configs.{IsConfig}
 use Rattle.ix_machine.specs.Bounds.{KeepsBounds}
 use Rattle.ix_machine.specs.Given.{Chooser}
+use Rattle.ix_machine.specs.Ranked.{stands_before}
 use Rattle.ix_machine.specs.State.{State, Life}
 use Rattle.ix_machine.specs.Step.{after}
 use Rattle.ix_machine.specs.declared.commands.Order.{Order}
@@ -49,10 +50,11 @@ abbrev pub ledger_of : List Entry → Option (List Entry) → List Entry
 ledger_of held None = held
 ledger_of held (Some ledger) = ledger
 
--- They are those of a state. The ledger has its entries, each once.
+-- They are those of a state. The ledger has its entries, each once, in the order in which they are seen.
 pub record SeesStorage (m : State) (shelves : Shelves) (ledger : List Entry) (last tick : ℤ) : Type 0 where
   pub shelves_are : shelves ≡ shelved m.force m.catalog
   pub ledger_is : IsPermutation ledger m.catalog.ledger
+  pub ledger_rises : IsSortedBy stands_before ledger
   pub last_is : last ≡ m.last
   pub tick_is : tick ≡ m.tick
 

@@ -9,8 +9,10 @@ mod files;
 mod held;
 mod judging;
 mod keeping;
+mod ranking;
 
 pub use configs::config_of;
 pub use faults::ConfigFault;
 pub use held::{Held, Open, Storage};
 pub use keeping::{KeptFiles, kept_is_config, kept_of, read_names_are_short};
+pub use ranking::ranked;

@@ -10,6 +10,8 @@ pub mod Renewing
 pub mod Following
 pub mod Freezing
 pub mod Ledgers
+pub mod Sorts
+pub mod Ranking
 pub mod Viewing
 pub mod Ascending
 pub mod Singles

@@ -2,6 +2,7 @@
 use Rattle.std.proofs.Common.{◌≡◌, ◌≢◌, ℕ, suc, ◌+◌, ℤ, Bool, List, [], ◌∷◌, length, map, refl, ap, ◌∙◌, arith, length-append}
 use Rattle.std.specs.Prelude.{Option, Some, None, if◌then◌else◌, option_to_list, fold, unwrap_or}
 use Rattle.std.specs.List.{AllByRecursion, sum_by, flat_map}
+use Rattle.std.proofs.lemmas.List.Sorted.{sum_by-IsPermutation}
 use Rattle.std.proofs.lemmas.List.Sums.{sum_by-cons, sum_by-append}
 use Rattle.ix_items.specs.declared.items.Bucket.{Bucket}
 use Rattle.ix_items.specs.declared.items.Entry.{Entry}
@@ -19,6 +20,7 @@ use Rattle.ix_shelves.specs.Buckets.{Turn, rule_of}
 use Rattle.ix_machine.specs.Keeping as kept
 use Rattle.ix_machine.specs.Ledger.{all_frozen}
 use Rattle.ix_shelves.specs.Lists.{find}
+use Rattle.ix_machine.specs.Ranked.{ranked}
 use Rattle.ix_machine.specs.Shown.{configured, with_fresh, all_indexes, index_view, whole_ledger, view}
 use Rattle.ix_machine.specs.State.{State, index_name, fresh_index}
 use Rattle.ix_machine.specs.Step.{turn_in, turned_index, files_taken, all_turned, tick, stepped, after}
@@ -28,6 +30,7 @@ use Rattle.ix_machine.specs.declared.commands.Order.{Order}
 use Rattle.ix_machine.proofs.Balanced.{balanced_after}
 use Rattle.ix_machine.proofs.Ledgers.{keeps_all, all_after, same_entries, same_length}
 use Rattle.ix_machine.proofs.Named.{sum_change_or_insert, all_change_or_insert}
+use Rattle.ix_machine.proofs.Ranking.{ranked_moved}
 use Rattle.ix_machine.proofs.Stepping.{sound_after}
 
 -- ---- what the listed buckets say is stored
@@ -97,7 +100,10 @@ view_balanced choose history =
     let sound = fresh_sound (configured m.force) m.catalog.indexes (sound_after choose history) in
     let a = views_said m.force (all_indexes m) sound in
     let b = fresh_sum (configured m.force) m.catalog.indexes in
-    let c = same_entries m.catalog (all_after choose history) (λ (e : Entry). e.count) ∙ ledger_sum m.catalog.indexes in
+    let c =
+    sum_by-IsPermutation (λ (e : Entry). e.count) m.catalog.ledger (ranked m.catalog.ledger) (ranked_moved m.catalog.ledger)
+    ∙ same_entries m.catalog (all_after choose history) (λ (e : Entry). e.count)
+    ∙ ledger_sum m.catalog.indexes in
     let d = (balanced_after choose history).settled in
     omega (arith, a, b, c, d)
 

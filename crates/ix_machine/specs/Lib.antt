@@ -6,6 +6,7 @@ pub mod State
 pub mod Step
 pub mod Judged
 pub mod Bounds
+pub mod Ranked
 pub mod Shown
 pub mod Sums
 pub mod Balance

@@ -8,6 +8,7 @@ use Rattle.ix_life.specs.declared.views.IndexView.{IndexView}
 use Rattle.ix_life.specs.declared.views.View.{View}
 use Rattle.ix_machine.specs.Buckets.{Index, buckets}
 use Rattle.ix_machine.specs.Given.{entries, limits}
+use Rattle.ix_machine.specs.Ranked.{ranked}
 use Rattle.ix_shelves.specs.Lists.{change_or_insert}
 use Rattle.ix_machine.specs.State.{State, index_name, fresh_index}
 
@@ -29,10 +30,12 @@ index_view force i = record { name = i.name; limits = limits force i.name; bucke
 abbrev pub whole_ledger : State → List Entry
 whole_ledger m = m.catalog.ledger
 
+-- It is seen in the order that its entries fix, which is that of freezing but for two Ticks of one moment, and for a Tick that by the
+-- rule of the total size freezes cold buckets and then an older warm one.
 abbrev pub view : State → View
 view m = record {
   indexes = map (index_view m.force) (all_indexes m);
-  ledger = whole_ledger m;
+  ledger = ranked (whole_ledger m);
   settled = m.catalog.counts.settled;
   nulled = m.catalog.counts.nulled;
   dropped = m.catalog.counts.dropped;

@@ -64,7 +64,7 @@ pub left_leads : (m later : State) (command : Command) (b : Base) (shelves : She
 left_leads m later command b shelves pieces copies count sees stays e fills counted =
     let perm : IsPermutation (here b) later.catalog.ledger = subst (IsPermutation (here b)) (sym stays.ledger) sees.ledger_is in
     record {
-      storage = record { shelves_are = e; ledger_is = perm; last_is = sym stays.last; tick_is = sees.tick_is ∙ sym stays.tick };
+      storage = record { shelves_are = e; ledger_is = perm; ledger_rises = sees.ledger_rises; last_is = sym stays.last; tick_is = sees.tick_is ∙ sym stays.tick };
       files = fills;
       items_are = same_items m later b [] (here b) shelves sees perm (sym (none_new m later stays.ledger)) e;
       done = tt;

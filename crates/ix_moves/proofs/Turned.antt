@@ -1,9 +1,9 @@
 -- A turn of housekeeping leads from the state before a Tick to that behind it.
 use Rattle.std.proofs.Common.{◌≡◌, ◌<◌, ◌+◌, ◌^◌, List, [], ◌∷◌, ◌++◌, length, drop, refl, sym, ap, ◌∙◌, subst, arith, append-nil, length-append}
 use Rattle.std.specs.List.{AllByRecursion}
-use Rattle.std.specs.List.Sorted.{IsPermutation}
+use Rattle.std.specs.List.Sorted.{IsPermutation, IsSortedBy}
 use Rattle.std.proofs.lemmas.List.{drop_at}
-use Rattle.std.proofs.lemmas.List.Sorted.{IsPermutation-append_left}
+use Rattle.std.proofs.lemmas.List.Sorted.{IsPermutation-append_left, IsPermutation-sym, IsPermutation-trans}
 use Rattle.ix_items.specs.declared.items.Entry.{Entry}
 use Rattle.ix_keep.specs.Contents.{Contents}
 use Rattle.ix_keep.specs.Drafts.{AreFitCopies, with_copies}
@@ -11,6 +11,7 @@ use Rattle.ix_keep.specs.Snapshot.{Forgets}
 use Rattle.ix_machine.specs.Bounds.{KeepsBounds}
 use Rattle.ix_machine.specs.Given.{Chooser}
 use Rattle.ix_machine.specs.Judged as judging
+use Rattle.ix_machine.specs.Ranked.{stands_before, ranked}
 use Rattle.ix_machine.specs.State.{State, Catalog}
 use Rattle.ix_machine.specs.Step as machine
 use Rattle.ix_machine.specs.Step.{after, stepped}
@@ -18,6 +19,7 @@ use Rattle.ix_machine.specs.declared.commands.Command.{Command}
 use Rattle.ix_machine.specs.declared.commands.Command.TheVariants.{Tick}
 use Rattle.ix_machine.specs.declared.commands.Order.{Order}
 use Rattle.ix_machine.proofs.Ascending.{in_order_after, keeps_ascending}
+use Rattle.ix_machine.proofs.Ranking.{ranked_moved, ranked_rises}
 use Rattle.ix_machine.proofs.Renewing.{apart_after}
 use Rattle.ix_machine.proofs.Stepping.{sound_after}
 use Rattle.ix_machine.proofs.Viewing.{ticks_counted}
@@ -44,9 +46,16 @@ use Rattle.ix_machine.proofs.TurnedFiles.{turn_copied}
 use Rattle.ix_machine.proofs.TurnedIndexes.{turns_same}
 use Rattle.ix_kept.specs.Held.{ledger_of}
 
-behind_is : (b : Base) (more : List Entry) → ledger_of b.ledger.now (ledger_behind b more) ≡ here b ++ more
-behind_is b [] = sym (append-nil (here b))
-behind_is b (e ∷ more) = refl
+-- with the new entries the ledger has those of the state behind, in the order in which they are seen
+behind_moved : (b : Base) (more later : List Entry) → IsPermutation (here b ++ more) later → IsPermutation (ledger_of b.ledger.now (ledger_behind b more)) later
+behind_moved b [] later moved = subst (λ l. IsPermutation l later) (append-nil (here b)) moved
+behind_moved b (e ∷ more) later moved =
+    let all = here b ++ e ∷ more in
+    IsPermutation-trans (ranked all) all later (IsPermutation-sym all (ranked all) (ranked_moved all)) moved
+
+behind_rises : (b : Base) (more : List Entry) → IsSortedBy stands_before (here b) → IsSortedBy stands_before (ledger_of b.ledger.now (ledger_behind b more))
+behind_rises b [] rises = rises
+behind_rises b (e ∷ more) rises = ranked_rises (here b ++ e ∷ more)
 
 copied : (choose : Chooser) (history : List Order) (b : Base) (old : Contents) → HasNoneFrom (after choose history).catalog.next_file old →
     AreCopied (after choose history).force b.moment (after choose history).catalog old
@@ -130,7 +139,8 @@ module _ (choose : Chooser) (history : List Order) (order : Order) (b : Base) (p
   turn_moves = record {
     storage = record {
       shelves_are = shelves_are;
-      ledger_is = subst (λ (l : List Entry). IsPermutation l later.catalog.ledger) (sym (behind_is b (made b).entries)) perm;
+      ledger_is = behind_moved b (made b).entries later.catalog.ledger perm;
+      ledger_rises = behind_rises b (made b).entries p.sees.ledger_rises;
       last_is = sym (ap (λ (x : State). x.last) is_later);
       tick_is = sym (ap (λ (x : State). x.tick) is_later);
     };

@@ -13,6 +13,7 @@ use Rattle.ix_life.specs.declared.sets.LimitSet.{LimitSet}
 use Rattle.ix_life.specs.declared.views.IndexView.{IndexView}
 use Rattle.ix_machine.specs.Given.{Chooser}
 use Rattle.ix_machine.specs.Ledger.{is_of}
+use Rattle.ix_machine.specs.Ranked.{ranked}
 use Rattle.ix_machine.specs.Step.{after}
 use Rattle.ix_machine.specs.declared.commands.Order.{Order}
 use Rattle.ix_moves.specs.Guarding.{HasShortName, IsWritableEntry}
@@ -81,10 +82,10 @@ dealt b outcomes = left b (worked b outcomes).shelves (worked b outcomes).pieces
 abbrev pub made : Base → Turned
 made b = turning.turn_all b.moment (shelves_in b)
 
--- the new entries stand behind the others; where there are none the ledger is as it was
+-- the new entries come among the others, in the order in which they are seen; where there are none the ledger is as it was
 abbrev pub ledger_behind : Base → List Entry → Option (List Entry)
 ledger_behind b [] = b.storage.now.ledger
-ledger_behind b (e ∷ more) = Some (here b ++ e ∷ more)
+ledger_behind b (e ∷ more) = Some (ranked (here b ++ e ∷ more))
 
 abbrev pub turned_shelves : Base → Turned → Shelves
 turned_shelves b t = with_indexes t.indexes t.next_file (shelves_in b)

@@ -13,7 +13,7 @@ use crate::guards::LIMIT;
 use crate::moved::{Base, MoveFault, Moved};
 use ix_base::Sequence;
 use ix_items::{Entry, Item};
-use ix_kept::Storage;
+use ix_kept::{Storage, ranked};
 use ix_life::{EntryList, IndexViewList};
 use ix_shelves::{Shelves, Turned, turn_all};
 
@@ -40,7 +40,7 @@ impl Base<'_> {
         }
     }
 
-    /// The ledger with new entries, and the items of what changed.
+    /// The ledger with new entries, in the order in which it is seen, and the items of what changed.
     fn say(&self, more: &[Entry], new: &Shelves) -> Result<Said, MoveFault>
         ensures ledger { IfOk result (λ said. said.ledger ≡ defs.ledger_behind self.now more.now) }
         ensures done { IfOk result (λ said. said.items ≡ changes (defs.here self.now ++ more.now) more.now (defs.shelves_in self.now) new.now) }
@@ -55,7 +55,7 @@ impl Base<'_> {
         let ledger = self.longer_ledger(more)?;
         let items = self.items(ledger.as_slice(), more, new)?;
         Ok(Said {
-            ledger: Some(ledger),
+            ledger: Some(ranked(ledger)?),
             items,
         })
     }
@@ -98,8 +98,8 @@ impl Base<'_> {
         self.turned(made)
     }
 
-    /// A turn of housekeeping in all indexes: buckets move to cold, and others freeze, with their entries behind the ledger. It is `Full`
-    /// only where the store would not keep its bounds.
+    /// A turn of housekeeping in all indexes: buckets move to cold, and others freeze, with their entries in the ledger. It is `Full` only
+    /// where the store would not keep its bounds.
     pub fn turn(&self) -> Result<Moved, MoveFault>
         ensures done { IfOk result (λ moved. Moves turns self.now moved) }
         ensures proper { IfOk result (λ moved. AllByRecursion HasSpelling moved.items) }

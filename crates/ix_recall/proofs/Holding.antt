@@ -2,7 +2,7 @@
 use Rattle.std.proofs.Common.{◌≡◌, inl, inr, ℕ, true, false, List, [], ◌∷◌, map, refl, sym, ap, subst, ◌∙◌}
 use Rattle.std.specs.Prelude.{Option, None, is_some, reverse}
 use Rattle.std.specs.List.{AllByRecursion, AllZip, Any}
-use Rattle.std.specs.List.Sorted.{IsPermutation}
+use Rattle.std.specs.List.Sorted.{IsPermutation, IsSortedBy}
 use Rattle.std.proofs.lemmas.Cmp.{nat_list_cmp_total}
 use Rattle.std.proofs.lemmas.List.Elements.{All-from_recursion}
 use Rattle.std.proofs.lemmas.List.Sorted.{IsPermutation-reverse, IsPermutation-sym, IsPermutation-trans, ranks_by}
@@ -21,6 +21,7 @@ use Rattle.ix_life.specs.Retired.{HaveStanzas}
 use Rattle.ix_life.proofs.RetiredLemmas.{merged_stanzas}
 use Rattle.ix_machine.specs.Given.{Chooser, entries}
 use Rattle.ix_machine.specs.Ledger.{all_frozen}
+use Rattle.ix_machine.specs.Ranked.{stands_before, ranked}
 use Rattle.ix_machine.specs.State.{State, Life, life_name, index_name, spot_path}
 use Rattle.ix_machine.specs.Step.{after}
 use Rattle.ix_machine.specs.declared.commands.Command.{Command}
@@ -29,6 +30,7 @@ use Rattle.ix_machine.specs.declared.commands.Config.{Config}
 use Rattle.ix_machine.specs.declared.commands.Order.{Order}
 use Rattle.ix_machine.proofs.Ascending.{in_order_after}
 use Rattle.ix_machine.proofs.Ledgers.{all_after, same_entries}
+use Rattle.ix_machine.proofs.Ranking.{ranked_moved, ranked_rises}
 use Rattle.ix_machine.proofs.Stepping.{sound_after}
 use Rattle.ix_parse.specs.Carry.{rules_of, carry_of}
 use Rattle.ix_parse.proofs.SameLemmas.{carry}
@@ -154,6 +156,11 @@ ledger_moved choose history given moved =
     IsPermutation-sym s.ledger given
     (IsPermutation-trans s.ledger (all_frozen s.indexes) given (permuted s.ledger (all_frozen s.indexes) (same_entries s (all_after choose history))) moved)
 
+entries_seen : (given ledger : List Entry) → IsPermutation given ledger → IsPermutation (ranked (reverse given)) ledger
+entries_seen given ledger moved =
+    IsPermutation-trans (ranked (reverse given)) (reverse given) ledger (IsPermutation-sym (reverse given) (ranked (reverse given)) (ranked_moved (reverse given)))
+    (IsPermutation-trans (reverse given) given ledger (IsPermutation-sym given (reverse given) (IsPermutation-reverse given)) moved)
+
 -- settings are brought with their limits, so no index has the name of a volume
 brings : (command : Command) → IsTakenCommand command → CommandBringsLimits command
 brings (Begin channel meta) taken = tt
@@ -228,9 +235,8 @@ holds choose history said held listed log r =
       };
       storage = record {
         shelves_are = shelves_seen choose history g held is r (record { stanzas = stanzas; set_is = set }) log.given;
-        ledger_is = subst (λ l. IsPermutation l m.catalog.ledger) (sym r.ledger)
-            (IsPermutation-trans (reverse g.entries) g.entries m.catalog.ledger (IsPermutation-sym g.entries (reverse g.entries) (IsPermutation-reverse g.entries))
-            (ledger_moved choose history g.entries is.entries));
+        ledger_is = subst (λ l. IsPermutation l m.catalog.ledger) (sym r.ledger) (entries_seen g.entries m.catalog.ledger (ledger_moved choose history g.entries is.entries));
+        ledger_rises = subst (IsSortedBy stands_before) (sym r.ledger) (ranked_rises (reverse g.entries));
         last_is = r.last ∙ is.last;
         tick_is = r.tick ∙ is.tick;
       };

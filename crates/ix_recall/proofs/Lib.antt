@@ -1,6 +1,6 @@
 pub mod Takes
-pub mod Sorts
 pub mod Shuffles
+pub mod Seen
 pub mod Turns
 pub mod Refusals
 pub mod Defaults

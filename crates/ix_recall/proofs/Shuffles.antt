@@ -6,7 +6,7 @@ use Rattle.std.specs.List.{AllByRecursion, filter_map, cons_option, swap}
 use Rattle.std.specs.List.Sorted.{IsPermutation, IsSortedBy, ties}
 use Rattle.std.proofs.lemmas.Bool.{cases_Bool, false≢true}
 use Rattle.std.proofs.lemmas.List.Sorted.{IsPermutation-refl, IsPermutation-cons, IsPermutation-trans, IsPermutation-middle, IsPermutation-keeps, sorted_far}
-use Rattle.ix_recall.proofs.Sorts.{rises_far, same_list}
+use Rattle.ix_machine.proofs.Sorts.{rises_far, same_list}
 
 -- ---- what is picked of a list
 
@@ -75,7 +75,7 @@ passed : {X : Type 0} (p : X → Bool) (xs : List X) → filter p xs ≡ filter_
 passed p [] = refl
 passed p (x ∷ xs) = passed_first (p x) x (filter p xs) (filter_map (if_passes p) xs) (passed p xs)
 
-filter_moved : {X : Type 0} (p : X → Bool) (xs ys : List X) → IsPermutation xs ys → IsPermutation (filter p xs) (filter p ys)
+pub filter_moved : {X : Type 0} (p : X → Bool) (xs ys : List X) → IsPermutation xs ys → IsPermutation (filter p xs) (filter p ys)
 filter_moved p xs ys moved =
     subst (λ l. IsPermutation l (filter p ys)) (sym (passed p xs))
     (subst (λ l. IsPermutation (filter_map (if_passes p) xs) l) (sym (passed p ys)) (picked_moved (if_passes p) xs ys moved))

@@ -17,6 +17,7 @@ use Rattle.ix_life.specs.declared.sets.LimitSet.{LimitSet}
 use Rattle.ix_life.specs.declared.views.IndexView.{IndexView}
 use Rattle.ix_machine.specs.Buckets.{Index, buckets}
 use Rattle.ix_machine.specs.Given.{Chooser}
+use Rattle.ix_machine.specs.Ranked.{ranked}
 use Rattle.ix_machine.specs.State.{index_name, spot_path}
 use Rattle.ix_machine.specs.declared.commands.Config.{Config}
 use Rattle.ix_machine.specs.declared.commands.Order.{Order}
@@ -133,7 +134,7 @@ pub record IsRecalled (g : Gathered) (held : Held) : Type 0 where
   pub spots : AreSorted spot_path g.spots held.spots.items
   pub indexes : AreShelved g.indexes g.buckets held.config.limits held.view.indexes
   -- the items were taken from the last one on
-  pub ledger : held.view.ledger ≡ reverse g.entries
+  pub ledger : held.view.ledger ≡ ranked (reverse g.entries)
   pub settled : held.view.settled ≡ g.counts.settled
   pub nulled : held.view.nulled ≡ g.counts.nulled
   pub dropped : held.view.dropped ≡ g.counts.dropped

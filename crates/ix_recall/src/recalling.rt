@@ -7,6 +7,7 @@ ghost use Rattle.ix_items.specs.declared.items.Item.{Item as Logged};
 ghost use Rattle.ix_kept.specs.Configs.{IsChooser};
 ghost use Rattle.ix_kept.specs.Taken.{AreGiven};
 ghost use Rattle.ix_machine.specs.Given.{Chooser};
+ghost use Rattle.ix_machine.specs.Ranked.{ranked};
 ghost use Rattle.ix_machine.specs.declared.commands.Order.{Order};
 ghost use Rattle.ix_replay.specs.Fits.{fits};
 ghost use Rattle.ix_machine.specs.Snap.{left};
@@ -25,7 +26,7 @@ use crate::indexes::indexes_of;
 use crate::sorting::spots_by_path;
 use ix_base::Sequence;
 use ix_items::Item;
-use ix_kept::{Held, config_of};
+use ix_kept::{Held, config_of, ranked};
 use ix_life::{EntryList, View};
 use ix_replay::Replayed;
 use std::alloc::Global;
@@ -68,13 +69,14 @@ fn hold(alloc: Global, gathered: Gathered) -> Result<Held, RecallFault>
     let limits = &config.limits;
     let indexes = indexes_of(alloc, limits, indexes.into_vec(), buckets.as_slice())?;
     let channels = channels_of(alloc, &config.props, channels.into_vec())?;
+    let ledger = ranked(turned(entries))?;
     Ok(Held {
         config,
         channels,
         spots: spots_by_path(spots.into_vec()),
         view: View {
             indexes,
-            ledger: turned(entries),
+            ledger,
             settled: counts.settled,
             nulled: counts.nulled,
             dropped: counts.dropped,
@@ -122,8 +124,8 @@ pub fn recall(alloc: Global, book: Replayed) -> Result<Recalled, RecallFault>
         Holds choose history recalled.held) }
     ensures fresh { IfOk result (λ recalled. (choose : Chooser) (history : List Order) (run : ℕ) (removed : Option Logged) →
         replay book empty ≡ over run removed (left choose history).book → is_first history ≡ recalled.fresh) }
-    // The ledger stands as its items do.
-    ensures ledger { IfOk result (λ recalled. recalled.held.view.ledger ≡ filter_map entry_in book) }
+    // The ledger has the entries of the items, in the order in which they are seen.
+    ensures ledger { IfOk result (λ recalled. recalled.held.view.ledger ≡ ranked (filter_map entry_in book)) }
     // Of the item that stands for the subject no state comes,
     ensures bad { (subject : Subject) → result ≡ Err (RecallFault.Bad subject) → IsBadIn GivesNone subject (replay book empty) }
     // and no history is written so.

@@ -11,9 +11,9 @@ use Rattle.ix_http.specs.declared.kinds.Incoming.{Incoming}
 use Rattle.ix_http.specs.declared.kinds.Incoming.TheVariants as was
 use Rattle.ix_keep.specs.declared.fault.CommitFault.{CommitFault}
 use Rattle.ix_keep.specs.declared.fault.CommitFault.TheVariants as commits
-use Rattle.ix_life.specs.declared.views.View.{View}
 use Rattle.ix_machine.specs.Bounds.{IsAllowed, IsRefused}
 use Rattle.ix_machine.specs.Judged.{adds}
+use Rattle.ix_machine.specs.Shown.{view}
 use Rattle.ix_machine.specs.declared.answers.Refusal.{Refusal}
 use Rattle.ix_machine.specs.declared.commands.Command.{Command}
 use Rattle.ix_machine.specs.declared.commands.Command.TheVariants as commands
@@ -21,7 +21,6 @@ use Rattle.ix_machine.specs.declared.commands.Order.{Order}
 use Rattle.ix_report.specs.Listing.{listing}
 use Rattle.ix_store.specs.Counting.{is_due}
 use Rattle.ix_store.specs.Exporting.{is_seen, exported}
-use Rattle.ix_store.specs.Showing.{IsViewOf}
 use Rattle.ix_serve.specs.Entries.{Entry, state, drawn, is_acked, is_pending, order}
 use Rattle.ix_serve.specs.Replies.{Reply, begun, acked, acks, plain, unread, refused, broken, no_memory, events_reply}
 use Rattle.ix_serve.specs.declared.served.Served.{Served}
@@ -64,7 +63,7 @@ MayChange e command good a =
 -- ---- questions
 
 abbrev pub MayList : Entry → Answer → Type 0
-MayList e a = ((view : View) × IsViewOf (state e) view × (a ≡ says false (plain (listing view)))) ⊎ (a ≡ declined)
+MayList e a = (a ≡ says false (plain (listing (view (state e))))) ⊎ (a ≡ declined)
 
 -- What is said of an index: lines where it is seen, and where the disk tells what it reads they are those of its events.
 pub record IsExport (told : Type 0) (e : Entry) (index : List ℕ) (range : Range) (reply : Reply) : Type 0 where

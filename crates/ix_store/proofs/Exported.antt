@@ -26,7 +26,7 @@ use Rattle.ix_keep.specs.Snapshot.{Snapshot, IsCommitted}
 use Rattle.ix_keep.specs.declared.keeper.Keeper.{Keeper}
 use Rattle.ix_machine.specs.Buckets.{Standing, live, frozen, Slot, Index, listed, buckets}
 use Rattle.ix_machine.specs.Given.{Chooser}
-use Rattle.ix_machine.specs.Shown.{configured, all_indexes, index_view}
+use Rattle.ix_machine.specs.Shown.{configured, all_indexes, index_view, view}
 use Rattle.ix_machine.specs.State.{State, Catalog, index_name, fresh_index, slots_in}
 use Rattle.ix_machine.specs.Step.{after}
 use Rattle.ix_machine.specs.Sums.{IsStandingOf, AreSoundFrom, IsSound}
@@ -47,7 +47,6 @@ use Rattle.ix_machine.proofs.Names.{find_map}
 use Rattle.ix_store.specs.Exporting.{is_seen, listed_in, listed_events, exported, HaveRecords}
 use Rattle.ix_store.specs.Faults.{export_fault_of}
 use Rattle.ix_store.specs.Holding.{Holds, IsUnchanged}
-use Rattle.ix_store.specs.Showing.{IsViewOf}
 use Rattle.ix_store.specs.declared.fault.ExportFault.{ExportFault}
 use Rattle.ix_store.specs.declared.fault.ExportFault.TheVariants as exports
 use Rattle.ix_store.specs.declared.store.Store.{Store}
@@ -173,12 +172,12 @@ slots_of m index i e =
 abbrev pub buckets_of : IndexView → List Bucket
 buckets_of seen = seen.buckets
 
-module _ (m : State) (seen : View) (index : List ℕ) (is : IsViewOf m seen) where
+module _ (m : State) (seen : View) (index : List ℕ) (is : seen ≡ view m) where
   abbrev found : Option (List Bucket)
   found = option_map buckets_of (find view_name index seen.indexes)
 
   found_is : found ≡ option_map buckets_of (option_map (index_view m.force) (find index_name index (all_indexes m)))
-  found_is = ap (λ (l : List IndexView). option_map buckets_of (find view_name index l)) is.indexes
+  found_is = ap (λ (l : List IndexView). option_map buckets_of (find view_name index l)) (ap (λ (v : View). v.indexes) is)
       ∙ ap (option_map buckets_of) (find_map index_name view_name (index_view m.force) (λ i. refl) index (all_indexes m))
 
   pub seen_buckets : (bs : List Bucket) → Some bs ≡ found → (bs ≡ listed_in m index) × (is_seen m index ≡ true)
@@ -209,7 +208,7 @@ module _ {D : Type 0} (g : Ghosts D) {M : Type 0} (fits : Book → Type 0) (hold
 
   -- whatever is so of the events of the buckets is so of what is exported
   pub so_of_exported : (index : List ℕ) (seen : View) (bs : List Bucket) (image : Image) (Q : List Event → Type 0) → Holds g fits holds choose h base (length h) store disk → HaveRecords (after choose h) →
-      g.may_leave disk image → IsViewOf (after choose h) seen → Some bs ≡ option_map buckets_of (find view_name index seen.indexes) → ((all : List (List Event)) → HaveEvents image bs all → Q (joined all)) →
+      g.may_leave disk image → seen ≡ view (after choose h) → Some bs ≡ option_map buckets_of (find view_name index seen.indexes) → ((all : List (List Event)) → HaveEvents image bs all → Q (joined all)) →
       Q (exported (after choose h) index)
   so_of_exported index seen bs image Q hold ranged may is found so =
       let slots = slots_in (after choose h).catalog.indexes index in

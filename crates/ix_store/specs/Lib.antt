@@ -5,6 +5,5 @@ pub mod Counting
 pub mod Written
 pub mod Telling
 pub mod Making
-pub mod Showing
 pub mod Exporting
 pub mod Holding

@@ -9,6 +9,7 @@ ghost use Rattle.ix_items.specs.declared.items.Kept.{Kept};
 ghost use Rattle.ix_book.specs.Book.{empty};
 ghost use Rattle.ix_machine.specs.Bounds.{IsRefused};
 ghost use Rattle.ix_machine.specs.Given.{Chooser};
+ghost use Rattle.ix_machine.specs.Shown.{view};
 ghost use Rattle.ix_machine.specs.State.{spot_path, life_in};
 ghost use Rattle.ix_machine.specs.Step.{after};
 ghost use Rattle.ix_machine.specs.declared.commands.Command.TheVariants.{Tick};
@@ -21,7 +22,6 @@ ghost use Rattle.ix_store.specs.Exporting.{HaveRecords};
 ghost use Rattle.ix_store.specs.Finding.{IsBadIn};
 ghost use Rattle.ix_store.specs.Written.{over};
 ghost use Rattle.ix_store.specs.Making.{AreProper, IsMade};
-ghost use Rattle.ix_store.specs.Showing.{IsViewOf};
 ghost use Rattle.ix_store.specs.declared.subject.Subject.{Subject};
 
 use crate::subject::Subject;
@@ -103,7 +103,7 @@ pub trait Memory: Sized {
 
     /// What is seen of the state. It takes no memory.
     fn view(&self) -> &View
-        ensures { (choose : Chooser) (history : List Order) → holds choose history self.now → IsViewOf (after choose history) result.now };
+        ensures { (choose : Chooser) (history : List Order) → holds choose history self.now → result.now ≡ view (after choose history) };
 
     /// How far the file of this path was read, where it is watched.
     fn spot(&self, path: &[u8]) -> Option<&Spot>

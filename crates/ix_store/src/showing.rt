@@ -4,12 +4,12 @@ ghost use Rattle.std.specs.Prelude.{◌≡◌, ℕ, List, is_some};
 ghost use Rattle.std.specs.Option.{option_copied};
 ghost use Rattle.ix_keep.specs.Snapshot.{Snapshot};
 ghost use Rattle.ix_machine.specs.Given.{Chooser};
+ghost use Rattle.ix_machine.specs.Shown.{view};
 ghost use Rattle.ix_machine.specs.State.{spot_path, life_in};
 ghost use Rattle.ix_machine.specs.Step.{after};
 ghost use Rattle.ix_machine.specs.declared.commands.Order.{Order};
 ghost use Rattle.ix_shelves.specs.Lists.{find};
 ghost use Rattle.ix_machine.specs.Shelved.{IsSet};
-ghost use Rattle.ix_store.specs.Showing.{IsViewOf};
 
 use crate::memory::Memory;
 use crate::store::Store;
@@ -23,7 +23,7 @@ impl<M: Memory + Drop> Store<M> {
     /// Its indexes, their buckets, the ledger and the counts of events.
     pub fn view(&self) -> &View
         ensures { (choose : Chooser) (history : List Order) (base k : ℕ) (old : Snapshot) → Staged M.Book.fits M.holds choose history base k self.now old →
-            IsViewOf (after choose history) result.now }
+            result.now ≡ view (after choose history) }
     {
         self.memory.view()
     }

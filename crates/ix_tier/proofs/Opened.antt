@@ -2,15 +2,18 @@
 use Rattle.std.proofs.Common.{◌≡◌, ℕ, List, [], ◌∷◌, refl, ap, ◌∙◌}
 use Rattle.std.specs.Prelude.{is_some, ◌||◌, bytes_eq}
 use Rattle.std.specs.List.{AllZip, list_any}
-use Rattle.ix_machine.specs.State.{State, Life, life_name}
+use Rattle.ix_machine.specs.Given.{Chooser}
+use Rattle.ix_machine.specs.Shown.{view}
+use Rattle.ix_machine.specs.State.{Life, life_name}
+use Rattle.ix_machine.specs.Step.{after}
+use Rattle.ix_machine.specs.declared.commands.Order.{Order}
 use Rattle.ix_machine.proofs.Named.{by_test}
 use Rattle.ix_shelves.specs.Lists.{find}
-use Rattle.ix_shelves.specs.declared.shelves.Shelves.{Shelves}
 use Rattle.ix_kept.specs.Causes.{has_name}
 use Rattle.ix_kept.specs.Held.{IsOpen, SeesStorage, shelves_of}
 use Rattle.ix_kept.specs.declared.held.Held.{Held}
 use Rattle.ix_kept.specs.declared.held.Open.{Open}
-use Rattle.ix_store.specs.Showing.{IsViewOf}
+use Rattle.ix_recall.proofs.Seen.{seen_once}
 
 pub open_is : (lives : List Life) (opens : List Open) (name : List ℕ) → AllZip IsOpen lives opens → list_any (has_name name) opens ≡ is_some (find life_name name lives)
 open_is [] [] name h = refl
@@ -20,11 +23,14 @@ open_is (l ∷ ls) (o ∷ os) name h =
     ap (λ (n : List ℕ). bytes_eq n name || list_any (has_name name) os) h.0.name
     ∙ by_test (bytes_eq l.name name) (λ t. rw t refl) (λ t. rw t (open_is ls os name h.1))
 
-pub view_is : (m : State) (held : Held) → SeesStorage m (shelves_of held) held.view.ledger held.last held.tick → IsViewOf m held.view
-view_is m held s = record {
-  indexes = ap (λ (x : Shelves). x.indexes) s.shelves_are;
-  ledger = s.ledger_is;
-  settled = ap (λ (x : Shelves). x.settled) s.shelves_are;
-  nulled = ap (λ (x : Shelves). x.nulled) s.shelves_are;
-  dropped = ap (λ (x : Shelves). x.dropped) s.shelves_are;
-}
+pub view_is : (choose : Chooser) (history : List Order) (held : Held) → SeesStorage (after choose history) (shelves_of held) held.view.ledger held.last held.tick →
+    held.view ≡ view (after choose history)
+view_is choose history held s =
+    let ledger = seen_once choose history held.view.ledger s.ledger_is s.ledger_rises in
+    λ i. record {
+      indexes = (s.shelves_are i).indexes;
+      ledger = ledger i;
+      settled = (s.shelves_are i).settled;
+      nulled = (s.shelves_are i).nulled;
+      dropped = (s.shelves_are i).dropped;
+    }

@@ -2,10 +2,11 @@ use Rattle.std.proofs.Common.{rules, ◌≡◌, ℕ, List, length, refl, subst, 
 use Rattle.std.specs.Prelude.{Err}
 use Rattle.std.proofs.lemmas.Int.{to_z-of_z}
 use mir.Val.{SFits}
+use Rattle.ix_life.specs.declared.views.View.{View}
+use Rattle.ix_machine.specs.Shown.{view}
 use Rattle.ix_machine.specs.Step.{after}
 use Rattle.ix_machine.specs.declared.commands.Order.{Order}
 use Rattle.ix_run.specs.Giving.{given_all}
-use Rattle.ix_store.specs.Showing.{IsViewOf}
 use Rattle.indexd_store.specs.Tasks.{orders_in, IsText}
 use Rattle.indexd_store.specs.declared.stop.Stop.TheVariants as stops
 use Rattle.indexd_store.proofs.Causes.{named, why_unsaid}
@@ -26,12 +27,11 @@ returns-in-Ok-clause-printed g c = on_ok_by c.say.result _ (λ done is. λ choos
     let left = simp to_z-of_z at (c.in-Ok.ensures.ends choose h base chooser taken hold) in
     let moved = simp to_z-of_z at (c.in-Ok.ensures.moved choose h base chooser taken hold) in
     let written = at_ok c.say.result done _ is c.say.ensures.written in
+    let seen = subst (λ (orders : List Order). c.view.result.now ≡ view (after choose (given_all choose h orders))) left.allowed
+    (c.view.ensures choose (given_all choose h left.orders) base (length (given_all choose h left.orders)) left.all.hold.old left.all.hold.staged) in
     record {
-      view = c.view.result.now;
-      is_view = subst (λ (orders : List Order). IsViewOf (after choose (given_all choose h orders)) c.view.result.now) left.allowed
-          (c.view.ensures choose (given_all choose h left.orders) base (length (given_all choose h left.orders)) left.all.hold.old left.all.hold.staged);
       text = written.0;
-      is_text = subst (λ (count : ℕ). IsText c.args.task c.view.result.now count written.0) moved written.1;
+      is_text = subst (λ (v : View). IsText c.args.task v _ written.0) seen (subst (λ (count : ℕ). IsText c.args.task c.view.result.now count written.0) moved written.1);
       written = written.2;
     })
 
@@ -46,12 +46,11 @@ returns-in-Ok-clause-begun g c = λ is choose h base chooser taken hold.
     let left = simp to_z-of_z at (c.in-Ok.ensures.ends choose h base chooser taken hold) in
     let moved = simp to_z-of_z at (c.in-Ok.ensures.moved choose h base chooser taken hold) in
     let written = c.say.ensures.begun is in
+    let seen = subst (λ (orders : List Order). c.view.result.now ≡ view (after choose (given_all choose h orders))) left.allowed
+    (c.view.ensures choose (given_all choose h left.orders) base (length (given_all choose h left.orders)) left.all.hold.old left.all.hold.staged) in
     record {
-      view = c.view.result.now;
-      is_view = subst (λ (orders : List Order). IsViewOf (after choose (given_all choose h orders)) c.view.result.now) left.allowed
-          (c.view.ensures choose (given_all choose h left.orders) base (length (given_all choose h left.orders)) left.all.hold.old left.all.hold.staged);
       text = written.0;
-      is_text = subst (λ (count : ℕ). IsText c.args.task c.view.result.now count written.0) moved written.1;
+      is_text = subst (λ (v : View). IsText c.args.task v _ written.0) seen (subst (λ (count : ℕ). IsText c.args.task c.view.result.now count written.0) moved written.1);
       written = written.2;
     }
 
@@ -60,7 +59,7 @@ returns-in-Ok-clause-why g c = if_err_by c.say.result _ (λ stop is. λ choose h
     let fits : SFits w64 c.args.moment = search rules in
     let left = simp to_z-of_z at (c.in-Ok.ensures.ends choose h base chooser taken hold) in
     let fine = simp to_z-of_z at (c.in-Ok.ensures.fine c.requires.other choose h base chooser taken hold) in
-    let seen = subst (λ (orders : List Order). IsViewOf (after choose (given_all choose h orders)) c.view.result.now) left.allowed
+    let seen = subst (λ (orders : List Order). c.view.result.now ≡ view (after choose (given_all choose h orders))) left.allowed
     (c.view.ensures choose (given_all choose h left.orders) base (length (given_all choose h left.orders)) left.all.hold.old left.all.hold.staged) in
     why_unsaid choose h c.args.task c.args.moment c.view.result.now stop (named choose h c.args.task c.args.moment c.view.result.now fine seen) (at_err c.say.result stop _ is c.say.ensures.stopped))
 

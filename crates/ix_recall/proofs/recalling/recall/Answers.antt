@@ -2,6 +2,7 @@ use Rattle.std.proofs.Common.{◌≡◌, Bool, List, subst, sym, ap, ◌∙◌}
 use Rattle.std.specs.Prelude.{not, reverse, Result, Err}
 use Rattle.std.specs.List.{list_any}
 use Rattle.ix_items.specs.declared.items.Item.{Item}
+use Rattle.ix_machine.specs.Ranked.{ranked}
 use Rattle.ix_replay.specs.Lists.{AreListed}
 use Rattle.ix_recall.specs.declared.gathering.Gathered.{Gathered}
 use Rattle.ix_recall.specs.First.{is_moments}
@@ -32,7 +33,7 @@ returns-in-Ok-clause-fresh c = λ choose history run removed is.
 pub returns-in-Ok-clause-ledger : goal.returns-in-Ok-clause-ledger
 returns-in-Ok-clause-ledger c =
     let gathered = c.in_ok-gathered.ensures ∙ ap (λ l. all_taken l nothing) c.into_items-items.ensures.same in
-    c.in-Ok.ensures.recalled.ledger ∙ ap (λ (g : Gathered). reverse g.entries) gathered ∙ turned c.args.book
+    c.in-Ok.ensures.recalled.ledger ∙ ap (λ (g : Gathered). ranked (reverse g.entries)) gathered ∙ ap ranked (turned c.args.book)
 
 pub returns-in-Err-clause-bad : goal.returns-in-Err-clause-bad
 returns-in-Err-clause-bad c = λ subject is.

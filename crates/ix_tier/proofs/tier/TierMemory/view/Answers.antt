@@ -3,4 +3,4 @@ use Rattle.ix_tier.proofs.Opened.{view_is}
 use Rattle.ix_tier.proofs.tier.TierMemory.view.Goals as goal
 
 pub returns : goal.returns
-returns c = λ choose history h. view_is (after choose history) c.args.self.now.held h.state.storage
+returns c = λ choose history h. view_is choose history c.args.self.now.held h.state.storage

@@ -1,8 +1,10 @@
--- Two lists in order are one, where they have the same of all that tie.
-use Rattle.std.proofs.Common.{◌≡◌, ℕ, zero, suc, ◌<◌, ◌≤◌, Bool, true, false, not, ◌&&◌, List, [], ◌∷◌, length, get_or, filter, refl, sym, ap, ◌∙◌, inl, inr, suc-le-suc, zero-le}
+-- Two lists in order are one, where they have the same of all that tie. So a stable sort is the list in order.
+use Rattle.std.proofs.Common.{◌≡◌, ℕ, zero, suc, ◌<◌, ◌≤◌, Bool, true, false, cond, not, ◌&&◌, List, [], ◌∷◌, length, get_or, filter, refl, sym, ap, ◌∙◌, inl, inr, suc-le-suc, zero-le}
 use Rattle.std.proofs.lemmas.Bool.{cond-true, cond-false, cases_Bool, and_parts, not-true, false≢true}
 use Rattle.std.specs.Cmp.{IsStrictWeakOrder}
-use Rattle.std.specs.List.Sorted.{ties}
+use Rattle.std.specs.List.Sorted.{ties, IsSortedBy, IsStableBy}
+use Rattle.std.proofs.lemmas.List.Sorted.{sorted_far}
+use Rattle.ix_life.specs.Order.{put, sorted_by}
 
 clash : {P : Type 0} (b : Bool) → b ≡ true → b ≡ false → P
 clash b e f = absurd (false≢true (sym f ∙ e))
@@ -77,3 +79,35 @@ module _ {X : Type 0} (lt : X → X → Bool) (o : IsStrictWeakOrder lt) where
             sym (dropped (ties lt x) y ys without) ∙ same x ∙ dropped (ties lt x) z zs (ap (ties lt x) (sym head) ∙ without)
       ] in
       ap (λ w. w ∷ ys) head ∙ ap (λ l. z ∷ l) (same_list ys zs left.1 right.1 tails)
+
+  -- putting an element into a list leaves those that tie in their order
+  filter_put : (x a : X) (ys : List X) → filter (ties lt x) (put lt a ys) ≡ filter (ties lt x) (a ∷ ys)
+  filter_put x a [] = refl
+  filter_put x a (y ∷ ys) =
+      let p = ties lt x in
+      elim (cases_Bool (lt y a)) [
+        | inr later ↦ rw later refl
+        | inl earlier ↦
+            ap (filter p) (cond-true (lt y a) (y ∷ put lt a ys) (a ∷ y ∷ ys) earlier)
+            ∙ elim (cases_Bool (p y)) [
+              | inr without ↦
+                  dropped p y (put lt a ys) without ∙ filter_put x a ys ∙ ap (λ l. cond (p a) (a ∷ l) l) (sym (dropped p y ys without))
+              | inl with ↦
+                  elim (cases_Bool (p a)) [
+                    | inl both ↦ clash (lt y a) earlier (o.chain y x a (tie_back x y with) (tie_front x a both))
+                    | inr only ↦
+                        kept p y (put lt a ys) with ∙ ap (λ l. y ∷ l) (filter_put x a ys ∙ dropped p a ys only)
+                        ∙ sym (dropped p a (y ∷ ys) only ∙ kept p y ys with)
+                  ]
+            ]
+      ]
+
+  filter_sorted : (x : X) (xs : List X) → filter (ties lt x) (sorted_by lt xs) ≡ filter (ties lt x) xs
+  filter_sorted x [] = refl
+  filter_sorted x (y ∷ ys) = filter_put x y (sorted_by lt ys) ∙ ap (λ l. cond (ties lt x y) (y ∷ l) l) (filter_sorted x ys)
+
+  -- what a stable sort ensures fixes the list
+  pub sorted_once : (xs ys : List X) → IsSortedBy lt (sorted_by lt xs) → IsSortedBy lt ys → IsStableBy lt xs ys → ys ≡ sorted_by lt xs
+  sorted_once xs ys rises sorted stable =
+      same_list ys (sorted_by lt xs) (rises_far lt ys (sorted_far lt o ys sorted)) (rises_far lt (sorted_by lt xs) (sorted_far lt o (sorted_by lt xs) rises))
+      (λ x. stable x ∙ sym (filter_sorted x xs))
