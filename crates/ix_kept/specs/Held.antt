@@ -6,7 +6,7 @@ use Rattle.ix_items.specs.declared.items.Entry.{Entry}
 use Rattle.ix_kept.specs.Configs.{IsConfig}
 use Rattle.ix_machine.specs.Bounds.{KeepsBounds}
 use Rattle.ix_machine.specs.Given.{Chooser}
-use Rattle.ix_machine.specs.Ranked.{stands_before}
+use Rattle.ix_machine.specs.Ranked.{ranks_before}
 use Rattle.ix_machine.specs.State.{State, Life}
 use Rattle.ix_machine.specs.Step.{after}
 use Rattle.ix_machine.specs.declared.commands.Order.{Order}
@@ -54,7 +54,7 @@ ledger_of held (Some ledger) = ledger
 pub record SeesStorage (m : State) (shelves : Shelves) (ledger : List Entry) (last tick : ℤ) : Type 0 where
   pub shelves_are : shelves ≡ shelved m.force m.catalog
   pub ledger_is : IsPermutation ledger m.catalog.ledger
-  pub ledger_rises : IsSortedBy stands_before ledger
+  pub ledger_rises : IsSortedBy ranks_before ledger
   pub last_is : last ≡ m.last
   pub tick_is : tick ≡ m.tick
 

@@ -6,7 +6,7 @@ use Rattle.std.proofs.lemmas.Cmp.{then_total, on_total, int_cmp_total, nat_cmp_t
 use Rattle.std.proofs.lemmas.List.Sorted.{IsPermutation-refl, IsPermutation-cons, IsPermutation-trans, IsPermutation-middle, ranks_by}
 use Rattle.ix_items.specs.declared.items.Entry.{Entry}
 use Rattle.ix_life.specs.Order.{put, sorted_by}
-use Rattle.ix_machine.specs.Ranked.{rule_place, entry_cmp, stands_before, ranked}
+use Rattle.ix_machine.specs.Ranked.{rule_place, entry_cmp, ranks_before, ranked}
 use Rattle.ix_machine.proofs.Named.{by_test}
 use Rattle.ix_machine.proofs.Sorts.{sorted_once}
 
@@ -20,7 +20,7 @@ entry_cmp_total =
     (on_total (λ (e : Entry). e.newest) int_cmp_total))
     (on_total (λ (e : Entry). e.id) nat_cmp_total)
 
-pub entries_compared : IsStrictWeakOrder stands_before
+pub entries_compared : IsStrictWeakOrder ranks_before
 entries_compared = ranks_by entry_cmp_total (λ (e : Entry). e)
 
 -- none stands before the one in front of it: x, and then those of a list
@@ -71,11 +71,11 @@ module _ {X : Type 0} (lt : X → X → Bool) where
     sorted_rise (x ∷ xs) = put_in x (sorted_by lt xs) (sorted_rise xs)
 
 pub ranked_moved : (entries : List Entry) → IsPermutation entries (ranked entries)
-ranked_moved entries = sorted_moved stands_before entries
+ranked_moved entries = sorted_moved ranks_before entries
 
-pub ranked_rises : (entries : List Entry) → IsSortedBy stands_before (ranked entries)
-ranked_rises entries = risen stands_before (ranked entries) (sorted_rise stands_before entries_compared entries)
+pub ranked_rises : (entries : List Entry) → IsSortedBy ranks_before (ranked entries)
+ranked_rises entries = risen ranks_before (ranked entries) (sorted_rise ranks_before entries_compared entries)
 
 -- and what a stable sort makes of them
-pub ranked_by_sort : (entries sorted : List Entry) → IsSortedBy stands_before sorted → IsStableBy stands_before entries sorted → sorted ≡ ranked entries
-ranked_by_sort entries sorted rises stable = sorted_once stands_before entries_compared entries sorted (ranked_rises entries) rises stable
+pub ranked_by_sort : (entries sorted : List Entry) → IsSortedBy ranks_before sorted → IsStableBy ranks_before entries sorted → sorted ≡ ranked entries
+ranked_by_sort entries sorted rises stable = sorted_once ranks_before entries_compared entries sorted (ranked_rises entries) rises stable

@@ -24,9 +24,9 @@ entry_cmp a b =
     (int_cmp a.newest b.newest))
     (nat_cmp a.id b.id)
 
-abbrev pub stands_before : Entry → Entry → Bool
-stands_before a b = is_lt (entry_cmp a b)
+abbrev pub ranks_before : Entry → Entry → Bool
+ranks_before a b = is_lt (entry_cmp a b)
 
 -- entries in that order
 abbrev pub ranked : List Entry → List Entry
-ranked entries = sorted_by stands_before entries
+ranked entries = sorted_by ranks_before entries

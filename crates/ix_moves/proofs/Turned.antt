@@ -11,7 +11,7 @@ use Rattle.ix_keep.specs.Snapshot.{Forgets}
 use Rattle.ix_machine.specs.Bounds.{KeepsBounds}
 use Rattle.ix_machine.specs.Given.{Chooser}
 use Rattle.ix_machine.specs.Judged as judging
-use Rattle.ix_machine.specs.Ranked.{stands_before, ranked}
+use Rattle.ix_machine.specs.Ranked.{ranks_before, ranked}
 use Rattle.ix_machine.specs.State.{State, Catalog}
 use Rattle.ix_machine.specs.Step as machine
 use Rattle.ix_machine.specs.Step.{after, stepped}
@@ -53,7 +53,7 @@ behind_moved b (e ∷ more) later moved =
     let all = here b ++ e ∷ more in
     IsPermutation-trans (ranked all) all later (IsPermutation-sym all (ranked all) (ranked_moved all)) moved
 
-behind_rises : (b : Base) (more : List Entry) → IsSortedBy stands_before (here b) → IsSortedBy stands_before (ledger_of b.ledger.now (ledger_behind b more))
+behind_rises : (b : Base) (more : List Entry) → IsSortedBy ranks_before (here b) → IsSortedBy ranks_before (ledger_of b.ledger.now (ledger_behind b more))
 behind_rises b [] rises = rises
 behind_rises b (e ∷ more) rises = ranked_rises (here b ++ e ∷ more)
 

@@ -21,7 +21,7 @@ use Rattle.ix_life.specs.Retired.{HaveStanzas}
 use Rattle.ix_life.proofs.RetiredLemmas.{merged_stanzas}
 use Rattle.ix_machine.specs.Given.{Chooser, entries}
 use Rattle.ix_machine.specs.Ledger.{all_frozen}
-use Rattle.ix_machine.specs.Ranked.{stands_before, ranked}
+use Rattle.ix_machine.specs.Ranked.{ranks_before, ranked}
 use Rattle.ix_machine.specs.State.{State, Life, life_name, index_name, spot_path}
 use Rattle.ix_machine.specs.Step.{after}
 use Rattle.ix_machine.specs.declared.commands.Command.{Command}
@@ -236,7 +236,7 @@ holds choose history said held listed log r =
       storage = record {
         shelves_are = shelves_seen choose history g held is r (record { stanzas = stanzas; set_is = set }) log.given;
         ledger_is = subst (λ l. IsPermutation l m.catalog.ledger) (sym r.ledger) (entries_seen g.entries m.catalog.ledger (ledger_moved choose history g.entries is.entries));
-        ledger_rises = subst (IsSortedBy stands_before) (sym r.ledger) (ranked_rises (reverse g.entries));
+        ledger_rises = subst (IsSortedBy ranks_before) (sym r.ledger) (ranked_rises (reverse g.entries));
         last_is = r.last ∙ is.last;
         tick_is = r.tick ∙ is.tick;
       };

@@ -14,7 +14,7 @@ use Rattle.ix_items.specs.declared.items.Entry.{Entry}
 use Rattle.ix_machine.specs.Given.{Chooser}
 use Rattle.ix_machine.specs.Keeping.{entered_at}
 use Rattle.ix_machine.specs.Ledger.{is_of}
-use Rattle.ix_machine.specs.Ranked.{entry_cmp, stands_before, ranked}
+use Rattle.ix_machine.specs.Ranked.{entry_cmp, ranks_before, ranked}
 use Rattle.ix_machine.specs.State.{slots_in}
 use Rattle.ix_machine.specs.Step.{after}
 use Rattle.ix_machine.specs.declared.commands.Order.{Order}
@@ -38,9 +38,9 @@ both_equal Less s e = cc
 both_equal Equal s e = (refl, e)
 both_equal Greater s e = cc
 
-one_bucket : (x y : Entry) → ties stands_before x y ≡ true → is_of x.index x.id y ≡ true
+one_bucket : (x y : Entry) → ties ranks_before x y ≡ true → is_of x.index x.id y ≡ true
 one_bucket x y tie =
-    let apart = and_parts (not (stands_before x y)) (not (stands_before y x)) tie in
+    let apart = and_parts (not (ranks_before x y)) (not (ranks_before y x)) tie in
     let equal = level (entry_cmp y x) (entry_cmp x y) (entry_cmp_total.antisymm y x) (not-true _ apart.1) (not-true _ apart.0) in
     let number = both_equal _ _ equal in
     let newest = both_equal _ _ number.0 in
@@ -64,20 +64,20 @@ one_at_most : (o : Option Entry) → length (option_to_list o) ≤ 1
 one_at_most None = omega arith
 one_at_most (Some e) = omega arith
 
-few_tie : (choose : Chooser) (history : List Order) (x : Entry) → length (filter (ties stands_before x) (after choose history).catalog.ledger) ≤ 1
+few_tie : (choose : Chooser) (history : List Order) (x : Entry) → length (filter (ties ranks_before x) (after choose history).catalog.ledger) ≤ 1
 few_tie choose history x =
     let m = after choose history in
     let o = entered_at (slice_get (slots_in m.catalog.indexes x.index) x.id) in
-    let a = fewer (ties stands_before x) (is_of x.index x.id) (one_bucket x) m.catalog.ledger in
+    let a = fewer (ties ranks_before x) (is_of x.index x.id) (one_bucket x) m.catalog.ledger in
     let b = same_length (filter (is_of x.index x.id) m.catalog.ledger) (option_to_list o) ((whole_after choose history).each x.index x.id) in
     let c = one_at_most o in
     omega (arith, a, b, c)
 
 -- its entries in that order are what is seen
 pub seen_once : (choose : Chooser) (history : List Order) (entries : List Entry) → IsPermutation entries (after choose history).catalog.ledger →
-    IsSortedBy stands_before entries → entries ≡ ranked (after choose history).catalog.ledger
+    IsSortedBy ranks_before entries → entries ≡ ranked (after choose history).catalog.ledger
 seen_once choose history entries moved rises =
     let ledger = (after choose history).catalog.ledger in
     ranked_by_sort ledger entries rises
-    (λ x. short_same (filter (ties stands_before x) ledger) (filter (ties stands_before x) entries) (few_tie choose history x)
-    (filter_moved (ties stands_before x) ledger entries (IsPermutation-sym entries ledger moved)))
+    (λ x. short_same (filter (ties ranks_before x) ledger) (filter (ties ranks_before x) entries) (few_tie choose history x)
+    (filter_moved (ties ranks_before x) ledger entries (IsPermutation-sym entries ledger moved)))

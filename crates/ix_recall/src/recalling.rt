@@ -24,7 +24,7 @@ use crate::faults::RecallFault;
 use crate::gathering::{Gathered, gather};
 use crate::indexes::indexes_of;
 use crate::sorting::spots_by_path;
-use ix_base::Sequence;
+use ix_base::{NoMemory, Sequence};
 use ix_items::Item;
 use ix_kept::{Held, config_of, ranked};
 use ix_life::{EntryList, View};
@@ -39,13 +39,13 @@ pub struct Recalled {
     pub fresh: bool,
 }
 
-/// The entries, the last one first.
-fn turned(entries: EntryList) -> EntryList
-    ensures { result ≡ reverse entries }
+/// The ledger of the entries that were gathered: they come in the order in which they are seen.
+fn ledger_of(entries: EntryList) -> Result<EntryList, NoMemory>
+    ensures { IfOk result (λ ledger. ledger ≡ ranked (reverse entries)) }
 {
     let mut entries = entries.into_vec();
     entries.reverse();
-    Sequence::from_vec(entries)
+    ranked(Sequence::from_vec(entries))
 }
 
 /// The state of what was gathered.
@@ -69,7 +69,7 @@ fn hold(alloc: Global, gathered: Gathered) -> Result<Held, RecallFault>
     let limits = &config.limits;
     let indexes = indexes_of(alloc, limits, indexes.into_vec(), buckets.as_slice())?;
     let channels = channels_of(alloc, &config.props, channels.into_vec())?;
-    let ledger = ranked(turned(entries))?;
+    let ledger = ledger_of(entries)?;
     Ok(Held {
         config,
         channels,

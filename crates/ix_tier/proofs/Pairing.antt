@@ -16,7 +16,7 @@ use Rattle.ix_machine.specs.Bounds.{KeepsBounds, come_to}
 use Rattle.ix_machine.specs.Given.{Chooser}
 use Rattle.ix_machine.specs.Judged as machine
 use Rattle.ix_machine.specs.Judged.{waits_for_tick, needs_tick, adds}
-use Rattle.ix_machine.specs.Ranked.{stands_before}
+use Rattle.ix_machine.specs.Ranked.{ranks_before}
 use Rattle.ix_machine.specs.State.{State, Life, empty}
 use Rattle.ix_machine.specs.Step.{after, effective}
 use Rattle.ix_machine.specs.declared.commands.Command.{Command}
@@ -64,7 +64,7 @@ ready_of choose history order held step h bounds later taken =
       storage = record {
         shelves_are = taken.shelves_are ∙ h.rest.shelves_are;
         ledger_is = subst (λ (l : List Entry). IsPermutation l m.catalog.ledger) (sym taken.ledger_is) h.rest.ledger_is;
-        ledger_rises = subst (IsSortedBy stands_before) (sym taken.ledger_is) h.rest.ledger_rises;
+        ledger_rises = subst (IsSortedBy ranks_before) (sym taken.ledger_is) h.rest.ledger_rises;
         last_is = taken.last_is ∙ h.rest.last_is;
         tick_is = taken.tick_is ∙ h.rest.tick_is;
       };
@@ -84,7 +84,7 @@ stands_first choose history order held begun f b =
       rest = record {
         shelves_are = b.shelves ∙ s.shelves_are;
         ledger_is = subst (λ (o : Option (List Entry)). IsPermutation (ledger_of held.view.ledger o) (after choose history).catalog.ledger) (sym b.ledger) s.ledger_is;
-        ledger_rises = subst (λ (o : Option (List Entry)). IsSortedBy stands_before (ledger_of held.view.ledger o)) (sym b.ledger) s.ledger_rises;
+        ledger_rises = subst (λ (o : Option (List Entry)). IsSortedBy ranks_before (ledger_of held.view.ledger o)) (sym b.ledger) s.ledger_rises;
         last_is = b.last ∙ s.last_is;
         tick_is = b.tick ∙ s.tick_is;
       };

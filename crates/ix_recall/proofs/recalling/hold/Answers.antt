@@ -1,8 +1,7 @@
-use Rattle.std.proofs.Common.{◌≡◌, List, ℕ, rules, refl, sym, ap, ◌∙◌, subst, inl, inr}
+use Rattle.std.proofs.Common.{◌≡◌, List, ℕ, rules, refl, sym, ap, subst, inl, inr}
 use Rattle.std.specs.Prelude.{Err}
 use Rattle.std.proofs.lemmas.Result.{err_from_is_err_and}
 use Rattle.ix_base.specs.declared.events.Spot.{Spot}
-use Rattle.ix_machine.specs.Ranked.{ranked}
 use Rattle.ix_machine.specs.State.{spot_path}
 use Rattle.ix_recall.specs.declared.faults.RecallFault.TheVariants as faults
 use Rattle.ix_recall.specs.declared.gathering.Carried.{Carried}
@@ -23,7 +22,7 @@ returns-clause-recalled c =
       indexes =
           subst (λ (names : List (List ℕ)). AreShelved names c.args.gathered.buckets limits c.in_ok-indexes.indexes) c.into_vec.ensures
           (subst (λ (placed : List Placed). AreShelved c.into_vec.result.items placed limits c.in_ok-indexes.indexes) c.as_slice.ensures c.in_ok-indexes.ensures);
-      ledger = c.in_ok-ranked.ensures ∙ ap ranked c.turned.ensures;
+      ledger = c.in_ok-ledger.ensures;
       settled = refl;
       nulled = refl;
       dropped = refl;
