@@ -1,6 +1,6 @@
 -- The ledger of a history has one entry of each bucket at most, so the order in which it is seen leaves nothing open.
 use Rattle.std.proofs.Common.{◌≡◌, ◌≤◌, Bool, true, false, not, List, [], ◌∷◌, length, filter, refl, sym, ap, ◌∙◌, arith}
-use Rattle.std.specs.Prelude.{Option, Some, None, ◌==◌, bytes_eq, option_to_list, slice_get}
+use Rattle.std.specs.Prelude.{Option, Some, None, ◌==◌, ◌&&◌, bytes_eq, option_to_list, slice_get}
 use Rattle.std.specs.List.Sorted.{IsPermutation, IsSortedBy, ties}
 use Rattle.std.specs.Ordering.{ordering_then, ordering_reverse, is_eq, is_lt}
 use Rattle.std.specs.Cmp.{ranked as of_numbers}

@@ -31,6 +31,14 @@ const KEPT: Files = &[
     ),
 ];
 
+const BOTH: Files = &[
+    LINES,
+    (
+        "indexes",
+        "[main]\nfrozenTimePeriodInSecs = 100\n[web]\nfrozenTimePeriodInSecs = 100\n",
+    ),
+];
+
 const HOT: Files = &[SECONDS, ("indexes", "[main]\nmaxHotBuckets = 2\n")];
 
 const COLD: Files = &[LINES, ("indexes", "[main]\nmaxWarmDBCount = 0\n")];
@@ -223,6 +231,33 @@ fn buckets_age(rt: HostRuntime) -> Result<(), Fail> {
         ),
     ];
     hold(&rt, alloc, &archived)
+}
+
+/// Of two buckets that freeze at one moment the one of the first index is listed first, also where it froze behind the other.
+#[test]
+fn frozen_buckets_stand_by_index(rt: HostRuntime) -> Result<(), Fail> {
+    let alloc = rt.alloc();
+    let both = [
+        run(STORE, BOTH, "a", "0: "),
+        run(
+            "preview --host h --source s --index web --store",
+            BOTH,
+            "b",
+            "0: ",
+        ),
+        run("roll web", BOTH, "", "0: rolled 1\n"),
+        at(LATER, "tick", BOTH, "", "0: frozen 1\n"),
+        at(LATER, "roll main", BOTH, "", "0: rolled 1\n"),
+        at(LATER, "tick", BOTH, "", "0: frozen 1\n"),
+        at(
+            LATER,
+            "buckets",
+            BOTH,
+            "",
+            "0: index main stored 0 bytes 0 frozen 1\nindex web stored 0 bytes 0 frozen 1\nfrozen main db_1700000000_1700000000_0 age 1700000101 1 deleted\nfrozen web db_1700000000_1700000000_0 age 1700000101 1 deleted\nevents settled 2 nulled 0 dropped 0\n",
+        ),
+    ];
+    hold(&rt, alloc, &both)
 }
 
 /// The file of the first bucket of a store, and the one that it is copied to.
