@@ -19,7 +19,7 @@ use ix_threads::run::{Outcome, outcome_of};
 use std::alloc::Global;
 use std::sync::ledger::Ledger;
 
-/// How many turns one attempt may take. So what it works in stays below two megabytes.
+/// How many turns one attempt may take. So what it works in stays below a megabyte.
 const MOST: u64 = 16_384;
 
 /// What attempts work in: the frames that are still to be tried, and what they have come through. It is used again from
