@@ -1,5 +1,5 @@
 -- What becomes of the ways of frames.
-use Rattle.std.proofs.Common.{◌≡◌, ℕ, ◌+◌, ◌<◌, ◌≤◌, if◌then◌else◌, Bool, true, false, List, [], ◌∷◌, ◌++◌, length, Option, Some, None, refl, sym, ◌∙◌, ap, subst, arith, append_assoc, length-append}
+use Rattle.std.proofs.Common.{◌≡◌, ℕ, ◌+◌, ◌<◌, ◌≤◌, if◌then◌else◌, not, Bool, true, false, List, [], ◌∷◌, ◌++◌, length, Option, Some, None, refl, sym, ◌∙◌, ap, subst, arith, append_assoc, length-append}
 use Rattle.std.specs.Prelude.{slice_get}
 use Rattle.std.proofs.lemmas.Option.{slice_get_within}
 use Rattle.std.proofs.lemmas.List.{append-nil}
@@ -170,3 +170,9 @@ pub settled-head : (rows : Rows) (program : Program) (code : List Instr) (text :
     slice_get (ways (tree rows) text (at place blank)) 0 ≡ slice_get (best_ways blank cells best) 0
 settled-head rows program code text place cells best blank is w le e =
     program-head (IsOf rows) rows (tree rows) code text program.start place cells best blank (subst (λ c. IsProgram rows (tree rows) c program.start) (sym is) w.code) refl le e
+
+-- ---- a look at the next byte
+
+pub not-true : (b : Bool) → not b ≡ true → b ≡ false
+not-true true e = sym e
+not-true false e = refl

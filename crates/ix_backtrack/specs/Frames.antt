@@ -1,10 +1,11 @@
 -- The ways that are still to be tried.
-use Rattle.std.specs.Prelude.{◌≡◌, ℕ, ◌<◌, ◌≤◌, List, [], ◌∷◌, ◌++◌, Option}
+use Rattle.std.specs.Prelude.{◌≡◌, ℕ, ◌<◌, ◌≤◌, List, [], ◌∷◌, ◌++◌, Option, Some, None}
 use Rattle.ix_pattern.specs.Ways.{Text, Way, edge}
 use Rattle.ix_pattern.specs.Rows.{Rows}
 use Rattle.ix_threads.specs.Code.{Mean, Meaning, history, best_ways}
 use Rattle.ix_threads.specs.declared.code.Instr.{Instr}
 use Rattle.ix_threads.specs.declared.cells.Cell.{Cell}
+use Rattle.ix_threads.specs.declared.cells.Event.{Event}
 use Rattle.ix_threads.specs.declared.cells.Best.TheVariants.{End as BestEnd}
 use Rattle.ix_backtrack.specs.declared.frames.Frame.{Frame}
 use Rattle.ix_backtrack.specs.declared.frames.Turn.{Turn}
@@ -49,6 +50,32 @@ abbrev pub Turns : List Instr → Rows → Text → List Cell → Frame → Turn
 Turns code rows text cells f t =
     (blank : List (Option (ℕ × ℕ))) (mean : Mean) (rank : ℕ → ℕ) → Meaning code rows text blank mean rank → (later : List Cell) →
     frame_ways mean (cells ++ later) f ≡ turn_ways mean blank (cells ++ later) f t
+
+-- those of a frame that may be none
+abbrev pub option_ways : (Frame → List Way) → Option Frame → List Way
+option_ways w None = []
+option_ways w (Some f) = w f
+
+abbrev pub IsIfSome : ℕ → ℕ → ℕ → Option Frame → Type 0
+IsIfSome n c bytes None = Unit {0}
+IsIfSome n c bytes (Some f) = IsFrame n c bytes f
+
+-- it has the ways of the frame
+abbrev pub Glances : List Instr → Rows → Text → Frame → Option Frame → Type 0
+Glances code rows text f o =
+    (blank : List (Option (ℕ × ℕ))) (mean : Mean) (rank : ℕ → ℕ) → Meaning code rows text blank mean rank → (cells : List Cell) →
+    frame_ways mean cells f ≡ option_ways (frame_ways mean cells) o
+
+-- the instruction has no way at the place, whatever came before
+abbrev pub Dies : List Instr → Rows → Text → ℕ → ℕ → Type 0
+Dies code rows text pc p =
+    (blank : List (Option (ℕ × ℕ))) (mean : Mean) (rank : ℕ → ℕ) → Meaning code rows text blank mean rank → (h : List Event) → mean pc h p ≡ []
+
+-- it has the ways of the first frame and behind them those of the other
+abbrev pub Chooses : List Instr → Rows → Text → Frame → Frame → Turn → Type 0
+Chooses code rows text first other t =
+    (blank : List (Option (ℕ × ℕ))) (mean : Mean) (rank : ℕ → ℕ) → Meaning code rows text blank mean rank → (cells : List Cell) →
+    frame_ways mean cells first ++ frame_ways mean cells other ≡ turn_ways mean blank cells first t
 
 -- the frame and those of the stack have the ways of the instruction where the attempt began
 abbrev pub Goes : List Instr → Rows → Text → ℕ → ℕ → List Cell → Frame → List Frame → Type 0

@@ -16,7 +16,7 @@ use ix_threads::leaf::Leaf;
 use std::sync::ledger::Ledger;
 
 /// Whether a piece takes a byte. One that is no byte piece takes none.
-fn takes<L: Ledger>(p: &Pattern, piece: usize, byte: u8, steps: &mut Steps<L>) -> bool
+pub fn takes<L: Ledger>(p: &Pattern, piece: usize, byte: u8, steps: &mut Steps<L>) -> bool
     requires { piece < length p.now.rows }
     ensures { result ≡ in_set (set_in (sets_of p.now.rows) piece) byte }
 {

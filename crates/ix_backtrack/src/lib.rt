@@ -3,6 +3,7 @@
 
 mod attempt;
 mod behind;
+mod choice;
 pub mod frames;
 pub mod tries;
 mod turn;

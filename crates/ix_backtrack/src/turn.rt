@@ -7,6 +7,7 @@ ghost use Rattle.ix_backtrack.specs.Frames.{IsFrame, IsTurn, Turns};
 ghost use Rattle.ix_backtrack.specs.Tried.{IsPlainCode};
 
 use crate::behind::{behind_byte, behind_leaf};
+use crate::choice::choice;
 use crate::frames::{Frame, Turn};
 use ix_base::{NoMemory, Steps};
 use ix_pattern::Pattern;
@@ -56,18 +57,19 @@ pub fn turn<L: Ledger>(
     match instr_at(code, frame.pc) {
         Instr::Match => Ok(Turn::End),
         Instr::Byte { set, next } => Ok(behind_byte(p, input, frame, set, next, steps)),
-        Instr::Split { first, other } => Ok(Turn::Fork {
-            first: Frame {
+        Instr::Split { first, other } => {
+            let preferred = Frame {
                 pc: first,
                 trail: frame.trail,
                 place: frame.place,
-            },
-            other: Frame {
+            };
+            let later = Frame {
                 pc: other,
                 trail: frame.trail,
                 place: frame.place,
-            },
-        }),
+            };
+            Ok(choice(p, code, input, preferred, later, steps))
+        }
         Instr::Jump { next } => Ok(Turn::On(Frame {
             pc: next,
             trail: frame.trail,

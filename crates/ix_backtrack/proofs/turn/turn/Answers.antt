@@ -28,11 +28,19 @@ returns-in-Byte-clause-known g c =
 pub returns-in-Split-clause-turns : goal.returns-in-Split-clause-turns
 returns-in-Split-clause-turns g c =
     λ blank mean rank m later. m.gives c.args.frame.pc (Split c.in-Split.first c.in-Split.other) c.in-Split.ensures (history (c.args.cells.now.items ++ later) c.args.frame.trail) c.args.frame.place c.requires.known.place
+    ∙ c.choice.ensures.chooses blank mean rank m (c.args.cells.now.items ++ later)
 
 pub returns-in-Split-clause-known : goal.returns-in-Split-clause-known
 returns-in-Split-clause-known g c =
     let t = c.requires.code.targets c.args.frame.pc (Split c.in-Split.first c.in-Split.other) c.in-Split.ensures in
-    (record { pc = t.0; trail = c.requires.known.trail; place = c.requires.known.place }, record { pc = t.1; trail = c.requires.known.trail; place = c.requires.known.place })
+    c.choice.ensures.known (length c.args.cells.now.items) (record { pc = t.0; trail = c.requires.known.trail; place = c.requires.known.place })
+    (record { pc = t.1; trail = c.requires.known.trail; place = c.requires.known.place })
+
+pub choice-requires-clause-first : goal.choice-requires-clause-first
+choice-requires-clause-first g c = (c.requires.code.targets c.args.frame.pc (Split c.in-Split.first c.in-Split.other) c.in-Split.ensures).0
+
+pub choice-requires-clause-other : goal.choice-requires-clause-other
+choice-requires-clause-other g c = (c.requires.code.targets c.args.frame.pc (Split c.in-Split.first c.in-Split.other) c.in-Split.ensures).1
 
 pub returns-in-Jump-clause-turns : goal.returns-in-Jump-clause-turns
 returns-in-Jump-clause-turns g c =
