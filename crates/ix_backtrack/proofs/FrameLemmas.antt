@@ -1,10 +1,10 @@
 -- What becomes of the ways of frames.
-use Rattle.std.proofs.Common.{◌≡◌, ℕ, ◌+◌, ◌<◌, ◌≤◌, if◌then◌else◌, not, Bool, true, false, List, [], ◌∷◌, ◌++◌, length, Option, Some, None, refl, sym, ◌∙◌, ap, subst, arith, append_assoc, length-append}
+use Rattle.std.proofs.Common.{◌≡◌, ℕ, ◌+◌, ◌≤◌, if◌then◌else◌, not, Bool, true, false, List, [], ◌∷◌, ◌++◌, length, Option, Some, None, refl, sym, ◌∙◌, ap, subst, arith, append_assoc, length-append}
 use Rattle.std.specs.Prelude.{slice_get}
 use Rattle.std.proofs.lemmas.Option.{slice_get_within}
 use Rattle.std.proofs.lemmas.List.{append-nil}
 use Rattle.ix_pattern.specs.Piece.{in_set}
-use Rattle.ix_pattern.specs.Ways.{Text, Way, ends_at, edge, here, at_end, byte_ways, ways}
+use Rattle.ix_pattern.specs.Ways.{Text, Way, edge, here, byte_ways, ways}
 use Rattle.ix_pattern.specs.Rows.{Rows, tree}
 use Rattle.ix_threads.specs.declared.code.Instr.{Instr}
 use Rattle.ix_threads.specs.declared.cells.Event.{Event}

@@ -1,6 +1,6 @@
 //! An attempt at one place: one way after the other.
 
-ghost use Rattle.std.specs.Prelude.{◌≡◌, ◌≤◌, ◌<◌, length, IfOk, None};
+ghost use Rattle.std.specs.Prelude.{◌≡◌, ◌≤◌, ◌<◌, ◌++◌, ◌∷◌, [], length, IfOk, OnOk, None};
 ghost use Rattle.ix_threads.specs.Leaf.{text_of};
 ghost use Rattle.ix_backtrack.specs.Tried.{IsPlainCode, Settled};
 
@@ -18,6 +18,19 @@ use std::sync::ledger::Ledger;
 pub struct Tried {
     pub best: Option<Best>,
     pub taken: u64,
+}
+
+/// Puts a frame on the stack. Room is made for some at once.
+fn put_off(stack: &mut Vec<Frame>, frame: Frame) -> Result<(), NoMemory>
+    ensures { OnOk result (stack.new.items ≡ stack.old.items ++ frame ∷ []) }
+{
+    if stack.capacity() > 0 {
+        stack.push(frame)?;
+        return Ok(());
+    }
+    stack.reserve(32)?;
+    stack.push(frame)?;
+    Ok(())
 }
 
 /// What stands for the head of the ways of an instruction at a place of a text. It is given up after so many turns.
@@ -53,7 +66,7 @@ pub fn attempt<L: Ledger>(
                 continue;
             }
             Turn::Fork { first, other } => {
-                stack.push(other)?;
+                put_off(stack, other)?;
                 frame = first;
                 continue;
             }

@@ -5,5 +5,6 @@ mod attempt;
 mod behind;
 mod choice;
 pub mod frames;
+mod outcome;
 pub mod tries;
 mod turn;

@@ -10,12 +10,13 @@ ghost use Rattle.ix_backtrack.specs.Tried.{IsSpent};
 
 use crate::attempt::attempt;
 use crate::frames::Frame;
+use crate::outcome::outcome;
 use ix_base::{NoMemory, Steps};
 use ix_pattern::Pattern;
 use ix_threads::cells::Cell;
 use ix_threads::finder::Finder;
 use ix_threads::input::Input;
-use ix_threads::run::{Outcome, outcome_of};
+use ix_threads::run::Outcome;
 use std::alloc::Global;
 use std::sync::ledger::Ledger;
 
@@ -78,6 +79,6 @@ pub fn backtracked<L: Ledger>(
     let Some(best) = tried.best else {
         return Ok(None);
     };
-    let outcome = outcome_of(alloc, best, &tries.cells, p.groups())?;
-    Ok(Some(outcome))
+    let found = outcome(alloc, best, &tries.cells, p.groups())?;
+    Ok(Some(found))
 }

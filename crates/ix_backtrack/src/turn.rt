@@ -1,6 +1,6 @@
 //! What becomes of a way at its instruction.
 
-ghost use Rattle.std.specs.Prelude.{◌≡◌, ◌+◌, ◌<◌, ◌∷◌, ◌++◌, [], length, IfOk};
+ghost use Rattle.std.specs.Prelude.{◌≡◌, ◌+◌, ◌<◌, ◌∷◌, ◌++◌, [], length, IfOk, OnOk};
 ghost use Rattle.ix_threads.specs.Leaf.{text_of};
 ghost use Rattle.ix_threads.specs.Ran.{Grown};
 ghost use Rattle.ix_backtrack.specs.Frames.{IsFrame, IsTurn, Turns};
@@ -17,6 +17,17 @@ use ix_threads::input::{Input, byte_before};
 use ix_threads::leaf;
 use std::sync::ledger::Ledger;
 
+/// Room for some cells at once, where there is none yet.
+fn with_room(cells: &mut Vec<Cell>) -> Result<(), NoMemory>
+    ensures { OnOk result (cells.new.items ≡ cells.old.items) }
+{
+    if cells.capacity() > 0 {
+        return Ok(());
+    }
+    cells.reserve(16)?;
+    Ok(())
+}
+
 /// The frame behind an event.
 fn behind_event(
     event: Event,
@@ -27,6 +38,7 @@ fn behind_event(
     ensures is { IfOk result (λ f. f ≡ record { pc = next; trail = length cells.old.items + 1; place = frame.place }) }
     ensures cells { IfOk result (λ f. cells.new.items ≡ cells.old.items ++ record { event = event; earlier = frame.trail } ∷ []) }
 {
+    with_room(cells)?;
     let trail = cells.len() + 1;
     cells.push(Cell {
         event,

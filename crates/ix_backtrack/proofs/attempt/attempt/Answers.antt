@@ -19,9 +19,9 @@ loop-taken-preserved-in-Fork g c =
     let goes = goes-grown c.args.code.now c.args.p.now.rows (text_of c.args.input) c.args.start c.args.place c.loop-taken.cells.items c.turn.new.cells.items c.loop-taken.frame c.loop-taken.stack.items c.in_ok-next.ensures.grown c.loop-taken.invariant.goes in
     let stack = frames-later (length c.args.code.now) (length c.loop-taken.cells.items) (length c.turn.new.cells.items) (length c.args.input.bytes.now) c.loop-taken.stack.items (grown-more c.in_ok-next.ensures.grown) c.loop-taken.invariant.stack in
     record {
-      goes = goes-fork c.args.code.now c.args.p.now.rows (text_of c.args.input) c.args.start c.args.place c.turn.new.cells.items c.loop-taken.frame c.in-Fork.first c.in-Fork.other c.loop-taken.stack.items c.push.new.self.items c.in_ok-push-in-Fork.ensures.items turns goes;
+      goes = goes-fork c.args.code.now c.args.p.now.rows (text_of c.args.input) c.args.start c.args.place c.turn.new.cells.items c.loop-taken.frame c.in-Fork.first c.in-Fork.other c.loop-taken.stack.items c.put_off.new.stack.items c.in_ok-put_off-in-Fork.ensures turns goes;
       frame = known.0;
-      stack = subst (AreFrames (length c.args.code.now) (length c.turn.new.cells.items) (length c.args.input.bytes.now)) (sym c.in_ok-push-in-Fork.ensures.items) (frames-pushed (length c.args.code.now) (length c.turn.new.cells.items) (length c.args.input.bytes.now) c.loop-taken.stack.items c.in-Fork.other stack known.1);
+      stack = subst (AreFrames (length c.args.code.now) (length c.turn.new.cells.items) (length c.args.input.bytes.now)) (sym c.in_ok-put_off-in-Fork.ensures) (frames-pushed (length c.args.code.now) (length c.turn.new.cells.items) (length c.args.input.bytes.now) c.loop-taken.stack.items c.in-Fork.other stack known.1);
     }
 
 pub loop-taken-preserved : goal.loop-taken-preserved

@@ -1,6 +1,6 @@
 use Rattle.std.proofs.Common.{rules, ◌≡◌, length, subst, sym, ◌∙◌, ap}
 use Rattle.std.proofs.lemmas.List.{nil_from_length}
-use Rattle.std.specs.Prelude.{replicate, None, Some, slice_get}
+use Rattle.std.specs.Prelude.{replicate, None, slice_get}
 use Rattle.ix_threads.specs.Code.{best_ways}
 use Rattle.ix_threads.specs.Leaf.{text_of}
 use Rattle.ix_backtrack.specs.Tried.{Settled}
@@ -19,4 +19,4 @@ returns-clause-head g c =
     c.deref.ensures.value c.requires.finder.program c.requires.within s
     ∙ ap (λ l. slice_get (best_ways (replicate c.args.p.now.groups None) l c.in-Some.best) 0) (sym c.deref-2.ensures.value)
     ∙ ap (λ n. slice_get (best_ways (replicate n None) c.deref-2.result.now c.in-Some.best) 0) (sym c.groups.ensures.is)
-    ∙ c.in_ok-outcome.ensures
+    ∙ c.in_ok-found.ensures

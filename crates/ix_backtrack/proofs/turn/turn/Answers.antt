@@ -1,10 +1,9 @@
-use Rattle.std.proofs.Common.{◌≡◌, ◌+◌, ◌<◌, ◌≤◌, [], ◌∷◌, ◌++◌, length, length-append, refl, sym, ◌∙◌, ap, subst, arith}
+use Rattle.std.proofs.Common.{[], ◌++◌, length, length-append, sym, ◌∙◌, ap, subst, arith}
 use Rattle.ix_pattern.specs.Ways.{here, is_start}
 use Rattle.ix_threads.specs.Code.{history, tested}
-use Rattle.ix_threads.specs.Leaf.{leaf_ways, at}
-use Rattle.ix_threads.specs.declared.code.Instr.TheVariants.{Match, Byte, Split, Jump, Begin, Finish, TextStart, TextEnd, Word, Look}
+use Rattle.ix_threads.specs.Leaf.{at}
+use Rattle.ix_threads.specs.declared.code.Instr.TheVariants.{Match, Byte, Split, Jump, Begin, Finish, TextStart, TextEnd, Word}
 use Rattle.ix_threads.specs.declared.cells.Event.TheVariants.{Began, Ended}
-use Rattle.ix_threads.proofs.ProgramLemmas.{row-set}
 use Rattle.ix_backtrack.specs.Frames.{IsFrame}
 use Rattle.ix_backtrack.proofs.FrameLemmas.{event-ways}
 use Rattle.ix_backtrack.proofs.turn.turn.Goals as goal
