@@ -3,7 +3,7 @@
 ghost use Rattle.std.specs.Prelude.{◌≡◌, ◌<◌, ◌≤◌, [], length, OnOk};
 
 use ix_base::{NoMemory, Steps};
-use ix_match::{Found, Look, Scan, find};
+use ix_match::{Finder, Found, Look, Scan, find};
 use ix_pattern::Pattern;
 use std::alloc::Global;
 use std::marker::Brand;
@@ -205,19 +205,34 @@ fn note_look(said: &mut String, look: &Look) {
     }
 }
 
-/// The first match of a pattern in a text from a place on, in short.
-fn first_in(alloc: Global, p: &Pattern, text: &[u8], from: usize) -> Result<String, NoMemory>
-    requires { from ≤ length text.now }
-{
+/// A match or none, in short.
+fn in_short(alloc: Global, found: Option<Found>) -> Result<String, NoMemory> {
     let mut said = String::new(alloc);
-    match find(alloc, p, text, from)? {
+    match found {
         Some(found) => note_places(&mut said, &found),
         None => said.push_str("none")?,
     }
     Ok(said)
 }
 
-/// The same of a pattern's text; nothing where it is no pattern.
+/// The first match of a pattern in a text from a place on, in short.
+fn first_in(alloc: Global, p: &Pattern, text: &[u8], from: usize) -> Result<String, NoMemory>
+    requires { from ≤ length text.now }
+{
+    let found = find(alloc, p, text, from)?;
+    in_short(alloc, found)
+}
+
+/// The same, as a copy of a finder has it.
+fn first_by(alloc: Global, p: Pattern, text: &[u8], from: usize) -> Result<String, NoMemory>
+    requires { from ≤ length text.now }
+{
+    let finder = Finder::new(alloc, p)?;
+    let found = finder.copy()?.find(alloc, text, from)?;
+    in_short(alloc, found)
+}
+
+/// The first match of a pattern's text, in short; nothing where it is no pattern.
 fn found_in(alloc: Global, pattern: &[u8], text: &[u8], from: usize) -> Result<String, NoMemory> {
     match Pattern::read(alloc, pattern) {
         Ok(p) if from <= text.len() => first_in(alloc, &p, text, from),
@@ -225,7 +240,15 @@ fn found_in(alloc: Global, pattern: &[u8], text: &[u8], from: usize) -> Result<S
     }
 }
 
-/// Whether the match of a row is found.
+/// The same, as a finder has it.
+fn found_by(alloc: Global, pattern: &[u8], text: &[u8], from: usize) -> Result<String, NoMemory> {
+    match Pattern::read(alloc, pattern) {
+        Ok(p) if from <= text.len() => first_by(alloc, p, text, from),
+        _ => Ok(String::new(alloc)),
+    }
+}
+
+/// Whether the match of a row is found, in both ways.
 fn is_right(alloc: Global, row: &str) -> Result<bool, NoMemory> {
     let mut fields = row.split('¦');
     let pattern = fields.next().unwrap_or("");
@@ -234,7 +257,8 @@ fn is_right(alloc: Global, row: &str) -> Result<bool, NoMemory> {
     let want = fields.next().unwrap_or("");
     let from = from.parse::<usize>().unwrap_or(usize::MAX);
     let found = found_in(alloc, pattern.as_bytes(), text.as_bytes(), from)?;
-    Ok(found.as_str() == want)
+    let by_finder = found_by(alloc, pattern.as_bytes(), text.as_bytes(), from)?;
+    Ok(found.as_str() == want && by_finder.as_str() == want)
 }
 
 #[test]
@@ -272,7 +296,8 @@ fn among_x(alloc: Global, before: &[u8], behind: &[u8]) -> Result<Vec<u8>, NoMem
     Ok(text)
 }
 
-/// Where an attempt at each place would take long, one walk tells where the match begins; and a group that turns often is that of its last turn.
+/// Where an attempt at each place would take long, one walk tells where the match begins, also behind a finder that has given up going back; and a
+/// group that turns often is that of its last turn.
 #[test]
 fn long_searches_find_the_same(rt: HostRuntime) -> Result<(), Fail> {
     for (pattern, before, behind, want) in [
@@ -288,6 +313,8 @@ fn long_searches_find_the_same(rt: HostRuntime) -> Result<(), Fail> {
         let text = among_x(rt.alloc(), before, behind)?;
         let found = found_in(rt.alloc(), pattern, &text, 0)?;
         assert_eq!(rt; found.as_str(), want);
+        let by_finder = found_by(rt.alloc(), pattern, &text, 0)?;
+        assert_eq!(rt; by_finder.as_str(), want);
     }
     Ok(())
 }
