@@ -37,7 +37,7 @@ module _ (takes : Order → Type 0) (ticks : (moment : ℤ) → takes (record { 
   ask_taken told (asks.End channel) result a keeps is = change_taken _ _ a (asked.ends channel e.moment keeps) is
   ask_taken told (asks.Acks run numbers) result a keeps (inl is) = same_taken a _ is refl
   ask_taken told (asks.Acks run numbers) result a keeps (inr is) = same_taken a _ is refl
-  ask_taken told asks.Buckets result a keeps (inl is) = same_taken a _ is.2 refl
+  ask_taken told asks.Buckets result a keeps (inl is) = same_taken a _ is refl
   ask_taken told asks.Buckets result a keeps (inr is) = same_taken a _ is refl
   ask_taken told (asks.Events index range) result a keeps (inl is) = same_taken a _ is.2 refl
   ask_taken told (asks.Events index range) result a keeps (inr (inl is)) = same_taken a _ is refl
