@@ -9,10 +9,16 @@ use Rattle.ix_machine.specs.declared.commands.Order.{Order}
 use Rattle.ix_run.specs.Giving.{given_all}
 use Rattle.indexd_store.specs.Tasks.{orders_in, IsText}
 use Rattle.indexd_store.specs.declared.stop.Stop.TheVariants as stops
+use Rattle.indexd_store.specs.declared.task.Task.{Task}
 use Rattle.indexd_store.proofs.Causes.{named, why_unsaid}
 use Rattle.indexd_store.proofs.Tasks.{on_ok_by, at_ok, if_err_by, at_err, said, unsaid_unread}
 use Rattle.indexd_store.proofs.Undamaged.{unsaid_undamaged}
 use Rattle.indexd_store.proofs.run.give_and_say.Goals as goal
+
+-- the text of what is seen, and of how many buckets were moved
+same_text : (task : Task) (text : List ℕ) {now later : View} {count all : ℕ} → now ≡ later → count ≡ all → IsText task now count text → IsText task later all text
+same_text task text {later = later} {count = count} is_later is_all is_text =
+    subst (λ (n : ℕ). IsText task later n text) is_all (subst (λ (v : View). IsText task v count text) is_later is_text)
 
 pub returns-in-Ok-clause-ends : goal.returns-in-Ok-clause-ends
 returns-in-Ok-clause-ends g c = λ choose h base chooser taken hold.
@@ -31,7 +37,7 @@ returns-in-Ok-clause-printed g c = on_ok_by c.say.result _ (λ done is. λ choos
     (c.view.ensures choose (given_all choose h left.orders) base (length (given_all choose h left.orders)) left.all.hold.old left.all.hold.staged) in
     record {
       text = written.0;
-      is_text = subst (λ (v : View). IsText c.args.task v _ written.0) seen (subst (λ (count : ℕ). IsText c.args.task c.view.result.now count written.0) moved written.1);
+      is_text = same_text c.args.task written.0 seen moved written.1;
       written = written.2;
     })
 
@@ -50,7 +56,7 @@ returns-in-Ok-clause-begun g c = λ is choose h base chooser taken hold.
     (c.view.ensures choose (given_all choose h left.orders) base (length (given_all choose h left.orders)) left.all.hold.old left.all.hold.staged) in
     record {
       text = written.0;
-      is_text = subst (λ (v : View). IsText c.args.task v _ written.0) seen (subst (λ (count : ℕ). IsText c.args.task c.view.result.now count written.0) moved written.1);
+      is_text = same_text c.args.task written.0 seen moved written.1;
       written = written.2;
     }
 
