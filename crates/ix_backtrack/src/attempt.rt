@@ -1,6 +1,6 @@
 //! An attempt at one place: one way after the other.
 
-ghost use Rattle.std.specs.Prelude.{◌≡◌, ◌≤◌, ◌<◌, ◌++◌, ◌∷◌, [], length, IfOk, OnOk, None};
+ghost use Rattle.std.specs.Prelude.{◌≡◌, ◌≤◌, ◌<◌, ◌++◌, ◌∷◌, [], length, IfOk, OnOk, Some, None};
 ghost use Rattle.ix_threads.specs.Leaf.{text_of};
 ghost use Rattle.ix_backtrack.specs.Tried.{IsPlainCode, Settled};
 
@@ -18,6 +18,16 @@ use std::sync::ledger::Ledger;
 pub struct Tried {
     pub best: Option<Best>,
     pub taken: u64,
+}
+
+/// What an attempt came to after so many turns.
+fn came_to(best: Best, taken: u64) -> Tried
+    ensures { result ≡ record { best = Some best; taken = taken } }
+{
+    Tried {
+        best: Some(best),
+        taken,
+    }
 }
 
 /// Puts a frame on the stack. Room is made for some at once.
@@ -75,28 +85,13 @@ pub fn attempt<L: Ledger>(
                     frame = next;
                     continue;
                 }
-                None => {
-                    return Ok(Tried {
-                        best: Some(Best::No),
-                        taken,
-                    });
-                }
+                None => return Ok(came_to(Best::No, taken)),
             },
             Turn::End => {
-                return Ok(Tried {
-                    best: Some(Best::End {
-                        place: frame.place,
-                        trail: frame.trail,
-                    }),
-                    taken,
-                });
+                let Frame { place, trail, .. } = frame;
+                return Ok(came_to(Best::End { place, trail }, taken));
             }
-            Turn::Edge => {
-                return Ok(Tried {
-                    best: Some(Best::More),
-                    taken,
-                });
-            }
+            Turn::Edge => return Ok(came_to(Best::More, taken)),
         }
     }
     Ok(Tried {

@@ -1,13 +1,12 @@
 -- What a scan keeps while bytes come.
-use Rattle.std.proofs.Common.{◌≡◌, ℕ, zero, suc, ◌+◌, ◌-◌, ◌*◌, ◌≤◌, List, [], ◌∷◌, ◌++◌, length, take, Option, Some, None, inl, inr, refl, sym, ◌∙◌, ap, subst, arith}
+use Rattle.std.proofs.Common.{◌≡◌, ℕ, zero, suc, ◌+◌, ◌-◌, ◌*◌, ◌≤◌, List, [], ◌∷◌, ◌++◌, length, take, true, false, Option, Some, None, inl, inr, refl, sym, ◌∙◌, ap, subst, arith}
 use Rattle.std.specs.Prelude.{IfSome}
 use Rattle.ix_pattern.specs.Rows.{Rows}
 use Rattle.ix_threads.specs.Attempts.{Stands}
-use Rattle.ix_threads.specs.Finders.{HasRoom, IsSameProgram}
+use Rattle.ix_threads.specs.Finders.{HasRoom}
 use Rattle.ix_threads.specs.declared.program.Program.{Program}
 use Rattle.ix_threads.specs.declared.attempt.Attempt.{Attempt}
 use Rattle.ix_threads.proofs.AttemptLemmas.{stands-more}
-use Rattle.ix_threads.proofs.FinderLemmas.{same-stands}
 use Rattle.ix_match.specs.declared.kept.Kept.{Kept}
 use Rattle.ix_match.specs.Scans.{Scanned, GoesOn}
 use Rattle.ix_match.specs.Searches.{IsKept, KeepsFor}
@@ -20,10 +19,9 @@ take-append (suc n) (x ∷ xs) ys =
     ap (λ l. x ∷ l) (take-append n xs ys ∙ ap (λ k. take n xs ++ take k ys) e)
 
 -- an attempt that stands for the first bytes of a text
-stands-on : (rows : Rows) (program : Program) (o : Option Attempt) (before : Option ℕ) (n : ℕ) (given more text : List ℕ) → text ≡ given ++ more →
-    IfSome o (λ a. Stands rows program a before (take n given)) → IfSome o (λ a. Stands rows program a before (take n text))
-stands-on rows program None before n given more text is s = tt
-stands-on rows program (Some a) before n given more text is s =
+stands-on : (rows : Rows) (program : Program) (a : Attempt) (before : Option ℕ) (n : ℕ) (given more text : List ℕ) → text ≡ given ++ more →
+    Stands rows program a before (take n given) → Stands rows program a before (take n text)
+stands-on rows program a before n given more text is s =
     stands-more rows program a before (take n given) (take (n - length given) more) (take n text) (ap (take n) is ∙ take-append n given more) s
 
 -- so much of a text that goes on from what a scan was given
@@ -38,8 +36,8 @@ keeps-on rows n (Some kept) scan before text same on k =
     let more = given-on scan before text on in
     record {
       is_kept = k.is_kept;
-      stands = subst (λ b. IfSome kept.attempt (λ a. Stands rows kept.search.finder.program a b (take n text))) same
-          (stands-on rows kept.search.finder.program kept.attempt scan.before n scan.given more.0 text more.1 k.stands);
+      stands = λ begun. subst (λ b. Stands rows kept.search.finder.program kept.attempt b (take n text)) same
+          (stands-on rows kept.search.finder.program kept.attempt scan.before n scan.given more.0 text more.1 (k.stands begun));
     }
 
 pub keeps-search : (rows : Rows) (o : Option Kept) (before : Option ℕ) (bytes : List ℕ) →
@@ -52,17 +50,12 @@ pub keeps-room : (rows : Rows) (o : Option Kept) (before : Option ℕ) (bytes : 
 keeps-room rows None before bytes k = tt
 keeps-room rows (Some kept) before bytes k = k.is_kept.search_is.has_room
 
-pub some-same : (rows : Rows) (program copy : Program) (o : Option Attempt) (before : Option ℕ) (bytes : List ℕ) → IsSameProgram program copy →
-    IfSome o (λ a. Stands rows program a before bytes) → IfSome o (λ a. Stands rows copy a before bytes)
-some-same rows program copy None before bytes s k = tt
-some-same rows program copy (Some a) before bytes s k = same-stands rows program copy a before bytes s k
-
 pub few-once : (pieces weight : ℕ) → pieces ≤ weight → 256 * pieces ≤ weight * 512
 few-once pieces weight light = omega (arith, light)
 
-pub keeps-none : (rows : Rows) (kept : Kept) (before : Option ℕ) (bytes : List ℕ) → kept.attempt ≡ None → IsKept rows kept.search → KeepsFor rows kept before bytes
+pub keeps-none : (rows : Rows) (kept : Kept) (before : Option ℕ) (bytes : List ℕ) → kept.begun ≡ false → IsKept rows kept.search → KeepsFor rows kept before bytes
 keeps-none rows kept before bytes none k =
-    record { is_kept = k; stands = subst (λ o. IfSome o (λ a. Stands rows kept.search.finder.program a before bytes)) (sym none) tt }
+    record { is_kept = k; stands = λ begun. absurd (let e : false ≡ true = sym none ∙ begun in grind (arith, e)) }
 
 -- few bytes are all of them
 pub take-all : (n : ℕ) (xs : List ℕ) → length xs ≤ n → xs ≡ take n xs

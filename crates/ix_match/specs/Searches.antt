@@ -1,5 +1,5 @@
 -- The search for a pattern, and what it works in.
-use Rattle.std.specs.Prelude.{◌≡◌, ℕ, List, Option, length, IfSome}
+use Rattle.std.specs.Prelude.{◌≡◌, ℕ, List, Option, true, length}
 use Rattle.ix_pattern.specs.Rows.{Rows}
 use Rattle.ix_threads.specs.Attempts.{Stands}
 use Rattle.ix_threads.specs.Finders.{IsFinder, HasRoom}
@@ -16,7 +16,7 @@ pub record IsKept (rows : Rows) (search : Search) : Type 0 where
   pub search_is : IsSearch rows search
   pub whole : search.finder.width ≡ length rows
 
--- and the attempt, if one was begun, stands for these bytes behind that one
+-- and the attempt, where one was begun, stands for these bytes behind that one
 pub record KeepsFor (rows : Rows) (kept : Kept) (before : Option ℕ) (bytes : List ℕ) : Type 0 where
   pub is_kept : IsKept rows kept.search
-  pub stands : IfSome kept.attempt (λ a. Stands rows kept.search.finder.program a before bytes)
+  pub stands : kept.begun ≡ true → Stands rows kept.search.finder.program kept.attempt before bytes

@@ -1,59 +1,58 @@
 //! What a scan keeps from call to call.
 
-ghost use Rattle.std.specs.Prelude.{◌≡◌, ℕ, ◌<◌, ◌≤◌, ◌+◌, ◌*◌, List, Option, None, IfOk, OnOk, IfSome, length, replicate, slice_get};
+ghost use Rattle.std.specs.Prelude.{◌≡◌, ℕ, ◌<◌, ◌≤◌, ◌+◌, ◌*◌, List, Option, None, true, IfOk, OnOk, length, replicate, slice_get};
 ghost use Rattle.ix_pattern.specs.Ways.{ways};
 ghost use Rattle.ix_pattern.specs.Rows.{Rows, tree, byte_pieces};
 ghost use Rattle.ix_threads.specs.Attempts.{Stands};
 ghost use Rattle.ix_threads.specs.Finders.{HasRoom};
 ghost use Rattle.ix_threads.specs.Leaf.{text_of, at};
 ghost use Rattle.ix_threads.specs.Outcomes.{head_of};
-ghost use Rattle.ix_threads.specs.declared.program.Program.{Program as Written};
-ghost use Rattle.ix_match.specs.Searches.{KeepsFor};
+ghost use Rattle.ix_match.specs.Searches.{IsKept, KeepsFor};
 
 use crate::search::Search;
 use ix_base::{NoMemory, Steps};
 use ix_pattern::Pattern;
 use ix_threads::attempt::Attempt;
+use ix_threads::cells::{Best, Thread};
 use ix_threads::input::Input;
 use ix_threads::program::Program;
 use ix_threads::run::Outcome;
 use std::alloc::Global;
 use std::sync::ledger::Ledger;
 
-/// The search for the pattern of a scan, whose table has all tests, and the attempt that was begun, if there is one.
+/// The search for the pattern of a scan, whose table has all tests, and an attempt.
 #[derive(Drop)]
 pub struct Kept {
     pub search: Search,
-    pub attempt: Option<Attempt>,
+    /// The attempt that was begun. Where none was it is what an earlier one has worked in, which the next one works in again.
+    pub attempt: Attempt,
+    pub begun: bool,
 }
 
-/// The attempt that was begun, or else one of which no byte has come.
-fn begun(alloc: Global, program: &Program, attempt: Option<Attempt>) -> Result<Attempt, NoMemory>
+/// What an attempt works in, before one was begun.
+fn unbegun(alloc: Global) -> Attempt {
+    Attempt {
+        place: 0,
+        threads: Vec::new(alloc),
+        cells: Vec::new(alloc),
+        best: Best::No,
+    }
+}
+
+/// Makes it an attempt of which no byte has come.
+fn begin_anew(attempt: &mut Attempt, program: &Program) -> Result<(), NoMemory>
     requires { program.now.start < length program.now.code.items }
-    ensures { IfOk result (λ a. (rows : Rows) (before : Option ℕ) (bytes : List ℕ) →
-        IfSome attempt (λ b. Stands rows program.now b before bytes) → Stands rows program.now a before bytes) }
+    ensures { OnOk result ((rows : Rows) (before : Option ℕ) (bytes : List ℕ) → Stands rows program.entry.now attempt.new before bytes) }
 {
-    match attempt {
-        Some(attempt) => Ok(attempt),
-        None => {
-            let attempt = Attempt::new(alloc, program)?;
-            Ok(attempt)
-        }
-    }
-}
-
-/// A copy of an attempt, if there is one.
-fn copied(attempt: &Option<Attempt>) -> Result<Option<Attempt>, NoMemory>
-    ensures { IfOk result (λ a. (rows : Rows) (program : Written) (before : Option ℕ) (bytes : List ℕ) →
-        IfSome attempt.now (λ b. Stands rows program b before bytes) → IfSome a (λ b. Stands rows program b before bytes)) }
-{
-    match attempt {
-        Some(attempt) => {
-            let copy = attempt.copy()?;
-            Ok(Some(copy))
-        }
-        None => Ok(None),
-    }
+    attempt.cells.clear();
+    attempt.threads.clear();
+    attempt.threads.push(Thread {
+        pc: program.start,
+        trail: 0,
+    })?;
+    attempt.place = 0;
+    attempt.best = Best::No;
+    Ok(())
 }
 
 impl Kept {
@@ -70,19 +69,35 @@ impl Kept {
         let search = Search::tabled(alloc, p, steps)?;
         Ok(Kept {
             search,
-            attempt: None,
+            attempt: unbegun(alloc),
+            begun: false,
         })
     }
 
-    /// The same search, and no attempt.
-    pub fn forgotten(self) -> Kept
-        ensures search { result.search ≡ self.search }
-        ensures attempt { result.attempt ≡ None }
+    /// The same search, and the attempt only where it goes on.
+    pub fn stand(&mut self, goes_on: bool)
+        ensures { (rows : Rows) (before : Option ℕ) (bytes : List ℕ) → (goes_on ≡ true → KeepsFor rows self.old before bytes) → IsKept rows self.old.search →
+            KeepsFor rows self.new before bytes }
     {
-        Kept {
-            search: self.search,
-            attempt: None,
+        if !goes_on {
+            self.begun = false;
         }
+    }
+
+    /// Begins an attempt, unless one was begun.
+    fn begin(&mut self) -> Result<(), NoMemory>
+        requires { self.old.search.finder.program.start < length self.old.search.finder.program.code.items }
+        ensures stands { OnOk result ((rows : Rows) (before : Option ℕ) (bytes : List ℕ) →
+            (self.old.begun ≡ true → Stands rows self.old.search.finder.program self.old.attempt before bytes) →
+            Stands rows self.old.search.finder.program self.new.attempt before bytes) }
+        ensures search { self.new.search ≡ self.old.search }
+    {
+        if self.begun {
+            return Ok(());
+        }
+        begin_anew(&mut self.attempt, &self.search.finder.program)?;
+        self.begun = true;
+        Ok(())
     }
 
     /// Goes on with the attempt, or begins it: the head of the ordered list of ways at the first place of what is seen, where
@@ -98,13 +113,8 @@ impl Kept {
         ensures kept { OnOk result (KeepsFor p.now.rows self.new input.entry.before input.entry.bytes.now) }
         ensures counted { steps.new ≡ steps.old }
     {
-        let mut attempt = begun(
-            self.search.alloc,
-            &self.search.finder.program,
-            self.attempt.take(),
-        )?;
-        let outcome = self.search.go_on(p, input, &mut attempt, steps)?;
-        self.attempt = Some(attempt);
+        self.begin()?;
+        let outcome = self.search.go_on(p, input, &mut self.attempt, steps)?;
         Ok(outcome)
     }
 
@@ -115,7 +125,8 @@ impl Kept {
     {
         Ok(Kept {
             search: self.search.copy()?,
-            attempt: copied(&self.attempt)?,
+            attempt: self.attempt.copy()?,
+            begun: self.begun,
         })
     }
 }

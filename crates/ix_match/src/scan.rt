@@ -1,11 +1,11 @@
 //! One attempt at a place of a stream, of which more bytes may come.
 
-ghost use Rattle.std.specs.Prelude.{◌≡◌, ℕ, ◌≤◌, ◌+◌, ◌-◌, ◌*◌, List, [], Option, None, true, not, length, take, take_while, slice_get, IfSome, IfOk, OnOk, OnErr};
+ghost use Rattle.std.specs.Prelude.{◌≡◌, ℕ, ◌≤◌, ◌+◌, ◌-◌, ◌*◌, List, [], Option, None, true, not, length, take, take_while, replicate, slice_get, IfSome, IfOk, OnOk, OnErr};
 ghost use Rattle.ix_pattern.specs.Piece.{in_set};
-ghost use Rattle.ix_pattern.specs.Rows.{Rows, byte_pieces};
-ghost use Rattle.ix_pattern.specs.Ways.{sight};
+ghost use Rattle.ix_pattern.specs.Rows.{Rows, tree, byte_pieces};
+ghost use Rattle.ix_pattern.specs.Ways.{sight, ways};
 ghost use Rattle.ix_match.specs.Attempt.{reach, attempt};
-ghost use Rattle.ix_threads.specs.Leaf.{text_of};
+ghost use Rattle.ix_threads.specs.Leaf.{text_of, at};
 ghost use Rattle.ix_threads.specs.Finders.{HasRoom};
 ghost use Rattle.ix_threads.specs.Outcomes.{head_of as outcome_head};
 ghost use Rattle.ix_match.specs.Starts.{AreStarts};
@@ -104,48 +104,45 @@ fn is_same(a: Option<u8>, b: Option<u8>) -> bool
     }
 }
 
-/// What was kept, its attempt only where that goes on.
-fn standing(kept: Kept, goes_on: bool) -> Kept
-    ensures { (rows : Rows) (before : Option ℕ) (bytes : List ℕ) → (goes_on ≡ true → KeepsFor rows kept before bytes) → IsKept rows kept.search →
-        KeepsFor rows result before bytes }
-{
-    if goes_on {
-        return kept;
-    }
-    kept.forgotten()
-}
-
-/// What was kept, its attempt only where that goes on, or else a new search.
-fn kept_or_new<L: Ledger>(
+/// Goes on with the attempt that is kept, or begins one. Where nothing is kept yet the search is made first.
+fn go_on_with<L: Ledger>(
     alloc: Global,
     p: &Pattern,
-    kept: Option<Kept>,
+    kept: &mut Option<Kept>,
     goes_on: bool,
+    input: Input<'_>,
     steps: &mut Steps<L>,
-) -> Result<Kept, NoMemory>
-    requires { IfSome kept (λ k. IsKept p.now.rows k.search) }
-    ensures kept { IfOk result (λ k. (before : Option ℕ) (bytes : List ℕ) →
-        (goes_on ≡ true → IfSome kept (λ old. KeepsFor p.now.rows old before bytes)) → KeepsFor p.now.rows k before bytes) }
+) -> Result<Outcome, NoMemory>
+    requires kept { IfSome kept.old (λ k. IsKept p.now.rows k.search) }
+    requires goes_on { goes_on ≡ true → IfSome kept.old (λ k. KeepsFor p.now.rows k input.before input.bytes.now) }
+    ensures head { IfOk result (λ o. slice_get (ways (tree p.now.rows) (text_of input.entry) (at 0 (replicate p.now.groups None))) 0 ≡ outcome_head o) }
+    ensures kept { OnOk result (IfSome kept.new (λ k. KeepsFor p.now.rows k input.entry.before input.entry.bytes.now)) }
+    ensures some { OnOk result (kept.new ≡ None → ⊥) }
     ensures counted { OnOk result (steps.new ≤ steps.old + 256 * byte_pieces p.now.rows) }
-    ensures same { (kept ≡ None → ⊥) → steps.new ≡ steps.old }
+    ensures same { (kept.old ≡ None → ⊥) → steps.new ≡ steps.old }
     ensures later { steps.old ≤ steps.new }
 {
     match kept {
-        Some(kept) => Ok(standing(kept, goes_on)),
+        Some(kept) => {
+            kept.stand(goes_on);
+            let outcome = kept.go_on(p, input, steps)?;
+            Ok(outcome)
+        }
         None => {
-            let kept = Kept::tabled(alloc, p, steps)?;
-            Ok(kept)
+            let mut made = Kept::tabled(alloc, p, steps)?;
+            let outcome = made.go_on(p, input, steps)?;
+            *kept = Some(made);
+            Ok(outcome)
         }
     }
 }
 
-/// What was kept, without its attempt.
-fn without_attempt(kept: Option<Kept>) -> Option<Kept>
-    ensures { (rows : Rows) (before : Option ℕ) (bytes : List ℕ) → IfSome kept (λ old. IsKept rows old.search) → IfSome result (λ k. KeepsFor rows k before bytes) }
+/// Of what is kept the attempt no longer counts.
+fn forget(kept: &mut Option<Kept>)
+    ensures { (rows : Rows) (before : Option ℕ) (bytes : List ℕ) → IfSome kept.old (λ old. IsKept rows old.search) → IfSome kept.new (λ k. KeepsFor rows k before bytes) }
 {
-    match kept {
-        Some(kept) => Some(kept.forgotten()),
-        None => None,
+    if let Some(kept) = kept {
+        kept.stand(false);
     }
 }
 
@@ -214,10 +211,14 @@ impl Scan {
     {
         let _ = p.weight();
         let goes_on = is_same(self.before, before);
-        let kept = self.take_kept();
-        let mut kept = kept_or_new(self.alloc, p, kept, goes_on, steps)?;
-        let outcome = kept.go_on(p, seen(before, text, closed), steps)?;
-        self.kept = Some(kept);
+        let input = seen(before, text, closed);
+        let came = go_on_with(self.alloc, p, &mut self.kept, goes_on, input, steps);
+        let Ok(outcome) = came else {
+            self.kept = None;
+            self.before = None;
+            self.told = self.told.emptied();
+            return Err(NoMemory);
+        };
         self.before = before;
         self.told = Told::of(p, text);
         Ok(look_of(outcome))
@@ -227,19 +228,9 @@ impl Scan {
     pub fn reset(&mut self)
         ensures { self.new ≡ emptied self.old }
     {
-        let begun = self.take_kept();
-        self.kept = without_attempt(begun);
-    }
-
-    /// What was kept. Nothing is kept any longer, and no byte was given.
-    fn take_kept(&mut self) -> Option<Kept>
-        ensures reset { self.new ≡ emptied self.old }
-        ensures kept { IfSome result (λ k. KeepsFor self.old.pattern.rows k self.old.before (take reach self.old.given)) }
-        ensures none { result ≡ None → self.old.given ≡ [] }
-    {
         self.before = None;
         self.told = self.told.emptied();
-        self.kept.take()
+        forget(&mut self.kept);
     }
 
     /// Whether a match may begin with the byte.

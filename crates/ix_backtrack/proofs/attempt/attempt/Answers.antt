@@ -1,6 +1,8 @@
 use Rattle.std.proofs.Common.{rules, ◌≡◌, [], length, sym, subst}
 use Rattle.ix_threads.specs.Leaf.{text_of}
 use Rattle.ix_backtrack.specs.Frames.{AreFrames, Turns, IsTurn}
+use Rattle.ix_backtrack.specs.Tried.{Settled}
+use Rattle.ix_backtrack.specs.declared.attempt.Tried.{Tried}
 use Rattle.ix_backtrack.proofs.FrameLemmas.{frames-pushed, frames-popped, frames-later, goes-grown, goes-on, goes-fork, goes-back, ends-here, ends-edge, ends-none, grown-more}
 use Rattle.ix_backtrack.proofs.attempt.attempt.Goals as goal
 
@@ -37,16 +39,19 @@ returns-in-None-clause-settled g c =
     let turns = subst (Turns c.args.code.now c.args.p.now.rows (text_of c.args.input) c.turn.new.cells.items c.loop-taken.frame) c.in-Back.is c.in_ok-next.ensures.turns in
     let goes = goes-grown c.args.code.now c.args.p.now.rows (text_of c.args.input) c.args.start c.args.place c.loop-taken.cells.items c.turn.new.cells.items c.loop-taken.frame c.loop-taken.stack.items c.in_ok-next.ensures.grown c.loop-taken.invariant.goes in
     let none : c.loop-taken.stack.items ≡ [] = search rules in
-    ends-none c.args.code.now c.args.p.now.rows (text_of c.args.input) c.args.start c.args.place c.turn.new.cells.items c.loop-taken.frame c.loop-taken.stack.items none turns goes
+    subst (λ (t : Tried). Settled c.args.p.now.rows c.args.code.now (text_of c.args.input) c.args.start c.args.place c.turn.new.cells.items t.best) (sym c.came_to.ensures)
+    (ends-none c.args.code.now c.args.p.now.rows (text_of c.args.input) c.args.start c.args.place c.turn.new.cells.items c.loop-taken.frame c.loop-taken.stack.items none turns goes)
 
 pub returns-in-End-clause-settled : goal.returns-in-End-clause-settled
 returns-in-End-clause-settled g c =
     let turns = subst (Turns c.args.code.now c.args.p.now.rows (text_of c.args.input) c.turn.new.cells.items c.loop-taken.frame) c.in-End.is c.in_ok-next.ensures.turns in
     let goes = goes-grown c.args.code.now c.args.p.now.rows (text_of c.args.input) c.args.start c.args.place c.loop-taken.cells.items c.turn.new.cells.items c.loop-taken.frame c.loop-taken.stack.items c.in_ok-next.ensures.grown c.loop-taken.invariant.goes in
-    ends-here c.args.code.now c.args.p.now.rows (text_of c.args.input) c.args.start c.args.place c.turn.new.cells.items c.loop-taken.frame c.loop-taken.stack.items turns goes
+    subst (λ (t : Tried). Settled c.args.p.now.rows c.args.code.now (text_of c.args.input) c.args.start c.args.place c.turn.new.cells.items t.best) (sym c.came_to-in-End.ensures)
+    (ends-here c.args.code.now c.args.p.now.rows (text_of c.args.input) c.args.start c.args.place c.turn.new.cells.items c.loop-taken.frame c.loop-taken.stack.items turns goes)
 
 pub returns-in-Edge-clause-settled : goal.returns-in-Edge-clause-settled
 returns-in-Edge-clause-settled g c =
     let turns = subst (Turns c.args.code.now c.args.p.now.rows (text_of c.args.input) c.turn.new.cells.items c.loop-taken.frame) c.in-Edge.is c.in_ok-next.ensures.turns in
     let goes = goes-grown c.args.code.now c.args.p.now.rows (text_of c.args.input) c.args.start c.args.place c.loop-taken.cells.items c.turn.new.cells.items c.loop-taken.frame c.loop-taken.stack.items c.in_ok-next.ensures.grown c.loop-taken.invariant.goes in
-    ends-edge c.args.code.now c.args.p.now.rows (text_of c.args.input) c.args.start c.args.place c.turn.new.cells.items c.loop-taken.frame c.loop-taken.stack.items turns goes
+    subst (λ (t : Tried). Settled c.args.p.now.rows c.args.code.now (text_of c.args.input) c.args.start c.args.place c.turn.new.cells.items t.best) (sym c.came_to-in-Edge.ensures)
+    (ends-edge c.args.code.now c.args.p.now.rows (text_of c.args.input) c.args.start c.args.place c.turn.new.cells.items c.loop-taken.frame c.loop-taken.stack.items turns goes)

@@ -1,30 +1,30 @@
 use Rattle.std.proofs.Common.{◌≡◌, length, sym, ◌∙◌, ap, subst}
-use Rattle.std.specs.Prelude.{IfSome}
 use Rattle.ix_threads.specs.Attempts.{Stands}
 use Rattle.ix_threads.specs.declared.finder.Finder.{Finder}
+use Rattle.ix_match.specs.Searches.{IsSearch}
+use Rattle.ix_match.specs.declared.search.Search.{Search}
 use Rattle.ix_match.proofs.kept.Kept.go_on.Goals as goal
 
-pub begun-requires : goal.begun-requires
-begun-requires g c = c.requires.is_kept.search_is.finder_is.program.code.within
+pub begin-requires : goal.begin-requires
+begin-requires g c = c.requires.is_kept.search_is.finder_is.program.code.within
 
 pub go_on-requires-clause-search : goal.go_on-requires-clause-search
-go_on-requires-clause-search g c = c.requires.is_kept.search_is
+go_on-requires-clause-search g c = subst (IsSearch c.args.p.now.rows) (sym c.begin.ensures.search) c.requires.is_kept.search_is
 
 pub go_on-requires-clause-stands : goal.go_on-requires-clause-stands
 go_on-requires-clause-stands g c =
-    let k = c.args.self.now in
-    c.in_ok-attempt.ensures c.args.p.now.rows c.args.input.before c.args.input.bytes.now
-    (subst (λ o. IfSome o (λ b. Stands c.args.p.now.rows k.search.finder.program b c.args.input.before c.args.input.bytes.now)) (sym c.take.ensures.value) c.requires.stands)
+    subst (λ (s : Search). Stands c.args.p.now.rows s.finder.program c.begin.new.self.attempt c.args.input.before c.args.input.bytes.now) (sym c.begin.ensures.search)
+    (c.in_ok-begin.ensures.stands c.args.p.now.rows c.args.input.before c.args.input.bytes.now c.requires.stands)
 
 pub returns-clause-kept : goal.returns-clause-kept
 returns-clause-kept g c =
     record {
       is_kept = record {
         search_is = c.in_ok-outcome.ensures.search;
-        whole = ap (λ (f : Finder). f.width) c.go_on.ensures.finder ∙ c.requires.is_kept.whole;
+        whole = ap (λ (f : Finder). f.width) c.go_on.ensures.finder ∙ ap (λ (s : Search). s.finder.width) c.begin.ensures.search ∙ c.requires.is_kept.whole;
       };
-      stands = subst (λ (f : Finder). Stands c.args.p.now.rows f.program c.go_on.new.attempt c.args.input.before c.args.input.bytes.now) (sym c.go_on.ensures.finder) c.in_ok-outcome.ensures.stands;
+      stands = λ begun. subst (λ (f : Finder). Stands c.args.p.now.rows f.program c.go_on.new.attempt c.args.input.before c.args.input.bytes.now) (sym c.go_on.ensures.finder) c.in_ok-outcome.ensures.stands;
     }
 
 pub returns-clause-counted : goal.returns-clause-counted
-returns-clause-counted g c = c.go_on.ensures.tabled c.requires.is_kept.whole
+returns-clause-counted g c = c.go_on.ensures.tabled (ap (λ (s : Search). s.finder.width) c.begin.ensures.search ∙ c.requires.is_kept.whole)
