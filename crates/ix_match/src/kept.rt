@@ -21,12 +21,22 @@ use std::alloc::Global;
 use std::sync::ledger::Ledger;
 
 /// The search for the pattern of a scan, whose table has all tests, and an attempt.
-#[derive(Drop)]
 pub struct Kept {
     pub search: Search,
     /// The attempt that was begun. Where none was it is what an earlier one has worked in, which the next one works in again.
     pub attempt: Attempt,
     pub begun: bool,
+}
+
+/// It is written out, so that each place where one is let go is a call of it, which is proved once.
+impl Drop for Kept {
+    fn drop(self) {
+        let Kept {
+            search: _,
+            attempt: _,
+            begun: _,
+        } = self;
+    }
 }
 
 /// What an attempt works in, before one was begun.

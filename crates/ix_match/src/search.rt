@@ -23,11 +23,21 @@ use std::alloc::Global;
 use std::sync::ledger::Ledger;
 
 /// A pattern that was written out, and room for the threads. It is used again from place to place and from text to text.
-#[derive(Drop)]
 pub struct Search {
     pub alloc: Global,
     pub finder: Finder,
     pub room: Room,
+}
+
+/// It is written out, so that each place where one is let go is a call of it, which is proved once.
+impl Drop for Search {
+    fn drop(self) {
+        let Search {
+            alloc: _,
+            finder: _,
+            room: _,
+        } = self;
+    }
 }
 
 impl Search {

@@ -1,5 +1,5 @@
 -- Copies of what a pattern was written out to.
-use Rattle.std.proofs.Common.{◌≡◌, ◌*◌, ◌<◌, ◌≤◌, ℕ, List, Option, length, sym, ◌∙◌, ap, subst, arith}
+use Rattle.std.proofs.Common.{◌*◌, ℕ, List, Option, length, sym, ◌∙◌, ap, subst}
 use Rattle.ix_pattern.specs.Rows.{Rows, tree}
 use Rattle.ix_threads.specs.Code.{IsCode, HasSets}
 use Rattle.ix_threads.specs.Looks.{HasNoLook}

@@ -46,6 +46,14 @@ ends-none known code text start place p cells new old ready before after r none 
     ∙ ap (λ l. slice_get (list_ways (thread_ways mean (new ++ []) p) l ++ best_ways blank (new ++ []) after) 0) none
     ∙ ap (λ c. slice_get (best_ways blank c after) 0) (append-nil new)
 
+-- no thread is left
+pub ends-here : (known : Rows → Type 0) (code : List Instr) (text : Text) (start place p : ℕ) (cells : List Cell) (stack : List Thread) (best : Best) →
+    stack ≡ [] → Goes known code text start place p cells stack best → Ends known code text start place cells best
+ends-here known code text start place p cells stack best none g rows blank mean rank m t =
+    sym (g rows blank mean rank m t [])
+    ∙ ap (λ s. slice_get (list_ways (thread_ways mean (cells ++ []) p) (reverse s) ++ best_ways blank (cells ++ []) best) 0) none
+    ∙ ap (λ c. slice_get (best_ways blank c best) 0) (append-nil cells)
+
 last-ways : (code : List Instr) (rows : Rows) (text : Text) (blank : List (Option (ℕ × ℕ))) (mean : Mean) (rank : ℕ → ℕ) → Meaning code rows text blank mean rank →
     (cells : List Cell) (t : Thread) → IsByte code t → thread_ways mean cells (length text.bytes) t ≡ at_end text []
 last-ways code rows text blank mean rank m cells t is =

@@ -29,12 +29,23 @@ use std::sync::ledger::Ledger;
 
 /// What is kept of an attempt: the place before which all is decided whatever bytes come, and the threads there with what
 /// they have come through.
-#[derive(Drop)]
 pub struct Attempt {
     pub place: usize,
     pub threads: Vec<Thread>,
     pub cells: Vec<Cell>,
     pub best: Best,
+}
+
+/// It is written out, so that each place where one is let go is a call of it, which is proved once.
+impl Drop for Attempt {
+    fn drop(self) {
+        let Attempt {
+            place: _,
+            threads: _,
+            cells: _,
+            best: _,
+        } = self;
+    }
 }
 
 impl Attempt {

@@ -22,11 +22,21 @@ use std::sync::ledger::Ledger;
 
 /// A pattern written out, and for each byte in turn what each of the first `width` pieces answers to it. It is used again
 /// for each place and each text.
-#[derive(Drop)]
 pub struct Finder {
     pub program: Program,
     pub table: Vec<bool>,
     pub width: usize,
+}
+
+/// It is written out, so that each place where one is let go is a call of it, which is proved once.
+impl Drop for Finder {
+    fn drop(self) {
+        let Finder {
+            program: _,
+            table: _,
+            width: _,
+        } = self;
+    }
 }
 
 impl Finder {

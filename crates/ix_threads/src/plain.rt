@@ -71,10 +71,10 @@ pub fn walk<L: Ledger>(
 {
     let mut best = first;
     for at in from..input.bytes.len() {
-        best = round(code, input, at, best, work)?;
-        if work.ready.is_empty() {
+        if work.stack.is_empty() {
             return Ok(best);
         }
+        best = round(code, input, at, best, work)?;
         step(
             code,
             tests,

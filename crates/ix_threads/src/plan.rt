@@ -21,11 +21,21 @@ pub struct Plan<'a> {
 
 /// What a search works in: that of the pattern and that of the insides of its lookaheads, and what each lookahead comes
 /// to at a place, by the number of its piece. It is used again.
-#[derive(Drop)]
 pub struct Room {
     pub main: Work,
     pub inner: Work,
     pub looks: Vec<Leaf>,
+}
+
+/// It is written out, so that each place where one is let go is a call of it, which is proved once.
+impl Drop for Room {
+    fn drop(self) {
+        let Room {
+            main: _,
+            inner: _,
+            looks: _,
+        } = self;
+    }
 }
 
 impl Room {

@@ -15,12 +15,23 @@ use ix_pattern::{Node, Pattern};
 use std::alloc::Global;
 
 /// A pattern, written out: its code and where it begins; its lookaheads, and the code of their insides.
-#[derive(Drop)]
 pub struct Program {
     pub code: Vec<Instr>,
     pub start: usize,
     pub asks: Vec<Ask>,
     pub inner: Vec<Instr>,
+}
+
+/// It is written out, so that each place where one is let go is a call of it, which is proved once.
+impl Drop for Program {
+    fn drop(self) {
+        let Program {
+            code: _,
+            start: _,
+            asks: _,
+            inner: _,
+        } = self;
+    }
 }
 
 impl Program {

@@ -81,10 +81,10 @@ pub fn walk<L: Ledger>(
 {
     let mut best = first;
     for at in from..input.bytes.len() {
-        best = round(plan, input, at, best, room, steps)?;
-        if room.main.ready.is_empty() {
+        if room.main.stack.is_empty() {
             return Ok(best);
         }
+        best = round(plan, input, at, best, room, steps)?;
         step(
             plan.code,
             plan.tests,
@@ -190,10 +190,10 @@ fn sweep<L: Ledger>(
     let mut best = first;
     let mut limit = FEW;
     for at in from..input.bytes.len() {
-        best = round(plan, input, at, best, room, steps)?;
-        if room.main.ready.is_empty() {
+        if room.main.stack.is_empty() {
             return Ok(best);
         }
+        best = round(plan, input, at, best, room, steps)?;
         step(
             plan.code,
             plan.tests,

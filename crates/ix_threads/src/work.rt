@@ -18,13 +18,25 @@ use ix_base::NoMemory;
 use std::alloc::Global;
 
 /// What a run works in. It is used again.
-#[derive(Drop)]
 pub struct Work {
     pub stack: Vec<Thread>,
     pub ready: Vec<Thread>,
     pub cells: Vec<Cell>,
     pub marks: Vec<u64>,
     pub stamp: u64,
+}
+
+/// It is written out, so that each place where one is let go is a call of it, which is proved once.
+impl Drop for Work {
+    fn drop(self) {
+        let Work {
+            stack: _,
+            ready: _,
+            cells: _,
+            marks: _,
+            stamp: _,
+        } = self;
+    }
 }
 
 impl Work {

@@ -1,4 +1,4 @@
-use Rattle.std.proofs.Common.{Some, sym, subst}
+use Rattle.std.proofs.Common.{subst}
 use Rattle.std.specs.Prelude.{IfSome}
 use Rattle.ix_threads.specs.Finders.{HasRoom}
 use Rattle.ix_match.specs.Searches.{KeepsFor}

@@ -1,14 +1,13 @@
-use Rattle.std.proofs.Common.{◌≡◌, ◌<◌, ◌≤◌, length, sym, ◌∙◌, ap, subst, arith}
-use Rattle.std.specs.Prelude.{replicate, None, slice_get}
-use Rattle.ix_pattern.specs.Ways.{ways}
+use Rattle.std.proofs.Common.{length, sym, ◌∙◌, ap, subst, arith}
+use Rattle.std.specs.Prelude.{replicate, None}
 use Rattle.ix_pattern.specs.Rows.{Shape, tree}
-use Rattle.ix_threads.specs.Leaf.{text_of, at}
+use Rattle.ix_threads.specs.Leaf.{text_of}
 use Rattle.ix_threads.specs.Acts.{AllKnown}
 use Rattle.ix_threads.specs.Attempts.{so_far, Lasts}
-use Rattle.ix_threads.specs.Outcomes.{head_of, Shows}
+use Rattle.ix_threads.specs.Outcomes.{Shows}
 use Rattle.ix_threads.specs.Plans.{Knows}
-use Rattle.ix_threads.specs.Programs.{IsProgram, AsksFit}
-use Rattle.ix_threads.specs.Ran.{AreMarks, IsOf}
+use Rattle.ix_threads.specs.Programs.{IsProgram}
+use Rattle.ix_threads.specs.Ran.{IsOf}
 use Rattle.ix_threads.proofs.AttemptLemmas.{lasts-of, program-shows}
 use Rattle.ix_threads.proofs.attempt.go_on.Goals as goal
 

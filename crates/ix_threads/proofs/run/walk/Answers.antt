@@ -9,16 +9,15 @@ use Rattle.ix_threads.specs.Stepped.{Steps}
 use Rattle.ix_threads.specs.Tests.{answers_to}
 use Rattle.ix_threads.proofs.TestLemmas.{are-answers, counts-none, counts-more}
 use Rattle.ix_threads.proofs.AgreeLemmas.{agrees-refl}
-use Rattle.ix_threads.proofs.RunLemmas.{grown-none, grown-both, goes-on, ends-none, ends-closed, ends-open}
+use Rattle.ix_threads.proofs.RunLemmas.{grown-none, grown-both, goes-on, ends-here, ends-none, ends-closed, ends-open}
 use Rattle.ix_threads.proofs.run.walk.Goals.{else-input-via-then-input+else-not-is_empty, else-input-via-else-input}
 use Rattle.ix_threads.proofs.run.walk.Goals as goal
 
 pub returns-then-is_empty-clause-head : goal.returns-then-is_empty-clause-head
 returns-then-is_empty-clause-head g c =
-    let none : length c.round.new.room.main.ready.items ≡ 0 = search rules in
-    λ start place g. ends-none (Knows c.args.plan) c.args.plan.code.now (text_of c.args.input) start place c.loop-at.at c.loop-at.room.main.cells.items c.round.new.room.main.cells.items
-    c.loop-at.room.main.stack.items c.round.new.room.main.ready.items c.loop-at.best c.in_ok-best.best
-    (c.in_ok-best.ensures.rounds (text_of c.args.input) (agrees-refl (text_of c.args.input) c.loop-at.at (omega arith)) (λ k ask got. refl)) (nil_from_length c.round.new.room.main.ready.items none) (c.loop-at.invariant.goes start place g)
+    let none : length c.loop-at.room.main.stack.items ≡ 0 = search rules in
+    λ start place g. ends-here (Knows c.args.plan) c.args.plan.code.now (text_of c.args.input) start place c.loop-at.at c.loop-at.room.main.cells.items c.loop-at.room.main.stack.items c.loop-at.best
+    (nil_from_length c.loop-at.room.main.stack.items none) (c.loop-at.invariant.goes start place g)
 
 pub loop-at-preserved : goal.loop-at-preserved
 loop-at-preserved g c =
@@ -64,7 +63,7 @@ pub loop-at-init : goal.loop-at-init
 loop-at-init g c = record { goes = λ start place g. g; grown = grown-none c.args.room.now.main.cells.items; known = c.requires.known; room = c.requires.room; counts = counts-none }
 
 pub returns-then-is_empty-clause-grown : goal.returns-then-is_empty-clause-grown
-returns-then-is_empty-clause-grown g c = grown-both c.loop-at.invariant.grown c.in_ok-best.ensures.grown
+returns-then-is_empty-clause-grown g c = c.loop-at.invariant.grown
 
 pub returns-then-not-is_empty-clause-grown : goal.returns-then-not-is_empty-clause-grown
 returns-then-not-is_empty-clause-grown g c = grown-both c.loop-at.invariant.grown c.in_ok-best-2.ensures.grown

@@ -1,4 +1,4 @@
-use Rattle.std.proofs.Common.{◌≡◌, length, sym, ◌∙◌, ap, subst}
+use Rattle.std.proofs.Common.{sym, ◌∙◌, ap, subst}
 use Rattle.ix_threads.specs.Attempts.{Stands}
 use Rattle.ix_threads.specs.declared.finder.Finder.{Finder}
 use Rattle.ix_match.specs.Searches.{IsSearch}

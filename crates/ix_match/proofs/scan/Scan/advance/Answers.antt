@@ -16,7 +16,7 @@ go_on_with-came-requires-clause-goes_on g c = λ yes.
     let rows = c.args.p.now.rows in
     let held : IfSome i.kept (λ k. KeepsFor old.pattern.rows k old.before (take reach old.given)) = rw (← c.self.view_is) c.self.invariant.1 in
     let on = keeps-on rows reach i.kept old c.args.before c.args.text.now (ap (λ (s : Scanned). s.before) (sym c.self.view_is) ∙ c.is_same-goes_on.ensures yes) c.requires.goes_on
-        (subst (λ q. IfSome i.kept (λ k. KeepsFor q.rows k old.before (take reach old.given))) (sym c.requires.pattern) held) in
+    (subst (λ q. IfSome i.kept (λ k. KeepsFor q.rows k old.before (take reach old.given))) (sym c.requires.pattern) held) in
     subst (λ b. IfSome i.kept (λ k. KeepsFor rows k b c.seen-input.result.bytes.now)) (sym c.seen-input.ensures.before)
     (subst (λ l. IfSome i.kept (λ k. KeepsFor rows k c.args.before l)) (sym c.seen-input.ensures.bytes) on)
 

@@ -1,4 +1,4 @@
-use Rattle.std.proofs.Common.{◌≡◌, length, ◌∙◌}
+use Rattle.std.proofs.Common.{◌∙◌}
 use Rattle.ix_threads.proofs.FinderLemmas.{same-finder, same-room}
 use Rattle.ix_match.proofs.search.Search.copy.Goals as goal
 
