@@ -12,7 +12,6 @@ use ix_conf::{Merged, merge};
 use std::alloc::Global;
 
 /// The merged settings of the five files.
-#[derive(Drop)]
 pub struct MergedFiles {
     /// What channels do with their bytes, by host, source and source type.
     pub props: Merged,
@@ -26,6 +25,20 @@ pub struct MergedFiles {
     pub zones: Merged,
     /// The rules of the files alone, without the built-in ones.
     pub own_zones: Merged,
+}
+
+/// It is written out, so that each place where one is let go is a call of it, which is proved once.
+impl Drop for MergedFiles {
+    fn drop(self) {
+        let MergedFiles {
+            props: _,
+            transforms: _,
+            indexes: _,
+            inputs: _,
+            zones: _,
+            own_zones: _,
+        } = self;
+    }
 }
 
 /// The rules of time zones.

@@ -13,7 +13,6 @@ use crate::sinks::{MemSink, Sink};
 use std::alloc::Global;
 
 /// The fields that an event has in common with others, and their text.
-#[derive(Drop)]
 struct Common {
     index: Bytes,
     host: Bytes,
@@ -26,6 +25,21 @@ struct Common {
     middle_text: Bytes,
     ghost index_is: { index_text ≡ field index },
     ghost middle_is: { middle_text ≡ middle host source sourcetype meta },
+}
+
+/// It is written out, so that each place where one is let go is a call of it, which is proved once.
+impl Drop for Common {
+    fn drop(self) {
+        let Common {
+            index: _,
+            host: _,
+            source: _,
+            sourcetype: _,
+            meta: _,
+            index_text: _,
+            middle_text: _,
+        } = self;
+    }
 }
 
 /// The text of a field.
@@ -130,10 +144,19 @@ impl Common {
 
 /// Writes events as lines, and keeps the text of the last event's fields in memory, so that they are not escaped again
 /// for the next event that has the same index, host, source, sourcetype and meta.
-#[derive(Drop)]
 pub struct LineWriter {
     alloc: Global,
     common: Option<Common>,
+}
+
+/// It is written out, so that each place where one is let go is a call of it, which is proved once.
+impl Drop for LineWriter {
+    fn drop(self) {
+        let LineWriter {
+            alloc: _,
+            common: _,
+        } = self;
+    }
 }
 
 impl LineWriter {

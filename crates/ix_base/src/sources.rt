@@ -28,7 +28,6 @@ pub trait Source {
 }
 
 /// A source over bytes in memory.
-#[derive(Drop)]
 pub struct MemSource {
     bytes: Bytes,
     at: usize,
@@ -37,6 +36,18 @@ pub struct MemSource {
     pub plan: FailPlan,
     ghost within: { at ≤ length bytes },
     ghost moves: { 0 < most },
+}
+
+/// It is written out, so that each place where one is let go is a call of it, which is proved once.
+impl Drop for MemSource {
+    fn drop(self) {
+        let MemSource {
+            bytes: _,
+            at: _,
+            most: _,
+            plan: _,
+        } = self;
+    }
 }
 
 impl MemSource {

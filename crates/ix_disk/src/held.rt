@@ -8,7 +8,6 @@ use std::alloc::Global;
 
 /// A file, or one that is missing. What the worst crash leaves of it begins as the file does, up to a place, so that only
 /// what it leaves behind that place is kept beside it.
-#[derive(Drop)]
 pub struct Held {
     pub file: File,
     /// What a read gives.
@@ -18,6 +17,18 @@ pub struct Held {
     /// What the worst crash leaves behind the place, or `None` where it leaves no file.
     rest: Option<Bytes>,
     ghost within: { same ≤ length (content bytes) },
+}
+
+/// It is written out, so that each place where one is let go is a call of it, which is proved once.
+impl Drop for Held {
+    fn drop(self) {
+        let Held {
+            file: _,
+            bytes: _,
+            same: _,
+            rest: _,
+        } = self;
+    }
 }
 
 /// The bytes, or none where they are missing.

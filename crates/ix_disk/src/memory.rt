@@ -17,7 +17,6 @@ use std::alloc::Global;
 
 /// A disk in memory. It keeps a record of all its calls, by which it tells the images of each moment, and the files as
 /// they stand. A call for which it finds no room fails, and is not in the record.
-#[derive(Drop)]
 pub struct MemDisk {
     alloc: Global,
     /// The record of its calls, and which are to fail.
@@ -25,6 +24,17 @@ pub struct MemDisk {
     files: Contents,
     ghost seen_is: { (file : File) → present files.files.items file ≡ seen_after past.calls.items file } by { Prim.hlevel props },
     ghost torn_is: { (file : File) → torn_in files.files.items file ≡ torn_after past.calls.items file } by { Prim.hlevel props },
+}
+
+/// It is written out, so that each place where one is let go is a call of it, which is proved once.
+impl Drop for MemDisk {
+    fn drop(self) {
+        let MemDisk {
+            alloc: _,
+            past: _,
+            files: _,
+        } = self;
+    }
 }
 
 const MAX_LENGTH: u64 = 1 << 63;

@@ -54,7 +54,6 @@ impl Call {
 }
 
 /// The calls that a disk has had, and those that are to fail.
-#[derive(Drop)]
 pub struct Past {
     /// The calls, the first of them first.
     pub calls: Vec<Call>,
@@ -62,6 +61,17 @@ pub struct Past {
     pub plan: FailPlan,
     /// How many calls found no room for what they had to keep. It stands at 2^64 - 1.
     pub shortages: u64,
+}
+
+/// It is written out, so that each place where one is let go is a call of it, which is proved once.
+impl Drop for Past {
+    fn drop(self) {
+        let Past {
+            calls: _,
+            plan: _,
+            shortages: _,
+        } = self;
+    }
 }
 
 impl Past {

@@ -34,7 +34,6 @@ impl From<OutOfMemory> for StageFault {
 }
 
 /// What is committed on the disk stays there, and what is staged is put behind it by a commit.
-#[derive(Drop)]
 pub struct Keeper {
     pub(crate) root: Log,
     pub(crate) log: Log,
@@ -59,6 +58,25 @@ pub struct Keeper {
     ghost sized: { size ≡ length (bytes_of slots) },
     ghost short: { size < 2 ^ 32 },
     ghost room: { 0 < length buffer.items },
+}
+
+/// It is written out, so that each place where one is let go is a call of it, which is proved once.
+impl Drop for Keeper {
+    fn drop(self) {
+        let Keeper {
+            root: _,
+            log: _,
+            number: _,
+            first: _,
+            bytes: _,
+            parts: _,
+            copies: _,
+            slots: _,
+            size: _,
+            buffer: _,
+            closed: _,
+        } = self;
+    }
 }
 
 /// What a keeper had staged at a moment.

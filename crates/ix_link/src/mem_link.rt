@@ -14,7 +14,6 @@ use std::alloc::Global;
 
 /// A link that holds the bytes of its peer in memory, and keeps there what is written to it. It fails where it finds no
 /// room for that.
-#[derive(Drop)]
 pub struct MemLink {
     bytes: Bytes,
     at: usize,
@@ -28,6 +27,21 @@ pub struct MemLink {
     pub plan: FailPlan,
     ghost within: { at ≤ length bytes },
     ghost moves: { 0 < most },
+}
+
+/// It is written out, so that each place where one is let go is a call of it, which is proved once.
+impl Drop for MemLink {
+    fn drop(self) {
+        let MemLink {
+            bytes: _,
+            at: _,
+            most: _,
+            given: _,
+            from: _,
+            start: _,
+            plan: _,
+        } = self;
+    }
 }
 
 impl MemLink {

@@ -15,7 +15,6 @@ use std::alloc::Global;
 pub type MemLinkList = Sequence<MemLink>;
 
 /// A listener whose connections wait in memory.
-#[derive(Drop)]
 pub struct MemListener {
     waiting: Vec<MemLink>,
     handed: Vec<MemLink>,
@@ -25,6 +24,19 @@ pub struct MemListener {
     /// Which calls of `bind` and `accept` are to fail.
     pub plan: FailPlan,
     ghost room: { vec_len handed + out ≤ vec_capacity handed },
+}
+
+/// It is written out, so that each place where one is let go is a call of it, which is proved once.
+impl Drop for MemListener {
+    fn drop(self) {
+        let MemListener {
+            waiting: _,
+            handed: _,
+            out: _,
+            port: _,
+            plan: _,
+        } = self;
+    }
 }
 
 impl MemListener {

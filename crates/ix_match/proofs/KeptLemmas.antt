@@ -1,9 +1,8 @@
 -- What a scan keeps while bytes come.
-use Rattle.std.proofs.Common.{◌≡◌, ℕ, zero, suc, ◌+◌, ◌-◌, ◌*◌, ◌≤◌, List, [], ◌∷◌, ◌++◌, length, take, true, false, Option, Some, None, inl, inr, refl, sym, ◌∙◌, ap, subst, arith}
+use Rattle.std.proofs.Common.{◌≡◌, ℕ, zero, suc, ◌+◌, ◌-◌, ◌≤◌, List, [], ◌∷◌, ◌++◌, length, take, true, false, Option, Some, None, inl, inr, refl, sym, ◌∙◌, ap, subst, arith}
 use Rattle.std.specs.Prelude.{IfSome}
 use Rattle.ix_pattern.specs.Rows.{Rows}
 use Rattle.ix_threads.specs.Attempts.{Stands}
-use Rattle.ix_threads.specs.Finders.{HasRoom}
 use Rattle.ix_threads.specs.declared.program.Program.{Program}
 use Rattle.ix_threads.specs.declared.attempt.Attempt.{Attempt}
 use Rattle.ix_threads.proofs.AttemptLemmas.{stands-more}
@@ -44,14 +43,6 @@ pub keeps-search : (rows : Rows) (o : Option Kept) (before : Option ℕ) (bytes 
     IfSome o (λ k. KeepsFor rows k before bytes) → IfSome o (λ k. IsKept rows k.search)
 keeps-search rows None before bytes k = tt
 keeps-search rows (Some kept) before bytes k = k.is_kept
-
-pub keeps-room : (rows : Rows) (o : Option Kept) (before : Option ℕ) (bytes : List ℕ) →
-    IfSome o (λ k. KeepsFor rows k before bytes) → IfSome o (λ k. HasRoom k.search.finder k.search.room)
-keeps-room rows None before bytes k = tt
-keeps-room rows (Some kept) before bytes k = k.is_kept.search_is.has_room
-
-pub few-once : (pieces weight : ℕ) → pieces ≤ weight → 256 * pieces ≤ weight * 512
-few-once pieces weight light = omega (arith, light)
 
 pub keeps-none : (rows : Rows) (kept : Kept) (before : Option ℕ) (bytes : List ℕ) → kept.begun ≡ false → IsKept rows kept.search → KeepsFor rows kept before bytes
 keeps-none rows kept before bytes none k =

@@ -5,12 +5,12 @@ use Rattle.std.proofs.lemmas.List.{get_or_append_left, get_or_push}
 use Rattle.std.proofs.lemmas.Option.{slice_get_within, get_or_from_slice_get}
 use Rattle.memchr.specs.Find.{OccursAt}
 use Rattle.ix_pattern.specs.Piece.{Piece, byte_in, seq, in_set}
-use Rattle.ix_pattern.specs.Ways.{Text, Reached, Way, edge, onward, here, byte_ways, ways}
-use Rattle.ix_pattern.specs.Rows.{Rows, Shape, piece_at, tree}
-use Rattle.ix_match.specs.Fronts.{passes, fronts, in_one}
+use Rattle.ix_pattern.specs.Ways.{Text, Reached, edge, onward, here, byte_ways, ways}
+use Rattle.ix_pattern.specs.Rows.{Shape, tree}
+use Rattle.ix_match.specs.Fronts.{fronts, in_one}
 use Rattle.ix_match.specs.Few.{AreItsBytes, is_one_of}
 use Rattle.ix_match.specs.declared.few.Few.TheVariants.{One}
-use Rattle.ix_match.specs.Matches.{closed, ways_from}
+use Rattle.ix_match.specs.Matches.{closed}
 use Rattle.ix_match.specs.Leads.{AreBytes, EachBegins, TakesOne, Begun, Leads, Begins}
 use Rattle.ix_match.proofs.FrontLemmas.{Silent, here-silent, no-front}
 

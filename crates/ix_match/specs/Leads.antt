@@ -3,7 +3,7 @@ use Rattle.std.specs.Prelude.{◌≡◌, ◌⊎◌, ℕ, ◌+◌, ◌<◌, ◌�
 use Rattle.memchr.specs.Find.{OccursAt}
 use Rattle.ix_pattern.specs.Piece.{Piece, byte_in, in_set}
 use Rattle.ix_pattern.specs.Ways.{Text, Reached, ways}
-use Rattle.ix_pattern.specs.Rows.{Rows, Shape, piece_at, tree}
+use Rattle.ix_pattern.specs.Rows.{Rows, Shape, piece_at}
 use Rattle.ix_match.specs.Fronts.{fronts}
 use Rattle.ix_match.specs.Matches.{ways_from}
 use Rattle.ix_match.specs.declared.leads.Taken.{Taken}

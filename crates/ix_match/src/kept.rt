@@ -13,9 +13,7 @@ use crate::search::Search;
 use ix_base::{NoMemory, Steps};
 use ix_pattern::Pattern;
 use ix_threads::attempt::Attempt;
-use ix_threads::cells::{Best, Thread};
 use ix_threads::input::Input;
-use ix_threads::program::Program;
 use ix_threads::run::Outcome;
 use std::alloc::Global;
 use std::sync::ledger::Ledger;
@@ -39,32 +37,6 @@ impl Drop for Kept {
     }
 }
 
-/// What an attempt works in, before one was begun.
-fn unbegun(alloc: Global) -> Attempt {
-    Attempt {
-        place: 0,
-        threads: Vec::new(alloc),
-        cells: Vec::new(alloc),
-        best: Best::No,
-    }
-}
-
-/// Makes it an attempt of which no byte has come.
-fn begin_anew(attempt: &mut Attempt, program: &Program) -> Result<(), NoMemory>
-    requires { program.now.start < length program.now.code.items }
-    ensures { OnOk result ((rows : Rows) (before : Option ℕ) (bytes : List ℕ) → Stands rows program.entry.now attempt.new before bytes) }
-{
-    attempt.cells.clear();
-    attempt.threads.clear();
-    attempt.threads.push(Thread {
-        pc: program.start,
-        trail: 0,
-    })?;
-    attempt.place = 0;
-    attempt.best = Best::No;
-    Ok(())
-}
-
 impl Kept {
     /// No attempt, and a pattern each of whose byte pieces is tested now with each byte, and not again.
     pub fn tabled<L: Ledger>(
@@ -79,7 +51,7 @@ impl Kept {
         let search = Search::tabled(alloc, p, steps)?;
         Ok(Kept {
             search,
-            attempt: unbegun(alloc),
+            attempt: Attempt::unbegun(alloc),
             begun: false,
         })
     }
@@ -105,7 +77,7 @@ impl Kept {
         if self.begun {
             return Ok(());
         }
-        begin_anew(&mut self.attempt, &self.search.finder.program)?;
+        self.attempt.begin(&self.search.finder.program)?;
         self.begun = true;
         Ok(())
     }

@@ -27,7 +27,6 @@ use ix_machine::{Accepted, Command, Order, Refusal};
 use std::alloc::Global;
 
 /// A store: the state in memory, what keeps it on a disk, and the numbers of the run.
-#[derive(Drop)]
 pub struct Store<M> {
     pub(crate) alloc: Global,
     pub(crate) memory: M,
@@ -42,6 +41,22 @@ pub struct Store<M> {
     pub(crate) group: Group,
     /// Whether an export met a fault of the disk, or damage. The keeper says so of a commit.
     pub(crate) closed: bool,
+}
+
+/// It is written out, so that each place where one is let go is a call of it, which is proved once.
+impl<M: Drop> Drop for Store<M> {
+    fn drop(self) {
+        let Store {
+            alloc: _,
+            memory: _,
+            keeper: _,
+            run: _,
+            drawn: _,
+            committed: _,
+            group: _,
+            closed: _,
+        } = self;
+    }
 }
 
 /// Whether a command draws a number of the run.

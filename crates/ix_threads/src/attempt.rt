@@ -49,22 +49,30 @@ impl Drop for Attempt {
 }
 
 impl Attempt {
-    /// An attempt of which no byte has come.
-    pub fn new(alloc: Global, program: &Program) -> Result<Attempt, NoMemory>
+    /// What an attempt works in, before one was begun. It takes no memory.
+    pub fn unbegun(alloc: Global) -> Self {
+        Attempt {
+            place: 0,
+            threads: Vec::new(alloc),
+            cells: Vec::new(alloc),
+            best: Best::No,
+        }
+    }
+
+    /// Makes it an attempt of which no byte has come, in the memory that the one before it worked in.
+    pub fn begin(&mut self, program: &Program) -> Result<(), NoMemory>
         requires { program.now.start < length program.now.code.items }
-        ensures { IfOk result (λ a. (rows : Rows) (before : Option ℕ) (bytes : List ℕ) → Stands rows program.now a before bytes) }
+        ensures { OnOk result ((rows : Rows) (before : Option ℕ) (bytes : List ℕ) → Stands rows program.entry.now self.new before bytes) }
     {
-        let mut threads = Vec::new(alloc);
-        threads.push(Thread {
+        self.cells.clear();
+        self.threads.clear();
+        self.threads.push(Thread {
             pc: program.start,
             trail: 0,
         })?;
-        Ok(Attempt {
-            place: 0,
-            threads,
-            cells: Vec::new(alloc),
-            best: Best::No,
-        })
+        self.place = 0;
+        self.best = Best::No;
+        Ok(())
     }
 
     /// A copy of it, which goes on apart from it.

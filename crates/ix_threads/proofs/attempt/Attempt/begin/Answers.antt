@@ -1,6 +1,6 @@
 use Rattle.std.proofs.Common.{◌++◌, ◌∷◌, [], refl, ◌∙◌, ap}
 use Rattle.ix_threads.proofs.AttemptLemmas.{stands-first}
-use Rattle.ix_match.proofs.kept.begin_anew.Goals as goal
+use Rattle.ix_threads.proofs.attempt.Attempt.begin.Goals as goal
 
 pub returns : goal.returns
 returns c = λ rows before bytes.
