@@ -5,9 +5,10 @@
 mod tests;
 
 use indexd_core::{Status, say, top};
-use ix_base::{HostClock, HostTree, StdSink, StdSource, Text};
+use ix_base::{HostClock, StdSink, StdSource, Text};
 use ix_disk::HostDisk;
 use ix_link::TcpListen;
+use ix_tree::HostTree;
 use std::io::ErrorKind;
 use std::process::ExitCode;
 use std::rt::Env;

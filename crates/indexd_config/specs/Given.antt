@@ -1,6 +1,6 @@
 -- The settings that a store is to go by, as the files of a tree give them.
 use Rattle.std.specs.Prelude.{◌≡◌, List, Option}
-use Rattle.ix_base.specs.declared.trees.TreeFile.{TreeFile}
+use Rattle.ix_tree.specs.declared.trees.TreeFile.{TreeFile}
 use Rattle.ix_kept.specs.Keeping.{all_kept}
 use Rattle.ix_machine.specs.declared.commands.Config.{Config}
 use Rattle.indexd_settings.specs.Configuration.{IsReadOf}

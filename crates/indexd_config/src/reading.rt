@@ -7,10 +7,11 @@ ghost use Rattle.indexd_settings.specs.Faults.{StopsAt, Stops};
 ghost use Rattle.indexd_config.specs.Given.{IsGivenBy, IsConfigOf};
 
 use indexd_settings::{ConfigurationStop, MergedFiles};
-use ix_base::{NoMemory, Tree};
+use ix_base::NoMemory;
 use ix_items::KeptList;
 use ix_kept::{KeptFiles, kept_is_config, kept_of, read_names_are_short};
 use ix_machine::Config;
+use ix_tree::Tree;
 use std::alloc::Global;
 
 /// What is kept of the files; of zones.conf without what is built in.

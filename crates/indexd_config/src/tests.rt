@@ -1,8 +1,9 @@
 //! What is kept of the files of a tree.
 
 use crate::read_config;
-use ix_base::{Bytes, FailPlan, MemTree, NoMemory, TreeFile, TreeFileList};
+use ix_base::{Bytes, FailPlan, NoMemory};
 use ix_items::KeptList;
+use ix_tree::{MemTree, TreeFile, TreeFileList};
 use std::alloc::Global;
 use std::test::Fail;
 

@@ -9,7 +9,7 @@ use Rattle.std.proofs.lemmas.List.{append-nil}
 use Rattle.indexd_core.specs.Sides.{Side}
 use Rattle.indexd_core.specs.Steps.{ReadsAll, RunStops, EndsAll, EndStops}
 use Rattle.indexd_core.specs.Stops.{stop_status}
-use Rattle.ix_base.specs.declared.trees.TreeFile.{TreeFile}
+use Rattle.ix_tree.specs.declared.trees.TreeFile.{TreeFile}
 use Rattle.indexd_core.specs.Prepared.{Stated}
 use Rattle.indexd_core.specs.Runs.{Runs, Text, Wrote, WroteUnprepared, Previews, unprepared, ran, text_of}
 use Rattle.indexd_core.specs.declared.status.Status.{Status}

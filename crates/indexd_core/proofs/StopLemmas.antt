@@ -2,7 +2,7 @@
 use Rattle.std.proofs.Common.{◌≡◌, ◌∙◌, ℕ, Bool, true, false, List, [], sym, ap, subst, Option, Some, None, Result, Ok, Err, IfOk}
 use Rattle.std.specs.Prelude.{OnErr}
 use Rattle.ix_base.specs.declared.faults.NoMemory.{NoMemory}
-use Rattle.ix_base.specs.declared.trees.TreeFile.{TreeFile}
+use Rattle.ix_tree.specs.declared.trees.TreeFile.{TreeFile}
 use Rattle.indexd_words.specs.Orders.{Asked, preview, asked}
 use Rattle.indexd_words.specs.Shown.{shown}
 use Rattle.indexd_words.specs.declared.orders.Order.TheVariants.{Preview}

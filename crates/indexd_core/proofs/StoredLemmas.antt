@@ -7,7 +7,7 @@ use Rattle.ix_base.specs.Told.{HasWritten, HasBegun}
 use Rattle.ix_base.proofs.ToldLemmas.{then_written, then_begun, begun_of_more}
 use Rattle.ix_base.specs.Clocks.{Moments}
 use Rattle.ix_base.specs.declared.files.File.{File}
-use Rattle.ix_base.specs.declared.trees.TreeFile.{TreeFile}
+use Rattle.ix_tree.specs.declared.trees.TreeFile.{TreeFile}
 use Rattle.ix_disk.specs.declared.disk.Disk.{Ghosts}
 use Rattle.ix_book.specs.Book.{Book}
 use Rattle.ix_kept.specs.Taken.{IsTaken}

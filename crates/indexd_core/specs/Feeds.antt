@@ -1,7 +1,7 @@
 -- Requests that are served one behind the other from the input: `feed`.
 use Rattle.std.specs.Prelude.{◌≡◌, ◌≤◌, ◌++◌, ℕ, List, [], codes, decimal, Option}
 use Rattle.ix_base.specs.Clocks.{Moments}
-use Rattle.ix_base.specs.declared.trees.TreeFile.{TreeFile}
+use Rattle.ix_tree.specs.declared.trees.TreeFile.{TreeFile}
 use Rattle.ix_disk.specs.declared.disk.Disk.{Ghosts}
 use Rattle.ix_machine.specs.declared.commands.Config.{Config}
 use Rattle.ix_replay.specs.Fits.{fits}

@@ -2,7 +2,7 @@
 use Rattle.std.specs.Prelude.{◌≡◌, ℕ, List, ◌++◌, codes, Option, Some, None, IfSome, IsSome}
 use Rattle.ix_base.specs.Faults.{Rose}
 use Rattle.ix_base.specs.declared.events.ChannelMeta.{ChannelMeta}
-use Rattle.ix_base.specs.declared.trees.TreeFile.{TreeFile}
+use Rattle.ix_tree.specs.declared.trees.TreeFile.{TreeFile}
 use Rattle.ix_props.specs.Settings.{AreSettings}
 use Rattle.ix_life.specs.Limits.{limits_of}
 use Rattle.ix_life.specs.declared.sets.LimitSet.{LimitSet}

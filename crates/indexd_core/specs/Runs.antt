@@ -3,7 +3,7 @@ use Rattle.std.specs.Prelude.{◌⊎◌, ◌≡◌, ◌≤◌, ◌<◌, ◌^◌,
 use Rattle.ix_base.specs.Faults.{Rose}
 use Rattle.ix_base.specs.Clocks.{Moments, Answered, clamped}
 use Rattle.ix_base.specs.Told.{Told, Took, IsFrontOf, HasWritten, HasBegun}
-use Rattle.ix_base.specs.declared.trees.TreeFile.{TreeFile}
+use Rattle.ix_tree.specs.declared.trees.TreeFile.{TreeFile}
 use Rattle.indexd_settings.specs.Faults.{HasFault}
 use Rattle.indexd_settings.specs.Texts.{fault_line}
 use Rattle.indexd_settings.specs.declared.faults.ConfigurationFault.{ConfigurationFault}

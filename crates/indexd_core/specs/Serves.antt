@@ -3,7 +3,7 @@ use Rattle.std.specs.Prelude.{◌≡◌, ◌⊎◌, ◌++◌, ℕ, List, [], cod
 use Rattle.ix_base.specs.Clocks.{Moments}
 use Rattle.ix_base.specs.Faults.{Rose}
 use Rattle.ix_base.specs.Told.{HasWritten, HasBegun}
-use Rattle.ix_base.specs.declared.trees.TreeFile.{TreeFile}
+use Rattle.ix_tree.specs.declared.trees.TreeFile.{TreeFile}
 use Rattle.ix_disk.specs.declared.disk.Disk.{Ghosts}
 use Rattle.ix_link.specs.Listeners.{Handed}
 use Rattle.ix_machine.specs.declared.commands.Config.{Config}

@@ -6,7 +6,7 @@ use Rattle.ix_base.specs.declared.events.ChannelMeta.{ChannelMeta}
 use Rattle.ix_base.specs.declared.files.Area.{Area}
 use Rattle.ix_base.specs.declared.files.Area.TheVariants.{Meta, Home, Cold, Frozen, Thawed}
 use Rattle.ix_base.specs.declared.files.File.{File}
-use Rattle.ix_base.specs.declared.trees.TreeFile.{TreeFile}
+use Rattle.ix_tree.specs.declared.trees.TreeFile.{TreeFile}
 use Rattle.ix_disk.specs.Image.{Image}
 use Rattle.ix_disk.specs.declared.disk.Disk.{Ghosts}
 use Rattle.ix_kept.specs.Configs.{IsChooser}

@@ -4,7 +4,7 @@ use Rattle.std.specs.List.{flat_map}
 use Rattle.ix_base.specs.Faults.{Rose}
 use Rattle.ix_base.specs.Stream.{dated}
 use Rattle.ix_base.specs.Told.{HasWritten, HasBegun}
-use Rattle.ix_base.specs.EventLine.{line}
+use Rattle.ix_text.specs.EventLine.{line}
 use Rattle.ix_base.specs.declared.events.Event.{Event}
 use Rattle.ix_base.specs.declared.events.Routed.{Routed}
 use Rattle.ix_base.specs.declared.events.Routed.TheVariants.{To, Null}

@@ -10,8 +10,9 @@ ghost use Rattle.indexd_core.specs.Texts.{Said, status_text};
 
 use crate::status::{Status, say};
 use indexd_settings::{LayerStop, Refusal, SettingsFile};
-use ix_base::{Bytes, NoMemory, Sink, Tree};
+use ix_base::{Bytes, NoMemory, Sink};
 use ix_conf::{Layers, merge};
+use ix_tree::Tree;
 use std::alloc::Global;
 
 /// The listing of layers.

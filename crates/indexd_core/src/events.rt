@@ -9,8 +9,9 @@ ghost use Rattle.indexd_core.specs.Texts.{home, kept_line, routed_line, lines_of
 ghost use Rattle.indexd_core.specs.Stops.{PutStops};
 
 use crate::preview::Stop;
-use ix_base::{Event, EventRef, FailPlan, LineWriter, MemSink, NoMemory, Routed, RoutedList, Sink};
+use ix_base::{Event, EventRef, FailPlan, MemSink, NoMemory, Routed, RoutedList, Sink};
 use ix_life::{LimitSet, Route};
+use ix_text::LineWriter;
 use std::alloc::Global;
 
 /// The index that keeps events of this one; `None` where no index does.

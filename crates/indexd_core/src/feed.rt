@@ -19,10 +19,11 @@ use arrayvec::ArrayString;
 use indexd_config::read_config;
 use indexd_feed::{End, run_streams};
 use itoa::Buffer;
-use ix_base::{Clock, Sink, Source, Tree};
+use ix_base::{Clock, Sink, Source};
 use ix_disk::Disk;
 use ix_machine::Config;
 use ix_tier::Tier;
+use ix_tree::Tree;
 use std::alloc::Global;
 
 /// The status of a run of requests.
@@ -138,6 +139,6 @@ pub fn feed<S: Source, W: Sink, C: Clock, T: Tree, D: Disk>(
 {
     match read_config(alloc, tree) {
         Ok(config) => feed_with(alloc, config, input, output, clock, disk),
-        Err(stop) => say_unread(alloc, &stop, output),
+        Err(stop) => say_unread(alloc, stop, output),
     }
 }

@@ -5,7 +5,7 @@ ghost use Rattle.ix_life.specs.Limits.{limits_of};
 ghost use Rattle.ix_props.specs.Settings.{AreSettings, AreUsable};
 ghost use Rattle.indexd_settings.specs.Configuration.{IsConfiguration};
 ghost use Rattle.indexd_settings.specs.Faults.{Stops};
-ghost use Rattle.ix_base.specs.declared.trees.TreeFile.{TreeFile};
+ghost use Rattle.ix_tree.specs.declared.trees.TreeFile.{TreeFile};
 ghost use Rattle.indexd_core.specs.Prepared.{Stated, preview_meta, index_or_default, IsPrepared, Unprepared, not_found_line};
 ghost use Rattle.indexd_core.specs.Runs.{WroteUnprepared};
 ghost use Rattle.indexd_core.specs.Sides.{side};
@@ -16,9 +16,10 @@ ghost use Rattle.indexd_core.specs.Stored.{stated_meta, WroteUnread};
 use crate::status::{Status, say};
 use indexd_settings::{Configuration, ConfigurationFault, ConfigurationStop, read_configuration};
 use indexd_words::Origin;
-use ix_base::{Bytes, ChannelMeta, NoMemory, Sink, Tree};
+use ix_base::{Bytes, ChannelMeta, NoMemory, Sink};
 use ix_life::LimitSet;
 use ix_props::Settings;
+use ix_tree::Tree;
 use std::alloc::Global;
 
 /// What a preview is prepared with.
@@ -227,13 +228,13 @@ pub fn say_stop<W: Sink>(alloc: Global, stop: &PrepareStop, output: &mut W) -> S
 }
 
 /// Says why the settings of a run were not read.
-pub fn say_unread<W: Sink>(alloc: Global, stop: &ConfigurationStop, output: &mut W) -> Status
-    ensures said { (files : Option (List TreeFile)) (failed failed' : ℕ) → Stops stop.now failed failed' files →
+pub fn say_unread<W: Sink>(alloc: Global, stop: ConfigurationStop, output: &mut W) -> Status
+    ensures said { (files : Option (List TreeFile)) (failed failed' : ℕ) → Stops stop failed failed' files →
         WroteUnread result files failed failed'
         (side (W.faults output.old) (W.given output.old)) (side (W.faults output.new) (W.given output.new)) }
     ensures later { W.faults output.old ≤ W.faults output.new }
 {
-    match stop {
+    let status = match &stop {
         ConfigurationStop::Memory => {
             say(Status::Memory, output);
             Status::Memory
@@ -246,5 +247,7 @@ pub fn say_unread<W: Sink>(alloc: Global, stop: &ConfigurationStop, output: &mut
             let line = fault.line(alloc);
             say_line(line, Status::Configuration, output)
         }
-    }
+    };
+    drop(stop);
+    status
 }

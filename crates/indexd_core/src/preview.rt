@@ -15,8 +15,9 @@ use crate::events::EventWriter;
 use crate::prepare::{Prepared, prepare, say_stop};
 use crate::status::{Status, say};
 use indexd_words::Origin;
-use ix_base::{Clock, NoMemory, Sink, Source, Steps, Tree};
+use ix_base::{Clock, NoMemory, Sink, Source, Steps};
 use ix_parse::Channel;
+use ix_tree::Tree;
 use std::alloc::Global;
 use std::marker::Brand;
 use std::sync::ledger::{Blank, Ledger};
@@ -269,6 +270,10 @@ pub fn run_preview<S: Source, W: Sink, C: Clock, T: Tree>(
 {
     match prepare(alloc, origin, tree) {
         Ok(prepared) => preview_input(alloc, prepared, input, output, clock),
-        Err(stop) => say_stop(alloc, &stop, output),
+        Err(stop) => {
+            let status = say_stop(alloc, &stop, output);
+            drop(stop);
+            status
+        }
     }
 }

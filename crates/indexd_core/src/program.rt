@@ -27,9 +27,10 @@ use crate::stored::{run_stored, store_preview};
 use indexd_settings::SettingsFile;
 use indexd_store::Task;
 use indexd_words::{Order, Refusal, lend_words, read_words};
-use ix_base::{Clock, Sink, Source, Text, Tree};
+use ix_base::{Clock, Sink, Source, Text};
 use ix_disk::Disk;
 use ix_link::Listener;
+use ix_tree::Tree;
 use std::alloc::Global;
 
 /// Writes the line of a status that comes before any command.

@@ -20,11 +20,12 @@ use arrayvec::ArrayString;
 use indexd_config::read_config;
 use indexd_feed::{ServeEnd, run_serve};
 use itoa::Buffer;
-use ix_base::{Clock, Sink, Tree};
+use ix_base::{Clock, Sink};
 use ix_disk::Disk;
 use ix_link::Listener;
 use ix_machine::Config;
 use ix_tier::Tier;
+use ix_tree::Tree;
 use std::alloc::Global;
 
 /// What `serve` is to do.
@@ -158,6 +159,6 @@ pub fn serve<W: Sink, C: Clock, T: Tree, D: Disk, L: Listener>(
 {
     match read_config(alloc, tree) {
         Ok(config) => serve_with(alloc, config, serving, output, clock, disk, listener),
-        Err(stop) => say_unread(alloc, &stop, output),
+        Err(stop) => say_unread(alloc, stop, output),
     }
 }

@@ -23,11 +23,12 @@ use crate::status::{Status, say};
 use indexd_config::read_config;
 use indexd_store::{Stop, Task, open, run_preview, run_task, stop_run};
 use indexd_words::Origin;
-use ix_base::{Bytes, ChannelMeta, Clock, NoMemory, Sink, Source, Tree};
+use ix_base::{Bytes, ChannelMeta, Clock, NoMemory, Sink, Source};
 use ix_disk::Disk;
 use ix_life::LimitSet;
 use ix_machine::Config;
 use ix_tier::Tier;
+use ix_tree::Tree;
 use std::alloc::Global;
 
 /// What a task names.
@@ -97,7 +98,7 @@ pub fn run_stored<W: Sink, C: Clock, T: Tree, D: Disk>(
 {
     match read_config(alloc, tree) {
         Ok(config) => run_with(alloc, config, task, output, clock, disk),
-        Err(stop) => say_unread(alloc, &stop, output),
+        Err(stop) => say_unread(alloc, stop, output),
     }
 }
 
@@ -267,6 +268,6 @@ pub fn store_preview<S: Source, W: Sink, C: Clock, T: Tree, D: Disk>(
 {
     match read_config(alloc, tree) {
         Ok(config) => store_with(alloc, config, origin, input, output, clock, disk),
-        Err(stop) => say_unread(alloc, &stop, output),
+        Err(stop) => say_unread(alloc, stop, output),
     }
 }

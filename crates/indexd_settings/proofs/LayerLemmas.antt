@@ -3,8 +3,8 @@ use Rattle.std.proofs.Common.{◌≡◌, ◌≤◌, ◌+◌, ℕ, List, [], ◌�
 use Rattle.std.specs.List.{AllByRecursion}
 use Rattle.std.proofs.lemmas.List.{take-append-drop, length-append, length-take-le}
 use Rattle.std.proofs.Math.Seq.{drop-append-add}
-use Rattle.ix_base.specs.Trees.{bytes_at, ReadsAt}
-use Rattle.ix_base.specs.declared.trees.TreeFile.{TreeFile}
+use Rattle.ix_tree.specs.Trees.{bytes_at, ReadsAt}
+use Rattle.ix_tree.specs.declared.trees.TreeFile.{TreeFile}
 use Rattle.ix_conf.specs.Grammar.{pairs, Gives}
 use Rattle.ix_conf.specs.declared.entries.Entry.{Entry}
 use Rattle.ix_conf.specs.declared.entries.ConfFault.{ConfFault}

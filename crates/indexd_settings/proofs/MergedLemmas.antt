@@ -2,7 +2,7 @@
 use Rattle.std.proofs.Common.{◌≡◌, ◌≤◌, ℕ, List, ◌++◌, refl, sym, subst, ap, inl, inr, arith, Option, Some, None, IfSome, Result, Ok, Err}
 use Rattle.std.specs.List.{AllByRecursion}
 use Rattle.ix_base.specs.Faults.{Rose}
-use Rattle.ix_base.specs.declared.trees.TreeFile.{TreeFile}
+use Rattle.ix_tree.specs.declared.trees.TreeFile.{TreeFile}
 use Rattle.ix_conf.specs.Value.{AreMerged}
 use Rattle.ix_conf.specs.declared.layers.Layer.{Layer}
 use Rattle.ix_conf.specs.declared.layers.MergedEntry.{MergedEntry}

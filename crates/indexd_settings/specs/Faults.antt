@@ -1,9 +1,9 @@
 -- The first fault in the settings of a run, and why there are none.
 use Rattle.std.specs.Prelude.{◌≡◌, ◌≢◌, ℕ, List, Option, Ok, Err}
 use Rattle.ix_base.specs.Faults.{Rose}
-use Rattle.ix_base.specs.declared.trees.TreeFile.{TreeFile}
-use Rattle.ix_base.specs.declared.trees.TreeFault.{TreeFault}
-use Rattle.ix_base.specs.declared.trees.TreeFault.TheVariants as trees
+use Rattle.ix_tree.specs.declared.trees.TreeFile.{TreeFile}
+use Rattle.ix_tree.specs.declared.trees.TreeFault.{TreeFault}
+use Rattle.ix_tree.specs.declared.trees.TreeFault.TheVariants as trees
 use Rattle.ix_conf.specs.declared.layers.Layer.{Layer}
 use Rattle.ix_conf.specs.declared.layers.MergedEntry.{MergedEntry}
 use Rattle.ix_props.specs.Props.{AreRead, RefusesProps}

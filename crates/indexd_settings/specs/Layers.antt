@@ -1,10 +1,10 @@
 -- The files of settings, and the layers in which they stand over one another.
 use Rattle.std.specs.Prelude.{if◌then◌else◌, bytes_eq, ◌≡◌, ◌<◌, ℕ, List, [], ◌∷◌, ◌++◌, length, drop, map, codes, decimal, Option, Some, None, IfSome, Result, Ok, Err}
 use Rattle.ix_base.specs.Faults.{Rose}
-use Rattle.ix_base.specs.Trees.{bytes_at, names_in}
-use Rattle.ix_base.specs.declared.trees.TreeFile.{TreeFile}
-use Rattle.ix_base.specs.declared.trees.TreeFault.{TreeFault}
-use Rattle.ix_base.specs.declared.trees.TreeFault.TheVariants.{Failed, Missing, NoMemory as no_memory}
+use Rattle.ix_tree.specs.Trees.{bytes_at, names_in}
+use Rattle.ix_tree.specs.declared.trees.TreeFile.{TreeFile}
+use Rattle.ix_tree.specs.declared.trees.TreeFault.{TreeFault}
+use Rattle.ix_tree.specs.declared.trees.TreeFault.TheVariants.{Failed, Missing, NoMemory as no_memory}
 use Rattle.ix_conf.specs.Grammar.{pairs}
 use Rattle.ix_conf.specs.Zones.{zone_entries, zones}
 use Rattle.ix_conf.specs.declared.entries.Entry.{Entry}

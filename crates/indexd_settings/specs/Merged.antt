@@ -1,7 +1,7 @@
 -- The five files of settings as they were read and merged.
 use Rattle.std.specs.Prelude.{◌++◌, List, Option, Ok}
 use Rattle.std.specs.List.{AllByRecursion}
-use Rattle.ix_base.specs.declared.trees.TreeFile.{TreeFile}
+use Rattle.ix_tree.specs.declared.trees.TreeFile.{TreeFile}
 use Rattle.ix_conf.specs.Value.{AreMerged}
 use Rattle.ix_conf.specs.declared.layers.Layer.{Layer}
 use Rattle.ix_conf.specs.declared.layers.MergedEntry.{MergedEntry}

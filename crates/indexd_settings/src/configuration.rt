@@ -8,9 +8,9 @@ ghost use Rattle.ix_life.specs.Limits.{AreLimits, first_fault};
 
 use crate::faults::{ConfigurationFault, ConfigurationStop};
 use crate::merged::MergedFiles;
-use ix_base::Tree;
 use ix_life::{LimitFault, LimitSet};
 use ix_props::{Props, SettingFault};
+use ix_tree::Tree;
 use std::alloc::Global;
 
 /// What the settings of a run are read as.

@@ -4,9 +4,10 @@ ghost use Rattle.std.specs.Prelude.{◌≡◌, ◌++◌, [], ◌∷◌, codes, O
 ghost use Rattle.indexd_settings.specs.Texts.{is_key_of_change, is_key_of_place, file_of_key, value_line, stanza_line, setting_line, limit_line, fault_line};
 
 use crate::layers::{Refusal, SettingsFile};
-use ix_base::{Bytes, NoMemory, TreeFault};
+use ix_base::{Bytes, NoMemory};
 use ix_life::LimitFault;
 use ix_props::SettingFault;
+use ix_tree::TreeFault;
 use std::alloc::Global;
 
 /// The first fault in the settings of a run.

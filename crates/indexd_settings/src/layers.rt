@@ -3,13 +3,14 @@
 ghost use Rattle.std.specs.Prelude.{◌≡◌, ◌≢◌, ◌≤◌, ◌<◌, ◌+◌, ◌++◌, ◌∷◌, [], ℕ, List, length, take, drop, map, codes, decimal, OnOk, OnErr, IfOk, IfErr, IfSome, IfNone, Some, None, Ok, Err, IsErrOf, vec_len};
 ghost use Rattle.std.specs.List.{AllByRecursion};
 ghost use Rattle.ix_base.specs.Faults.{Rose};
-ghost use Rattle.ix_base.specs.Trees.{bytes_at, names_in, HasSize};
+ghost use Rattle.ix_tree.specs.Trees.{bytes_at, names_in, HasSize};
 ghost use Rattle.ix_conf.specs.Grammar.{pairs, Gives};
 ghost use Rattle.indexd_settings.specs.Layers.{file_name, file_named, path_in, app_layer, layer_names, folders_of, text_at, in_layer, layer_read, layers_read, built_in, settings, fault_text, refusal_text, ReadAs, IsOfText, LayerStops, Reads, IsBegun, IsTextOr, LayerRefused};
 
 use itoa::Buffer;
-use ix_base::{Bytes, Names, NoMemory, Tree, TreeFault};
+use ix_base::{Bytes, Names, NoMemory};
 use ix_conf::{ConfFault, ConfFile, Layer, Layers, built_in_zones, parse};
+use ix_tree::{Tree, TreeFault};
 use std::alloc::Global;
 
 /// A file of settings, which stands in each layer under its name and `.conf`.

@@ -7,8 +7,9 @@ ghost use Rattle.indexd_settings.specs.Faults.{StopsIn, Stops, stop_in};
 
 use crate::faults::{ConfigurationFault, ConfigurationStop};
 use crate::layers::{LayerStop, SettingsFile, layer_folders};
-use ix_base::{Names, Tree};
+use ix_base::Names;
 use ix_conf::{Merged, merge};
+use ix_tree::Tree;
 use std::alloc::Global;
 
 /// The merged settings of the five files.

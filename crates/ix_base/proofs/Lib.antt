@@ -1,4 +1,1 @@
 pub mod ToldLemmas
-pub mod FieldLemmas
-pub mod NameLemmas
-pub mod LineLemmas

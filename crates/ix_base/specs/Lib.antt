@@ -2,7 +2,5 @@ pub mod Faults
 pub mod Plans
 pub mod Told
 pub mod Clocks
-pub mod EventLine
 pub mod Lent
 pub mod Stream
-pub mod Trees

@@ -25,15 +25,15 @@ fn put_item<D: Disk>(
     alloc: Global,
     log: &mut Log,
     disk: &mut D,
-    item: &Item,
+    item: Item,
 ) -> Result<(), CheckpointFault>
-    requires proper { HasSpelling item.now }
+    requires proper { HasSpelling item }
     requires usable { IsUsable D.Disk log.old disk.old }
-    requires short { put_so_far log.old + length (item_bytes item.now) < 2 ^ 32 }
-    ensures put { (body : List ℕ) → IsReady D.Disk log.old disk.old [] body → OnOk result (IsPutting D.Disk log.new disk.new [] (body ++ item_bytes item.now)) }
+    requires short { put_so_far log.old + length (item_bytes item) < 2 ^ 32 }
+    ensures put { (body : List ℕ) → IsReady D.Disk log.old disk.old [] body → OnOk result (IsPutting D.Disk log.new disk.new [] (body ++ item_bytes item)) }
     ensures begun { OnOk result (IsBegun D.Disk log.new disk.new) }
     ensures usable_still { OnOk result (IsUsable D.Disk log.new disk.new) }
-    ensures counted { OnOk result (put_so_far log.new ≡ put_so_far log.old + length (item_bytes item.now)) }
+    ensures counted { OnOk result (put_so_far log.new ≡ put_so_far log.old + length (item_bytes item)) }
     ensures no_more { HasNoMore D.Disk log.old disk.old → OnOk result (HasNoMore D.Disk log.new disk.new) }
     ensures images { Goes D.Disk disk.old disk.new (Apart (file_of log.old)) }
     ensures seen { Told (Apart (file_of log.old)) (D.Disk.seen disk.old) (D.Disk.seen disk.new) }
@@ -42,7 +42,9 @@ fn put_item<D: Disk>(
     ensures cause { IsErrOf result CheckpointFault.Disk → Rose (D.Disk.faults disk.old) (D.Disk.faults disk.new) }
 {
     let mut bytes = Bytes::new(alloc);
-    write_item(item, &mut bytes)?;
+    let written = write_item(&item, &mut bytes);
+    drop(item);
+    written?;
     log.put(disk, bytes.as_slice())?;
     Ok(())
 }
@@ -73,7 +75,7 @@ fn put_next<D: Disk, W: Whole>(
     let Some(item) = state.next(alloc)? else {
         return Ok(false);
     };
-    put_item(alloc, log, disk, &item)?;
+    put_item(alloc, log, disk, item)?;
     Ok(true)
 }
 
@@ -137,7 +139,7 @@ pub fn write_log<D: Disk, W: Whole>(
     let mut log = Log::begin(alloc, disk, file)?;
     put_items(alloc, &mut log, disk, state)?;
     let last = removal(alloc, done)?;
-    put_item(alloc, &mut log, disk, &last)?;
+    put_item(alloc, &mut log, disk, last)?;
     log.finish(disk)?;
     Ok(log)
 }

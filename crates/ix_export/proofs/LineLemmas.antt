@@ -3,7 +3,7 @@ use Rattle.std.proofs.Common.{◌≡◌, ℕ, ◌+◌, List, [], ◌∷◌, ◌+
 use Rattle.std.proofs.lemmas.List.{append-nil}
 use Rattle.std.proofs.lemmas.List.Concat.{flat_map-append}
 use Rattle.std.proofs.lemmas.List.Elements.{filter-append}
-use Rattle.ix_base.specs.EventLine.{line, lines}
+use Rattle.ix_text.specs.EventLine.{line, lines}
 use Rattle.ix_base.specs.Told.{HasWritten, HasBegun}
 use Rattle.ix_base.specs.declared.events.Event.{Event}
 use Rattle.ix_base.specs.declared.events.Range.{Range}

@@ -1,7 +1,7 @@
 -- The lines that an export writes, and their number.
 use Rattle.std.specs.Prelude.{◌≡◌, ◌+◌, ◌-◌, ◌^◌, ◌*ℤ◌, ◌&&◌, ℕ, ℤ, pos, min, Bool, true, int_le, int_lt, List, length, Option, None, Some}
 use Rattle.std.specs.List.{filter}
-use Rattle.ix_base.specs.EventLine.{lines}
+use Rattle.ix_text.specs.EventLine.{lines}
 use Rattle.ix_base.specs.Told.{HasWritten}
 use Rattle.ix_base.specs.declared.events.Event.{Event}
 use Rattle.ix_base.specs.declared.events.Range.{Range}

@@ -1,14 +1,15 @@
 //! The lines of events within a range are written, and counted. An export calls it for each event.
 
 ghost use Rattle.std.specs.Prelude.{◌≡◌, ◌∷◌, [], OnOk, OnErr};
-ghost use Rattle.ix_base.specs.EventLine.{line};
+ghost use Rattle.ix_text.specs.EventLine.{line};
 ghost use Rattle.ix_base.specs.Faults.{HasCause};
 ghost use Rattle.ix_base.specs.Lent.{lent_event};
 ghost use Rattle.ix_base.specs.Told.{HasWritten, HasBegun};
 ghost use Rattle.ix_export.specs.Lines.{text, HasExported};
 
 use crate::in_range::is_within;
-use ix_base::{EventRef, FailPlan, Failed, LineWriter, MemSink, Range, Sink, write_line};
+use ix_base::{EventRef, FailPlan, Failed, MemSink, Range, Sink};
+use ix_text::{LineWriter, write_line};
 use std::alloc::Global;
 
 /// Writes the events within a range as lines, each in one piece, and counts these.

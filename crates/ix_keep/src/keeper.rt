@@ -207,9 +207,13 @@ impl Keeper {
         ensures full { IsErrOf result StageFault.Full → 2 ^ 32 ≤ self.old.size + length (item_bytes item) }
     {
         let mut bytes = Bytes::new(alloc);
-        write_item(&item, &mut bytes)?;
+        if let Err(fault) = write_item(&item, &mut bytes) {
+            drop(item);
+            return Err(fault.into());
+        }
         let size = self.size.saturating_add(bytes.len() as u64);
         if size >= 1 << 32 {
+            drop(item);
             return Err(StageFault::Full);
         }
         self.slots.push(Slot { item, bytes })?;

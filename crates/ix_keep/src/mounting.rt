@@ -159,6 +159,7 @@ fn enter<B: Replay>(
     ensures memory { OnErr result (result ≡ Err MountFault.NoMemory) }
 {
     if state.apply(item).is_err() {
+        drop(again);
         return Err(MountFault::NoMemory);
     }
     if keeper.push_item(alloc, again).is_err() {

@@ -140,14 +140,15 @@ impl Channel {
             steps.new ≤ steps.old + self.now.lines.breaker.weight * 512 * moved self.now.lines (length bytes.now) fed.0.lines) }
         ensures later { steps.old ≤ steps.new }
     {
-        let settings = self.settings.copy(self.alloc)?;
-        let meta = self.meta.copy()?;
         let mut merge = self.merge.copy()?;
         let mut outcomes = self.outcomes();
         let mut settled = LineList::new(self.alloc);
         let mut lines = self.lines.copy()?;
         lines.feed(bytes, moment, &mut settled, steps)?;
         self.owner().take_lines(settled, &mut merge, &mut outcomes)?;
+        // What each end before this one would have to let go is made last.
+        let meta = self.meta.copy()?;
+        let settings = self.settings.copy(self.alloc)?;
         let next = Channel {
             alloc: self.alloc,
             settings,

@@ -6,6 +6,7 @@ ghost use Rattle.ix_parse.specs.Marks as Marking;
 use ix_base::{Line, NoMemory};
 use ix_match::Finder;
 use ix_merge::Marks;
+use ix_pattern::Pattern;
 use ix_props::MergeSettings;
 use ix_time::{TimeReader, finder_of};
 use std::alloc::Global;
@@ -58,6 +59,19 @@ fn is_in(alloc: Global, pattern: &Option<Finder>, text: &[u8]) -> Result<bool, N
     Ok(found.is_some())
 }
 
+/// Finders for two patterns, each where one is set.
+fn finders_of(
+    alloc: Global,
+    one: &Option<Pattern>,
+    other: &Option<Pattern>,
+) -> Result<(Option<Finder>, Option<Finder>), NoMemory>
+    ensures { IfOk result (λ found. (found.0 ≡ one.now) × (found.1 ≡ other.now)) }
+{
+    let one = finder_of(alloc, one)?;
+    let other = finder_of(alloc, other)?;
+    Ok((one, other))
+}
+
 impl<'a> LineMarker<'a> {
     /// For lines that are merged by these settings.
     pub fn new(alloc: Global, merge: &'a MergeSettings) -> Result<LineMarker<'a>, NoMemory>
@@ -72,12 +86,14 @@ impl<'a> LineMarker<'a> {
                 veto: None,
             });
         }
+        let (before, veto) = finders_of(alloc, &merge.before, &merge.veto)?;
+        let (break_after, hold_after) = finders_of(alloc, &merge.break_after, &merge.hold_after)?;
         Ok(LineMarker {
             merge,
-            before: finder_of(alloc, &merge.before)?,
-            break_after: finder_of(alloc, &merge.break_after)?,
-            hold_after: finder_of(alloc, &merge.hold_after)?,
-            veto: finder_of(alloc, &merge.veto)?,
+            before,
+            break_after,
+            hold_after,
+            veto,
         })
     }
 

@@ -26,13 +26,12 @@ fn resume_one(alloc: Global, props: &Props, carried: &Carried) -> Result<Open, R
     if carried.meta.index.is_none() {
         return Err(bad_channel(name));
     }
-    let meta = carried.meta.copy()?;
     let stated = carried.meta.copy()?;
     let settings = props.settings(alloc, &carried.meta)?;
     match Channel::resume(alloc, settings, stated, carried.carry.as_slice()) {
         Ok(channel) => Ok(Open {
             name,
-            meta,
+            meta: carried.meta.copy()?,
             channel,
         }),
         Err(ResumeFault::BadCarry) => Err(bad_channel(name)),

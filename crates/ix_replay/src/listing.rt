@@ -35,7 +35,7 @@ fn replace(items: &mut Vec<Item>, at: usize, item: Item) -> Result<(), NoMemory>
     ensures listed { AreListed items.new.items }
     ensures book { OnOk result (replay items.new.items empty ≡ after_item item (replay items.old.items empty)) }
 {
-    items.remove(at);
+    drop(items.remove(at));
     items.push(item)?;
     Ok(())
 }
@@ -49,7 +49,7 @@ fn take_out(items: &mut Vec<Item>, at: usize, gone: &Item)
     ensures listed { AreListed items.new.items }
     ensures book { replay items.new.items empty ≡ after_item gone.now (replay items.old.items empty) }
 {
-    items.remove(at);
+    drop(items.remove(at));
 }
 
 /// Adds an item under a name of its own.
@@ -82,6 +82,7 @@ pub fn put(items: &mut Vec<Item>, item: Item) -> Result<(), NoMemory>
         if found {
             take_out(items, at, &item);
         }
+        drop(item);
         Ok(())
     }
 }

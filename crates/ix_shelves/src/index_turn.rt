@@ -13,7 +13,6 @@ use std::alloc::Global;
 use std::marker::Model;
 
 /// The moves of a turn in one index, with what carrying them out needs.
-#[derive(Drop)]
 pub struct IndexTurn {
     index: Bytes,
     /// Whether the files of frozen buckets are kept.
@@ -21,6 +20,18 @@ pub struct IndexTurn {
     /// In microseconds since 1970-01-01T00:00:00Z.
     moment: i64,
     moves: Moves,
+}
+
+/// It is written out, so that each place where one is let go is a call of it, which is proved once.
+impl Drop for IndexTurn {
+    fn drop(self) {
+        let IndexTurn {
+            index: _,
+            archive: _,
+            moment: _,
+            moves: _,
+        } = self;
+    }
 }
 
 impl Model for IndexTurn {

@@ -2,10 +2,11 @@
 //! into a text, and each text is compared once. Where memory is lacking a text stays too short, and is not what is wanted.
 
 use ix_base::{
-    Bytes, ChannelMeta, Clock, Event, FailPlan, HostClock, HostTree, LATEST_MOMENT, LineWriter,
-    MemClock, MemSink, MemSource, MemTree, NoMemory, NumberList, Sink, Source, StdSink, StdSource,
-    Text, Tree, TreeFile, TreeFileList, clamped, names_are_in_order, write_line,
+    Bytes, ChannelMeta, Clock, Event, FailPlan, HostClock, LATEST_MOMENT, MemClock, MemSink,
+    MemSource, NoMemory, NumberList, Sink, Source, StdSink, StdSource, Text, clamped,
 };
+use ix_text::{LineWriter, write_line};
+use ix_tree::{HostTree, MemTree, Tree, TreeFile, TreeFileList, names_are_in_order};
 use std::alloc::Global;
 use std::fmt::Debug;
 use std::process::Abort;

@@ -49,8 +49,11 @@ impl Drop for Attempt {
 }
 
 impl Attempt {
-    /// What an attempt works in, before one was begun. It takes no memory.
-    pub fn unbegun(alloc: Global) -> Self {
+    /// What an attempt works in, before one was begun. It has no thread and takes no memory.
+    pub fn unbegun(alloc: Global) -> Self
+        ensures threads { result.threads.items ≡ [] }
+        ensures cells { result.cells.items ≡ [] }
+    {
         Attempt {
             place: 0,
             threads: Vec::new(alloc),

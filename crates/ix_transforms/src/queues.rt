@@ -137,15 +137,28 @@ impl Queued {
             mut event,
             mut queue,
         } = self;
-        match key {
-            Key::Raw => event.raw = text,
-            Key::Meta => event.meta = text,
-            Key::Queue => queue = queue_or(queue, text.as_slice()),
-            Key::Index => event.index = text,
-            Key::Host => set_behind(&mut event.host, b"host::", text.as_slice())?,
-            Key::Source => set_behind(&mut event.source, b"source::", text.as_slice())?,
-            Key::Sourcetype => set_behind(&mut event.sourcetype, b"sourcetype::", text.as_slice())?,
-        }
+        let field = match key {
+            Key::Raw => {
+                event.raw = text;
+                return Ok(Queued { event, queue });
+            }
+            Key::Meta => {
+                event.meta = text;
+                return Ok(Queued { event, queue });
+            }
+            Key::Index => {
+                event.index = text;
+                return Ok(Queued { event, queue });
+            }
+            Key::Queue => {
+                queue = queue_or(queue, text.as_slice());
+                return Ok(Queued { event, queue });
+            }
+            Key::Host => set_behind(&mut event.host, b"host::", text.as_slice()),
+            Key::Source => set_behind(&mut event.source, b"source::", text.as_slice()),
+            Key::Sourcetype => set_behind(&mut event.sourcetype, b"sourcetype::", text.as_slice()),
+        };
+        field?;
         Ok(Queued { event, queue })
     }
 }

@@ -1,11 +1,10 @@
 //! Tests of `btool`, over files in memory.
 
 use indexd_core::{Status, top};
-use ix_base::{
-    Bytes, FailPlan, MemClock, MemSink, MemSource, MemTree, NoMemory, Text, TreeFile, TreeFileList,
-};
+use ix_base::{Bytes, FailPlan, MemClock, MemSink, MemSource, NoMemory, Text};
 use ix_disk::MemDisk;
 use ix_link::{MemLinkList, MemListener};
+use ix_tree::{MemTree, TreeFile, TreeFileList};
 use std::alloc::Global;
 use std::test::Fail;
 

@@ -1,12 +1,10 @@
 //! A run of the program over a disk: what the other tests share.
 
 use indexd_core::top;
-use ix_base::{
-    Bytes, FailPlan, MemClock, MemSink, MemSource, MemTree, NoMemory, Sink, Source, Text, TreeFile,
-    TreeFileList,
-};
+use ix_base::{Bytes, FailPlan, MemClock, MemSink, MemSource, NoMemory, Sink, Source, Text};
 use ix_disk::Disk;
 use ix_link::{Listener, MemLinkList, MemListener};
+use ix_tree::{MemTree, TreeFile, TreeFileList};
 use std::alloc::Global;
 use std::test::Fail;
 

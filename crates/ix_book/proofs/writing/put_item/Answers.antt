@@ -6,7 +6,7 @@ use Rattle.ix_book.proofs.writing.put_item.Goals as goal
 
 pub returns-clause-put : goal.returns-clause-put
 returns-clause-put g c = λ body ready.
-    let bytes : c.as_slice.result.now ≡ item_bytes c.args.item.now = c.as_slice.ensures ∙ c.in_ok-write_item.ensures.ok ∙ ap (λ (l : List ℕ). l ++ item_bytes c.args.item.now) c.new-bytes.ensures in
+    let bytes : c.as_slice.result.now ≡ item_bytes c.args.item = c.as_slice.ensures ∙ c.in_ok-written.ensures.ok ∙ ap (λ (l : List ℕ). l ++ item_bytes c.args.item) c.new-bytes.ensures in
     subst (λ (b : List ℕ). IsPutting g.D.Disk c.put.new.self c.put.new.disk [] (body ++ b)) bytes (c.in_ok-put.ensures.put [] body ready)
 
 pub returns-clause-images : goal.returns-clause-images

@@ -1,7 +1,9 @@
 use Rattle.std.proofs.Common.{◌≡◌, ℕ, List, [], ◌∷◌, ◌++◌, refl, ap, subst, sym, ◌∙◌, inl}
 use Rattle.ix_base.specs.declared.files.File.{File}
+use Rattle.ix_base.specs.Told.{Told}
 use Rattle.ix_disk.specs.Image.{Apart}
 use Rattle.ix_disk.specs.Moments.{Goes}
+use Rattle.ix_disk.proofs.Others.{apart_on}
 use Rattle.ix_items.specs.Spelling.{item_bytes, body_bytes}
 use Rattle.ix_items.specs.declared.items.Item.{Item}
 use Rattle.ix_log.specs.Log.{IsAtEnd, IsPutting, WithOrWithout, file_of}
@@ -65,3 +67,35 @@ returns-clause-written g c =
 
 pub returns-clause-body : goal.returns-clause-body
 returns-clause-body g c = is_whole (g.W.Whole.left c.args.state.now) c.args.done c.in_ok-put_items.ensures.proper c.in_ok-last.ensures.proper
+
+pub returns-in_err-put_items-clause-seen : goal.returns-in_err-put_items-clause-seen
+returns-in_err-put_items-clause-seen g c =
+    apart_on c.args.file _ _ _ c.begin.ensures.seen
+    (subst (λ (f : File). Told (Apart f) (g.D.Disk.seen c.begin.new.disk) (g.D.Disk.seen c.put_items.new.disk)) c.in_ok-log.ensures.file c.put_items.ensures.seen)
+
+pub returns-in_err-last-clause-seen : goal.returns-in_err-last-clause-seen
+returns-in_err-last-clause-seen g c =
+    apart_on c.args.file _ _ _ c.begin.ensures.seen
+    (subst (λ (f : File). Told (Apart f) (g.D.Disk.seen c.begin.new.disk) (g.D.Disk.seen c.put_items.new.disk)) c.in_ok-log.ensures.file c.put_items.ensures.seen)
+
+pub returns-in_err-put_item-clause-seen : goal.returns-in_err-put_item-clause-seen
+returns-in_err-put_item-clause-seen g c =
+    apart_on c.args.file _ _ _ (apart_on c.args.file _ _ _ c.begin.ensures.seen
+    (subst (λ (f : File). Told (Apart f) (g.D.Disk.seen c.begin.new.disk) (g.D.Disk.seen c.put_items.new.disk)) c.in_ok-log.ensures.file c.put_items.ensures.seen))
+    (subst (λ (f : File). Told (Apart f) (g.D.Disk.seen c.put_items.new.disk) (g.D.Disk.seen c.put_item.new.disk)) (c.put_items.ensures.file ∙ c.in_ok-log.ensures.file) c.put_item.ensures.seen)
+
+pub returns-in_err-finish-clause-seen : goal.returns-in_err-finish-clause-seen
+returns-in_err-finish-clause-seen g c =
+    let begun = c.in_ok-log.ensures.file in
+    apart_on c.args.file _ _ _ (apart_on c.args.file _ _ _ (apart_on c.args.file _ _ _ c.begin.ensures.seen
+    (subst (λ (f : File). Told (Apart f) (g.D.Disk.seen c.begin.new.disk) (g.D.Disk.seen c.put_items.new.disk)) begun c.put_items.ensures.seen))
+    (subst (λ (f : File). Told (Apart f) (g.D.Disk.seen c.put_items.new.disk) (g.D.Disk.seen c.put_item.new.disk)) (c.put_items.ensures.file ∙ begun) c.put_item.ensures.seen))
+    (subst (λ (f : File). Told (Apart f) (g.D.Disk.seen c.put_item.new.disk) (g.D.Disk.seen c.finish.new.disk)) (c.put_item.ensures.file ∙ c.put_items.ensures.file ∙ begun) c.finish.ensures.seen)
+
+pub returns-clause-seen : goal.returns-clause-seen
+returns-clause-seen g c =
+    let begun = c.in_ok-log.ensures.file in
+    apart_on c.args.file _ _ _ (apart_on c.args.file _ _ _ (apart_on c.args.file _ _ _ c.begin.ensures.seen
+    (subst (λ (f : File). Told (Apart f) (g.D.Disk.seen c.begin.new.disk) (g.D.Disk.seen c.put_items.new.disk)) begun c.put_items.ensures.seen))
+    (subst (λ (f : File). Told (Apart f) (g.D.Disk.seen c.put_items.new.disk) (g.D.Disk.seen c.put_item.new.disk)) (c.put_items.ensures.file ∙ begun) c.put_item.ensures.seen))
+    (subst (λ (f : File). Told (Apart f) (g.D.Disk.seen c.put_item.new.disk) (g.D.Disk.seen c.finish.new.disk)) (c.put_item.ensures.file ∙ c.put_items.ensures.file ∙ begun) c.finish.ensures.seen)

@@ -27,8 +27,8 @@ returns-in-Err-BadCarry-clause-bad c = λ subject is. (
   }),
 )
 
-pub returns-in-Ok-clause-opened : goal.returns-in-Ok-clause-opened
-returns-in-Ok-clause-opened c =
+pub returns-in_ok-copy-in-Ok-clause-opened : goal.returns-in_ok-copy-in-Ok-clause-opened
+returns-in_ok-copy-in-Ok-clause-opened c =
     let settings = c.in_ok-settings.settings in
     record {
       name = search rules;

@@ -3,8 +3,8 @@ use Rattle.ix_keep.proofs.Cutting.{grew_as, grew_slots}
 use Rattle.ix_keep.proofs.Steps.{stages_item}
 use Rattle.ix_keep.proofs.keeper.Keeper.push_item.Goals as goal
 
-pub returns-in_err-write_item-clause-grew : goal.returns-in_err-write_item-clause-grew
-returns-in_err-write_item-clause-grew c = grew_as _ _ (record { root = refl; log = refl; number = refl; first = refl; closed = refl }) refl refl refl refl
+pub returns-in-Err-clause-grew : goal.returns-in-Err-clause-grew
+returns-in-Err-clause-grew c = grew_as _ _ (record { root = refl; log = refl; number = refl; first = refl; closed = refl }) refl refl refl refl
 
 pub returns-then-size-clause-grew : goal.returns-then-size-clause-grew
 returns-then-size-clause-grew c = grew_as _ _ (record { root = refl; log = refl; number = refl; first = refl; closed = refl }) refl refl refl refl
