@@ -82,11 +82,12 @@ program = on_top
     })
     (new_app (codes "indexd"))
 
--- with two more commands
-abbrev pub with_both : App → App → App → App
-with_both above one other = with_subcommand (with_subcommand above one.top) other.top
+-- with one more command
+abbrev pub with_one : App → App → App
+with_one above one = with_subcommand above one.top
 
 -- the program with all its commands
 unfoldable pub table : App
-table = with_subcommand (with_both (with_both (with_both (with_both (with_both program
-    preview btool) feed serve) monitor buckets) export roll) thaw tick) selftest.top
+table =
+    with_one (with_one (with_one (with_one (with_one (with_one (with_one (with_one (with_one (with_one (with_one program
+    preview) btool) feed) serve) monitor) buckets) export) roll) thaw) tick) selftest

@@ -1,9 +1,9 @@
 //! The commands of the program, made for `clap`. `parse.rt` has the words read by them.
 
 ghost use Rattle.std.specs.Prelude.{◌≡◌, IfOk, false};
-ghost use Rattle.clap.specs.Words.{app_of, rule_of, new_app, with_rule, with_subcommand};
+ghost use Rattle.clap.specs.Words.{App, Rule, app_of, rule_of, new_app, with_rule};
 ghost use Rattle.clap.specs.declared.builder.command.Command.TheViews.{out-Command as fields_of};
-ghost use Rattle.indexd_words.specs.Table.{option_rule, flag_rule, word_rule, preview, btool, feed, serve, monitor, buckets, export, roll, thaw, tick, selftest, program, with_both, table};
+ghost use Rattle.indexd_words.specs.Table.{option_rule, flag_rule, word_rule, preview, btool, feed, serve, monitor, buckets, export, roll, thaw, tick, selftest, program, with_one, table};
 
 use clap::{Arg, ArgAction, Command};
 use std::alloc::{AllocError, Global};
@@ -35,69 +35,68 @@ fn word<'a>(alloc: Global, name: &'a str) -> Arg<'a>
     Arg::new(alloc, name).required(true).action(ArgAction::Set)
 }
 
-fn new_command<'a>(alloc: Global, name: &'a str) -> Command<'a>
-    ensures app { app_of result ≡ new_app name.entry.now }
-    ensures none_global { (fields_of result).has_globals ≡ false }
-{
-    Command::new(alloc, name)
-}
-
-fn with_arg<'a>(command: Command<'a>, arg: Arg<'a>) -> Result<Command<'a>, AllocError>
-    requires local { arg.global ≡ false }
-    requires none_global { (fields_of command).has_globals ≡ false }
-    ensures app { IfOk result (λ c. app_of c ≡ with_rule (app_of command.entry) (rule_of arg.entry)) }
+/// A command, before its words.
+fn new_command<'a>(alloc: Global, name: &'a str) -> Result<Command<'a>, AllocError>
+    ensures app { IfOk result (λ c. app_of c ≡ new_app name.entry.now) }
     ensures none_global { IfOk result (λ c. (fields_of c).has_globals ≡ false) }
 {
+    Ok(Command::new(alloc, name))
+}
+
+/// With a word or an option, where the command could be made.
+fn with_arg<'a>(
+    made: Result<Command<'a>, AllocError>,
+    arg: Arg<'a>,
+) -> Result<Command<'a>, AllocError>
+    requires local { arg.global ≡ false }
+    requires none_global { IfOk made (λ c. (fields_of c).has_globals ≡ false) }
+    ensures app { (app : App) → (rule : Rule) → rule_of arg.entry ≡ rule → IfOk made.entry (λ c. app_of c ≡ app) → IfOk result (λ c. app_of c ≡ with_rule app rule) }
+    ensures none_global { IfOk result (λ c. (fields_of c).has_globals ≡ false) }
+{
+    let command = made?;
     command.arg(arg)
 }
 
-fn with_command<'a>(above: Command<'a>, command: Command<'a>) -> Result<Command<'a>, AllocError>
-    requires above_none_global { (fields_of above).has_globals ≡ false }
-    requires none_global { (fields_of command).has_globals ≡ false }
-    ensures app { IfOk result (λ c. app_of c ≡ with_subcommand (app_of above.entry) (app_of command.entry).top) }
+/// With one more command, where both could be made. Each of these is handed on as it was made, so that no early return
+/// has commands to let go.
+fn with_command<'a>(
+    above: Result<Command<'a>, AllocError>,
+    made: Result<Command<'a>, AllocError>,
+) -> Result<Command<'a>, AllocError>
+    requires above_none_global { IfOk above (λ c. (fields_of c).has_globals ≡ false) }
+    requires none_global { IfOk made (λ c. (fields_of c).has_globals ≡ false) }
+    ensures app { (all : App) → (one : App) → IfOk above.entry (λ c. app_of c ≡ all) → IfOk made.entry (λ c. app_of c ≡ one) → IfOk result (λ c. app_of c ≡ with_one all one) }
     ensures none_global { IfOk result (λ c. (fields_of c).has_globals ≡ false) }
 {
+    let above = above?;
+    let command = made?;
     above.subcommand(command)
 }
 
-fn with_both<'a>(
-    above: Command<'a>,
-    one: Command<'a>,
-    other: Command<'a>,
-) -> Result<Command<'a>, AllocError>
-    requires above_none_global { (fields_of above).has_globals ≡ false }
-    requires one_none_global { (fields_of one).has_globals ≡ false }
-    requires none_global { (fields_of other).has_globals ≡ false }
-    ensures app { IfOk result (λ c. app_of c ≡ with_both (app_of above.entry) (app_of one.entry) (app_of other.entry)) }
+#[tactic(auto, unfolding(crate::specs::Table::program))]
+fn program<'a>(alloc: Global) -> Result<Command<'a>, AllocError>
+    ensures app { IfOk result (λ c. app_of c ≡ program) }
     ensures none_global { IfOk result (λ c. (fields_of c).has_globals ≡ false) }
 {
-    let above = with_command(above, one)?;
-    with_command(above, other)
-}
-
-#[tactic(auto, unfolding(crate::specs::Table::program))]
-fn program<'a>(alloc: Global) -> Command<'a>
-    ensures app { app_of result ≡ program }
-    ensures none_global { (fields_of result).has_globals ≡ false }
-{
-    new_command(alloc, "indexd")
+    let command = Command::new(alloc, "indexd")
         .no_binary_name(true)
         .disable_help_flag(true)
         .disable_help_subcommand(true)
         .disable_version_flag(true)
-        .subcommand_required(true)
+        .subcommand_required(true);
+    Ok(command)
 }
 
 fn preview<'a>(alloc: Global) -> Result<Command<'a>, AllocError>
     ensures app { IfOk result (λ c. app_of c ≡ preview) }
     ensures none_global { IfOk result (λ c. (fields_of c).has_globals ≡ false) }
 {
-    let command = new_command(alloc, "preview");
-    let command = with_arg(command, option(alloc, "host", true))?;
-    let command = with_arg(command, option(alloc, "source", true))?;
-    let command = with_arg(command, option(alloc, "sourcetype", false))?;
-    let command = with_arg(command, option(alloc, "index", false))?;
-    with_arg(command, flag(alloc, "store"))
+    let made = new_command(alloc, "preview");
+    let made = with_arg(made, option(alloc, "host", true));
+    let made = with_arg(made, option(alloc, "source", true));
+    let made = with_arg(made, option(alloc, "sourcetype", false));
+    let made = with_arg(made, option(alloc, "index", false));
+    with_arg(made, flag(alloc, "store"))
 }
 
 /// A command that takes one word.
@@ -118,78 +117,32 @@ fn two_words<'a>(
     ensures app { IfOk result (λ c. app_of c ≡ with_rule (with_rule (new_app name.entry.now) (word_rule first.entry.now)) (word_rule second.entry.now)) }
     ensures none_global { IfOk result (λ c. (fields_of c).has_globals ≡ false) }
 {
-    let command = one_word(alloc, name, first)?;
-    with_arg(command, word(alloc, second))
+    with_arg(one_word(alloc, name, first), word(alloc, second))
 }
 
 fn serve<'a>(alloc: Global) -> Result<Command<'a>, AllocError>
     ensures app { IfOk result (λ c. app_of c ≡ serve) }
     ensures none_global { IfOk result (λ c. (fields_of c).has_globals ≡ false) }
 {
-    let command = new_command(alloc, "serve");
-    let command = with_arg(command, option(alloc, "port", true))?;
-    with_arg(command, option(alloc, "requests", true))
+    let made = new_command(alloc, "serve");
+    let made = with_arg(made, option(alloc, "port", true));
+    with_arg(made, option(alloc, "requests", true))
 }
 
 fn export<'a>(alloc: Global) -> Result<Command<'a>, AllocError>
     ensures app { IfOk result (λ c. app_of c ≡ export) }
     ensures none_global { IfOk result (λ c. (fields_of c).has_globals ≡ false) }
 {
-    let command = one_word(alloc, "export", "INDEX")?;
-    let command = with_arg(command, option(alloc, "earliest", false))?;
-    with_arg(command, option(alloc, "latest", false))
+    let made = one_word(alloc, "export", "INDEX");
+    let made = with_arg(made, option(alloc, "earliest", false));
+    with_arg(made, option(alloc, "latest", false))
 }
 
-/// With `preview` and `btool`.
-fn with_reading<'a>(alloc: Global, above: Command<'a>) -> Result<Command<'a>, AllocError>
-    requires none_global { (fields_of above).has_globals ≡ false }
-    ensures app { IfOk result (λ c. app_of c ≡ with_both (app_of above.entry) preview btool) }
+fn monitor<'a>(alloc: Global) -> Result<Command<'a>, AllocError>
+    ensures app { IfOk result (λ c. app_of c ≡ monitor) }
     ensures none_global { IfOk result (λ c. (fields_of c).has_globals ≡ false) }
 {
-    let preview = preview(alloc)?;
-    let btool = one_word(alloc, "btool", "FILE")?;
-    with_both(above, preview, btool)
-}
-
-/// With `feed` and `serve`.
-fn with_requests<'a>(alloc: Global, above: Command<'a>) -> Result<Command<'a>, AllocError>
-    requires none_global { (fields_of above).has_globals ≡ false }
-    ensures app { IfOk result (λ c. app_of c ≡ with_both (app_of above.entry) feed serve) }
-    ensures none_global { IfOk result (λ c. (fields_of c).has_globals ≡ false) }
-{
-    let serve = serve(alloc)?;
-    with_both(above, new_command(alloc, "feed"), serve)
-}
-
-/// With `monitor` and `buckets`.
-fn with_watching<'a>(alloc: Global, above: Command<'a>) -> Result<Command<'a>, AllocError>
-    requires none_global { (fields_of above).has_globals ≡ false }
-    ensures app { IfOk result (λ c. app_of c ≡ with_both (app_of above.entry) monitor buckets) }
-    ensures none_global { IfOk result (λ c. (fields_of c).has_globals ≡ false) }
-{
-    let monitor = with_arg(new_command(alloc, "monitor"), flag(alloc, "close"))?;
-    with_both(above, monitor, new_command(alloc, "buckets"))
-}
-
-/// With `export` and `roll`.
-fn with_events<'a>(alloc: Global, above: Command<'a>) -> Result<Command<'a>, AllocError>
-    requires none_global { (fields_of above).has_globals ≡ false }
-    ensures app { IfOk result (λ c. app_of c ≡ with_both (app_of above.entry) export roll) }
-    ensures none_global { IfOk result (λ c. (fields_of c).has_globals ≡ false) }
-{
-    let export = export(alloc)?;
-    let roll = one_word(alloc, "roll", "INDEX")?;
-    with_both(above, export, roll)
-}
-
-/// With `thaw` and `tick`.
-fn with_upkeep<'a>(alloc: Global, above: Command<'a>) -> Result<Command<'a>, AllocError>
-    requires none_global { (fields_of above).has_globals ≡ false }
-    ensures app { IfOk result (λ c. app_of c ≡ with_both (app_of above.entry) thaw tick) }
-    ensures none_global { IfOk result (λ c. (fields_of c).has_globals ≡ false) }
-{
-    let thaw = two_words(alloc, "thaw", "INDEX", "ID")?;
-    with_both(above, thaw, new_command(alloc, "tick"))
+    with_arg(new_command(alloc, "monitor"), flag(alloc, "close"))
 }
 
 /// The program with all its commands.
@@ -197,11 +150,15 @@ pub fn table<'a>(alloc: Global) -> Result<Command<'a>, AllocError>
     ensures app { IfOk result (λ c. app_of c ≡ table) }
     ensures none_global { IfOk result (λ c. (fields_of c).has_globals ≡ false) }
 {
-    let command = with_reading(alloc, program(alloc))?;
-    let command = with_requests(alloc, command)?;
-    let command = with_watching(alloc, command)?;
-    let command = with_events(alloc, command)?;
-    let command = with_upkeep(alloc, command)?;
-    let selftest = two_words(alloc, "selftest", "SEED", "COUNT")?;
-    with_command(command, selftest)
+    let made = with_command(program(alloc), preview(alloc));
+    let made = with_command(made, one_word(alloc, "btool", "FILE"));
+    let made = with_command(made, new_command(alloc, "feed"));
+    let made = with_command(made, serve(alloc));
+    let made = with_command(made, monitor(alloc));
+    let made = with_command(made, new_command(alloc, "buckets"));
+    let made = with_command(made, export(alloc));
+    let made = with_command(made, one_word(alloc, "roll", "INDEX"));
+    let made = with_command(made, two_words(alloc, "thaw", "INDEX", "ID"));
+    let made = with_command(made, new_command(alloc, "tick"));
+    with_command(made, two_words(alloc, "selftest", "SEED", "COUNT"))
 }

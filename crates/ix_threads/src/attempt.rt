@@ -1,6 +1,6 @@
 //! An attempt at the first place of a text, kept while bytes come.
 
-ghost use Rattle.std.specs.Prelude.{◌≡◌, ◌⊎◌, ◌≤◌, ◌<◌, ℕ, List, Option, None, IfOk, OnOk, length, replicate, slice_get};
+ghost use Rattle.std.specs.Prelude.{◌≡◌, [], ◌⊎◌, ◌≤◌, ◌<◌, ℕ, List, Option, None, IfOk, OnOk, length, replicate, slice_get};
 ghost use Rattle.ix_pattern.specs.Ways.{ways};
 ghost use Rattle.ix_pattern.specs.Rows.{Rows, tree};
 ghost use Rattle.ix_threads.specs.Leaf.{text_of, at};
