@@ -1,5 +1,5 @@
 //! Tests of the whole program, by `top`, over the forms in memory: the commands without a store, those over one, and the
-//! requests that it serves; and of a checkpoint, which the store is asked for.
+//! requests that it serves; of a checkpoint, which the store is asked for; and of the settings that a store keeps.
 
 mod btool;
 mod checkpointed;
@@ -9,6 +9,7 @@ mod events;
 mod examples;
 mod exchanges;
 mod hostile;
+mod kept;
 mod program;
 mod requests;
 mod runs;

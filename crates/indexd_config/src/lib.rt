@@ -4,6 +4,3 @@
 mod reading;
 
 pub use reading::read_config;
-
-#[cfg(test)]
-mod tests;

@@ -1,6 +1,7 @@
 //! Tests of `btool`, over files in memory.
 
-use indexd_core::{Status, top};
+use crate::tests::runs::run_top;
+use indexd_core::Status;
 use ix_base::{Bytes, FailPlan, MemClock, MemSink, MemSource, NoMemory, Text};
 use ix_disk::MemDisk;
 use ix_link::{MemLinkList, MemListener};
@@ -44,7 +45,7 @@ fn answers(
     let mut tree = tree_of(alloc, files, failing)?;
     let mut disk = MemDisk::new(alloc, FailPlan::none(alloc));
     let mut listener = MemListener::new(alloc, MemLinkList::new(alloc), FailPlan::none(alloc));
-    let status = top(
+    let status = run_top(
         alloc,
         &words,
         &mut input,

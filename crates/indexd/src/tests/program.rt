@@ -1,7 +1,7 @@
 //! Tests of `preview`, of the words of the command line, and of the numbers of the statuses.
 
-use crate::tests::runs::{tree_of, words_of};
-use indexd_core::{Status, top};
+use crate::tests::runs::{run_top, tree_of, words_of};
+use indexd_core::Status;
 use ix_base::{Bytes, Clock, FailPlan, Failed, MemClock, MemSink, MemSource, Sink, Source};
 use ix_disk::MemDisk;
 use ix_link::{MemLinkList, MemListener};
@@ -38,7 +38,7 @@ fn run<S: Source, W: Sink, C: Clock>(
     let mut tree = tree_of(alloc, &[("props", "[default]\nSHOULD_LINEMERGE = false")])?;
     let mut disk = MemDisk::new(alloc, FailPlan::none(alloc));
     let mut listener = MemListener::new(alloc, MemLinkList::new(alloc), FailPlan::none(alloc));
-    let status = top(
+    let status = run_top(
         alloc,
         &words,
         input,

@@ -1,10 +1,10 @@
 //! A run of the program over a disk: what the other tests share.
 
-use indexd_core::top;
-use ix_base::{Bytes, FailPlan, MemClock, MemSink, MemSource, NoMemory, Sink, Source, Text};
+use indexd_core::{Status, top};
+use ix_base::{Bytes, Clock, FailPlan, MemClock, MemSink, MemSource, NoMemory, Sink, Source, Text};
 use ix_disk::Disk;
 use ix_link::{Listener, MemLinkList, MemListener};
-use ix_tree::{MemTree, TreeFile, TreeFileList};
+use ix_tree::{MemTree, Tree, TreeFile, TreeFileList};
 use std::alloc::Global;
 use std::test::Fail;
 
@@ -74,6 +74,20 @@ pub(crate) struct Setup<'a> {
     pub files: &'a [(&'a str, &'a str)],
 }
 
+/// Runs the program. The tests call it here alone: the contract of `top` is long, and each call of it takes long to prove.
+pub(crate) fn run_top<S: Source, W: Sink, C: Clock, T: Tree, D: Disk, L: Listener>(
+    alloc: Global,
+    words: &[Text],
+    input: &mut S,
+    output: &mut W,
+    clock: &mut C,
+    tree: &mut T,
+    disk: &mut D,
+    listener: &mut L,
+) -> Status {
+    top(alloc, words, input, output, clock, tree, disk, listener)
+}
+
 /// The number of the status of a run.
 pub(crate) fn status_of<S: Source, W: Sink, D: Disk, L: Listener>(
     alloc: Global,
@@ -86,7 +100,7 @@ pub(crate) fn status_of<S: Source, W: Sink, D: Disk, L: Listener>(
     let words = words_of(alloc, setup.line)?;
     let mut tree = tree_of(alloc, setup.files)?;
     let mut clock = MemClock::new([setup.moment].to_vec(alloc)?);
-    let status = top(
+    let status = run_top(
         alloc, &words, input, output, &mut clock, &mut tree, disk, listener,
     );
     Ok(status.code())

@@ -1,6 +1,6 @@
-//! What is kept of the files of a tree.
+//! What a store keeps of the files of a tree.
 
-use crate::read_config;
+use indexd_config::read_config;
 use ix_base::{Bytes, FailPlan, NoMemory};
 use ix_items::KeptList;
 use ix_tree::{MemTree, TreeFile, TreeFileList};
