@@ -36,24 +36,34 @@ fn items(alloc: Global, group: i64, gone: Option<File>) -> Result<Sequence<Item>
     Ok(items)
 }
 
-/// Bytes for a bucket, behind those that it has.
-fn piece(alloc: Global, number: u64, at: u64, bytes: &[u8]) -> Result<Piece, NoMemory> {
+/// Adds bytes for a bucket, behind those that it has.
+fn add_piece(
+    alloc: Global,
+    pieces: &mut Sequence<Piece>,
+    (number, at): (u64, u64),
+    bytes: &[u8],
+) -> Result<(), NoMemory> {
     let bytes = Bytes::copy_of(alloc, bytes)?;
-    Ok(Piece { number, at, bytes })
+    pieces.push(Piece { number, at, bytes })
+}
+
+/// Adds the pieces of a group.
+fn add_pieces(alloc: Global, group: i64, pieces: &mut Sequence<Piece>) -> Result<(), NoMemory> {
+    match group {
+        1 => add_piece(alloc, pieces, (1, 0), b"abc"),
+        2 => {
+            add_piece(alloc, pieces, (1, 3), b"de")?;
+            add_piece(alloc, pieces, (2, 0), b"x")
+        }
+        4 => add_piece(alloc, pieces, (2, 1), b"yz"),
+        _ => Ok(()),
+    }
 }
 
 /// The pieces of each group.
 fn pieces(alloc: Global, group: i64) -> Result<Sequence<Piece>, NoMemory> {
     let mut pieces = Sequence::new(alloc);
-    match group {
-        1 => pieces.push(piece(alloc, 1, 0, b"abc")?)?,
-        2 => {
-            pieces.push(piece(alloc, 1, 3, b"de")?)?;
-            pieces.push(piece(alloc, 2, 0, b"x")?)?;
-        }
-        4 => pieces.push(piece(alloc, 2, 1, b"yz")?)?,
-        _ => {}
-    }
+    add_pieces(alloc, group, &mut pieces)?;
     Ok(pieces)
 }
 

@@ -87,12 +87,10 @@ fn read_entries(
 {
     let mut found = Sequence::new(alloc);
     while let Some(item) = props.item(found.len()) {
+        let stanza = Bytes::copy_of(alloc, item.stanza)?;
+        let key = Bytes::copy_of(alloc, item.key)?;
         let value = read_kind(alloc, entry_kind(item), item, transforms, zones)?;
-        found.push(PropsEntry {
-            stanza: Bytes::copy_of(alloc, item.stanza)?,
-            key: Bytes::copy_of(alloc, item.key)?,
-            value,
-        })?;
+        found.push(PropsEntry { stanza, key, value })?;
     }
     Ok(found)
 }

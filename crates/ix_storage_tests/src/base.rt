@@ -1,4 +1,4 @@
-//! Tests of `ix_base`: the text of an event, and the forms in memory and over the real things. What calls answer is written
+//! Tests of `ix_base`, `ix_text` and `ix_tree`: the text of an event, and the forms in memory and over the real things. What calls answer is written
 //! into a text, and each text is compared once. Where memory is lacking a text stays too short, and is not what is wanted.
 
 use ix_base::{

@@ -86,42 +86,57 @@ fn shown(rt: &impl Abort, alloc: Global, input: &str, most: usize, want: &str) -
     Ok(())
 }
 
+/// Inputs, and the raw texts of their events with `|` between.
+static LINES: [(&str, &str); 6] = [
+    ("", ""),
+    ("\r\n\r\n", ""),
+    ("a\r\nb", "a|b"),
+    ("\n\na\n", "a"),
+    ("a\\b\tc\u{7f}\u{e9}", "a\\\\b\\tc\\x7f\\xc3\\xa9"),
+    ("one\rtwo\nthree", "one|two|three"),
+];
+
+/// The input has these events, however it is read.
+fn check_lines(rt: &impl Abort, alloc: Global, (input, raws): (&str, &str)) -> Result<(), Fail> {
+    let want = lines(alloc, raws, "")?;
+    shown(rt, alloc, input, 1, want.as_str())?;
+    shown(rt, alloc, input, 2, want.as_str())?;
+    shown(rt, alloc, input, 1 << 20, want.as_str())
+}
+
 #[test]
 fn lines_become_events(rt: HostRuntime) -> Result<(), Fail> {
-    let alloc = rt.alloc();
-    let table = [
-        ("", ""),
-        ("\r\n\r\n", ""),
-        ("a\r\nb", "a|b"),
-        ("\n\na\n", "a"),
-        ("a\\b\tc\u{7f}\u{e9}", "a\\\\b\\tc\\x7f\\xc3\\xa9"),
-        ("one\rtwo\nthree", "one|two|three"),
-    ];
-    for (input, raws) in table {
-        let want = lines(alloc, raws, "")?;
-        for most in [1usize, 2, 1 << 20] {
-            shown(&rt, alloc, input, most, want.as_str())?;
-        }
+    for row in &LINES {
+        check_lines(&rt, rt.alloc(), *row)?;
     }
     Ok(())
+}
+
+/// How many letters a line has, what stands behind them, and how many letters are kept.
+static LONG: [(usize, &str, usize); 4] = [
+    (10_000, "", 10_000),
+    (10_001, "", 10_000),
+    (9_998, "\u{20ac}", 9_998),
+    (9_999, "\u{20ac}", 9_999),
+];
+
+fn check_long(
+    rt: &impl Abort,
+    alloc: Global,
+    (letters, tail, kept): (usize, &str, usize),
+) -> Result<(), Fail> {
+    let mut input = "x".repeat(alloc, letters)?;
+    input.push_str(tail)?;
+    let raw = "x".repeat(alloc, kept)?;
+    let want = lines(alloc, raw.as_str(), "")?;
+    shown(rt, alloc, input.as_str(), 4096, want.as_str())
 }
 
 /// Lines are cut at 10,000 bytes, or before a character that would be cut.
 #[test]
 fn long_lines_are_cut_between_characters(rt: HostRuntime) -> Result<(), Fail> {
-    let alloc = rt.alloc();
-    let table = [
-        (10_000usize, "", 10_000usize),
-        (10_001, "", 10_000),
-        (9_998, "\u{20ac}", 9_998),
-        (9_999, "\u{20ac}", 9_999),
-    ];
-    for (letters, tail, kept) in table {
-        let mut input = "x".repeat(alloc, letters)?;
-        input.push_str(tail)?;
-        let raw = "x".repeat(alloc, kept)?;
-        let want = lines(alloc, raw.as_str(), "")?;
-        shown(&rt, alloc, input.as_str(), 4096, want.as_str())?;
+    for row in &LONG {
+        check_long(&rt, rt.alloc(), *row)?;
     }
     Ok(())
 }
@@ -137,54 +152,59 @@ struct Fault {
     end: &'static str,
 }
 
+static FAULTS: [Fault; 5] = [
+    Fault {
+        reads: &[0],
+        writes: &[],
+        status: Status::Input,
+        raws: "",
+        end: "indexd: input fault\n",
+    },
+    Fault {
+        reads: &[1],
+        writes: &[],
+        status: Status::Input,
+        raws: "a",
+        end: "indexd: input fault\n",
+    },
+    Fault {
+        reads: &[1],
+        writes: &[1],
+        status: Status::Input,
+        raws: "a",
+        end: "indexd: in",
+    },
+    Fault {
+        reads: &[1],
+        writes: &[0],
+        status: Status::Output,
+        raws: "",
+        end: "main\t1700000000.000",
+    },
+    Fault {
+        reads: &[],
+        writes: &[1],
+        status: Status::Output,
+        raws: "a",
+        end: "main\t1700000000.000",
+    },
+];
+
+fn check_fault(rt: &impl Abort, alloc: Global, fault: Fault) -> Result<(), Fail> {
+    let mut input = source(alloc, b"a\nb\nc", 3, fault.reads)?;
+    let mut output = sink(alloc, fault.writes)?;
+    let status = preview(alloc, &mut input, &mut output)?;
+    let want = lines(alloc, fault.raws, fault.end)?;
+    assert_eq!(rt; status, fault.status);
+    assert!(rt; output.bytes() == want.as_bytes(), "{want}");
+    Ok(())
+}
+
 /// Of each read three bytes are taken, so the first one settles the line of `a` alone.
 #[test]
 fn faults_end_a_run_behind_its_lines(rt: HostRuntime) -> Result<(), Fail> {
-    let alloc = rt.alloc();
-    let table = [
-        Fault {
-            reads: &[0],
-            writes: &[],
-            status: Status::Input,
-            raws: "",
-            end: "indexd: input fault\n",
-        },
-        Fault {
-            reads: &[1],
-            writes: &[],
-            status: Status::Input,
-            raws: "a",
-            end: "indexd: input fault\n",
-        },
-        Fault {
-            reads: &[1],
-            writes: &[1],
-            status: Status::Input,
-            raws: "a",
-            end: "indexd: in",
-        },
-        Fault {
-            reads: &[1],
-            writes: &[0],
-            status: Status::Output,
-            raws: "",
-            end: "main\t1700000000.000",
-        },
-        Fault {
-            reads: &[],
-            writes: &[1],
-            status: Status::Output,
-            raws: "a",
-            end: "main\t1700000000.000",
-        },
-    ];
-    for fault in table {
-        let mut input = source(alloc, b"a\nb\nc", 3, fault.reads)?;
-        let mut output = sink(alloc, fault.writes)?;
-        let status = preview(alloc, &mut input, &mut output)?;
-        let want = lines(alloc, fault.raws, fault.end)?;
-        assert_eq!(rt; status, fault.status);
-        assert!(rt; output.bytes() == want.as_bytes(), "{want}");
+    for fault in &FAULTS {
+        check_fault(&rt, rt.alloc(), *fault)?;
     }
     Ok(())
 }
@@ -255,21 +275,28 @@ fn lines_are_written_before_the_next_read(rt: HostRuntime) -> Result<(), Fail> {
     Ok(())
 }
 
+/// What the clock shows, and what the line of an event begins with.
+static MOMENTS: [(i64, &str); 3] = [
+    (-1, "main\t0.000000\t"),
+    (1, "main\t0.000001\t"),
+    (i64::MAX, "main\t4102444800.000000\t"),
+];
+
+/// What a run writes whose clock shows this moment.
+fn written_at(alloc: Global, moment: i64) -> Result<MemSink, Fail> {
+    let mut clock = MemClock::new([moment, 5].to_vec(alloc)?);
+    let mut input = source(alloc, b"a", 1, &[])?;
+    let mut output = sink(alloc, &[])?;
+    let line = "preview --host h --source s";
+    run(alloc, line, &mut input, &mut output, &mut clock)?;
+    Ok(output)
+}
+
 /// A clock outside the years 1970 to 2100 counts as the nearer end.
 #[test]
 fn moments_lie_between_1970_and_2100(rt: HostRuntime) -> Result<(), Fail> {
-    let alloc = rt.alloc();
-    for (shown, want) in [
-        (-1i64, "main\t0.000000\t"),
-        (1, "main\t0.000001\t"),
-        (i64::MAX, "main\t4102444800.000000\t"),
-    ] {
-        let mut input = source(alloc, b"a", 1, &[])?;
-        let mut output = sink(alloc, &[])?;
-        let mut clock = MemClock::new([shown, 5].to_vec(alloc)?);
-        let line = "preview --host h --source s";
-        let status = run(alloc, line, &mut input, &mut output, &mut clock)?;
-        assert_eq!(rt; status, Status::Done);
+    for (moment, want) in &MOMENTS {
+        let output = written_at(rt.alloc(), *moment)?;
         assert!(rt; output.bytes().starts_with(want.as_bytes()), "{want}");
     }
     Ok(())

@@ -74,7 +74,7 @@ pub(crate) struct Setup<'a> {
     pub files: &'a [(&'a str, &'a str)],
 }
 
-/// Runs the program. The tests call it here alone: the contract of `top` is long, and each call of it takes long to prove.
+/// Runs the program. The tests call `top` in this function alone: its contract is long, and each call of it takes long to prove.
 pub(crate) fn run_top<S: Source, W: Sink, C: Clock, T: Tree, D: Disk, L: Listener>(
     alloc: Global,
     words: &[Text],

@@ -9,7 +9,7 @@ use Rattle.ix_props.proofs.props.read_entries.Goals as goal
 
 pub returns-in_err-value-clause-err : goal.returns-in_err-value-clause-err
 returns-in_err-value-clause-err c =
-    let p = err_from_is_err_and c.from_residual.result c.from_residual.ensures.1 in
+    let p = err_from_is_err_and c.from_residual-in_err-value.result c.from_residual-in_err-value.ensures.1 in
     let e = item_entry c.in-Some.item in
     let here : slice_get c.args.props.now (length c.loop-item.found) ≡ Some e =
     sym (c.in-Some.ensures ∙ ap (λ n. slice_get c.args.props.now n) c.len.ensures) in
@@ -37,7 +37,7 @@ loop-item-preserved c =
     subst (λ k. IsOfKind c.args.transforms.now c.args.zones.now k e c.in_ok-value.value) c.entry_kind.ensures c.in_ok-value.ensures.ok in
     rw c.in_ok-push.ensures.ok
     (AreRead-more c.args.transforms.now c.args.zones.now c.args.props.now c.loop-item.found e _ here c.loop-item.invariant
-    (record { stanza = c.in_ok-copy_of.ensures; key = c.in_ok-copy_of-2.ensures; value = is }))
+    (record { stanza = c.in_ok-stanza.ensures; key = c.in_ok-key.ensures; value = is }))
 
 pub returns-clause-ok : goal.returns-clause-ok
 returns-clause-ok c =
