@@ -21,23 +21,26 @@ fn two(alloc: Global) -> Result<Sequence<Item>, NoMemory>
     Ok(items)
 }
 
-/// The number of an item that has one, or 0 where there is none.
-fn number_of(item: Option<Item>) -> u64 {
-    let number = match &item {
-        Some(Item::Run { run }) => *run,
-        Some(Item::NextFile { number }) => *number,
-        _ => 0,
+/// What an item is, and its number.
+type Said = (&'static str, u64);
+
+fn said_of(item: Option<Item>) -> Said {
+    let said = match &item {
+        Some(Item::Run { run }) => ("run", *run),
+        Some(Item::NextFile { number }) => ("next file", *number),
+        Some(_) => ("another", 0),
+        None => ("none", 0),
     };
     drop(item);
-    number
+    said
 }
 
-/// The numbers of the items that are told.
-fn told(alloc: Global, walk: ItemWalk) -> [u64; 3] {
+/// The items that are told.
+fn told(alloc: Global, walk: ItemWalk) -> [Said; 3] {
     let mut walk = walk;
-    let first = number_of(walk.take_next());
-    let second = number_of(walk.next(alloc).unwrap_or(None));
-    let third = number_of(walk.take_next());
+    let first = said_of(walk.take_next());
+    let second = said_of(walk.next(alloc).unwrap_or(None));
+    let third = said_of(walk.take_next());
     drop(walk);
     [first, second, third]
 }
@@ -54,7 +57,10 @@ fn items_are_told_in_their_order(rt: HostRuntime) -> Result<(), Fail> {
     let alloc = rt.alloc();
     let items = two(alloc)?;
     let room = has_room(alloc, items.as_slice());
-    let numbers = told(alloc, ItemWalk::over(items));
-    assert_eq!(rt; (room, numbers), (true, [7, 2, 0]));
+    assert!(rt; room);
+    let [first, second, third] = told(alloc, ItemWalk::over(items));
+    assert_eq!(rt; first, ("run", 7));
+    assert_eq!(rt; second, ("next file", 2));
+    assert_eq!(rt; third, ("none", 0));
     Ok(())
 }

@@ -84,39 +84,68 @@ fn a_log_is_made_short_behind_a_reply(rt: HostRuntime) -> Result<(), Fail> {
 const EMPTY: &str =
     "0: index main stored 0 bytes 0 frozen 0\nevents settled 0 nulled 0 dropped 0\n";
 
-/// A disk that fails within the checkpoint behind the eighth block: the block is replied to, and the next command makes the log short.
-fn check_stop(rt: &impl Abort, alloc: Global, disk: MemDisk, calls: u64) -> Result<(), Fail> {
-    let mut stopped = StopDisk::new(disk, calls);
-    let text = shown(
-        alloc,
-        run_of("feed", WIDE),
-        blocks_of(alloc, 7, 8)?,
-        &mut stopped,
-    )?;
+/// What a run over the eighth block writes.
+fn said_at_stop(alloc: Global, disk: &mut StopDisk<MemDisk>) -> Result<String, Fail> {
+    let input = blocks_of(alloc, 7, 8)?;
+    shown(alloc, run_of("feed", WIDE), input, disk)
+}
+
+/// The block was replied to, and then the disk blamed, and the next command makes the log short.
+fn check_next(
+    rt: &impl Abort,
+    alloc: Global,
+    disk: &mut MemDisk,
+    said: Result<String, Fail>,
+    calls: u64,
+) -> Result<(), Fail> {
+    let text = said?;
     let is_told = text.as_str().starts_with("5: HTTP/1.1 200 OK\r\n")
         && text
             .as_str()
             .ends_with("{\"ack\":0,\"run\":2}indexd: disk fault\n");
     assert!(rt; is_told, "{calls}: {text}");
-    let mut disk = stopped.into_inner();
-    shows(rt, alloc, &mut disk, run_of("buckets", WIDE), EMPTY)?;
-    let there = logs_of(alloc, &mut disk);
+    shows(rt, alloc, disk, run_of("buckets", WIDE), EMPTY)?;
+    let there = logs_of(alloc, disk);
     assert!(rt; there.as_str() == "02", "{calls}: {there}");
+    Ok(())
+}
+
+/// A disk that fails within the checkpoint behind the eighth block.
+fn check_stop(rt: &impl Abort, alloc: Global, disk: MemDisk, calls: u64) -> Result<(), Fail> {
+    let mut stopped = StopDisk::new(disk, calls);
+    let said = said_at_stop(alloc, &mut stopped);
+    let mut disk = stopped.into_inner();
+    let checked = check_next(rt, alloc, &mut disk, said, calls);
+    drop(disk);
+    checked
+}
+
+/// How many calls of the disk the run over the eighth block makes.
+fn calls_of_eighth(rt: &impl Abort, alloc: Global, seven: &MemDisk) -> Result<u64, Fail> {
+    let mut eight = seven.crash(false)?;
+    let before = eight.calls();
+    let sent = send(rt, alloc, &mut eight, (7, 8), "02");
+    // Five more looked which logs are there.
+    let calls = eight.calls().saturating_sub(before).saturating_sub(5) as u64;
+    drop(eight);
+    sent?;
+    Ok(calls)
+}
+
+/// The last call of the run over the eighth block removes the old log, and the ones before it put the number of the new one into the root log.
+fn check_stops(rt: &impl Abort, alloc: Global, seven: &mut MemDisk) -> Result<(), Fail> {
+    send(rt, alloc, seven, (0, 7), "1")?;
+    let calls = calls_of_eighth(rt, alloc, seven)?;
+    for back in [1, 4, 9] {
+        check_stop(rt, alloc, seven.crash(false)?, calls.saturating_sub(back))?;
+    }
     Ok(())
 }
 
 #[test]
 fn a_checkpoint_that_fails_loses_nothing(rt: HostRuntime) -> Result<(), Fail> {
-    let alloc = rt.alloc();
-    let mut seven = disk_of(alloc);
-    send(&rt, alloc, &mut seven, (0, 7), "1")?;
-    let mut eight = seven.crash(false)?;
-    let before = eight.calls();
-    send(&rt, alloc, &mut eight, (7, 8), "02")?;
-    // The last call of the run removes the old log, and the ones before it put the number of the new one into the root log. Five more looked which logs are there.
-    let total = eight.calls().saturating_sub(before).saturating_sub(5) as u64;
-    for back in [1, 4, 9] {
-        check_stop(&rt, alloc, seven.crash(false)?, total.saturating_sub(back))?;
-    }
-    Ok(())
+    let mut seven = disk_of(rt.alloc());
+    let checked = check_stops(&rt, rt.alloc(), &mut seven);
+    drop(seven);
+    checked
 }

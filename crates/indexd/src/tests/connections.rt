@@ -195,24 +195,32 @@ fn a_listener_that_fails_ends_the_run(rt: HostRuntime) -> Result<(), Fail> {
     Ok(())
 }
 
-/// Where the line of the end cannot be written, what was accepted is stored all the same.
-#[test]
-fn an_output_that_fails_is_told(rt: HostRuntime) -> Result<(), Fail> {
-    let alloc = rt.alloc();
-    let mut disk = disk_of(alloc);
+/// The status of a run over one connection whose output fails.
+fn untold_status(alloc: Global, disk: &mut MemDisk) -> Result<u8, Fail> {
+    let plan = failing(alloc, 0)?;
     let links = links_of(alloc, &[BEGUN])?;
     let mut listener = MemListener::new(alloc, links, FailPlan::none(alloc));
     let mut source = MemSource::new(Bytes::new(alloc), FailPlan::none(alloc));
-    let mut sink = MemSink::new(alloc, failing(alloc, 0)?);
-    let serve = run_of("serve --port 0 --requests 1", PLAIN);
-    let code = status_of(
-        alloc,
-        serve.setup(),
-        &mut source,
-        &mut sink,
-        &mut disk,
-        &mut listener,
-    )?;
+    let mut sink = MemSink::new(alloc, plan);
+    let setup = run_of("serve --port 0 --requests 1", PLAIN).setup();
+    let code = status_of(alloc, setup, &mut source, &mut sink, disk, &mut listener);
+    drop(sink);
+    drop(source);
+    drop(listener);
+    code
+}
+
+fn check_untold(rt: &impl Abort, alloc: Global, disk: &mut MemDisk) -> Result<(), Fail> {
+    let code = untold_status(alloc, disk)?;
     assert!(rt; code == 7, "{code}");
-    feeds(&rt, alloc, &mut disk, (PLAIN, [OPEN].as_slice()), ("0", ""))
+    feeds(rt, alloc, disk, (PLAIN, [OPEN].as_slice()), ("0", ""))
+}
+
+/// Where the line of the end cannot be written, what was accepted is stored all the same.
+#[test]
+fn an_output_that_fails_is_told(rt: HostRuntime) -> Result<(), Fail> {
+    let mut disk = disk_of(rt.alloc());
+    let checked = check_untold(&rt, rt.alloc(), &mut disk);
+    drop(disk);
+    checked
 }

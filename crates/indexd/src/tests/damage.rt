@@ -78,28 +78,24 @@ const BUCKET: File = File {
     number: 1,
 };
 
+fn check_cut_bucket(rt: &impl Abort, alloc: Global, disk: &mut MemDisk) -> Result<(), Fail> {
+    holds(rt, alloc, disk, run(PLAIN, STORE, "a\nb", "0: "))?;
+    let length = read_file(alloc, disk, BUCKET)?.len();
+    assert!(rt; length == 116, "{length}");
+    spoil(alloc, disk, BUCKET, Harm::Cut(100))?;
+    let want = "6: main\t1700000000.000000\th\ts\tunknown\t\ta\nindexd: damaged: home/1 at 58\n";
+    holds(rt, alloc, disk, run(PLAIN, "export main", "", want))?;
+    let want = "6: indexd: damaged: home/1 at 100\n";
+    holds(rt, alloc, disk, run(PLAIN, STORE, "c", want))
+}
+
 /// A bucket that is shorter than what was committed.
 #[test]
 fn a_bucket_that_is_cut_is_named(rt: HostRuntime) -> Result<(), Fail> {
-    let alloc = rt.alloc();
-    let mut disk = disk_of(alloc);
-    holds(&rt, alloc, &mut disk, run(PLAIN, STORE, "a\nb", "0: "))?;
-    let length = read_file(alloc, &mut disk, BUCKET)?.len();
-    assert!(rt; length == 116, "{length}");
-    spoil(alloc, &mut disk, BUCKET, Harm::Cut(100))?;
-    let runs = [
-        run(
-            PLAIN,
-            "export main",
-            "",
-            "6: main\t1700000000.000000\th\ts\tunknown\t\ta\nindexd: damaged: home/1 at 58\n",
-        ),
-        run(PLAIN, STORE, "c", "6: indexd: damaged: home/1 at 100\n"),
-    ];
-    for &run in runs.iter() {
-        holds(&rt, alloc, &mut disk, run)?;
-    }
-    Ok(())
+    let mut disk = disk_of(rt.alloc());
+    let checked = check_cut_bucket(&rt, rt.alloc(), &mut disk);
+    drop(disk);
+    checked
 }
 
 /// What the log of a new store without settings has.
@@ -148,29 +144,37 @@ fn place_of(bytes: &[u8], sought: &[u8]) -> usize {
     bytes.len()
 }
 
-/// A mark of an open channel that is none makes the log damaged, at the gate of the last body that says the channel: behind the first
-/// one, and that of the begin, which was committed with the turn of housekeeping before it.
-#[test]
-fn a_carry_that_is_none_is_named(rt: HostRuntime) -> Result<(), Fail> {
-    let alloc = rt.alloc();
-    let mut disk = disk_of(alloc);
+/// Changes the mark of the open event in the log, and tells at which place it stood.
+fn spoil_mark(alloc: Global, disk: &mut MemDisk) -> Result<usize, Fail> {
+    let log = read_file(alloc, disk, LOG)?;
+    let place = place_of(log.as_slice(), MARKS);
+    drop(log);
+    let harm = Harm::Other(place.saturating_add(9), b"\x02");
+    spoil(alloc, disk, LOG, harm)?;
+    Ok(place)
+}
+
+fn check_mark(rt: &impl Abort, alloc: Global, disk: &mut MemDisk) -> Result<(), Fail> {
     let begun = Run {
         cut: true,
         ..run(&[], STORE, "a\nb", "4: indexd: input fault\n")
     };
-    holds(&rt, alloc, &mut disk, begun)?;
-    let log = read_file(alloc, &mut disk, LOG)?;
-    let place = place_of(log.as_slice(), MARKS);
-    spoil(
-        alloc,
-        &mut disk,
-        LOG,
-        Harm::Other(place.saturating_add(9), b"\x02"),
-    )?;
-    let told = shown(alloc, &mut disk, run(&[], "buckets", "", ""))?;
+    holds(rt, alloc, disk, begun)?;
+    let place = spoil_mark(alloc, disk)?;
+    let told = shown(alloc, disk, run(&[], "buckets", "", ""))?;
     assert!(rt;
         told.as_str() == "6: indexd: damaged: meta/1 at 128\n",
         "{place}: {told}"
     );
     Ok(())
+}
+
+/// A mark of an open channel that is none makes the log damaged, at the gate of the last body that says the channel: behind the first
+/// one, and that of the begin, which was committed with the turn of housekeeping before it.
+#[test]
+fn a_carry_that_is_none_is_named(rt: HostRuntime) -> Result<(), Fail> {
+    let mut disk = disk_of(rt.alloc());
+    let checked = check_mark(&rt, rt.alloc(), &mut disk);
+    drop(disk);
+    checked
 }

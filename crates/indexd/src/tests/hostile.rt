@@ -235,29 +235,36 @@ fn a_cut_request_loses_nothing(rt: HostRuntime) -> Result<(), Fail> {
 /// How many pieces a reply is written in at the most.
 const PIECES: u64 = 12;
 
-/// An output of which this write fails, in the only reply of a run: the block is accepted and stored.
-fn check_write(rt: &impl Abort, alloc: Global, begun: &MemDisk, call: u64) -> Result<(), Fail> {
-    let mut disk = begun.crash(false)?;
+/// The status of a run whose output fails in this write, and how often it has failed.
+fn status_at(alloc: Global, disk: &mut MemDisk, call: u64) -> Result<(u8, u64), Fail> {
+    let plan = failing(alloc, call)?;
     let input = input_of(alloc, &[SENT])?;
     let mut source = MemSource::new(input, FailPlan::none(alloc));
-    let mut sink = MemSink::new(alloc, failing(alloc, call)?);
+    let mut sink = MemSink::new(alloc, plan);
     let mut none = nobody(alloc);
-    let feed = run_of("feed", PLAIN);
-    let code = status_of(
-        alloc,
-        feed.setup(),
-        &mut source,
-        &mut sink,
-        &mut disk,
-        &mut none,
-    )?;
-    let want = if sink.plan.faults > 0 || call == 0 {
-        7
-    } else {
-        0
-    };
+    let setup = run_of("feed", PLAIN).setup();
+    let code = status_of(alloc, setup, &mut source, &mut sink, disk, &mut none);
+    let faults = sink.plan.faults;
+    drop(none);
+    drop(sink);
+    drop(source);
+    Ok((code?, faults))
+}
+
+/// The block of the run is accepted and stored.
+fn check_stored(rt: &impl Abort, alloc: Global, disk: &mut MemDisk, call: u64) -> Result<(), Fail> {
+    let (code, faults) = status_at(alloc, disk, call)?;
+    let want = if faults > 0 || call == 0 { 7 } else { 0 };
     assert!(rt; code == want, "{call}: {code}");
-    shows(rt, alloc, &mut disk, run_of("export main", PLAIN), STORED)
+    shows(rt, alloc, disk, run_of("export main", PLAIN), STORED)
+}
+
+/// An output of which this write fails, in the only reply of a run.
+fn check_write(rt: &impl Abort, alloc: Global, begun: &MemDisk, call: u64) -> Result<(), Fail> {
+    let mut disk = begun.crash(false)?;
+    let checked = check_stored(rt, alloc, &mut disk, call);
+    drop(disk);
+    checked
 }
 
 /// An output that fails anywhere in a reply ends the run and loses nothing.

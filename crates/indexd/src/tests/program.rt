@@ -282,22 +282,27 @@ static MOMENTS: [(i64, &str); 3] = [
     (i64::MAX, "main\t4102444800.000000\t"),
 ];
 
-/// What a run writes whose clock shows this moment.
-fn written_at(alloc: Global, moment: i64) -> Result<MemSink, Fail> {
+/// The status of a run whose clock shows this moment.
+fn status_at(alloc: Global, moment: i64, output: &mut MemSink) -> Result<Status, Fail> {
     let mut clock = MemClock::new([moment, 5].to_vec(alloc)?);
     let mut input = source(alloc, b"a", 1, &[])?;
-    let mut output = sink(alloc, &[])?;
     let line = "preview --host h --source s";
-    run(alloc, line, &mut input, &mut output, &mut clock)?;
-    Ok(output)
+    run(alloc, line, &mut input, output, &mut clock)
+}
+
+fn check_moment(rt: &impl Abort, alloc: Global, (moment, want): (i64, &str)) -> Result<(), Fail> {
+    let mut output = sink(alloc, &[])?;
+    let status = status_at(alloc, moment, &mut output)?;
+    assert_eq!(rt; status, Status::Done);
+    assert!(rt; output.bytes().starts_with(want.as_bytes()), "{want}");
+    Ok(())
 }
 
 /// A clock outside the years 1970 to 2100 counts as the nearer end.
 #[test]
 fn moments_lie_between_1970_and_2100(rt: HostRuntime) -> Result<(), Fail> {
-    for (moment, want) in &MOMENTS {
-        let output = written_at(rt.alloc(), *moment)?;
-        assert!(rt; output.bytes().starts_with(want.as_bytes()), "{want}");
+    for row in &MOMENTS {
+        check_moment(&rt, rt.alloc(), *row)?;
     }
     Ok(())
 }

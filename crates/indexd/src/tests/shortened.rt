@@ -111,7 +111,7 @@ fn keeps_its_listing(alloc: Global, disk: &mut MemDisk) -> bool {
     let made = store.checkpoint(disk).is_ok();
     let behind = listing_of(alloc, &store);
     drop(store);
-    made && before.as_slice() == behind.as_slice()
+    made && !before.is_empty() && before.as_slice() == behind.as_slice()
 }
 
 /// A checkpoint that the store is asked for leaves the listing as it was, also behind the next mount.

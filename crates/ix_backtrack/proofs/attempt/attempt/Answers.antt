@@ -55,3 +55,6 @@ returns-in-Edge-clause-settled g c =
     let goes = goes-grown c.args.code.now c.args.p.now.rows (text_of c.args.input) c.args.start c.args.place c.loop-taken.cells.items c.turn.new.cells.items c.loop-taken.frame c.loop-taken.stack.items c.in_ok-next.ensures.grown c.loop-taken.invariant.goes in
     subst (λ (t : Tried). Settled c.args.p.now.rows c.args.code.now (text_of c.args.input) c.args.start c.args.place c.turn.new.cells.items t.best) (sym c.came_to-in-Edge.ensures)
     (ends-edge c.args.code.now c.args.p.now.rows (text_of c.args.input) c.args.start c.args.place c.turn.new.cells.items c.loop-taken.frame c.loop-taken.stack.items turns goes)
+
+pub returns-clause-settled : goal.returns-clause-settled
+returns-clause-settled g c = search rules

@@ -20,3 +20,9 @@ returns-clause-head g c =
     ∙ ap (λ l. slice_get (best_ways (replicate c.args.p.now.groups None) l c.in-Some.best) 0) (sym c.deref-2.ensures.value)
     ∙ ap (λ n. slice_get (best_ways (replicate n None) c.deref-2.result.now c.in-Some.best) 0) (sym c.groups.ensures.is)
     ∙ c.in_ok-found.ensures
+
+pub returns-in_default-clause-spent : goal.returns-in_default-clause-spent
+returns-in_default-clause-spent g c = search rules
+
+pub returns-then-not-is_empty-clause-spent : goal.returns-then-not-is_empty-clause-spent
+returns-then-not-is_empty-clause-spent g c = search rules

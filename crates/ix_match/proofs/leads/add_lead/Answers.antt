@@ -1,4 +1,4 @@
-use Rattle.std.proofs.Common.{ℕ, List, sym, subst}
+use Rattle.std.proofs.Common.{ℕ, List, sym, subst, rules}
 use Rattle.ix_pattern.specs.Rows.{piece_at}
 use Rattle.ix_match.specs.Leads.{Leads, Begins}
 use Rattle.ix_match.proofs.LeadLemmas.{leads-byte, leads-nothing, leads-last}
@@ -23,3 +23,6 @@ pub returns-in_ok-push-in-One-taken_by : goal.returns-in_ok-push-in-One-taken_by
 returns-in_ok-push-in-One-taken_by g c = λ whole leads.
     subst (λ (l : List ℕ). Begins whole l) (sym c.in_ok-push-in-One-taken_by.ensures.items)
     (leads-last whole (piece_at c.args.p.now.rows c.args.at) c.args.bytes.now.items c.in-One-taken_by.byte c.in-One-taken_by.ensures leads)
+
+pub returns-in-Other : goal.returns-in-Other
+returns-in-Other g c = search rules

@@ -1,4 +1,4 @@
-use Rattle.std.proofs.Common.{◌≡◌, ◌<◌, ◌-◌, ◌^◌, Bool, true, false, List, length, sym, subst}
+use Rattle.std.proofs.Common.{◌≡◌, ◌<◌, ◌-◌, ◌^◌, Bool, true, false, List, length, sym, subst, rules}
 use Rattle.std.specs.Prelude.{All}
 use Rattle.std.specs.List.{AllByRecursion}
 use Rattle.ix_items.specs.Spelling.{HasSpelling, IsWritable, body_bytes}
@@ -38,3 +38,6 @@ returns-in-Ok-false-clause-sound c = λ err choose history h first.
     (subst (λ (l : List Item). length (body_bytes l) < 2 ^ 32 - 64) (sym c.as_slice-2.ensures)
     (said_short c.args.fresh c.args.held.now c.in-Ok.said c.in-Ok.ensures choose history h first)))
     c.in-Ok-false.field-0-test
+
+pub returns-in-Ok-false-clause-said : goal.returns-in-Ok-false-clause-said
+returns-in-Ok-false-clause-said c = search rules

@@ -1,4 +1,4 @@
-use Rattle.std.proofs.Common.{◌≡◌, List, [], ◌∷◌, ◌++◌, sym, subst}
+use Rattle.std.proofs.Common.{◌≡◌, List, [], ◌∷◌, ◌++◌, sym, subst, rules}
 use Rattle.std.specs.Prelude.{Result, Ok, Err, OnOk}
 use Rattle.std.specs.List.{All}
 use Rattle.std.proofs.lemmas.List.Elements.{All-push}
@@ -18,3 +18,6 @@ returns-clause-small c =
     pushed c.push.result c.args.outcomes.now.routed c.push.new.self c.in_ok-routed.routed c.push.ensures.ok
     (small-outcome c.args.self.now.settings.now c.args.self.now.meta.now _ c.args.event c.in_ok-event.event c.in_ok-routed.routed
     c.in_ok-event.ensures c.in_ok-routed.ensures.sizes)
+
+pub returns-clause-added : goal.returns-clause-added
+returns-clause-added c = search rules

@@ -1,4 +1,4 @@
-use Rattle.std.proofs.Common.{◌≡◌, Option, refl, ap, sym, subst, ◌∙◌, inl, inr, length}
+use Rattle.std.proofs.Common.{◌≡◌, Option, refl, ap, sym, subst, ◌∙◌, inl, inr, length, rules}
 use Rattle.std.specs.Prelude.{Err}
 use Rattle.ix_base.specs.Told.{Told}
 use Rattle.ix_base.specs.declared.files.File.{File}
@@ -76,3 +76,6 @@ returns-in-Err-clause-full g c = λ is.
 
 pub returns-in-Ok-from_book-clause-begun : goal.returns-in-Ok-from_book-clause-begun
 returns-in-Ok-from_book-clause-begun g c = λ image told none. begun_has_run _ image _ (c.in-Ok.ensures.read image told) none
+
+pub returns-clause-damaged : goal.returns-clause-damaged
+returns-clause-damaged g c = search rules
