@@ -17,4 +17,5 @@ mod settings;
 mod shortened;
 mod shows;
 mod sockets;
+mod steps;
 mod stops;

@@ -1,50 +1,24 @@
 //! Tests of `btool`, over files in memory.
 
-use crate::tests::runs::run_top;
-use indexd_core::Status;
-use ix_base::{Bytes, FailPlan, MemClock, MemSink, MemSource, NoMemory, Text};
-use ix_disk::MemDisk;
-use ix_link::{MemLinkList, MemListener};
-use ix_tree::{MemTree, TreeFile, TreeFileList};
+use crate::tests::runs::{
+    bytes_of, compare, disk_of, nobody, plan_of, run_top, text_of, tree_at, words_of,
+};
+use ix_base::{FailPlan, MemClock, MemSink, MemSource};
 use std::alloc::Global;
-use std::test::Fail;
+use std::process::Abort;
 
-type Files<'a> = &'a [(&'a [u8], &'a [u8])];
+/// Paths, and what stands there.
+type Files = &'static [(&'static str, &'static [u8])];
 
-fn tree_of(alloc: Global, files: Files<'_>, failing: Vec<u64>) -> Result<MemTree, NoMemory> {
-    let mut list = TreeFileList::new(alloc);
-    for (path, bytes) in files {
-        list.push(TreeFile {
-            path: Bytes::copy_of(alloc, *path)?,
-            bytes: Bytes::copy_of(alloc, *bytes)?,
-        })?;
-    }
-    Ok(MemTree::new(list, FailPlan::new(failing)))
-}
-
-fn words_of(alloc: Global, texts: &[&str]) -> Result<Vec<Text>, Fail> {
-    let mut words = Vec::new(alloc);
-    for text in texts {
-        words.push(Text::from_string(String::from_str(alloc, *text)?))?;
-    }
-    Ok(words)
-}
-
-/// Whether `btool` over these files, of whose calls some fail, ends so and writes this.
-fn answers(
-    alloc: Global,
-    file: &str,
-    files: Files<'_>,
-    failing: Vec<u64>,
-    want: (Status, &[u8]),
-) -> Result<bool, Fail> {
-    let words = words_of(alloc, &["btool", file])?;
-    let mut input = MemSource::new(Bytes::copy_of(alloc, b"not read")?, FailPlan::none(alloc));
+/// What `btool` over these files says, of whose calls some fail. The input is not read, and the clock not asked.
+fn listed(alloc: Global, files: Files, failing: &[u64]) -> String {
+    let words = words_of(alloc, "btool props");
+    let mut input = MemSource::new(bytes_of(alloc, b"not read"), FailPlan::none(alloc));
     let mut output = MemSink::new(alloc, FailPlan::none(alloc));
     let mut clock = MemClock::new(Vec::new(alloc));
-    let mut tree = tree_of(alloc, files, failing)?;
-    let mut disk = MemDisk::new(alloc, FailPlan::none(alloc));
-    let mut listener = MemListener::new(alloc, MemLinkList::new(alloc), FailPlan::none(alloc));
+    let mut tree = tree_at(alloc, files, plan_of(alloc, failing));
+    let mut disk = disk_of(alloc);
+    let mut listener = nobody(alloc);
     let status = run_top(
         alloc,
         &words,
@@ -55,95 +29,82 @@ fn answers(
         &mut disk,
         &mut listener,
     );
-    Ok(status == want.0 && output.bytes() == want.1)
+    text_of(alloc, status.code(), &output)
 }
 
-const TEN: (&[u8], &[u8]) = (
-    b"etc/apps/10/local/props.conf",
-    b"[default]\nTRUNCATE = 5\n",
-);
+const TEN: (&str, &[u8]) = ("etc/apps/10/local/props.conf", b"[default]\nTRUNCATE = 5\n");
 
-const NINE: (&[u8], &[u8]) = (b"etc/apps/9/local/props.conf", b"[default]\nTRUNCATE = 7\n");
+const NINE: (&str, &[u8]) = ("etc/apps/9/local/props.conf", b"[default]\nTRUNCATE = 7\n");
+
+/// Files, and what is said of them.
+type Row = (Files, &'static str);
+
+fn check(rt: &impl Abort, alloc: Global, (files, want): Row) {
+    compare(rt, "btool", listed(alloc, files, &[]), want);
+}
+
+static LAYERS: [Row; 6] = [
+    (&[], "0: "),
+    (&[("etc/apps/note", b"a plain file")], "0: "),
+    (&[NINE, TEN], "0: [default]\netc/apps/10/local TRUNCATE=5\n"),
+    (
+        &[NINE, TEN, ("etc/system/local/props.conf", b"TRUNCATE =")],
+        "0: [default]\netc/system/local TRUNCATE=\n",
+    ),
+    (
+        &[
+            ("etc/system/default/props.conf", b"[b]\nk=1\n[a]\nl=2"),
+            ("etc/apps/x/default/props.conf", b"[b]\nk=3\n"),
+            ("etc/apps/y/local/props.conf", b"[b]\nk=4\n"),
+        ],
+        "0: [a]\netc/system/default l=2\n[b]\netc/apps/y/local k=4\n",
+    ),
+    (&[("etc/system/local/inputs.conf", b"k=v")], "0: "),
+];
 
 #[test]
-fn the_highest_layer_counts(rt: HostRuntime) -> Result<(), Fail> {
-    let alloc = rt.alloc();
-    let cases: [(Files<'_>, &[u8]); 6] = [
-        (&[], b""),
-        (&[(b"etc/apps/note", b"a plain file")], b""),
-        (&[NINE, TEN], b"[default]\netc/apps/10/local TRUNCATE=5\n"),
-        (
-            &[NINE, TEN, (b"etc/system/local/props.conf", b"TRUNCATE =")],
-            b"[default]\netc/system/local TRUNCATE=\n",
-        ),
-        (
-            &[
-                (b"etc/system/default/props.conf", b"[b]\nk=1\n[a]\nl=2"),
-                (b"etc/apps/x/default/props.conf", b"[b]\nk=3\n"),
-                (b"etc/apps/y/local/props.conf", b"[b]\nk=4\n"),
-            ],
-            b"[a]\netc/system/default l=2\n[b]\netc/apps/y/local k=4\n",
-        ),
-        (&[(b"etc/system/local/inputs.conf", b"k=v")], b""),
-    ];
-    for (files, want) in cases {
-        assert!(rt;
-            answers(alloc, "props", files, Vec::new(alloc), (Status::Done, want))?,
-            "the listing {want:?}"
-        );
+fn the_highest_layer_counts(rt: HostRuntime) {
+    for &row in &LAYERS {
+        check(&rt, rt.alloc(), row);
     }
-    Ok(())
 }
 
+static FAULTS: [Row; 4] = [
+    (
+        &[("etc/system/local/props.conf", b"[x]\nTRUNCATE 5\n")],
+        "3: indexd: configuration: etc/system/local/props.conf line 2: NoEquals\n",
+    ),
+    (
+        &[TEN, ("etc/apps/a/local/props.conf", b"[x\n")],
+        "3: indexd: configuration: etc/apps/a/local/props.conf line 1: BadStanza\n",
+    ),
+    (
+        &[("etc/system/default/props.conf", b"k=v\n\xFF"), NINE],
+        "3: indexd: configuration: etc/system/default/props.conf at 4: NotUtf8\n",
+    ),
+    (
+        &[
+            ("etc/apps/a/default/props.conf", b"no"),
+            ("etc/apps/b/local/props.conf", b"[]"),
+        ],
+        "3: indexd: configuration: etc/apps/b/local/props.conf line 1: BadStanza\n",
+    ),
+];
+
 #[test]
-fn the_first_fault_is_told(rt: HostRuntime) -> Result<(), Fail> {
-    let alloc = rt.alloc();
-    let cases: [(Files<'_>, &[u8]); 4] = [
-        (
-            &[(b"etc/system/local/props.conf", b"[x]\nTRUNCATE 5\n")],
-            b"indexd: configuration: etc/system/local/props.conf line 2: NoEquals\n",
-        ),
-        (
-            &[TEN, (b"etc/apps/a/local/props.conf", b"[x\n")],
-            b"indexd: configuration: etc/apps/a/local/props.conf line 1: BadStanza\n",
-        ),
-        (
-            &[(b"etc/system/default/props.conf", b"k=v\n\xFF"), NINE],
-            b"indexd: configuration: etc/system/default/props.conf at 4: NotUtf8\n",
-        ),
-        (
-            &[
-                (b"etc/apps/a/default/props.conf", b"no"),
-                (b"etc/apps/b/local/props.conf", b"[]"),
-            ],
-            b"indexd: configuration: etc/apps/b/local/props.conf line 1: BadStanza\n",
-        ),
-    ];
-    for (files, want) in cases {
-        assert!(rt;
-            answers(
-                alloc,
-                "props",
-                files,
-                Vec::new(alloc),
-                (Status::Configuration, want)
-            )?,
-            "the line {want:?}"
-        );
+fn the_first_fault_is_told(rt: HostRuntime) {
+    for &row in &FAULTS {
+        check(&rt, rt.alloc(), row);
     }
-    Ok(())
 }
 
+static ONE: Files = &[TEN];
+
 #[test]
-fn a_failed_call_is_an_input_fault(rt: HostRuntime) -> Result<(), Fail> {
-    let alloc = rt.alloc();
-    let want: (Status, &[u8]) = (Status::Input, b"indexd: input fault\n");
+fn a_failed_call_is_an_input_fault(rt: HostRuntime) {
     // The folder of the apps, the size of the first layer's file, that of the second one, and reading it.
     for call in 0u64..4 {
-        assert!(rt;
-            answers(alloc, "props", &[TEN], vec![in alloc; call]?, want)?,
-            "the call {call}"
-        );
+        let found = listed(rt.alloc(), ONE, &[call]);
+        compare(&rt, "btool", found, "4: indexd: input fault\n");
     }
-    Ok(())
 }

@@ -1,151 +1,87 @@
 //! Logs that grow long while requests are served.
 
-use crate::tests::exchanges::{
-    counts_of, disk_of, run_of, shown, shows, write_begins, write_block,
-};
-use crate::tests::runs::Files;
-use ix_base::{Area, Bytes, File};
-use ix_disk::{Disk, MemDisk, StopDisk};
+use crate::tests::runs::{Files, NOON, agree, crash_of, disk_of};
+use crate::tests::steps::{ROOT, Step, check, replied, take_all};
+use ix_disk::{MemDisk, StopDisk};
 use std::alloc::Global;
 use std::process::Abort;
-use std::test::Fail;
 
 /// No line is cut before a mebibyte, so that each commit writes all of the open line that a block makes longer.
-const WIDE: Files = &[("props", "[default]\nTRUNCATE = 0\n")];
+const WIDE: Files<'static> = &[("props", "[default]\nTRUNCATE = 0\n")];
 
-/// Blocks of a mebibyte, by turns one of `x` and one of `y`, from one number up to another; before the first one the channel is begun.
-fn blocks_of(alloc: Global, from: usize, until: usize) -> Result<Bytes, Fail> {
-    let mut input = Bytes::new(alloc);
-    if from == 0 {
-        write_begins(alloc, 1, &mut input)?;
-    }
-    for number in from..until {
-        let letter = if number % 2 == 0 { b'x' } else { b'y' };
-        write_block(alloc, letter, &mut input)?;
-    }
-    Ok(input)
-}
+/// Seven blocks, all of which are accepted, as the later ones.
+const SEVEN: Step = Step::Send(WIDE, 1, (0, 7), "1 7 0");
 
-fn log(number: u64) -> File {
-    File {
-        area: Area::Meta,
-        number,
-    }
-}
-
-/// The numbers of the logs that are there.
-fn logs_of(alloc: Global, disk: &mut MemDisk) -> String {
-    let mut text = String::new(alloc);
-    for number in 0..5 {
-        if disk.length(log(number)).unwrap_or(0) > 0 {
-            let _ = write!(text, "{number}");
-        }
-    }
-    text
-}
-
-/// Sends these blocks, all of which are accepted, and says which logs are there then.
-fn send(
-    rt: &impl Abort,
-    alloc: Global,
-    disk: &mut MemDisk,
-    (from, until): (usize, usize),
-    logs: &str,
-) -> Result<(), Fail> {
-    let input = blocks_of(alloc, from, until)?;
-    let text = shown(alloc, run_of("feed", WIDE), input, disk)?;
-    let mut want = String::new(alloc);
-    let begun = if from == 0 { 1 } else { 0 };
-    let _ = write!(want, "{begun} {} 0", until.saturating_sub(from));
-    let counts = counts_of(alloc, text.as_str());
-    assert!(rt; counts.as_str() == want.as_str(), "{counts}");
-    let there = logs_of(alloc, disk);
-    assert!(rt; there.as_str() == logs, "behind {until} blocks: {there}");
-    Ok(())
-}
-
-/// The root log behind two checkpoints.
-const ROOT: &[u8] = b"\x01\0\0\0\x08\0\0\0\0\0\0\0\x02\x01\0\0\0\x08\0\0\0\0\0\0\0\x03\0";
+static GROWN: [Step; 5] = [
+    SEVEN,
+    Step::Logs("1"),
+    Step::Send(WIDE, 0, (7, 15), "0 8 0"),
+    Step::Logs("03"),
+    // the root log behind two checkpoints
+    Step::Holds(
+        ROOT,
+        b"\x01\0\0\0\x08\0\0\0\0\0\0\0\x02\x01\0\0\0\x08\0\0\0\0\0\0\0\x03\0",
+    ),
+];
 
 /// The log is long behind the eighth block, and the one that is made then behind the fifteenth: so a run of requests makes logs short while it goes on, and not only at its end.
 #[test]
-fn a_log_is_made_short_behind_a_reply(rt: HostRuntime) -> Result<(), Fail> {
-    let alloc = rt.alloc();
-    let mut disk = disk_of(alloc);
-    send(&rt, alloc, &mut disk, (0, 7), "1")?;
-    send(&rt, alloc, &mut disk, (7, 15), "03")?;
-    let mut root = [0u8; 32].to_vec(alloc)?;
-    let count = disk.read(log(0), 0, root.as_mut_slice()).unwrap_or(0);
-    root.truncate(count);
-    assert!(rt; root.as_slice() == ROOT, "{}", root.len());
-    Ok(())
+fn a_log_is_made_short_behind_a_reply(rt: HostRuntime) {
+    check(&rt, rt.alloc(), &GROWN);
 }
 
-const EMPTY: &str =
-    "0: index main stored 0 bytes 0 frozen 0\nevents settled 0 nulled 0 dropped 0\n";
+static BEFORE: [Step; 2] = [SEVEN, Step::Logs("1")];
 
-/// What a run over the eighth block writes.
-fn said_at_stop(alloc: Global, disk: &mut StopDisk<MemDisk>) -> Result<String, Fail> {
-    let input = blocks_of(alloc, 7, 8)?;
-    shown(alloc, run_of("feed", WIDE), input, disk)
+static EIGHTH: [Step; 1] = [Step::Send(WIDE, 0, (7, 8), "0 1 0")];
+
+static SHORT: [Step; 1] = [Step::Logs("02")];
+
+static NEXT: [Step; 2] = [
+    Step::Run(
+        (NOON, "buckets", WIDE, ""),
+        "0: index main stored 0 bytes 0 frozen 0\nevents settled 0 nulled 0 dropped 0\n",
+    ),
+    Step::Logs("02"),
+];
+
+/// How many calls of the disk the run over the eighth block makes. Behind it there is the second log alone.
+fn calls_of_eighth(rt: &impl Abort, alloc: Global, seven: &MemDisk) -> u64 {
+    let mut disk = crash_of(alloc, seven, false);
+    let before = disk.calls();
+    take_all(rt, alloc, &mut disk, &EIGHTH);
+    let calls = disk.calls().saturating_sub(before) as u64;
+    take_all(rt, alloc, &mut disk, &SHORT);
+    calls
 }
 
-/// The block was replied to, and then the disk blamed, and the next command makes the log short.
-fn check_next(
-    rt: &impl Abort,
-    alloc: Global,
-    disk: &mut MemDisk,
-    said: Result<String, Fail>,
-    calls: u64,
-) -> Result<(), Fail> {
-    let text = said?;
+/// The block was replied to, and then the disk blamed.
+fn check_told(rt: &impl Abort, text: String) {
     let is_told = text.as_str().starts_with("5: HTTP/1.1 200 OK\r\n")
         && text
             .as_str()
             .ends_with("{\"ack\":0,\"run\":2}indexd: disk fault\n");
-    assert!(rt; is_told, "{calls}: {text}");
-    shows(rt, alloc, disk, run_of("buckets", WIDE), EMPTY)?;
-    let there = logs_of(alloc, disk);
-    assert!(rt; there.as_str() == "02", "{calls}: {there}");
-    Ok(())
+    agree(rt, is_told, "the eighth block", text);
 }
 
-/// A disk that fails within the checkpoint behind the eighth block.
-fn check_stop(rt: &impl Abort, alloc: Global, disk: MemDisk, calls: u64) -> Result<(), Fail> {
-    let mut stopped = StopDisk::new(disk, calls);
-    let said = said_at_stop(alloc, &mut stopped);
+/// A disk that fails within the checkpoint behind the eighth block. The next command makes the log short.
+fn check_stop(rt: &impl Abort, alloc: Global, seven: &MemDisk, calls: u64) {
+    let mut stopped = StopDisk::new(crash_of(alloc, seven, false), calls);
+    check_told(rt, replied(alloc, WIDE, 0, (7, 8), &mut stopped));
     let mut disk = stopped.into_inner();
-    let checked = check_next(rt, alloc, &mut disk, said, calls);
-    drop(disk);
-    checked
-}
-
-/// How many calls of the disk the run over the eighth block makes.
-fn calls_of_eighth(rt: &impl Abort, alloc: Global, seven: &MemDisk) -> Result<u64, Fail> {
-    let mut eight = seven.crash(false)?;
-    let before = eight.calls();
-    let sent = send(rt, alloc, &mut eight, (7, 8), "02");
-    // Five more looked which logs are there.
-    let calls = eight.calls().saturating_sub(before).saturating_sub(5) as u64;
-    drop(eight);
-    sent?;
-    Ok(calls)
+    take_all(rt, alloc, &mut disk, &NEXT);
 }
 
 /// The last call of the run over the eighth block removes the old log, and the ones before it put the number of the new one into the root log.
-fn check_stops(rt: &impl Abort, alloc: Global, seven: &mut MemDisk) -> Result<(), Fail> {
-    send(rt, alloc, seven, (0, 7), "1")?;
-    let calls = calls_of_eighth(rt, alloc, seven)?;
-    for back in [1, 4, 9] {
-        check_stop(rt, alloc, seven.crash(false)?, calls.saturating_sub(back))?;
-    }
-    Ok(())
+fn check_stops(rt: &impl Abort, alloc: Global, seven: &mut MemDisk) {
+    take_all(rt, alloc, seven, &BEFORE);
+    let calls = calls_of_eighth(rt, alloc, seven);
+    check_stop(rt, alloc, seven, calls.saturating_sub(1));
+    check_stop(rt, alloc, seven, calls.saturating_sub(4));
+    check_stop(rt, alloc, seven, calls.saturating_sub(9));
 }
 
 #[test]
-fn a_checkpoint_that_fails_loses_nothing(rt: HostRuntime) -> Result<(), Fail> {
+fn a_checkpoint_that_fails_loses_nothing(rt: HostRuntime) {
     let mut seven = disk_of(rt.alloc());
-    let checked = check_stops(&rt, rt.alloc(), &mut seven);
-    drop(seven);
-    checked
+    check_stops(&rt, rt.alloc(), &mut seven);
 }

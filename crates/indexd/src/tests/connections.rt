@@ -1,37 +1,35 @@
 //! Requests over a connection each, as `serve` takes them, over links in memory.
 
 use crate::tests::exchanges::{
-    BEGUN, BLOCKS, DEFAULT, Exchange, OK, PLAIN, Run, disk_of, failing, feeds, replies_of,
-    request_of, run_of, shown_at, shows, write_reply,
+    BEGUN, BLOCKS, Exchange, OK, feeds, replies_of, requests_of, write_reply,
 };
 use crate::tests::requests::{CHANNELS, DATED};
-use crate::tests::runs::status_of;
-use ix_base::{Bytes, FailPlan, MemSink, MemSource, NoMemory};
+use crate::tests::runs::{
+    DEFAULT, NOON, PLAIN, Run, agree, bytes_of, compare, compare_texts, disk_of, plan_of, run_of,
+    said_at,
+};
+use crate::tests::steps::{Step, take_all};
+use ix_base::FailPlan;
 use ix_disk::MemDisk;
-use ix_link::{Listener, MemLink, MemLinkList, MemListener};
+use ix_link::{MemLink, MemLinkList, MemListener};
 use std::alloc::Global;
 use std::process::Abort;
-use std::test::Fail;
 
-/// The connections of these requests, one request each.
-fn links_of(alloc: Global, exchanges: &[Exchange]) -> Result<MemLinkList, NoMemory> {
-    let mut links = MemLinkList::new(alloc);
-    for &exchange in exchanges {
-        let bytes = Bytes::copy_of(alloc, request_of(alloc, exchange)?.as_bytes())?;
-        links.push(MemLink::in_pieces(alloc, bytes, 7, FailPlan::none(alloc)))?;
-    }
-    Ok(links)
+/// Adds a connection with this request.
+fn add_link(alloc: Global, links: &mut MemLinkList, exchange: Exchange) {
+    let text = requests_of(alloc, &[exchange]);
+    let bytes = bytes_of(alloc, text.as_bytes());
+    let link = MemLink::in_pieces(alloc, bytes, 7, FailPlan::none(alloc));
+    let _ = links.push(link);
 }
 
-/// The status of a run at this listener, and what it writes.
-fn served<L: Listener>(
-    alloc: Global,
-    run: Run,
-    disk: &mut MemDisk,
-    listener: &mut L,
-) -> Result<String, Fail> {
-    let none = MemSource::new(Bytes::new(alloc), FailPlan::none(alloc));
-    shown_at(alloc, run, none, disk, listener)
+/// A listener at which these requests wait, and of which this call fails.
+fn listener_of(alloc: Global, exchanges: &[Exchange], call: u64) -> MemListener {
+    let mut links = MemLinkList::new(alloc);
+    for &exchange in exchanges {
+        add_link(alloc, &mut links, exchange);
+    }
+    MemListener::new(alloc, links, plan_of(alloc, &[call]))
 }
 
 /// What was written on the connections, one behind the other.
@@ -44,21 +42,33 @@ fn given_of(alloc: Global, listener: &MemListener) -> String {
     text
 }
 
+/// What is stored then.
+static SERVED: [Step; 1] = [Step::Run((NOON, "export main", DEFAULT, ""), DATED)];
+
+fn check_port(rt: &impl Abort, listener: &MemListener) {
+    assert!(rt; listener.port == Some(8089));
+}
+
+fn check_served(rt: &impl Abort, alloc: Global, disk: &mut MemDisk, listener: &mut MemListener) {
+    let serve = run_of("serve --port 8089 --requests 7", DEFAULT, b"");
+    compare(
+        rt,
+        serve.line,
+        said_at(alloc, serve, disk, listener),
+        "0: served 7\n",
+    );
+    check_port(rt, listener);
+    let want = replies_of(alloc, "0", CHANNELS, "");
+    compare_texts(rt, "the connections", given_of(alloc, listener), want);
+    take_all(rt, alloc, disk, &SERVED);
+}
+
 /// Each connection has its reply, and behind the last one the output has its line.
 #[test]
-fn connections_are_served(rt: HostRuntime) -> Result<(), Fail> {
-    let alloc = rt.alloc();
-    let mut disk = disk_of(alloc);
-    let links = links_of(alloc, CHANNELS)?;
-    let mut listener = MemListener::new(alloc, links, FailPlan::none(alloc));
-    let serve = run_of("serve --port 8089 --requests 7", DEFAULT);
-    let said = served(alloc, serve, &mut disk, &mut listener)?;
-    assert!(rt; said.as_str() == "0: served 7\n", "{said}");
-    assert!(rt; listener.port == Some(8089));
-    let given = given_of(alloc, &listener);
-    let want = replies_of(alloc, "0", CHANNELS, "");
-    assert!(rt; given.as_str() == want.as_str(), "{given}");
-    shows(&rt, alloc, &mut disk, run_of("export main", DEFAULT), DATED)
+fn connections_are_served(rt: HostRuntime) {
+    let mut disk = disk_of(rt.alloc());
+    let mut listener = listener_of(rt.alloc(), CHANNELS, NEVER);
+    check_served(&rt, rt.alloc(), &mut disk, &mut listener);
 }
 
 /// A connection: the request, how many bytes of it come, which call on the link fails, and how much of the reply is given: `+` all, `-` a front, `0` nothing.
@@ -100,15 +110,22 @@ static PEERS: &[Peer] = &[
     ),
 ];
 
-fn peers_of(alloc: Global) -> Result<MemLinkList, Fail> {
+/// Adds a connection with its peer.
+fn add_peer(alloc: Global, links: &mut MemLinkList, peer: Peer) {
+    let (exchange, count, call, _) = peer;
+    let request = requests_of(alloc, &[exchange]);
+    let sent = request.as_bytes();
+    let bytes = bytes_of(alloc, &sent[..count.min(sent.len())]);
+    let link = MemLink::new(alloc, bytes, plan_of(alloc, &[call]));
+    let _ = links.push(link);
+}
+
+fn peers_of(alloc: Global) -> MemListener {
     let mut links = MemLinkList::new(alloc);
-    for &(exchange, count, call, _) in PEERS {
-        let request = request_of(alloc, exchange)?;
-        let whole = request.as_bytes();
-        let sent = Bytes::copy_of(alloc, &whole[..count.min(whole.len())])?;
-        links.push(MemLink::new(alloc, sent, failing(alloc, call)?))?;
+    for &peer in PEERS {
+        add_peer(alloc, &mut links, peer);
     }
-    Ok(links)
+    MemListener::new(alloc, links, FailPlan::none(alloc))
 }
 
 /// How much of a reply is given.
@@ -127,34 +144,54 @@ fn mark_of(alloc: Global, exchange: Exchange, given: &[u8]) -> char {
     }
 }
 
-/// How much of each reply is given, and how much is wanted.
-fn marks_of(alloc: Global, links: &[MemLink]) -> (String, String) {
+/// How much of each reply is given.
+fn marks_of(alloc: Global, links: &[MemLink]) -> String {
     let mut marks = String::new(alloc);
-    let mut wanted = String::new(alloc);
-    for (&(exchange, _, _, want), link) in PEERS.iter().zip(links) {
+    for (&(exchange, _, _, _), link) in PEERS.iter().zip(links) {
         let _ = write!(marks, "{}", mark_of(alloc, exchange, link.given()));
-        let _ = write!(wanted, "{want}");
     }
-    (marks, wanted)
+    marks
+}
+
+/// How much of each reply is wanted.
+fn wanted_marks(alloc: Global) -> String {
+    let mut marks = String::new(alloc);
+    for &(_, _, _, want) in PEERS {
+        let _ = write!(marks, "{want}");
+    }
+    marks
+}
+
+static ACCEPTED: [Step; 1] = [Step::Run(
+    (NOON, "export main", PLAIN, ""),
+    "0: main\t1700000000.000000\th\ts\tunknown\t\ta\nmain\t1700000000.000000\th\ts\tunknown\t\tb\nmain\t1700000000.000000\th\ts\tunknown\t\tc\nmain\t1700000000.000000\th\ts\tunknown\t\td\n",
+)];
+
+fn check_peers(rt: &impl Abort, alloc: Global, disk: &mut MemDisk, listener: &mut MemListener) {
+    let serve = run_of("serve --port 0 --requests 8", PLAIN, b"");
+    compare(
+        rt,
+        serve.line,
+        said_at(alloc, serve, disk, listener),
+        "0: served 8\n",
+    );
+    let marks = marks_of(alloc, listener.handed());
+    compare_texts(rt, "the marks", marks, wanted_marks(alloc));
+    take_all(rt, alloc, disk, &ACCEPTED);
 }
 
 /// A connection that is cut or fails is one of those that are counted, and does no harm to the others.
 #[test]
-fn connections_that_fail_do_no_harm(rt: HostRuntime) -> Result<(), Fail> {
-    let alloc = rt.alloc();
-    let mut disk = disk_of(alloc);
-    let mut listener = MemListener::new(alloc, peers_of(alloc)?, FailPlan::none(alloc));
-    let serve = run_of("serve --port 0 --requests 8", PLAIN);
-    let said = served(alloc, serve, &mut disk, &mut listener)?;
-    assert!(rt; said.as_str() == "0: served 8\n", "{said}");
-    let (marks, wanted) = marks_of(alloc, listener.handed());
-    assert!(rt; marks.as_str() == wanted.as_str(), "{marks}");
-    let stored =
-        "0: main\t1700000000.000000\th\ts\tunknown\t\ta\nmain\t1700000000.000000\th\ts\tunknown\t\tb\nmain\t1700000000.000000\th\ts\tunknown\t\tc\nmain\t1700000000.000000\th\ts\tunknown\t\td\n";
-    shows(&rt, alloc, &mut disk, run_of("export main", PLAIN), stored)
+fn connections_that_fail_do_no_harm(rt: HostRuntime) {
+    let mut disk = disk_of(rt.alloc());
+    let mut listener = peers_of(rt.alloc());
+    check_peers(&rt, rt.alloc(), &mut disk, &mut listener);
 }
 
-const ENDED: Exchange = ("POST /channels/c/end", "", "", OK, "{\"ack\":0,\"run\":1}");
+static ENDED: &[Exchange] = &[
+    BEGUN,
+    ("POST /channels/c/end", "", "", OK, "{\"ack\":0,\"run\":1}"),
+];
 
 const OPEN: Exchange = (
     "PUT /channels/c",
@@ -167,60 +204,50 @@ const OPEN: Exchange = (
 /// Which call of the listener fails, of one that binds and those that accept, and what the next begin is then replied.
 static LISTENERS: &[(u64, Exchange)] = &[(0, BEGUN), (2, OPEN), (NEVER, BEGUN)];
 
-/// A listener of which this call fails ends the run, and the next begin is replied to so.
-fn check_listener(
-    rt: &impl Abort,
-    alloc: Global,
-    (call, next): (u64, Exchange),
-) -> Result<(), Fail> {
+/// The next begin is replied to so.
+fn check_next(rt: &impl Abort, alloc: Global, disk: &mut MemDisk, next: Exchange) {
+    feeds(rt, alloc, disk, (PLAIN, [next].as_slice()), ("0", ""));
+}
+
+/// A listener of which this call fails ends the run.
+fn check_listener(rt: &impl Abort, alloc: Global, (call, next): (u64, Exchange)) {
     let mut disk = disk_of(alloc);
-    let links = links_of(alloc, &[BEGUN, ENDED])?;
-    let mut listener = MemListener::new(alloc, links, failing(alloc, call)?);
-    let serve = run_of("serve --port 0 --requests 3", PLAIN);
-    let said = served(alloc, serve, &mut disk, &mut listener)?;
-    assert!(rt;
-        said.as_str() == "9: indexd: listener fault\n",
-        "{call}: {said}"
-    );
-    feeds(rt, alloc, &mut disk, (PLAIN, [next].as_slice()), ("0", ""))
+    let mut listener = listener_of(alloc, ENDED, call);
+    let serve = run_of("serve --port 0 --requests 3", PLAIN, b"");
+    let found = said_at(alloc, serve, &mut disk, &mut listener);
+    compare(rt, serve.line, found, "9: indexd: listener fault\n");
+    check_next(rt, alloc, &mut disk, next);
 }
 
 /// A listener that cannot bind or accept ends the run, and what was accepted is stored. The third connection does not come.
 #[test]
-fn a_listener_that_fails_ends_the_run(rt: HostRuntime) -> Result<(), Fail> {
-    let alloc = rt.alloc();
+fn a_listener_that_fails_ends_the_run(rt: HostRuntime) {
     for &listener in LISTENERS {
-        check_listener(&rt, alloc, listener)?;
+        check_listener(&rt, rt.alloc(), listener);
     }
-    Ok(())
 }
 
-/// The status of a run over one connection whose output fails.
-fn untold_status(alloc: Global, disk: &mut MemDisk) -> Result<u8, Fail> {
-    let plan = failing(alloc, 0)?;
-    let links = links_of(alloc, &[BEGUN])?;
-    let mut listener = MemListener::new(alloc, links, FailPlan::none(alloc));
-    let mut source = MemSource::new(Bytes::new(alloc), FailPlan::none(alloc));
-    let mut sink = MemSink::new(alloc, plan);
-    let setup = run_of("serve --port 0 --requests 1", PLAIN).setup();
-    let code = status_of(alloc, setup, &mut source, &mut sink, disk, &mut listener);
-    drop(sink);
-    drop(source);
-    drop(listener);
-    code
+static ONE: &[Exchange] = &[BEGUN];
+
+/// What a run over one connection says whose output fails.
+fn untold(alloc: Global, disk: &mut MemDisk) -> String {
+    let mut listener = listener_of(alloc, ONE, NEVER);
+    let run = Run {
+        writes: &[0],
+        ..run_of("serve --port 0 --requests 1", PLAIN, b"")
+    };
+    said_at(alloc, run, disk, &mut listener)
 }
 
-fn check_untold(rt: &impl Abort, alloc: Global, disk: &mut MemDisk) -> Result<(), Fail> {
-    let code = untold_status(alloc, disk)?;
-    assert!(rt; code == 7, "{code}");
-    feeds(rt, alloc, disk, (PLAIN, [OPEN].as_slice()), ("0", ""))
+fn check_untold(rt: &impl Abort, text: String) {
+    let is_told = text.as_str().starts_with("7: ");
+    agree(rt, is_told, "a status", text);
 }
 
 /// Where the line of the end cannot be written, what was accepted is stored all the same.
 #[test]
-fn an_output_that_fails_is_told(rt: HostRuntime) -> Result<(), Fail> {
+fn an_output_that_fails_is_told(rt: HostRuntime) {
     let mut disk = disk_of(rt.alloc());
-    let checked = check_untold(&rt, rt.alloc(), &mut disk);
-    drop(disk);
-    checked
+    check_untold(&rt, untold(rt.alloc(), &mut disk));
+    check_next(&rt, rt.alloc(), &mut disk, OPEN);
 }

@@ -1,8 +1,9 @@
 //! Tests of `preview` from bytes to dated, merged and changed events.
 
-use crate::tests::shows::{Files, Run, add_events, show};
+use crate::tests::runs::{Files, PREVIEW, Run, repeated, run_of};
+use crate::tests::shows::shows;
 use std::alloc::Global;
-use std::test::Fail;
+use std::process::Abort;
 
 /// Words, the moment in seconds, files of settings, input, and the events as `INDEX TIME HOST SOURCE TYPE RAW` with `;` behind each.
 type Row = (
@@ -13,13 +14,10 @@ type Row = (
     &'static str,
 );
 
-/// The words of most rows.
-const PLAIN: &str = "preview --host h --source s";
-
 static ROWS: [Row; 14] = [
     // the default settings: a dated line starts an event, the others go on it, and one that has no date takes the time before it
     (
-        PLAIN,
+        PREVIEW,
         1_700_000_000,
         &[],
         "no date\n2023-11-14 22:10:01,000 Oops\n\tat a(A.java:1)\n\tat b(B.java:2)\n2023-11-14T22:10:05Z done\n",
@@ -27,7 +25,7 @@ static ROWS: [Row; 14] = [
     ),
     // breaks stand before years alone
     (
-        PLAIN,
+        PREVIEW,
         1_704_300_000,
         &[(
             "props",
@@ -38,7 +36,7 @@ static ROWS: [Row; 14] = [
     ),
     // an hour that a zone's clocks pass over, and one that they show twice
     (
-        PLAIN,
+        PREVIEW,
         1_730_620_000,
         &[(
             "props",
@@ -49,7 +47,7 @@ static ROWS: [Row; 14] = [
     ),
     // 2001 days old, alone and behind an accepted time, and exactly 2000 days old
     (
-        PLAIN,
+        PREVIEW,
         1_730_620_000,
         &[(
             "props",
@@ -59,7 +57,7 @@ static ROWS: [Row; 14] = [
         "main 1730620000 h s unknown 1557733600 x;",
     ),
     (
-        PLAIN,
+        PREVIEW,
         1_730_620_000,
         &[(
             "props",
@@ -69,7 +67,7 @@ static ROWS: [Row; 14] = [
         "main 1730000000 h s unknown 1730000000 a;main 1730000000 h s unknown 1557733600 x;",
     ),
     (
-        PLAIN,
+        PREVIEW,
         1_730_620_000,
         &[(
             "props",
@@ -95,7 +93,7 @@ static ROWS: [Row; 14] = [
     ),
     // a number is masked, and what is masked decides what is dropped
     (
-        PLAIN,
+        PREVIEW,
         1_700_000_000,
         &[
             (
@@ -112,7 +110,7 @@ static ROWS: [Row; 14] = [
     ),
     // an event that is dropped still gives its time to the one behind it
     (
-        PLAIN,
+        PREVIEW,
         1_700_000_000,
         &[
             (
@@ -129,7 +127,7 @@ static ROWS: [Row; 14] = [
     ),
     // an event that is sent to an index which is not configured is not shown, or in the one for such events
     (
-        PLAIN,
+        PREVIEW,
         1_700_000_000,
         &[
             ("props", "[default]\nTRANSFORMS-r = toweb"),
@@ -142,7 +140,7 @@ static ROWS: [Row; 14] = [
         "",
     ),
     (
-        PLAIN,
+        PREVIEW,
         1_700_000_000,
         &[
             ("props", "[default]\nTRANSFORMS-r = toweb"),
@@ -156,7 +154,7 @@ static ROWS: [Row; 14] = [
         "lost 1700000000 h s unknown a;",
     ),
     (
-        PLAIN,
+        PREVIEW,
         1_700_000_000,
         &[
             ("props", "[default]\nTRANSFORMS-r = toweb"),
@@ -171,7 +169,7 @@ static ROWS: [Row; 14] = [
     ),
     // lines that do not start an event by a date but by a pattern, no more than two in one
     (
-        PLAIN,
+        PREVIEW,
         1_700_000_000,
         &[(
             "props",
@@ -182,56 +180,66 @@ static ROWS: [Row; 14] = [
     ),
 ];
 
-/// Adds what the program writes on a row, byte by byte and in one read, and twice what it is to write.
-fn show_row(alloc: Global, row: &Row, shown: &mut String, want: &mut String) -> Result<(), Fail> {
+/// A run over a row, of which each read takes so many bytes at the most.
+fn check_read(rt: &impl Abort, alloc: Global, row: &Row, most: usize) {
+    let moments = [row.1.saturating_mul(1_000_000)];
     let run = Run {
-        line: row.0,
-        moment: row.1.saturating_mul(1_000_000),
-        files: row.2,
-        input: row.3,
+        moments: &moments,
+        most,
+        ..run_of(row.0, row.2, row.3.as_bytes())
     };
-    for most in [1usize, 1000] {
-        show(alloc, run, most, shown)?;
-        add_events(row.4, want);
-    }
-    Ok(())
+    shows(rt, alloc, run, row.4);
+}
+
+/// A row, byte by byte and in one read.
+fn check_row(rt: &impl Abort, alloc: Global, row: &Row) {
+    check_read(rt, alloc, row, 1);
+    check_read(rt, alloc, row, 1000);
 }
 
 #[test]
-fn events_are_merged_dated_and_changed(rt: HostRuntime) -> Result<(), Fail> {
-    let alloc = rt.alloc();
-    let mut shown = String::new(alloc);
-    let mut want = String::new(alloc);
+fn events_are_merged_dated_and_changed(rt: HostRuntime) {
     for row in &ROWS {
-        show_row(alloc, row, &mut shown, &mut want)?;
+        check_row(&rt, rt.alloc(), row);
     }
-    assert!(rt; shown == want, "{shown}");
-    Ok(())
+}
+
+const HELD: Files<'static> = &[(
+    "props",
+    "[default]\nBREAK_ONLY_BEFORE_DATE = false\nBREAK_ONLY_BEFORE = ^L\nMUST_NOT_BREAK_AFTER = ^BEGIN",
+)];
+
+/// The line `BEGIN`, and 256 others.
+fn held_lines(alloc: Global) -> String {
+    let lines = repeated(alloc, "L\n", 256);
+    let mut text = String::new(alloc);
+    let _ = write!(text, "BEGIN\n{lines}");
+    text
+}
+
+/// An event of 256 lines, and one of the last line.
+fn held_events(alloc: Global) -> String {
+    let lines = repeated(alloc, "\\nL", 255);
+    let mut text = String::new(alloc);
+    let _ = write!(
+        text,
+        "main 1700000000 h s unknown BEGIN{lines};main 1700000000 h s unknown L;"
+    );
+    text
+}
+
+/// A run over this input writes the lines of these events.
+fn check_held(rt: &impl Abort, alloc: Global, input: String, events: String) {
+    let run = Run {
+        most: 1000,
+        ..run_of(PREVIEW, HELD, input.as_bytes())
+    };
+    shows(rt, alloc, run, events.as_str());
 }
 
 /// A line `BEGIN` holds breaks back, and an event has at most 256 lines.
 #[test]
-fn held_lines_make_events_of_256_lines(rt: HostRuntime) -> Result<(), Fail> {
+fn held_lines_make_events_of_256_lines(rt: HostRuntime) {
     let alloc = rt.alloc();
-    let lines = "L\n".repeat(alloc, 256)?;
-    let input = format!(in alloc; "BEGIN\n{lines}")?;
-    let mut shown = String::new(alloc);
-    let run = Run {
-        line: PLAIN,
-        moment: 1_700_000_000_000_000,
-        files: &[(
-            "props",
-            "[default]\nBREAK_ONLY_BEFORE_DATE = false\nBREAK_ONLY_BEFORE = ^L\nMUST_NOT_BREAK_AFTER = ^BEGIN",
-        )],
-        input: input.as_str(),
-    };
-    show(alloc, run, 1000, &mut shown)?;
-    let mut want = String::new(alloc);
-    let held = "\\nL".repeat(alloc, 255)?;
-    let events = format!(in alloc;
-        "main 1700000000 h s unknown BEGIN{held};main 1700000000 h s unknown L;"
-    )?;
-    add_events(events.as_str(), &mut want);
-    assert!(rt; shown == want, "{shown}");
-    Ok(())
+    check_held(&rt, alloc, held_lines(alloc), held_events(alloc));
 }

@@ -1,15 +1,17 @@
 //! Requests that are not as they should be, and links that are cut or fail inside of one, by `feed`.
 
 use crate::tests::exchanges::{
-    BEGUN, BLOCKS, DEFAULT, Exchange, OK, PLAIN, disk_of, failing, feeds, input_of, replies_of,
-    request_of, run_of, shown, shown_at, shows, write_reply,
+    BEGUN, BLOCKS, Exchange, OK, feeds, replies_of, requests_of, write_reply,
 };
-use crate::tests::runs::{nobody, status_of};
-use ix_base::{Bytes, FailPlan, MemSink, MemSource, NoMemory};
+use crate::tests::runs::{
+    DEFAULT, NOON, PLAIN, Run, bytes_of, code_of, compare_texts, crash_of, disk_of, nobody,
+    plan_of, run_of, said,
+};
+use crate::tests::steps::{Step, take_all};
+use ix_base::MemSink;
 use ix_disk::MemDisk;
 use std::alloc::Global;
 use std::process::Abort;
-use std::test::Fail;
 
 /// A text, another one so many times, and a third.
 type Parts = (&'static str, &'static str, usize, &'static str);
@@ -116,56 +118,57 @@ static HOSTILE: &[Hostile] = &[
     ),
 ];
 
-fn bytes_of(alloc: Global, parts: Parts) -> Result<Bytes, NoMemory> {
+/// A request by its parts.
+fn whole_of(alloc: Global, parts: Parts) -> String {
     let (front, filler, count, back) = parts;
-    let mut bytes = Bytes::copy_of(alloc, front.as_bytes())?;
+    let mut text = String::new(alloc);
+    let _ = text.push_str(front);
     for _ in 0..count {
-        bytes.extend(filler.as_bytes())?;
+        let _ = text.push_str(filler);
     }
-    bytes.extend(back.as_bytes())?;
-    Ok(bytes)
+    let _ = text.push_str(back);
+    text
 }
 
-/// What a run replies, and where the request is not delimited the line with which it ends.
+/// What a run says that replies so. Where the request is not delimited the run ends with a line.
 fn answer_of(alloc: Global, (status, reply): (&str, &str), is_delimited: bool) -> String {
     let mut text = String::new(alloc);
-    let _ = write!(text, "{}", if is_delimited { "0: " } else { "12: " });
+    let _ = text.push_str(if is_delimited { "0: " } else { "12: " });
     write_reply(&mut text, status, reply);
     if !is_delimited {
-        let _ = write!(text, "indexd: request 1 cannot be read\n");
+        let _ = text.push_str("indexd: request 1 cannot be read\n");
     }
     text
 }
 
-fn check_hostile(
-    rt: &impl Abort,
-    alloc: Global,
-    disk: &mut MemDisk,
-    (parts, reply, is_delimited): Hostile,
-) -> Result<(), Fail> {
-    let input = bytes_of(alloc, parts)?;
-    let text = shown(alloc, run_of("feed", DEFAULT), input, disk)?;
+/// What a run of `feed` over this request says.
+fn asked(alloc: Global, disk: &mut MemDisk, parts: Parts) -> String {
+    let input = whole_of(alloc, parts);
+    said(alloc, run_of("feed", DEFAULT, input.as_bytes()), disk)
+}
+
+fn check_hostile(rt: &impl Abort, alloc: Global, disk: &mut MemDisk, hostile: Hostile) {
+    let (parts, reply, is_delimited) = hostile;
     let want = answer_of(alloc, reply, is_delimited);
-    assert!(rt; text.as_str() == want.as_str(), "{}: {text}", parts.0);
-    Ok(())
+    compare_texts(rt, parts.0, asked(alloc, disk, parts), want);
 }
 
 /// Each request has its reply, and ends the run where it is not known where it ends.
 #[test]
-fn hostile_requests_are_refused(rt: HostRuntime) -> Result<(), Fail> {
-    let alloc = rt.alloc();
-    let mut disk = disk_of(alloc);
+fn hostile_requests_are_refused(rt: HostRuntime) {
+    let mut disk = disk_of(rt.alloc());
     for &hostile in HOSTILE {
-        check_hostile(&rt, alloc, &mut disk, hostile)?;
+        check_hostile(&rt, rt.alloc(), &mut disk, hostile);
     }
-    Ok(())
 }
 
 /// Settled of it are `a` and `b`.
-const SENT: Exchange = (BLOCKS, "", "a\nb\nc", OK, "{\"ack\":0,\"run\":2}");
+static SENT: &[Exchange] = &[(BLOCKS, "", "a\nb\nc", OK, "{\"ack\":0,\"run\":2}")];
 
-const STORED: &str =
-    "0: main\t1700000000.000000\th\ts\tunknown\t\ta\nmain\t1700000000.000000\th\ts\tunknown\t\tb\n";
+static STORED: [Step; 1] = [Step::Run(
+    (NOON, "export main", PLAIN, ""),
+    "0: main\t1700000000.000000\th\ts\tunknown\t\ta\nmain\t1700000000.000000\th\ts\tunknown\t\tb\n",
+)];
 
 /// The requests in which a link is cut or fails, behind `SENT`.
 static LATER: &[Exchange] = &[
@@ -173,107 +176,105 @@ static LATER: &[Exchange] = &[
     (BLOCKS, "", "d\ne", "", ""),
 ];
 
+static FIRST: &[Exchange] = &[BEGUN];
+
 /// A store in which the channel is begun.
-fn begun(rt: &impl Abort, alloc: Global) -> Result<MemDisk, Fail> {
+fn begun(rt: &impl Abort, alloc: Global) -> MemDisk {
     let mut disk = disk_of(alloc);
-    feeds(rt, alloc, &mut disk, (PLAIN, [BEGUN].as_slice()), ("0", ""))?;
-    Ok(disk)
+    feeds(rt, alloc, &mut disk, (PLAIN, FIRST), ("0", ""));
+    disk
 }
 
-/// Behind one whole request, a link that holds these bytes and of which this read fails: the run ends with this status and this line, and what was accepted is stored.
+/// What a run says over a link that holds `SENT` and then this text, and of which the read with this number behind `SENT` fails.
+fn linked(alloc: Global, disk: &mut MemDisk, text: &[u8], call: u64) -> String {
+    let sent = requests_of(alloc, SENT);
+    let reads = [call.saturating_add(sent.len() as u64)];
+    let mut input = bytes_of(alloc, sent.as_bytes());
+    let _ = input.extend(text);
+    let run = Run {
+        most: 1,
+        reads: &reads,
+        ..run_of("feed", PLAIN, input.as_slice())
+    };
+    said(alloc, run, disk)
+}
+
+/// The run over such a link ends with this status and this line, and what was accepted is stored.
 fn check_link(
     rt: &impl Abort,
     alloc: Global,
     begun: &MemDisk,
     (text, call): (&[u8], u64),
     (code, line): (&str, &str),
-) -> Result<(), Fail> {
-    let mut disk = begun.crash(false)?;
-    let first = request_of(alloc, SENT)?;
-    let mut input = Bytes::copy_of(alloc, first.as_bytes())?;
-    input.extend(text)?;
-    let failing = failing(alloc, call.saturating_add(first.len() as u64))?;
-    let source = MemSource::in_pieces(input, 1, failing);
-    let feed = run_of("feed", PLAIN);
-    let said = shown_at(alloc, feed, source, &mut disk, &mut nobody(alloc))?;
-    let want = replies_of(alloc, code, &[SENT], line);
-    assert!(rt;
-        said.as_str() == want.as_str(),
-        "{} {call}: {said}",
-        text.len()
-    );
-    shows(rt, alloc, &mut disk, run_of("export main", PLAIN), STORED)
+) {
+    let mut disk = crash_of(alloc, begun, false);
+    let found = linked(alloc, &mut disk, text, call);
+    let what = str::from_utf8(text).unwrap_or("?");
+    compare_texts(rt, what, found, replies_of(alloc, code, SENT, line));
+    take_all(rt, alloc, &mut disk, &STORED);
 }
 
-/// Cuts a link behind each byte of a request, and fails each read of it.
-fn check_cuts(rt: &impl Abort, alloc: Global, begun: &MemDisk, text: &[u8]) -> Result<(), Fail> {
+/// Cuts a link behind each byte of a text, and fails each read of it.
+fn check_cuts(rt: &impl Abort, alloc: Global, begun: &MemDisk, text: &[u8]) {
     for count in 0..text.len() {
         let cut = if count == 0 {
             ("0", "")
         } else {
             ("12", "indexd: request 2 cannot be read\n")
         };
-        check_link(rt, alloc, begun, (&text[..count], u64::MAX), cut)?;
+        check_link(rt, alloc, begun, (&text[..count], u64::MAX), cut);
         let fault = ("4", "indexd: input fault\n");
-        check_link(rt, alloc, begun, (text, count as u64), fault)?;
+        check_link(rt, alloc, begun, (text, count as u64), fault);
     }
-    Ok(())
+}
+
+/// Does so with a request.
+fn check_request(rt: &impl Abort, alloc: Global, begun: &MemDisk, exchange: Exchange) {
+    let text = requests_of(alloc, &[exchange]);
+    check_cuts(rt, alloc, begun, text.as_bytes());
 }
 
 /// An input that ends inside a request, or fails there, loses nothing that was accepted before, and nothing of that request is stored.
 #[test]
-fn a_cut_request_loses_nothing(rt: HostRuntime) -> Result<(), Fail> {
-    let alloc = rt.alloc();
-    let begun = begun(&rt, alloc)?;
+fn a_cut_request_loses_nothing(rt: HostRuntime) {
+    let begun = begun(&rt, rt.alloc());
     for &exchange in LATER {
-        let text = request_of(alloc, exchange)?;
-        check_cuts(&rt, alloc, &begun, text.as_bytes())?;
+        check_request(&rt, rt.alloc(), &begun, exchange);
     }
-    Ok(())
 }
 
 /// How many pieces a reply is written in at the most.
 const PIECES: u64 = 12;
 
 /// The status of a run whose output fails in this write, and how often it has failed.
-fn status_at(alloc: Global, disk: &mut MemDisk, call: u64) -> Result<(u8, u64), Fail> {
-    let plan = failing(alloc, call)?;
-    let input = input_of(alloc, &[SENT])?;
-    let mut source = MemSource::new(input, FailPlan::none(alloc));
-    let mut sink = MemSink::new(alloc, plan);
-    let mut none = nobody(alloc);
-    let setup = run_of("feed", PLAIN).setup();
-    let code = status_of(alloc, setup, &mut source, &mut sink, disk, &mut none);
-    let faults = sink.plan.faults;
-    drop(none);
-    drop(sink);
-    drop(source);
-    Ok((code?, faults))
+fn status_at(alloc: Global, disk: &mut MemDisk, call: u64) -> (u8, u64) {
+    let input = requests_of(alloc, SENT);
+    let mut output = MemSink::new(alloc, plan_of(alloc, &[call]));
+    let run = Run {
+        most: usize::MAX,
+        ..run_of("feed", PLAIN, input.as_bytes())
+    };
+    let code = code_of(alloc, run, &mut output, disk, &mut nobody(alloc));
+    (code, output.plan.faults)
 }
 
-/// The block of the run is accepted and stored.
-fn check_stored(rt: &impl Abort, alloc: Global, disk: &mut MemDisk, call: u64) -> Result<(), Fail> {
-    let (code, faults) = status_at(alloc, disk, call)?;
+fn check_status(rt: &impl Abort, (code, faults): (u8, u64), call: u64) {
     let want = if faults > 0 || call == 0 { 7 } else { 0 };
     assert!(rt; code == want, "{call}: {code}");
-    shows(rt, alloc, disk, run_of("export main", PLAIN), STORED)
 }
 
-/// An output of which this write fails, in the only reply of a run.
-fn check_write(rt: &impl Abort, alloc: Global, begun: &MemDisk, call: u64) -> Result<(), Fail> {
-    let mut disk = begun.crash(false)?;
-    let checked = check_stored(rt, alloc, &mut disk, call);
-    drop(disk);
-    checked
+/// An output of which this write fails, in the only reply of a run. The block of the run is accepted and stored.
+fn check_write(rt: &impl Abort, alloc: Global, begun: &MemDisk, call: u64) {
+    let mut disk = crash_of(alloc, begun, false);
+    check_status(rt, status_at(alloc, &mut disk, call), call);
+    take_all(rt, alloc, &mut disk, &STORED);
 }
 
 /// An output that fails anywhere in a reply ends the run and loses nothing.
 #[test]
-fn a_reply_that_is_not_written_loses_nothing(rt: HostRuntime) -> Result<(), Fail> {
-    let alloc = rt.alloc();
-    let begun = begun(&rt, alloc)?;
+fn a_reply_that_is_not_written_loses_nothing(rt: HostRuntime) {
+    let begun = begun(&rt, rt.alloc());
     for call in 0..PIECES {
-        check_write(&rt, alloc, &begun, call)?;
+        check_write(&rt, rt.alloc(), &begun, call);
     }
-    Ok(())
 }

@@ -1,28 +1,30 @@
 //! What a store keeps of the files of a tree.
 
+use crate::tests::runs::{compare, tree_at};
 use indexd_config::read_config;
-use ix_base::{Bytes, FailPlan, NoMemory};
-use ix_items::KeptList;
-use ix_tree::{MemTree, TreeFile, TreeFileList};
+use ix_base::{Bytes, FailPlan};
+use ix_items::{Kept, KeptList};
 use std::alloc::Global;
-use std::test::Fail;
 
 /// The files of a tree, two of them of one app.
-static FILES: [(&str, &str); 5] = [
+static FILES: [(&str, &[u8]); 5] = [
     (
         "etc/system/local/props.conf",
-        "[web]\nTZ = Home\nSHOULD_LINEMERGE = false\n",
+        b"[web]\nTZ = Home\nSHOULD_LINEMERGE = false\n",
     ),
     (
         "etc/apps/a/default/props.conf",
-        "[web]\nTZ = UTC\nTRANSFORMS-a = drop\n",
+        b"[web]\nTZ = UTC\nTRANSFORMS-a = drop\n",
     ),
     (
         "etc/system/local/transforms.conf",
-        "[drop]\nREGEX = x\nDEST_KEY = queue\nFORMAT = nullQueue\n",
+        b"[drop]\nREGEX = x\nDEST_KEY = queue\nFORMAT = nullQueue\n",
     ),
-    ("etc/system/local/indexes.conf", "[main]\nmaxDataSize = 5\n"),
-    ("etc/apps/a/local/zones.conf", "[Home]\nRULE = HST10\n"),
+    (
+        "etc/system/local/indexes.conf",
+        b"[main]\nmaxDataSize = 5\n",
+    ),
+    ("etc/apps/a/local/zones.conf", b"[Home]\nRULE = HST10\n"),
 ];
 
 /// What is kept of them, as `FILE|STANZA|KEY|VALUE`.
@@ -41,42 +43,35 @@ const KEPT: &str = "\
 4|Home|RULE|HST10
 ";
 
-fn tree_of(alloc: Global) -> Result<MemTree, NoMemory> {
-    let mut list = TreeFileList::new(alloc);
-    for (path, text) in FILES {
-        list.push(TreeFile {
-            path: Bytes::copy_of(alloc, path.as_bytes())?,
-            bytes: Bytes::copy_of(alloc, text.as_bytes())?,
-        })?;
-    }
-    Ok(MemTree::new(list, FailPlan::none(alloc)))
+fn text_of(bytes: &Bytes) -> &str {
+    str::from_utf8(bytes.as_slice()).unwrap_or("?")
 }
 
-fn show(alloc: Global, kept: &KeptList) -> Result<Bytes, NoMemory> {
-    let mut shown = Bytes::new(alloc);
+fn note(text: &mut String, kept: &Kept) {
+    let stanza = text_of(&kept.stanza);
+    let key = text_of(&kept.key);
+    let value = text_of(&kept.value);
+    let _ = write!(text, "{}|{stanza}|{key}|{value}\n", kept.file);
+}
+
+fn note_all(text: &mut String, kept: &KeptList) {
     for one in kept.as_slice() {
-        shown.push(b'0' + one.file % 10)?;
-        for part in [&one.stanza, &one.key, &one.value] {
-            shown.push(b'|')?;
-            shown.extend(part.as_slice())?;
-        }
-        shown.push(b'\n')?;
+        note(text, one);
     }
-    Ok(shown)
 }
 
-/// What is kept of the files of the tree, or that there are no settings.
-fn shown(alloc: Global) -> Result<Bytes, NoMemory> {
-    let mut tree = tree_of(alloc)?;
-    match read_config(alloc, &mut tree) {
-        Ok(config) => show(alloc, &config.kept),
-        Err(_) => Bytes::copy_of(alloc, b"no settings"),
+/// What is kept of the files of the tree. Where there are no settings that is nothing.
+fn shown(alloc: Global) -> String {
+    let mut text = String::new(alloc);
+    let mut tree = tree_at(alloc, &FILES, FailPlan::none(alloc));
+    if let Ok(config) = read_config(alloc, &mut tree) {
+        note_all(&mut text, &config.kept);
+        drop(config);
     }
+    text
 }
 
 #[test]
-fn all_settings_but_the_built_in_zones_are_kept(rt: HostRuntime) -> Result<(), Fail> {
-    let shown = shown(rt.alloc())?;
-    assert!(rt; shown.as_slice() == KEPT.as_bytes(), "what is kept");
-    Ok(())
+fn all_settings_but_the_built_in_zones_are_kept(rt: HostRuntime) {
+    compare(&rt, "what is kept", shown(rt.alloc()), KEPT);
 }

@@ -1,15 +1,13 @@
 //! Worked examples of requests: what `feed` replies to those of its input, and what is stored then.
 
-use crate::tests::exchanges::{
-    BEGUN, BLOCKS, DEFAULT, Exchange, OK, PLAIN, counts_of, disk_of, feeds, run_of, shown, shows,
-    write_begins, write_block,
-};
-use crate::tests::runs::Files;
-use ix_base::Bytes;
+use crate::tests::exchanges::{BEGUN, BLOCKS, Exchange, OK, feeds};
+use crate::tests::runs::{DEFAULT, Files, NOON, PLAIN, disk_of};
+use crate::tests::steps::{Step, check, take_all};
 use ix_disk::StopDisk;
-use std::test::Fail;
+use std::alloc::Global;
+use std::process::Abort;
 
-static ACKNOWLEDGED: &[Exchange] = &[
+const ACKNOWLEDGED: &[Exchange] = &[
     BEGUN,
     (BLOCKS, "", "a", OK, "{\"ack\":0,\"run\":1}"),
     (BLOCKS, "", "\n", OK, "{\"ack\":1,\"run\":1}"),
@@ -42,13 +40,15 @@ static ACKNOWLEDGED: &[Exchange] = &[
 const TWO: &str =
     "0: main\t1700000000.000000\th\ts\tunknown\t\ta\nmain\t1700000000.000000\th\ts\tunknown\t\tb\n";
 
+static NUMBERED: [Step; 2] = [
+    Step::Feed(PLAIN, ACKNOWLEDGED, "0", ""),
+    Step::Run((NOON, "export main", PLAIN, ""), TWO),
+];
+
 /// Blocks are numbered, and acknowledged once they are committed.
 #[test]
-fn blocks_are_numbered_and_acknowledged(rt: HostRuntime) -> Result<(), Fail> {
-    let alloc = rt.alloc();
-    let mut disk = disk_of(alloc);
-    feeds(&rt, alloc, &mut disk, (PLAIN, ACKNOWLEDGED), ("0", ""))?;
-    shows(&rt, alloc, &mut disk, run_of("export main", PLAIN), TWO)
+fn blocks_are_numbered_and_acknowledged(rt: HostRuntime) {
+    check(&rt, rt.alloc(), &NUMBERED);
 }
 
 const SYSTEM: Exchange = (
@@ -71,7 +71,7 @@ const LISTED: &str =
     "index main stored 3 bytes 396 frozen 0\nbucket main hot_v1_0 hot 3 396\nevents settled 3 nulled 0 dropped 0\n";
 
 /// Two channels side by side, and then the listing.
-pub(crate) static CHANNELS: &[Exchange] = &[
+const TWO_CHANNELS: &[Exchange] = &[
     SYSTEM,
     WEB,
     (
@@ -108,15 +108,20 @@ pub(crate) static CHANNELS: &[Exchange] = &[
 pub(crate) const DATED: &str =
     "0: main\t1699999801.000000\tweb1\t/var/log/messages\tsyslog\t\tNov 14 22:10:01 web1 sshd[311]: Accepted publickey for ann\nmain\t1699999805.000000\tweb1\t/var/log/messages\tsyslog\t\tNov 14 22:10:05 web1 kernel: eth0 up\nmain\t1699999803.000000\tweb1\t/var/log/access.log\taccess_combined\t\t10.0.0.7 - - [14/Nov/2023:22:10:03 +0000] \"GET / HTTP/1.1\" 200 512\n";
 
+/// The same, for other forms of the program.
+pub(crate) static CHANNELS: &[Exchange] = TWO_CHANNELS;
+
+static BESIDE: [Step; 2] = [
+    Step::Feed(DEFAULT, TWO_CHANNELS, "0", ""),
+    Step::Run((NOON, "export main", DEFAULT, ""), DATED),
+];
+
 #[test]
-fn two_channels_are_stored(rt: HostRuntime) -> Result<(), Fail> {
-    let alloc = rt.alloc();
-    let mut disk = disk_of(alloc);
-    feeds(&rt, alloc, &mut disk, (DEFAULT, CHANNELS), ("0", ""))?;
-    shows(&rt, alloc, &mut disk, run_of("export main", DEFAULT), DATED)
+fn two_channels_are_stored(rt: HostRuntime) {
+    check(&rt, rt.alloc(), &BESIDE);
 }
 
-static REFUSED: &[Exchange] = &[
+const REFUSED: &[Exchange] = &[
     (
         "GET /nothing",
         "",
@@ -205,7 +210,7 @@ static REFUSED: &[Exchange] = &[
     ("GET /indexes/main/events", "", "", OK, ""),
 ];
 
-static TOO_LONG: &[Exchange] = &[(
+const TOO_LONG: &[Exchange] = &[(
     BLOCKS,
     "Content-Length: 1048577\r\n",
     "",
@@ -213,34 +218,27 @@ static TOO_LONG: &[Exchange] = &[(
     "{\"error\":\"TooLong\"}",
 )];
 
+static UNREAD: [Step; 3] = [
+    Step::Feed(PLAIN, REFUSED, "0", ""),
+    Step::Feed(PLAIN, TOO_LONG, "12", "indexd: request 1 cannot be read\n"),
+    Step::Run(
+        (NOON, "feed", PLAIN, "GET /buckets HTTP/1.1\r\nHos"),
+        "12: indexd: request 1 cannot be read\n",
+    ),
+];
+
 /// Requests are refused, each with its reply, and a run ends at one whose end is not known.
 #[test]
-fn requests_are_refused(rt: HostRuntime) -> Result<(), Fail> {
-    let alloc = rt.alloc();
-    let mut disk = disk_of(alloc);
-    feeds(&rt, alloc, &mut disk, (PLAIN, REFUSED), ("0", ""))?;
-    let line = "indexd: request 1 cannot be read\n";
-    feeds(&rt, alloc, &mut disk, (PLAIN, TOO_LONG), ("12", line))?;
-    let cut = Bytes::copy_of(alloc, b"GET /buckets HTTP/1.1\r\nHos")?;
-    let text = shown(alloc, run_of("feed", PLAIN), cut, &mut disk)?;
-    assert!(rt;
-        text.as_str() == "12: indexd: request 1 cannot be read\n",
-        "{text}"
-    );
-    Ok(())
+fn requests_are_refused(rt: HostRuntime) {
+    check(&rt, rt.alloc(), &UNREAD);
 }
+
+static MANY: [Step; 1] = [Step::Send(PLAIN, 257, (0, 1), "256 1 1")];
 
 /// 256 channels can be open, and a block has at most 1,048,576 bytes.
 #[test]
-fn limits_of_requests(rt: HostRuntime) -> Result<(), Fail> {
-    let alloc = rt.alloc();
-    let mut input = Bytes::new(alloc);
-    write_begins(alloc, 257, &mut input)?;
-    write_block(alloc, b'x', &mut input)?;
-    let text = shown(alloc, run_of("feed", PLAIN), input, &mut disk_of(alloc))?;
-    let counts = counts_of(alloc, text.as_str());
-    assert!(rt; counts.as_str() == "256 1 1", "{counts}");
-    Ok(())
+fn limits_of_requests(rt: HostRuntime) {
+    check(&rt, rt.alloc(), &MANY);
 }
 
 const SENT: &str = "x\ny\nz";
@@ -248,7 +246,7 @@ const SENT: &str = "x\ny\nz";
 static UNACKNOWLEDGED: &[Exchange] = &[BEGUN, (BLOCKS, "", SENT, OK, "{\"ack\":0,\"run\":1}")];
 
 /// The run that drew the number has ended without it, so the block is sent again.
-static SENT_AGAIN: &[Exchange] = &[
+const SENT_AGAIN: &[Exchange] = &[
     (
         "POST /acks",
         "",
@@ -277,34 +275,43 @@ static SENT_AGAIN: &[Exchange] = &[
 const X_AND_Y: &str =
     "0: main\t1700000000.000000\th\ts\tunknown\t\tx\nmain\t1700000000.000000\th\ts\tunknown\t\ty\n";
 
-/// A disk that fails behind the reply to a block, before the block is committed, leaves the channel that was begun and nothing of the block.
-#[test]
-fn a_block_that_is_not_acknowledged_is_sent_again(rt: HostRuntime) -> Result<(), Fail> {
-    let alloc = rt.alloc();
-    let mut begun = disk_of(alloc);
-    feeds(
-        &rt,
-        alloc,
-        &mut begun,
-        (PLAIN, [BEGUN].as_slice()),
-        ("0", ""),
-    )?;
-    let mut stopped = StopDisk::new(disk_of(alloc), begun.calls() as u64);
-    let fault = ("5", "indexd: disk fault\n");
-    feeds(&rt, alloc, &mut stopped, (PLAIN, UNACKNOWLEDGED), fault)?;
-    let mut disk = stopped.into_inner();
-    feeds(&rt, alloc, &mut disk, (PLAIN, SENT_AGAIN), ("0", ""))?;
-    shows(&rt, alloc, &mut disk, run_of("export main", PLAIN), X_AND_Y)
+static BEGINNING: [Step; 1] = [Step::Feed(PLAIN, &[BEGUN], "0", "")];
+
+static AGAIN: [Step; 2] = [
+    Step::Feed(PLAIN, SENT_AGAIN, "0", ""),
+    Step::Run((NOON, "export main", PLAIN, ""), X_AND_Y),
+];
+
+/// How many calls of the disk a run makes that begins the channel.
+fn calls_of_begin(rt: &impl Abort, alloc: Global) -> u64 {
+    let mut disk = disk_of(alloc);
+    take_all(rt, alloc, &mut disk, &BEGINNING);
+    disk.calls() as u64
 }
 
-const CUT: Files = &[(
+/// A disk that fails behind so many calls, and what is sent then.
+fn check_again(rt: &impl Abort, alloc: Global, calls: u64) {
+    let mut stopped = StopDisk::new(disk_of(alloc), calls);
+    let fault = ("5", "indexd: disk fault\n");
+    feeds(rt, alloc, &mut stopped, (PLAIN, UNACKNOWLEDGED), fault);
+    let mut disk = stopped.into_inner();
+    take_all(rt, alloc, &mut disk, &AGAIN);
+}
+
+/// A disk that fails behind the reply to a block, before the block is committed, leaves the channel that was begun and nothing of the block.
+#[test]
+fn a_block_that_is_not_acknowledged_is_sent_again(rt: HostRuntime) {
+    check_again(&rt, rt.alloc(), calls_of_begin(&rt, rt.alloc()));
+}
+
+const CUT: Files<'static> = &[(
     "props",
     "[default]\nSHOULD_LINEMERGE = false\nTRUNCATE = 2\n",
 )];
 
-static OPEN: &[Exchange] = &[BEGUN, (BLOCKS, "", "x\nyyyy", OK, "{\"ack\":0,\"run\":1}")];
+const OPEN: &[Exchange] = &[BEGUN, (BLOCKS, "", "x\nyyyy", OK, "{\"ack\":0,\"run\":1}")];
 
-static ENDED: &[Exchange] = &[(
+const ENDED: &[Exchange] = &[(
     BLOCKS,
     "",
     "z",
@@ -312,27 +319,30 @@ static ENDED: &[Exchange] = &[(
     "{\"error\":\"NoChannel\"}",
 )];
 
-const UNCUT: &str =
-    "0: main\t1700000000.000000\th\ts\tunknown\t\tx\nmain\t1700000000.000000\th\ts\tunknown\t\tyyyy\n";
+static UNCUT: [Step; 4] = [
+    Step::Feed(PLAIN, OPEN, "0", ""),
+    Step::Run(
+        (NOON, "buckets", CUT, ""),
+        "0: index main stored 2 bytes 119 frozen 0\nbucket main hot_v1_0 hot 2 119\nevents settled 2 nulled 0 dropped 0\n",
+    ),
+    Step::Run(
+        (NOON, "export main", CUT, ""),
+        "0: main\t1700000000.000000\th\ts\tunknown\t\tx\nmain\t1700000000.000000\th\ts\tunknown\t\tyyyy\n",
+    ),
+    Step::Feed(CUT, ENDED, "0", ""),
+];
 
 /// Settings that change end the channel of a sender, under the old ones.
 #[test]
-fn settings_that_change_end_channels(rt: HostRuntime) -> Result<(), Fail> {
-    let alloc = rt.alloc();
-    let mut disk = disk_of(alloc);
-    feeds(&rt, alloc, &mut disk, (PLAIN, OPEN), ("0", ""))?;
-    let listed =
-        "0: index main stored 2 bytes 119 frozen 0\nbucket main hot_v1_0 hot 2 119\nevents settled 2 nulled 0 dropped 0\n";
-    shows(&rt, alloc, &mut disk, run_of("buckets", CUT), listed)?;
-    shows(&rt, alloc, &mut disk, run_of("export main", CUT), UNCUT)?;
-    feeds(&rt, alloc, &mut disk, (CUT, ENDED), ("0", ""))
+fn settings_that_change_end_channels(rt: HostRuntime) {
+    check(&rt, rt.alloc(), &UNCUT);
 }
 
-const LOST: Files = &[("indexes", "[lost]\n")];
+const LOST: Files<'static> = &[("indexes", "[lost]\n")];
 
 const IN_LOST: &str = "{\"host\":\"h\",\"source\":\"s\",\"index\":\"lost\"}";
 
-static TO_LOST: &[Exchange] = &[
+const TO_LOST: &[Exchange] = &[
     (
         "PUT /channels/c",
         "",
@@ -344,7 +354,7 @@ static TO_LOST: &[Exchange] = &[
     ("POST /channels/c/end", "", "", OK, "{\"ack\":1,\"run\":1}"),
 ];
 
-static RETIRED: &[Exchange] = &[
+const RETIRED: &[Exchange] = &[
     (
         "PUT /channels/c",
         "",
@@ -361,11 +371,13 @@ static RETIRED: &[Exchange] = &[
     ),
 ];
 
+static RETIRING: [Step; 2] = [
+    Step::Feed(LOST, TO_LOST, "0", ""),
+    Step::Feed(DEFAULT, RETIRED, "0", ""),
+];
+
 /// An index that is gone from the settings takes no channel, and shows its events still.
 #[test]
-fn a_retired_index_takes_no_channel(rt: HostRuntime) -> Result<(), Fail> {
-    let alloc = rt.alloc();
-    let mut disk = disk_of(alloc);
-    feeds(&rt, alloc, &mut disk, (LOST, TO_LOST), ("0", ""))?;
-    feeds(&rt, alloc, &mut disk, (DEFAULT, RETIRED), ("0", ""))
+fn a_retired_index_takes_no_channel(rt: HostRuntime) {
+    check(&rt, rt.alloc(), &RETIRING);
 }

@@ -2,15 +2,15 @@
 
 ghost use Rattle.std.specs.Prelude.{◌≡◌, None};
 
-use crate::tests::exchanges::{
-    DEFAULT, Exchange, disk_of, replies_of, request_of, run_of, shown_at, shows,
-};
+use crate::tests::exchanges::{Exchange, replies_of, requests_of};
 use crate::tests::requests::{CHANNELS, DATED};
-use ix_base::{Bytes, FailPlan, Failed, MemSource};
+use crate::tests::runs::{DEFAULT, NOON, compare, compare_texts, disk_of, run_of, said_at, told};
+use ix_base::Failed;
 use ix_link::{Listener, TcpLink, TcpListen};
 use std::alloc::Global;
-use std::io::{self, Read, Write};
+use std::io::{Read, Write};
 use std::net::{Ipv4Addr, Net, SocketAddr, TcpStream};
+use std::process::Abort;
 use std::test::Fail;
 
 /// A listener over sockets that sends itself requests, over a connection each, when it is bound. The system keeps them until they are accepted.
@@ -62,41 +62,58 @@ impl<R: Net + Drop> Listener for Dialer<R> {
     }
 }
 
-fn requests_of(alloc: Global, exchanges: &[Exchange]) -> Result<Vec<String>, Fail> {
-    let mut requests = Vec::new(alloc);
+fn texts_of(alloc: Global, exchanges: &[Exchange]) -> Vec<String> {
+    let mut texts = Vec::new(alloc);
     for &exchange in exchanges {
-        requests.push(request_of(alloc, exchange)?)?;
+        let _ = texts.push(requests_of(alloc, &[exchange]));
     }
-    Ok(requests)
+    texts
+}
+
+fn dialer_of(rt: &HostRuntime) -> Result<Dialer<HostRuntime>, Fail> {
+    Ok(Dialer {
+        rt: rt.clone()?,
+        inner: TcpListen::new(rt.clone()?),
+        requests: texts_of(rt.alloc(), CHANNELS),
+        senders: Vec::new(rt.alloc()),
+    })
 }
 
 /// All that the senders receive, one behind the other.
-fn received<S: Read>(alloc: Global, senders: &mut [S]) -> Result<String, Fail> {
+fn received<S: Read>(alloc: Global, senders: &mut [S]) -> String {
     let mut bytes = Vec::new(alloc);
     for sender in senders {
-        sender.read_to_end(&mut bytes)?;
+        let _ = sender.read_to_end(&mut bytes);
     }
     let mut text = String::new(alloc);
     let _ = write!(text, "0: {}", str::from_utf8(&bytes).unwrap_or("?"));
-    Ok(text)
+    text
+}
+
+/// Each connection has its reply, and the events are stored.
+fn check_dialed(rt: &impl Abort, alloc: Global, listener: &mut Dialer<HostRuntime>) {
+    let mut disk = disk_of(alloc);
+    let serve = run_of("serve --port 0 --requests 7", DEFAULT, b"");
+    compare(
+        rt,
+        serve.line,
+        said_at(alloc, serve, &mut disk, listener),
+        "0: served 7\n",
+    );
+    let given = received(alloc, listener.senders.as_mut_slice());
+    compare_texts(
+        rt,
+        "the senders",
+        given,
+        replies_of(alloc, "0", CHANNELS, ""),
+    );
+    let export = (NOON, "export main", DEFAULT, "");
+    compare(rt, "export", told(alloc, export, &mut disk), DATED);
 }
 
 #[test]
 fn sockets_are_served(rt: HostRuntime) -> Result<(), Fail> {
-    let alloc = rt.alloc();
-    let mut disk = disk_of(alloc);
-    let mut listener = Dialer {
-        rt: rt.clone()?,
-        inner: TcpListen::new(rt.clone()?),
-        requests: requests_of(alloc, CHANNELS)?,
-        senders: Vec::new(alloc),
-    };
-    let none = MemSource::new(Bytes::new(alloc), FailPlan::none(alloc));
-    let serve = run_of("serve --port 0 --requests 7", DEFAULT);
-    let said = shown_at(alloc, serve, none, &mut disk, &mut listener)?;
-    assert!(rt; said.as_str() == "0: served 7\n", "{said}");
-    let given = received(alloc, listener.senders.as_mut_slice())?;
-    let want = replies_of(alloc, "0", CHANNELS, "");
-    assert!(rt; given.as_str() == want.as_str(), "{given}");
-    shows(&rt, alloc, &mut disk, run_of("export main", DEFAULT), DATED)
+    let mut listener = dialer_of(&rt)?;
+    check_dialed(&rt, rt.alloc(), &mut listener);
+    Ok(())
 }

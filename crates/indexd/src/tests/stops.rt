@@ -1,67 +1,24 @@
 //! Runs that are stopped at each call of the disk, or for which one call fails.
 
-use crate::tests::runs::{Files, LATER, NOON, Run, shown};
-use crate::tests::shortened::{LONG, lengthen};
-use ix_base::{Area, FailPlan, File};
+use crate::tests::runs::{Files, KEPT, LATER, NOON, PLAIN, STORE, Task, crash_of, disk_of, told};
+use crate::tests::steps::{LOG, LONG, Step, take_all};
+use ix_base::{Area, File};
 use ix_disk::{MemDisk, OneFail, StopDisk};
 use std::alloc::Global;
 use std::process::Abort;
-use std::test::Fail;
 
-const STORE: &str = "preview --host h --source s --store";
-
-const PLAIN: Files = &[("props", "[default]\nSHOULD_LINEMERGE = false\n")];
-
-const CHANGED: Files = &[(
+const CHANGED: Files<'static> = &[(
     "props",
     "[default]\nSHOULD_LINEMERGE = false\nTRUNCATE = 2\n",
 )];
 
-const KEPT: Files = &[
-    ("props", "[default]\nSHOULD_LINEMERGE = false\n"),
-    (
-        "indexes",
-        "[main]\nfrozenTimePeriodInSecs = 100\ncoldToFrozenDir = kept\n",
-    ),
-];
-
-fn run(moment: i64, files: Files, line: &'static str, input: &'static str) -> Run {
-    Run {
-        line,
-        moment,
-        files,
-        input,
-        cut: false,
-        want: "",
-    }
-}
-
-/// A script in which a bucket is filled, rolled, frozen with an archive, and brought back, and another one is filled.
-fn script() -> [Run; 5] {
-    [
-        run(NOON, KEPT, STORE, "x\ny\nz"),
-        run(NOON, KEPT, "roll main", ""),
-        run(LATER, KEPT, "tick", ""),
-        run(LATER, KEPT, "thaw main 0", ""),
-        run(LATER, KEPT, STORE, "w"),
-    ]
-}
-
-/// Two runs by which a store is known, and what they show of it, one behind the other, behind so many runs of a script.
-#[derive(Clone, Copy)]
-struct Known {
-    runs: [Run; 2],
+/// A run that is hindered, behind so many others. The store is known by two runs, and by what they say, one behind the other, behind each number
+/// of runs.
+struct Trial {
+    done: usize,
+    task: Task,
+    asks: (Task, Task),
     shown: &'static [&'static str],
-}
-
-fn script_known() -> Known {
-    Known {
-        runs: [
-            run(LATER, KEPT, "export main", ""),
-            run(LATER, KEPT, "buckets", ""),
-        ],
-        shown: SHOWN,
-    }
 }
 
 /// `X` stands for the three events of the first run.
@@ -77,32 +34,57 @@ const SHOWN: &[&str] = &[
     "0: Xmain\t1700000101.000000\th\ts\tunknown\t\tw\n0: index main stored 1 bytes 58 frozen 3\nbucket main db_1700000000_1700000000_0 thawed 3 174\nbucket main hot_v1_1 hot 1 58\nfrozen main db_1700000000_1700000000_0 age 1700000101 3 archived\nevents settled 4 nulled 0 dropped 0\n",
 ];
 
-/// Behind how many runs of the script a disk shows what it shows, and what that is.
-fn runs_of(
-    alloc: Global,
-    disk: &mut MemDisk,
-    known: Known,
-) -> Result<(Option<usize>, String), Fail> {
-    let mut all = String::new(alloc);
-    for &run in known.runs.iter() {
-        let one = shown(alloc, disk, run)?;
-        all.push_str(one.as_str())?;
-    }
-    for (runs, want) in known.shown.iter().enumerate() {
-        let want = want.replace(alloc, "X", X)?;
-        if want.as_str() == all.as_str() {
-            return Ok((Some(runs), all));
+fn add(text: &mut String, more: String) {
+    let _ = text.push_str(more.as_str());
+}
+
+/// What the two runs say of a store.
+fn shown_of(alloc: Global, disk: &mut MemDisk, trial: &Trial) -> String {
+    let mut text = told(alloc, trial.asks.0, disk);
+    add(&mut text, told(alloc, trial.asks.1, disk));
+    text
+}
+
+/// Whether a text is what is wanted, in which `X` stands for its events.
+fn is_wanted(alloc: Global, text: &str, want: &str) -> bool {
+    let want = want.replace(alloc, "X", X).unwrap_or(String::new(alloc));
+    want.as_str() == text
+}
+
+/// Behind how many runs a store shows this.
+fn runs_of(alloc: Global, text: &str, trial: &Trial) -> Option<usize> {
+    for (runs, want) in trial.shown.iter().enumerate() {
+        if is_wanted(alloc, text, want) {
+            return Some(runs);
         }
     }
-    Ok((None, all))
+    None
+}
+
+fn assert_held(rt: &impl Abort, is_held: bool, (line, calls): (&str, u64), text: String) {
+    assert!(rt; is_held, "{line}, {calls}: {text}");
+}
+
+/// A disk on which so many calls were hindered holds what the runs before left, or this one too, and this one for sure where it is done.
+fn check_held(
+    rt: &impl Abort,
+    alloc: Global,
+    disk: &mut MemDisk,
+    trial: &Trial,
+    (calls, is_done): (u64, bool),
+) {
+    let text = shown_of(alloc, disk, trial);
+    let runs = runs_of(alloc, text.as_str(), trial);
+    let is_held = runs == trial.done.checked_add(1) || (runs == Some(trial.done) && !is_done);
+    assert_held(rt, is_held, (trial.task.1, calls), text);
 }
 
 /// How many calls of the disk a run makes.
-fn calls_of(alloc: Global, base: &MemDisk, run: Run) -> Result<u64, Fail> {
-    let mut disk = base.crash(false)?;
+fn calls_of(alloc: Global, base: &MemDisk, trial: &Trial) -> u64 {
+    let mut disk = crash_of(alloc, base, false);
     let before = disk.calls();
-    let _ = shown(alloc, &mut disk, run)?;
-    Ok(disk.calls().saturating_sub(before) as u64)
+    drop(told(alloc, trial.task, &mut disk));
+    disk.calls().saturating_sub(before) as u64
 }
 
 /// How many calls of a disk have changed something, of files with these numbers.
@@ -122,57 +104,81 @@ fn changes_of(disk: &MemDisk) -> usize {
     disk.calls().saturating_sub(asked)
 }
 
+/// What a run leaves that stops behind so many calls.
+fn stopped(alloc: Global, base: &MemDisk, trial: &Trial, calls: u64) -> MemDisk {
+    let mut disk = StopDisk::new(crash_of(alloc, base, false), calls);
+    drop(told(alloc, trial.task, &mut disk));
+    disk.into_inner()
+}
+
+/// A crash of one of the two forms, behind so many calls of a run.
+fn check_crash(
+    rt: &impl Abort,
+    alloc: Global,
+    disk: &MemDisk,
+    trial: &Trial,
+    (torn, calls, is_done): (bool, u64, bool),
+) {
+    let mut left = crash_of(alloc, disk, torn);
+    check_held(rt, alloc, &mut left, trial, (calls, is_done));
+}
+
+/// Stops a run behind so many of its calls, and tells how many of them changed something. Where these are as many as before, a crash leaves what it
+/// left then.
+fn check_stop(
+    rt: &impl Abort,
+    alloc: Global,
+    base: &MemDisk,
+    trial: &Trial,
+    (calls, total, before): (u64, u64, usize),
+) -> usize {
+    let disk = stopped(alloc, base, trial, calls);
+    let changes = changes_of(&disk);
+    let is_done = calls == total;
+    if changes != before || is_done {
+        check_crash(rt, alloc, &disk, trial, (false, calls, is_done));
+        check_crash(rt, alloc, &disk, trial, (true, calls, is_done));
+    }
+    changes
+}
+
 /// Stops a run behind each of these numbers of calls. In both forms of a crash the disk then holds what so many runs left, or this one too, and behind
-/// all of its calls this one for sure. A stop behind a call that changed nothing leaves what the one before it left.
+/// all of its calls this one for sure.
 fn check_stops(
     rt: &impl Abort,
     alloc: Global,
     base: &MemDisk,
-    (done, run): (usize, Run),
-    known: Known,
+    trial: &Trial,
     (first, last): (u64, u64),
-) -> Result<(), Fail> {
-    let total = calls_of(alloc, base, run)?;
+) {
+    let total = calls_of(alloc, base, trial);
     let mut changes = 0usize;
     for calls in first..=total.min(last) {
-        let mut disk = StopDisk::new(base.crash(false)?, calls);
-        let _ = shown(alloc, &mut disk, run)?;
-        let disk = disk.into_inner();
-        let now = changes_of(&disk);
-        if now == changes && calls < total {
-            continue;
-        }
-        changes = now;
-        for torn in [false, true] {
-            let (runs, told) = runs_of(alloc, &mut disk.crash(torn)?, known)?;
-            let is_held = runs == done.checked_add(1) || (runs == Some(done) && calls < total);
-            assert!(rt; is_held, "{}, {calls} of {total}: {told}", run.line);
-        }
+        changes = check_stop(rt, alloc, base, trial, (calls, total, changes));
     }
-    Ok(())
 }
 
-/// Fails each call of a run. The disk holds what so many runs left, or this one too, and this one for sure where the run is done.
-fn check_fails(
-    rt: &impl Abort,
-    alloc: Global,
-    base: &MemDisk,
-    (done, run): (usize, Run),
-    known: Known,
-) -> Result<(), Fail> {
-    let total = calls_of(alloc, base, run)?;
-    for call in 0..total {
-        let mut disk = OneFail::new(base.crash(false)?, call);
-        let said = shown(alloc, &mut disk, run)?;
-        let (runs, told) = runs_of(alloc, &mut disk.into_inner(), known)?;
-        let is_faulty = said.as_str() == "5: indexd: disk fault\n";
-        let is_held = runs == done.checked_add(1) || (runs == Some(done) && is_faulty);
-        assert!(rt; is_held, "{}, {call} of {total}: {said}{told}", run.line);
-    }
-    Ok(())
+/// Whether a run is done: it does not blame the disk.
+fn is_done(said: String) -> bool {
+    said.as_str() != "5: indexd: disk fault\n"
 }
 
-/// What is done to a run of the script.
+/// Fails a call of a run.
+fn check_fail(rt: &impl Abort, alloc: Global, base: &MemDisk, trial: &Trial, call: u64) {
+    let mut failing = OneFail::new(crash_of(alloc, base, false), call);
+    let is_done = is_done(told(alloc, trial.task, &mut failing));
+    let mut disk = failing.into_inner();
+    check_held(rt, alloc, &mut disk, trial, (call, is_done));
+}
+
+/// Fails each call of a run.
+fn check_fails(rt: &impl Abort, alloc: Global, base: &MemDisk, trial: &Trial) {
+    for call in 0..calls_of(alloc, base, trial) {
+        check_fail(rt, alloc, base, trial, call);
+    }
+}
+
+/// What is done to a run.
 #[derive(Clone, Copy)]
 enum Hindrance {
     /// It stops behind each of these numbers of calls.
@@ -181,26 +187,61 @@ enum Hindrance {
     Fails,
 }
 
-/// Does so to these runs of the script, each on what the ones before left.
-fn check_script(
-    rt: &impl Abort,
-    alloc: Global,
-    numbers: &[usize],
-    hindrance: Hindrance,
-) -> Result<(), Fail> {
-    let mut disk = MemDisk::new(alloc, FailPlan::none(alloc));
-    for (done, &run) in script().iter().enumerate() {
-        if numbers.contains(&done) {
-            match hindrance {
-                Hindrance::Stops(first, last) => {
-                    check_stops(rt, alloc, &disk, (done, run), script_known(), (first, last))?
-                }
-                Hindrance::Fails => check_fails(rt, alloc, &disk, (done, run), script_known())?,
-            }
-        }
-        let _ = shown(alloc, &mut disk, run)?;
+fn hinder(rt: &impl Abort, alloc: Global, base: &MemDisk, trial: &Trial, hindrance: Hindrance) {
+    match hindrance {
+        Hindrance::Stops(first, last) => check_stops(rt, alloc, base, trial, (first, last)),
+        Hindrance::Fails => check_fails(rt, alloc, base, trial),
     }
-    Ok(())
+}
+
+const SCRIPT_ASKS: (Task, Task) = (
+    (LATER, "export main", KEPT, ""),
+    (LATER, "buckets", KEPT, ""),
+);
+
+/// A bucket is filled, rolled, frozen with an archive, and brought back, and another one is filled.
+static SCRIPT: [Trial; 5] = [
+    Trial {
+        done: 0,
+        task: (NOON, STORE, KEPT, "x\ny\nz"),
+        asks: SCRIPT_ASKS,
+        shown: SHOWN,
+    },
+    Trial {
+        done: 1,
+        task: (NOON, "roll main", KEPT, ""),
+        asks: SCRIPT_ASKS,
+        shown: SHOWN,
+    },
+    Trial {
+        done: 2,
+        task: (LATER, "tick", KEPT, ""),
+        asks: SCRIPT_ASKS,
+        shown: SHOWN,
+    },
+    Trial {
+        done: 3,
+        task: (LATER, "thaw main 0", KEPT, ""),
+        asks: SCRIPT_ASKS,
+        shown: SHOWN,
+    },
+    Trial {
+        done: 4,
+        task: (LATER, STORE, KEPT, "w"),
+        asks: SCRIPT_ASKS,
+        shown: SHOWN,
+    },
+];
+
+/// Does so to these runs of the script, each on what the ones before left.
+fn check_script(rt: &impl Abort, alloc: Global, numbers: &[usize], hindrance: Hindrance) {
+    let mut disk = disk_of(alloc);
+    for trial in &SCRIPT {
+        if numbers.contains(&trial.done) {
+            hinder(rt, alloc, &disk, trial, hindrance);
+        }
+        drop(told(alloc, trial.task, &mut disk));
+    }
 }
 
 const ALL: Hindrance = Hindrance::Stops(0, u64::MAX);
@@ -212,46 +253,46 @@ const SECOND: Hindrance = Hindrance::Stops(27, u64::MAX);
 
 /// A new store, and an input that is stored in it.
 #[test]
-fn a_stop_while_a_store_begins(rt: HostRuntime) -> Result<(), Fail> {
-    check_script(&rt, rt.alloc(), &[0], FIRST)
+fn a_stop_while_a_store_begins(rt: HostRuntime) {
+    check_script(&rt, rt.alloc(), &[0], FIRST);
 }
 
 #[test]
-fn a_stop_while_first_events_are_stored(rt: HostRuntime) -> Result<(), Fail> {
-    check_script(&rt, rt.alloc(), &[0], SECOND)
+fn a_stop_while_first_events_are_stored(rt: HostRuntime) {
+    check_script(&rt, rt.alloc(), &[0], SECOND);
 }
 
 /// A bucket that rolls, and one that freezes with an archive.
 #[test]
-fn a_stop_while_a_bucket_freezes(rt: HostRuntime) -> Result<(), Fail> {
-    check_script(&rt, rt.alloc(), &[1, 2], ALL)
+fn a_stop_while_a_bucket_freezes(rt: HostRuntime) {
+    check_script(&rt, rt.alloc(), &[1, 2], ALL);
 }
 
 /// A bucket that is brought back.
 #[test]
-fn a_stop_while_a_bucket_is_thawed(rt: HostRuntime) -> Result<(), Fail> {
-    check_script(&rt, rt.alloc(), &[3], ALL)
+fn a_stop_while_a_bucket_is_thawed(rt: HostRuntime) {
+    check_script(&rt, rt.alloc(), &[3], ALL);
 }
 
 /// An input that is stored beside what is there.
 #[test]
-fn a_stop_while_a_store_is_opened(rt: HostRuntime) -> Result<(), Fail> {
-    check_script(&rt, rt.alloc(), &[4], FIRST)
+fn a_stop_while_a_store_is_opened(rt: HostRuntime) {
+    check_script(&rt, rt.alloc(), &[4], FIRST);
 }
 
 #[test]
-fn a_stop_while_more_events_are_stored(rt: HostRuntime) -> Result<(), Fail> {
-    check_script(&rt, rt.alloc(), &[4], SECOND)
+fn a_stop_while_more_events_are_stored(rt: HostRuntime) {
+    check_script(&rt, rt.alloc(), &[4], SECOND);
 }
 
 #[test]
-fn a_call_that_fails_while_a_bucket_freezes(rt: HostRuntime) -> Result<(), Fail> {
-    check_script(&rt, rt.alloc(), &[2], Hindrance::Fails)
+fn a_call_that_fails_while_a_bucket_freezes(rt: HostRuntime) {
+    check_script(&rt, rt.alloc(), &[2], Hindrance::Fails);
 }
 
 #[test]
-fn a_call_that_fails_while_events_are_stored(rt: HostRuntime) -> Result<(), Fail> {
-    check_script(&rt, rt.alloc(), &[4], Hindrance::Fails)
+fn a_call_that_fails_while_events_are_stored(rt: HostRuntime) {
+    check_script(&rt, rt.alloc(), &[4], Hindrance::Fails);
 }
 
 /// Two events, of which the second is still open while the first settings are in force.
@@ -260,27 +301,36 @@ const OPEN: &[&str] = &[
     "0: index main stored 2 bytes 119 frozen 0\nbucket main hot_v1_0 hot 2 119\nevents settled 2 nulled 0 dropped 0\n0: main\t1700000000.000000\th\ts\tunknown\t\tx\nmain\t1700000000.000000\th\ts\tunknown\t\tyyyy\n",
 ];
 
+static OPENED: [Step; 1] = [Step::Cut(STORE, PLAIN, "x\nyyyy", "4: indexd: input fault\n")];
+
+static CHANGE: Trial = Trial {
+    done: 0,
+    task: (NOON, "buckets", CHANGED, ""),
+    asks: (
+        (NOON, "buckets", PLAIN, ""),
+        (NOON, "export main", CHANGED, ""),
+    ),
+    shown: OPEN,
+};
+
+/// Does so to a run over what these steps leave.
+fn check_behind(
+    rt: &impl Abort,
+    alloc: Global,
+    steps: &[Step],
+    trial: &Trial,
+    hindrance: Hindrance,
+) {
+    let mut disk = disk_of(alloc);
+    take_all(rt, alloc, &mut disk, steps);
+    hinder(rt, alloc, &disk, trial, hindrance);
+}
+
 /// Other settings are put in force over an open stream. A stop leaves the old ones with the stream open, or the new ones with the events
 /// that the old ones settle.
 #[test]
-fn a_stop_while_settings_change(rt: HostRuntime) -> Result<(), Fail> {
-    let alloc = rt.alloc();
-    let mut disk = MemDisk::new(alloc, FailPlan::none(alloc));
-    let begun = Run {
-        cut: true,
-        ..run(NOON, PLAIN, STORE, "x\nyyyy")
-    };
-    let said = shown(alloc, &mut disk, begun)?;
-    assert!(rt; said.as_str() == "4: indexd: input fault\n", "{said}");
-    let known = Known {
-        runs: [
-            run(NOON, PLAIN, "buckets", ""),
-            run(NOON, CHANGED, "export main", ""),
-        ],
-        shown: OPEN,
-    };
-    let change = (0, run(NOON, CHANGED, "buckets", ""));
-    check_stops(&rt, alloc, &disk, change, known, (0, u64::MAX))
+fn a_stop_while_settings_change(rt: HostRuntime) {
+    check_behind(&rt, rt.alloc(), &OPENED, &CHANGE, ALL);
 }
 
 /// A channel is begun, and a block of two whole lines and a begun one is sent.
@@ -292,35 +342,27 @@ const SERVED: &[&str] = &[
     "0: main\t1700000000.000000\th\ts\tunknown\t\tx\nmain\t1700000000.000000\th\ts\tunknown\t\ty\n0: index main stored 2 bytes 116 frozen 0\nbucket main hot_v1_0 hot 2 116\nevents settled 2 nulled 0 dropped 0\n",
 ];
 
+static SERVE: Trial = Trial {
+    done: 0,
+    task: (NOON, "feed", PLAIN, REQUESTS),
+    asks: (
+        (NOON, "export main", PLAIN, ""),
+        (NOON, "buckets", PLAIN, ""),
+    ),
+    shown: SERVED,
+};
+
 /// A stop leaves both events of a block, or none.
 #[test]
-fn a_stop_while_a_block_is_served(rt: HostRuntime) -> Result<(), Fail> {
-    let alloc = rt.alloc();
-    let known = Known {
-        runs: [
-            run(NOON, PLAIN, "export main", ""),
-            run(NOON, PLAIN, "buckets", ""),
-        ],
-        shown: SERVED,
-    };
-    let disk = MemDisk::new(alloc, FailPlan::none(alloc));
-    let feed = (0, run(NOON, PLAIN, "feed", REQUESTS));
-    check_stops(&rt, alloc, &disk, feed, known, (0, u64::MAX))
+fn a_stop_while_a_block_is_served(rt: HostRuntime) {
+    check_behind(&rt, rt.alloc(), &[], &SERVE, ALL);
 }
 
 /// A store with three events whose log is long: bytes behind its last gate, which mean nothing, make it so.
-fn long_log(rt: &impl Abort, alloc: Global) -> Result<MemDisk, Fail> {
-    let mut disk = MemDisk::new(alloc, FailPlan::none(alloc));
-    let said = shown(alloc, &mut disk, run(NOON, KEPT, STORE, "x\ny\nz"))?;
-    let zeros = vec![in alloc; 0u8; LONG]?;
-    let log = File {
-        area: Area::Meta,
-        number: 1,
-    };
-    let is_long = lengthen(&mut disk, log, zeros.as_slice());
-    assert!(rt; is_long && said.as_str() == "0: ", "{said}");
-    Ok(disk)
-}
+static LONG_LOG: [Step; 2] = [
+    Step::Run((NOON, STORE, KEPT, "x\ny\nz"), "0: "),
+    Step::Lengthen(LOG, LONG),
+];
 
 /// Behind every stop and every fault the store shows the same.
 const SHORTENED: &[&str] = &[
@@ -328,29 +370,20 @@ const SHORTENED: &[&str] = &[
     "0: X0: index main stored 3 bytes 174 frozen 0\nbucket main hot_v1_0 hot 3 174\nevents settled 3 nulled 0 dropped 0\n",
 ];
 
-fn shortened_known() -> Known {
-    Known {
-        runs: [
-            run(NOON, KEPT, "export main", ""),
-            run(NOON, KEPT, "buckets", ""),
-        ],
-        shown: SHORTENED,
-    }
-}
+static SHORTENING: Trial = Trial {
+    done: 0,
+    task: (NOON, "buckets", KEPT, ""),
+    asks: ((NOON, "export main", KEPT, ""), (NOON, "buckets", KEPT, "")),
+    shown: SHORTENED,
+};
 
 /// A run that makes a long log short. A stop leaves the old log or the new one, with the same state.
 #[test]
-fn a_stop_while_a_log_is_made_short(rt: HostRuntime) -> Result<(), Fail> {
-    let alloc = rt.alloc();
-    let disk = long_log(&rt, alloc)?;
-    let list = (0, run(NOON, KEPT, "buckets", ""));
-    check_stops(&rt, alloc, &disk, list, shortened_known(), (0, u64::MAX))
+fn a_stop_while_a_log_is_made_short(rt: HostRuntime) {
+    check_behind(&rt, rt.alloc(), &LONG_LOG, &SHORTENING, ALL);
 }
 
 #[test]
-fn a_call_that_fails_while_a_log_is_made_short(rt: HostRuntime) -> Result<(), Fail> {
-    let alloc = rt.alloc();
-    let disk = long_log(&rt, alloc)?;
-    let list = (0, run(NOON, KEPT, "buckets", ""));
-    check_fails(&rt, alloc, &disk, list, shortened_known())
+fn a_call_that_fails_while_a_log_is_made_short(rt: HostRuntime) {
+    check_behind(&rt, rt.alloc(), &LONG_LOG, &SHORTENING, Hindrance::Fails);
 }
