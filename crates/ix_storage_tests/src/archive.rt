@@ -1,9 +1,11 @@
 //! Copies of the first bytes of files.
 
-use crate::said::{compare, note, say, shown};
+use crate::machine::{Work, machine_said};
+use crate::made::empty;
+use crate::said::{compare, front, note, say};
 use ix_archive::{check, copy};
-use ix_base::{Area, FailPlan, Failed, File};
-use ix_disk::{Disk, HostDisk, MemDisk, OneFail, StopDisk};
+use ix_base::{Area, Failed, File};
+use ix_disk::{Disk, MemDisk, OneFail, StopDisk};
 use std::alloc::Global;
 
 const FROM: File = File {
@@ -29,30 +31,28 @@ fn put<D: Disk>(disk: &mut D, file: File, bytes: &[u8]) -> Result<(), Failed> {
 fn note_held<D: Disk>(text: &mut String, disk: &mut D, file: File) {
     let mut buf = [0u8; 20];
     let count = disk.read(file, 0, &mut buf).unwrap_or(0);
-    say(text, shown(buf.get(..count).unwrap_or(&[])));
+    say(text, front(&buf, count));
 }
 
-/// Writes what a copy of so many bytes by pieces of a size answers, and what the file holds then that it went to.
+/// Writes what a copy of so many bytes by pieces of a size answers, 1 to 16, and what the file holds then that it went to.
 fn note_copy<D: Disk>(text: &mut String, disk: &mut D, to: File, len: u64, size: usize) {
     let mut buf = [0u8; 16];
-    if let Some(piece) = buf.get_mut(..size)
-        && !piece.is_empty()
-    {
-        note(text, copy(disk, FROM, to, len, piece));
-    }
+    let size = size.max(1).min(16);
+    note(text, copy(disk, FROM, to, len, &mut buf[..size]));
     note_held(text, disk, to);
 }
 
-/// Lengths, and the sizes of the pieces.
-static COPIES: [(u64, usize); 8] = [
-    (0, 4),
-    (1, 4),
-    (4, 4),
-    (7, 3),
-    (9, 16),
-    (10, 1),
-    (11, 4),
-    (u64::MAX, 4),
+/// Files, lengths, and the sizes of the pieces. The last copy goes to its source.
+static COPIES: [(File, u64, usize); 9] = [
+    (TO, 0, 4),
+    (TO, 1, 4),
+    (TO, 4, 4),
+    (TO, 7, 3),
+    (TO, 9, 16),
+    (TO, 10, 1),
+    (TO, 11, 4),
+    (TO, u64::MAX, 4),
+    (FROM, 10, 4),
 ];
 
 const COPIED: &str =
@@ -62,16 +62,18 @@ const COPIED: &str =
 
 static CHECKS: [(File, u64); 5] = [(FROM, 0), (FROM, 10), (FROM, 11), (TO, 12), (TO, u64::MAX)];
 
+/// What the files hold first.
+static HELD: [(File, &[u8]); 2] = [(FROM, TEXT), (TO, b"0123456789!?")];
+
 /// Writes what calls answer on a disk from which the files are removed first.
-fn note_run<D: Disk>(text: &mut String, disk: &mut D) {
-    note(text, disk.remove(FROM));
-    note(text, disk.remove(TO));
-    note(text, put(disk, FROM, TEXT));
-    note(text, put(disk, TO, b"0123456789!?"));
-    for (len, size) in &COPIES {
-        note_copy(text, disk, TO, *len, *size);
+pub fn note_run<D: Disk>(text: &mut String, disk: &mut D) {
+    for (file, bytes) in &HELD {
+        note(text, disk.remove(*file));
+        note(text, put(disk, *file, bytes));
     }
-    note_copy(text, disk, FROM, 10, 4);
+    for (to, len, size) in &COPIES {
+        note_copy(text, disk, *to, *len, *size);
+    }
     for (file, len) in &CHECKS {
         note(text, check(disk, *file, *len));
     }
@@ -79,15 +81,7 @@ fn note_run<D: Disk>(text: &mut String, disk: &mut D) {
 
 fn memory_said(alloc: Global) -> String {
     let mut text = String::new(alloc);
-    let mut disk = MemDisk::new(alloc, FailPlan::none(alloc));
-    note_run(&mut text, &mut disk);
-    drop(disk);
-    text
-}
-
-fn machine_said(rt: &HostRuntime) -> String {
-    let mut text = String::new(rt.alloc());
-    let mut disk = HostDisk::new(rt);
+    let mut disk = empty(alloc);
     note_run(&mut text, &mut disk);
     drop(disk);
     text
@@ -96,12 +90,12 @@ fn machine_said(rt: &HostRuntime) -> String {
 #[test]
 fn the_first_bytes_are_copied(rt: HostRuntime) {
     compare(&rt, memory_said(rt.alloc()), COPIED);
-    compare(&rt, machine_said(&rt), COPIED);
+    compare(&rt, machine_said(&rt, Work::Copies), COPIED);
 }
 
 /// A disk with a file to copy.
 fn with_text(alloc: Global) -> MemDisk {
-    let mut disk = MemDisk::new(alloc, FailPlan::none(alloc));
+    let mut disk = empty(alloc);
     let _ = put(&mut disk, FROM, TEXT);
     disk
 }
@@ -144,12 +138,27 @@ fn a_copy_that_stops_leaves_the_source(rt: HostRuntime) {
     compare(&rt, stops_said(rt.alloc()), wanted);
 }
 
-/// Writes what a copy of which one call fails answers, and the same copy again.
+/// Writes what a copy answers, the same copy again, and what the file holds then.
+fn note_copies<D: Disk>(text: &mut String, disk: &mut D) {
+    for _ in 0..2 {
+        note(text, copy(disk, FROM, TO, 8, &mut [0u8; 4]));
+    }
+    note_held(text, disk, TO);
+}
+
+/// Writes that of a disk of which one call fails.
 fn note_fail(text: &mut String, alloc: Global, number: u64) {
     let mut disk = OneFail::new(with_text(alloc), number);
-    note(text, copy(&mut disk, FROM, TO, 8, &mut [0u8; 4]));
-    note(text, copy(&mut disk, FROM, TO, 8, &mut [0u8; 4]));
-    note_held(text, &mut disk, TO);
+    note_copies(text, &mut disk);
+    drop(disk);
+}
+
+/// Writes what a check answers whose call fails, and the same check again.
+fn note_checks(text: &mut String, alloc: Global) {
+    let mut disk = OneFail::new(with_text(alloc), 0);
+    for _ in 0..2 {
+        note(text, check(&mut disk, FROM, 10));
+    }
     drop(disk);
 }
 
@@ -158,10 +167,7 @@ fn fails_said(alloc: Global) -> String {
     for number in 0..CALLS {
         note_fail(&mut text, alloc, number);
     }
-    let mut disk = OneFail::new(with_text(alloc), 0);
-    note(&mut text, check(&mut disk, FROM, 10));
-    note(&mut text, check(&mut disk, FROM, 10));
-    drop(disk);
+    note_checks(&mut text, alloc);
     text
 }
 

@@ -1,6 +1,7 @@
-//! Tests of `ix_base`, `ix_text` and `ix_tree`: the text of an event, and the forms in memory and over the real things. What calls answer is written
-//! into a text, and each text is compared once. Where memory is lacking a text stays too short, and is not what is wanted.
+//! Tests of `ix_base`, `ix_text` and `ix_tree`: the text of an event, and the forms in memory and over the real things.
 
+use crate::made::{bytes_of, failing};
+use crate::said::{compare, front, note, say, shown};
 use ix_base::{
     Bytes, ChannelMeta, Clock, Event, FailPlan, HostClock, LATEST_MOMENT, MemClock, MemSink,
     MemSource, NoMemory, NumberList, Sink, Source, StdSink, StdSource, Text, clamped,
@@ -8,42 +9,7 @@ use ix_base::{
 use ix_text::{LineWriter, write_line};
 use ix_tree::{HostTree, MemTree, Tree, TreeFile, TreeFileList, names_are_in_order};
 use std::alloc::Global;
-use std::fmt::Debug;
-use std::process::Abort;
-use std::{fs, str};
-
-/// Writes what a call answered.
-fn note<T: Debug + Drop>(text: &mut String, answer: T) {
-    let _ = write!(text, "{answer:?} ");
-}
-
-/// Writes a word.
-fn say(text: &mut String, word: &str) {
-    let _ = write!(text, "{word} ");
-}
-
-/// Compares what calls answered with what they are to answer.
-fn compare(rt: &impl Abort, found: String, wanted: &str) {
-    assert_eq!(rt; found.as_str(), wanted);
-}
-
-fn bytes_of(alloc: Global, bytes: &[u8]) -> Bytes {
-    Bytes::copy_of(alloc, bytes).unwrap_or(Bytes::new(alloc))
-}
-
-/// The plan by which the calls of these numbers fail.
-fn failing(alloc: Global, numbers: &[u64]) -> FailPlan {
-    FailPlan::new(numbers.to_vec(alloc).unwrap_or(Vec::new(alloc)))
-}
-
-fn shown(bytes: &[u8]) -> &str {
-    str::from_utf8(bytes).unwrap_or("?")
-}
-
-/// The first bytes, as many as were read.
-fn front(bytes: &[u8], count: usize) -> &str {
-    shown(bytes.get(..count).unwrap_or(&[]))
-}
+use std::fs;
 
 fn event(alloc: Global, time: i64, raw: &[u8]) -> Event {
     Event {
@@ -240,8 +206,9 @@ fn note_reads(rt: &HostRuntime, text: &mut String) {
     }
     if let Ok(file) = fs::open(rt, "text") {
         let mut source = StdSource::new(file);
-        note_read(text, &mut source);
-        note_read(text, &mut source);
+        for _ in 0..2 {
+            note_read(text, &mut source);
+        }
         drop(source);
     }
 }
@@ -473,12 +440,20 @@ static REAL: [(Ask<'static>, &str); 10] = [
     (Ask::Size(b"real/\xFF"), "Err(Failed) "),
 ];
 
+/// Folders to make.
+static FOLDERS: [&str; 2] = ["real/apps/b", "real/none"];
+
+/// Files to make in them, and what these hold.
+static MADE: [(&str, &str); 2] = [("real/apps/10", "ten ten"), ("real/apps/9", "")];
+
 /// Makes the files, and writes what that answered.
 fn note_making(rt: &HostRuntime, text: &mut String) {
-    note(text, fs::create_dir_all(rt, "real/apps/b").is_ok());
-    note(text, fs::create_dir_all(rt, "real/none").is_ok());
-    note(text, fs::write(rt, "real/apps/10", "ten ten").is_ok());
-    note(text, fs::write(rt, "real/apps/9", "").is_ok());
+    for path in FOLDERS {
+        note(text, fs::create_dir_all(rt, path).is_ok());
+    }
+    for (path, bytes) in MADE {
+        note(text, fs::write(rt, path, bytes).is_ok());
+    }
 }
 
 fn real_asked(rt: &HostRuntime) -> String {

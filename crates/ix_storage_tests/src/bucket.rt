@@ -1,16 +1,12 @@
-//! Records of events, and readers of them. What calls answer is written into a text, and each text is compared once. Where
-//! memory is lacking the text stays too short, and is not what is wanted.
+//! Records of events, and readers of them.
 
-ghost use Rattle.std.specs.Prelude.{◌<◌, ◌^◌, length, IsTrue};
-ghost use Rattle.ix_bucket.specs.Record.{event_bytes};
-
-use ix_base::{Area, Bytes, Event, EventRef, FailPlan, Failed, File};
-use ix_bucket::{Reader, append, count_records, decode, encode, unique_reading};
-use ix_disk::{Disk, HostDisk, MemDisk, OneFail, StopDisk};
+use crate::machine::{Work, machine_said};
+use crate::made::{MOMENT, empty, put, put_record, record};
+use crate::said::{compare, note, say, shown};
+use ix_base::{Area, EventRef, Failed, File};
+use ix_bucket::{Reader, append, count_records, decode, unique_reading};
+use ix_disk::{Disk, MemDisk, OneFail, StopDisk};
 use std::alloc::Global;
-use std::fmt::Debug;
-use std::process::Abort;
-use std::str;
 
 /// The record of an event of index main, host h, source s, sourcetype unknown, no meta and raw text `a`.
 static RECORD: [u8; 58] = [
@@ -18,8 +14,6 @@ static RECORD: [u8; 58] = [
     0, 0, 0, 0, 4, 0x6D, 0x61, 0x69, 0x6E, 0, 0, 0, 1, 0x68, 0, 0, 0, 1, 0x73, 0, 0, 0, 7, 0x75,
     0x6E, 0x6B, 0x6E, 0x6F, 0x77, 0x6E, 0, 0, 0, 0, 0, 0, 0, 1, 0x61,
 ];
-
-const MOMENT: i64 = 1_700_000_000_000_000;
 
 const HOME: File = File {
     area: Area::Home,
@@ -31,74 +25,15 @@ const COLD: File = File {
     number: 1,
 };
 
-/// Writes what a call answered.
-fn note<T: Debug + Drop>(said: &mut String, answer: T) {
-    let _ = write!(said, "{answer:?}, ");
-}
-
-/// Writes a word.
-fn say(said: &mut String, word: &str) {
-    let _ = write!(said, "{word}, ");
-}
-
-/// Compares what calls answered with what they are to answer.
-fn compare(rt: &impl Abort, said: String, wanted: &str) {
-    assert_eq!(rt; said.as_str(), wanted);
-}
-
-fn bytes_of(alloc: Global, bytes: &[u8]) -> Bytes {
-    Bytes::copy_of(alloc, bytes).unwrap_or(Bytes::new(alloc))
-}
-
-fn event(alloc: Global, time: i64, raw: &[u8]) -> Event {
-    Event {
-        time,
-        arrival: MOMENT,
-        index: bytes_of(alloc, b"main"),
-        host: bytes_of(alloc, b"h"),
-        source: bytes_of(alloc, b"s"),
-        sourcetype: bytes_of(alloc, b"unknown"),
-        meta: Bytes::new(alloc),
-        raw: bytes_of(alloc, raw),
-    }
-}
-
-#[tactic(auto, using(ix_bucket::proofs::Sizes::length_fields, ix_bucket::proofs::Sizes::length_event_bytes))]
-fn is_small(event: &Event) -> bool
-    ensures { IsTrue result → length (event_bytes event.now) < 2 ^ 32 }
-{
-    let most = 1 << 28;
-    event.index.len() < most
-        && event.host.len() < most
-        && event.source.len() < most
-        && event.sourcetype.len() < most
-        && event.meta.len() < most
-        && event.raw.len() < most
-}
-
-fn record(alloc: Global, time: i64, raw: &[u8]) -> Bytes {
-    let mut out = Bytes::new(alloc);
-    let event = event(alloc, time, raw);
-    if is_small(&event) {
-        let _ = encode(&event, &mut out);
-    }
-    drop(event);
-    out
-}
-
-fn text(bytes: &[u8]) -> &str {
-    str::from_utf8(bytes).unwrap_or("?")
-}
-
 fn note_event(said: &mut String, event: EventRef<'_>) {
     note(said, event.time);
     note(said, event.arrival);
-    say(said, text(event.index));
-    say(said, text(event.host));
-    say(said, text(event.source));
-    say(said, text(event.sourcetype));
-    say(said, text(event.meta));
-    say(said, text(event.raw));
+    say(said, shown(event.index));
+    say(said, shown(event.host));
+    say(said, shown(event.source));
+    say(said, shown(event.sourcetype));
+    say(said, shown(event.meta));
+    say(said, shown(event.raw));
 }
 
 /// Writes what the record at the front says, and how many bytes it takes.
@@ -133,12 +68,13 @@ fn record_said(alloc: Global) -> String {
 #[test]
 fn a_record_is_written_and_read_and_no_prefix_is_one(rt: HostRuntime) {
     unique_reading();
-    let wanted = "true, 1700000000000000, 1700000000000000, main, h, s, unknown, , a, 58, ";
+    let wanted = "true 1700000000000000 1700000000000000 main h s unknown  a 58 ";
     compare(&rt, record_said(rt.alloc()), wanted);
 }
 
-/// Bytes put in place of others: a length one too long or too short, of the whole, the index and the text.
-static FORGED: [(usize, u8); 7] = [
+/// Bytes put in place of others: a length one too long or too short, of the whole, the index and the text, and at last a byte
+/// behind the record.
+static FORGED: [(usize, u8); 8] = [
     (3, 0x37),
     (3, 0x35),
     (23, 5),
@@ -146,6 +82,7 @@ static FORGED: [(usize, u8); 7] = [
     (56, 2),
     (56, 0),
     (0, 1),
+    (58, 1),
 ];
 
 /// The record and a zero behind it, with a byte at a place.
@@ -163,13 +100,12 @@ fn forged_said(alloc: Global) -> String {
     for (place, byte) in &FORGED {
         note(&mut said, is_record(&forged(*place, *byte)));
     }
-    note(&mut said, is_record(&forged(58, 1)));
     said
 }
 
 #[test]
 fn a_record_with_a_forged_length_is_none(rt: HostRuntime) {
-    let wanted = "false, false, false, false, false, false, false, true, ";
+    let wanted = "false false false false false false false true ";
     compare(&rt, forged_said(rt.alloc()), wanted);
 }
 
@@ -181,49 +117,42 @@ fn time_of(record: &[u8]) -> Option<i64> {
     }
 }
 
-/// Writes of the record of an event of this moment how long it is, whether the moment is in these bytes, and whether it is
-/// read.
-fn note_moment(said: &mut String, alloc: Global, time: i64, bytes: &[u8]) {
-    let out = record(alloc, time, b"");
-    note(said, out.len());
-    note(said, out.as_slice().get(4..12) == Some(bytes));
-    note(said, time_of(out.as_slice()) == Some(time));
-    drop(out);
+/// Moments, and their bytes.
+static MOMENTS: [(i64, &[u8]); 3] = [
+    (-1, b"\xFF\xFF\xFF\xFF\xFF\xFF\xFF\xFF"),
+    (i64::MIN, b"\x80\0\0\0\0\0\0\0"),
+    (-256, b"\xFF\xFF\xFF\xFF\xFF\xFF\xFF\0"),
+];
+
+/// Writes of a record how long it is, whether the moment is in these bytes, and whether it is read.
+fn note_moment(said: &mut String, record: &[u8], time: i64, bytes: &[u8]) {
+    note(said, record.len());
+    note(said, record.get(4..12) == Some(bytes));
+    note(said, time_of(record) == Some(time));
 }
 
 fn moments_said(alloc: Global) -> String {
     let mut said = String::new(alloc);
-    note_moment(&mut said, alloc, -1, &[0xFF; 8]);
-    note_moment(&mut said, alloc, i64::MIN, b"\x80\0\0\0\0\0\0\0");
-    note_moment(&mut said, alloc, -256, b"\xFF\xFF\xFF\xFF\xFF\xFF\xFF\0");
+    for (time, bytes) in &MOMENTS {
+        let record = record(alloc, *time, b"");
+        note_moment(&mut said, record.as_slice(), *time, bytes);
+        drop(record);
+    }
     said
 }
 
 #[test]
 fn moments_before_1970_are_in_twos_complement(rt: HostRuntime) {
-    let wanted = "57, true, true, 57, true, true, 57, true, true, ";
+    let wanted = "57 true true 57 true true 57 true true ";
     compare(&rt, moments_said(rt.alloc()), wanted);
 }
 
-/// Puts the record of an event at the end of a file.
-fn put<D: Disk>(disk: &mut D, file: File, record: &Bytes) -> Result<(), Failed> {
-    let at = disk.length(file)?;
-    append(disk, file, at, record.as_slice())
-}
-
-/// Puts the record of an event where one stands that is as long.
-fn put_over<D: Disk>(disk: &mut D, file: File, at: u64, record: &Bytes) -> Result<(), Failed> {
+/// Puts a record where one stands that is as long.
+fn put_over<D: Disk>(disk: &mut D, file: File, at: u64, record: &[u8]) -> Result<(), Failed> {
     if at > disk.length(file)? {
         return Err(Failed);
     }
-    append(disk, file, at, record.as_slice())
-}
-
-/// Puts an event of this raw text, and writes what that answered.
-fn note_put<D: Disk>(said: &mut String, alloc: Global, disk: &mut D, file: File, raw: &[u8]) {
-    let record = record(alloc, MOMENT, raw);
-    note(said, put(disk, file, &record));
-    drop(record);
+    append(disk, file, at, record)
 }
 
 /// Writes what the reader answers: the text of the event and the place after it, `end`, or the fault.
@@ -231,7 +160,7 @@ fn note_next<D: Disk>(said: &mut String, reader: &mut Reader, disk: &mut D, ask:
     let (file, at, until) = ask;
     match reader.next(disk, file, at, until) {
         Ok(Some((found, next))) => {
-            say(said, text(found.raw));
+            say(said, shown(found.raw));
             note(said, next);
         }
         Ok(None) => say(said, "end"),
@@ -254,7 +183,9 @@ fn note_all<D: Disk>(
 /// Records of 60 bytes, two in the one file and one in the other.
 static PUT: [(File, &[u8]); 3] = [(HOME, b"one"), (HOME, b"two"), (COLD, b"six")];
 
-static READ: [(File, u64, u64); 8] = [
+/// Where records are asked for. In the last six rows the record ends past the place, the place is no record's, is behind the
+/// end or the file ends before it.
+static ASKED: [(File, u64, u64); 14] = [
     (HOME, 0, 120),
     (HOME, 60, 120),
     (COLD, 0, 60),
@@ -263,10 +194,6 @@ static READ: [(File, u64, u64); 8] = [
     (HOME, 120, 120),
     (HOME, 0, 0),
     (COLD, 7, 7),
-];
-
-/// The record ends past the place, the place is no record's, is behind the end or the file ends before it.
-static BAD: [(File, u64, u64); 6] = [
     (HOME, 0, 59),
     (HOME, 60, 119),
     (HOME, 1, 120),
@@ -285,20 +212,20 @@ static COUNTED: [(File, u64); 6] = [
 ];
 
 /// What the files are removed and the records put with, read, not read and counted, and then what is new.
-const RUN_SAID: &str = "Ok(()), Ok(()), Ok(()), Ok(()), Ok(()), \
-    one, 60, two, 120, six, 60, two, 120, one, 60, end, end, end, \
-    BadRecord { at: 0 }, BadRecord { at: 60 }, BadRecord { at: 1 }, BadRecord { at: 120 }, BadRecord { at: 60 }, \
-    BadRecord { at: 9 }, \
-    Ok(0), Ok(1), Ok(2), Err(BadRecord { at: 60 }), Err(BadRecord { at: 120 }), Ok(1), \
-    Ok(()), ten, 180, Ok(()), six, 180, ";
+const RUN_SAID: &str = "Ok(()) Ok(()) Ok(()) Ok(()) Ok(()) \
+    one 60 two 120 six 60 two 120 one 60 end end end \
+    BadRecord { at: 0 } BadRecord { at: 60 } BadRecord { at: 1 } BadRecord { at: 120 } BadRecord { at: 60 } \
+    BadRecord { at: 9 } \
+    Ok(0) Ok(1) Ok(2) Err(BadRecord { at: 60 }) Err(BadRecord { at: 120 }) Ok(1) \
+    Ok(()) ten 180 Ok(()) six 180 ";
 
 /// Writes what a reader answers of a record that is put behind what it holds, and of one that is put over that once it has
 /// forgotten.
 fn note_new<D: Disk>(said: &mut String, alloc: Global, reader: &mut Reader, disk: &mut D) {
-    note_put(said, alloc, disk, HOME, b"ten");
+    note(said, put_record(alloc, disk, HOME, MOMENT, b"ten"));
     note_next(said, reader, disk, (HOME, 120, 180));
     let record = record(alloc, MOMENT, b"six");
-    note(said, put_over(disk, HOME, 120, &record));
+    note(said, put_over(disk, HOME, 120, record.as_slice()));
     drop(record);
     reader.forget();
     note_next(said, reader, disk, (HOME, 120, 180));
@@ -306,10 +233,11 @@ fn note_new<D: Disk>(said: &mut String, alloc: Global, reader: &mut Reader, disk
 
 /// Puts the records on a disk from which the files are removed first, and writes what that answered.
 fn note_records<D: Disk>(said: &mut String, alloc: Global, disk: &mut D) {
-    note(said, disk.remove(HOME));
-    note(said, disk.remove(COLD));
+    for file in [HOME, COLD] {
+        note(said, disk.remove(file));
+    }
     for (file, raw) in &PUT {
-        note_put(said, alloc, disk, *file, raw);
+        note(said, put_record(alloc, disk, *file, MOMENT, raw));
     }
 }
 
@@ -321,11 +249,10 @@ fn note_counts<D: Disk>(said: &mut String, reader: &mut Reader, disk: &mut D) {
 }
 
 /// Writes what a reader answers on a disk with these records, and of what is new there.
-fn note_run<D: Disk>(said: &mut String, alloc: Global, disk: &mut D) {
+pub fn note_run<D: Disk>(said: &mut String, alloc: Global, disk: &mut D) {
     note_records(said, alloc, disk);
     if let Ok(mut reader) = Reader::new(alloc) {
-        note_all(said, &mut reader, disk, &READ);
-        note_all(said, &mut reader, disk, &BAD);
+        note_all(said, &mut reader, disk, &ASKED);
         note_counts(said, &mut reader, disk);
         note_new(said, alloc, &mut reader, disk);
         drop(reader);
@@ -334,7 +261,7 @@ fn note_run<D: Disk>(said: &mut String, alloc: Global, disk: &mut D) {
 
 fn memory_said(alloc: Global) -> String {
     let mut said = String::new(alloc);
-    let mut disk = MemDisk::new(alloc, FailPlan::none(alloc));
+    let mut disk = empty(alloc);
     note_run(&mut said, alloc, &mut disk);
     drop(disk);
     said
@@ -345,17 +272,9 @@ fn events_are_read_in_turn_and_anywhere(rt: HostRuntime) {
     compare(&rt, memory_said(rt.alloc()), RUN_SAID);
 }
 
-fn machine_said(rt: &HostRuntime) -> String {
-    let mut said = String::new(rt.alloc());
-    let mut disk = HostDisk::new(rt);
-    note_run(&mut said, rt.alloc(), &mut disk);
-    drop(disk);
-    said
-}
-
 #[test]
 fn events_of_real_files_are_read(rt: HostRuntime) {
-    compare(&rt, machine_said(&rt), RUN_SAID);
+    compare(&rt, machine_said(&rt, Work::Records), RUN_SAID);
 }
 
 /// How many bytes the long record takes, and where it ends behind one of 60.
@@ -363,29 +282,36 @@ const LONG: usize = 1_048_577;
 
 const END: u64 = 60 + 57 + 1_048_577;
 
-/// A disk with a record, a long one, and bytes that begin like a longer one still.
-fn with_long(alloc: Global) -> MemDisk {
-    let mut disk = with_one(alloc);
-    let raw = vec![in alloc; 0x78u8; LONG].unwrap_or(Vec::new(alloc));
-    let long = record(alloc, MOMENT, &raw);
-    let _ = put(&mut disk, HOME, &long);
-    drop(long);
-    drop(raw);
-    let none = bytes_of(alloc, &[0xFF; 70]);
-    let _ = put(&mut disk, HOME, &none);
-    drop(none);
+/// A disk with one event.
+fn with_one(alloc: Global) -> MemDisk {
+    let mut disk = empty(alloc);
+    let _ = put_record(alloc, &mut disk, HOME, MOMENT, b"one");
     disk
 }
+
+/// Puts a long record, and bytes behind it that begin like a longer one still.
+fn put_long(alloc: Global, disk: &mut MemDisk) {
+    let raw = vec![in alloc; 0x78u8; LONG].unwrap_or(Vec::new(alloc));
+    let _ = put_record(alloc, disk, HOME, MOMENT, &raw);
+    drop(raw);
+    let _ = put(disk, HOME, &[0xFF; 70]);
+}
+
+/// Where no record is, or one that ends past the place.
+static NO_RECORD: [(File, u64, u64); 3] = [
+    (HOME, END, END + 70),
+    (HOME, END, u64::MAX),
+    (HOME, 60, END - 1),
+];
 
 /// What a reader counts there, and answers of what is no record.
 fn long_said(alloc: Global) -> String {
     let mut said = String::new(alloc);
-    let mut disk = with_long(alloc);
+    let mut disk = with_one(alloc);
+    put_long(alloc, &mut disk);
     if let Ok(mut reader) = Reader::new(alloc) {
         note(&mut said, count_records(&mut reader, &mut disk, HOME, END));
-        note_next(&mut said, &mut reader, &mut disk, (HOME, END, END + 70));
-        note_next(&mut said, &mut reader, &mut disk, (HOME, END, u64::MAX));
-        note_next(&mut said, &mut reader, &mut disk, (HOME, 60, END - 1));
+        note_all(&mut said, &mut reader, &mut disk, &NO_RECORD);
         drop(reader);
     }
     drop(disk);
@@ -394,26 +320,15 @@ fn long_said(alloc: Global) -> String {
 
 #[test]
 fn a_record_longer_than_a_piece_is_read_and_a_forged_length_is_not(rt: HostRuntime) {
-    let wanted =
-        "Ok(2), BadRecord { at: 1048694 }, BadRecord { at: 1048694 }, BadRecord { at: 60 }, ";
+    let wanted = "Ok(2) BadRecord { at: 1048694 } BadRecord { at: 1048694 } BadRecord { at: 60 } ";
     compare(&rt, long_said(rt.alloc()), wanted);
-}
-
-/// A disk with one event.
-fn with_one(alloc: Global) -> MemDisk {
-    let mut disk = MemDisk::new(alloc, FailPlan::none(alloc));
-    let one = record(alloc, MOMENT, b"one");
-    let _ = put(&mut disk, HOME, &one);
-    drop(one);
-    disk
 }
 
 /// Writes what a reader answers that is asked twice for one event, where one call of the disk fails.
 fn note_twice(said: &mut String, alloc: Global, number: u64) {
     let mut disk = OneFail::new(with_one(alloc), number);
     if let Ok(mut reader) = Reader::new(alloc) {
-        note_next(said, &mut reader, &mut disk, (HOME, 0, 60));
-        note_next(said, &mut reader, &mut disk, (HOME, 0, 60));
+        note_all(said, &mut reader, &mut disk, &[(HOME, 0, 60); 2]);
         drop(reader);
     }
     drop(disk);
@@ -429,7 +344,7 @@ fn fails_said(alloc: Global) -> String {
 
 #[test]
 fn a_read_that_fails_is_told_and_done_again(rt: HostRuntime) {
-    let wanted = "Disk, one, 60, Disk, one, 60, Disk, one, 60, one, 60, one, 60, ";
+    let wanted = "Disk one 60 Disk one 60 Disk one 60 one 60 one 60 ";
     compare(&rt, fails_said(rt.alloc()), wanted);
 }
 
@@ -445,9 +360,7 @@ fn note_count<D: Disk>(said: &mut String, alloc: Global, disk: &mut D, until: u6
 /// append was done, and else the one before.
 fn note_stop(said: &mut String, alloc: Global, calls: u64, torn: bool) {
     let mut stopped = StopDisk::new(with_one(alloc), calls);
-    let two = record(alloc, MOMENT, b"two");
-    let done = put(&mut stopped, HOME, &two);
-    drop(two);
+    let done = put_record(alloc, &mut stopped, HOME, MOMENT, b"two");
     let disk = stopped.into_inner();
     if let Ok(mut left) = disk.crash(torn) {
         note_count(said, alloc, &mut left, if done.is_ok() { 120 } else { 60 });
@@ -467,6 +380,6 @@ fn stops_said(alloc: Global) -> String {
 
 #[test]
 fn an_append_that_stops_leaves_what_stood_before(rt: HostRuntime) {
-    let wanted = "Ok(1), Ok(1), Ok(1), Ok(1), Ok(1), Ok(1), Ok(2), Ok(2), ";
+    let wanted = "Ok(1) Ok(1) Ok(1) Ok(1) Ok(1) Ok(1) Ok(2) Ok(2) ";
     compare(&rt, stops_said(rt.alloc()), wanted);
 }

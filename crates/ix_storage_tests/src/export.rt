@@ -1,37 +1,12 @@
-//! Buckets in memory that are exported. What an export answers and the texts of the events that it writes are put into a
-//! text, which is compared. Where memory is lacking a text stays too short, and is not what is wanted.
+//! Buckets in memory that are exported: what an export answers, and the texts of the events that it writes.
 
-ghost use Rattle.std.specs.Prelude.{◌<◌, ◌^◌, length, IsTrue};
-ghost use Rattle.ix_bucket.specs.Record.{event_bytes};
-
-use ix_base::{Area, Bytes, Event, FailPlan, Failed, File, MemSink, Range};
-use ix_bucket::{append, encode};
+use crate::made::{empty, failing, put, put_record, record};
+use crate::said::{compare, note, shown};
+use ix_base::{Area, FailPlan, File, MemSink, Range};
 use ix_disk::{Disk, MemDisk, OneFail};
 use ix_export::export_buckets;
 use ix_items::{Bucket, State};
 use std::alloc::Global;
-use std::fmt::Debug;
-use std::process::Abort;
-use std::str;
-
-/// Writes what a call answered.
-fn note<T: Debug + Drop>(text: &mut String, answer: T) {
-    let _ = write!(text, "{answer:?} ");
-}
-
-/// Compares what calls answered with what they are to answer.
-fn compare(rt: &impl Abort, found: String, wanted: &str) {
-    assert_eq!(rt; found.as_str(), wanted);
-}
-
-/// Says what was found where something else is wanted.
-fn note_unlike(text: &mut String, found: String, wanted: &str) {
-    if found.as_str() != wanted {
-        note(text, found.as_str());
-        note(text, wanted);
-    }
-    drop(found);
-}
 
 const HOME: File = File {
     area: Area::Home,
@@ -80,68 +55,11 @@ const ALL: Range = Range {
     latest: None,
 };
 
-fn bytes_of(alloc: Global, bytes: &[u8]) -> Bytes {
-    Bytes::copy_of(alloc, bytes).unwrap_or(Bytes::new(alloc))
-}
-
-fn event(alloc: Global, time: i64, raw: &[u8]) -> Event {
-    Event {
-        time,
-        arrival: 0,
-        index: bytes_of(alloc, b"main"),
-        host: bytes_of(alloc, b"h"),
-        source: bytes_of(alloc, b"s"),
-        sourcetype: bytes_of(alloc, b"unknown"),
-        meta: Bytes::new(alloc),
-        raw: bytes_of(alloc, raw),
-    }
-}
-
-#[tactic(auto, using(ix_bucket::proofs::Sizes::length_fields, ix_bucket::proofs::Sizes::length_event_bytes))]
-fn is_small(event: &Event) -> bool
-    ensures { IsTrue result → length (event_bytes event.now) < 2 ^ 32 }
-{
-    let most = 1 << 28;
-    event.index.len() < most
-        && event.host.len() < most
-        && event.source.len() < most
-        && event.sourcetype.len() < most
-        && event.meta.len() < most
-        && event.raw.len() < most
-}
-
-fn record(alloc: Global, time: i64, raw: &[u8]) -> Bytes {
-    let mut out = Bytes::new(alloc);
-    let event = event(alloc, time, raw);
-    if is_small(&event) {
-        let _ = encode(&event, &mut out);
-    }
-    drop(event);
-    out
-}
-
-/// Puts bytes at the end of a file.
-fn put<D: Disk>(disk: &mut D, file: File, bytes: &[u8]) -> Result<(), Failed> {
-    let at = disk.length(file)?;
-    append(disk, file, at, bytes)
-}
-
-/// Puts an event of this moment and raw text at the end of a file.
-fn store(alloc: Global, disk: &mut MemDisk, file: File, time: i64, raw: &[u8]) {
-    let record = record(alloc, time, raw);
-    let _ = put(disk, file, record.as_slice());
-    drop(record);
-}
-
-fn empty(alloc: Global) -> MemDisk {
-    MemDisk::new(alloc, FailPlan::none(alloc))
-}
-
 /// A disk with the events.
 fn stored(alloc: Global) -> MemDisk {
     let mut disk = empty(alloc);
     for (file, time, raw) in &STORED {
-        store(alloc, &mut disk, *file, *time, raw);
+        let _ = put_record(alloc, &mut disk, *file, *time, raw);
     }
     disk
 }
@@ -161,10 +79,8 @@ fn note_letters(text: &mut String, lines: &[u8]) {
 fn exported<D: Disk>(alloc: Global, disk: &mut D, buckets: &[Bucket], range: Range) -> String {
     let mut text = String::new(alloc);
     let mut out = MemSink::new(alloc, FailPlan::none(alloc));
-    note(
-        &mut text,
-        export_buckets(alloc, disk, buckets, &range, &mut out),
-    );
+    let done = export_buckets(alloc, disk, buckets, &range, &mut out);
+    note(&mut text, done);
     note_letters(&mut text, out.bytes());
     drop(out);
     text
@@ -174,15 +90,10 @@ fn lines_said(alloc: Global) -> String {
     let mut text = String::new(alloc);
     let mut disk = stored(alloc);
     let mut out = MemSink::new(alloc, FailPlan::none(alloc));
-    note(
-        &mut text,
-        export_buckets(alloc, &mut disk, &two_buckets(), &ALL, &mut out),
-    );
+    let done = export_buckets(alloc, &mut disk, &two_buckets(), &ALL, &mut out);
     drop(disk);
-    note(
-        &mut text,
-        str::from_utf8(out.bytes()).unwrap_or("?") == WHOLE,
-    );
+    note(&mut text, done);
+    note(&mut text, shown(out.bytes()) == WHOLE);
     drop(out);
     text
 }
@@ -211,27 +122,21 @@ fn range_said(alloc: Global, range: Range) -> String {
     said
 }
 
-fn ranges_unlike(alloc: Global) -> String {
-    let mut text = String::new(alloc);
+#[test]
+fn a_range_has_its_first_second_and_not_its_last(rt: HostRuntime) {
     for (earliest, latest, wanted) in &RANGES {
         let range = Range {
             earliest: *earliest,
             latest: *latest,
         };
-        note_unlike(&mut text, range_said(alloc, range), wanted);
+        compare(&rt, range_said(rt.alloc(), range), wanted);
     }
-    text
-}
-
-#[test]
-fn a_range_has_its_first_second_and_not_its_last(rt: HostRuntime) {
-    compare(&rt, ranges_unlike(rt.alloc()), "");
 }
 
 /// A disk with an event, and the first 42 bytes of a second one's record behind it.
 fn cut(alloc: Global) -> MemDisk {
     let mut disk = empty(alloc);
-    store(alloc, &mut disk, HOME, 1, b"a");
+    let _ = put_record(alloc, &mut disk, HOME, 1, b"a");
     let second = record(alloc, 1, b"b");
     let _ = put(&mut disk, HOME, second.as_slice().get(..42).unwrap_or(b""));
     drop(second);
@@ -271,17 +176,11 @@ fn cut_said(alloc: Global, files: &[(File, u64)]) -> String {
     said
 }
 
-fn cuts_unlike(alloc: Global) -> String {
-    let mut text = String::new(alloc);
-    for (files, wanted) in &CUT {
-        note_unlike(&mut text, cut_said(alloc, files), wanted);
-    }
-    text
-}
-
 #[test]
 fn what_is_cut_is_told_behind_the_lines_before_it(rt: HostRuntime) {
-    compare(&rt, cuts_unlike(rt.alloc()), "");
+    for (files, wanted) in &CUT {
+        compare(&rt, cut_said(rt.alloc(), files), wanted);
+    }
 }
 
 /// The export makes three calls for a bucket: one for the length of its file and two reads.
@@ -299,35 +198,27 @@ fn failed_said(alloc: Global, number: u64) -> String {
     said
 }
 
-fn reads_unlike(alloc: Global) -> String {
-    let mut text = String::new(alloc);
-    for (number, wanted) in &FAILED {
-        note_unlike(&mut text, failed_said(alloc, *number), wanted);
-    }
-    text
-}
-
 #[test]
 fn a_read_that_fails_is_told_behind_the_lines_before_it(rt: HostRuntime) {
-    compare(&rt, reads_unlike(rt.alloc()), "");
+    for (number, wanted) in &FAILED {
+        compare(&rt, failed_said(rt.alloc(), *number), wanted);
+    }
 }
 
-/// Writes what an export answers whose write with this number fails, and whether a front of the lines that is not all of them
-/// is left. Each line is one write.
+/// Whether a front of the lines that is not all of them is left.
+fn is_front(left: &[u8]) -> bool {
+    WHOLE.as_bytes().starts_with(left) && left.len() < WHOLE.len()
+}
+
+/// Writes what an export answers whose write with this number fails, and whether a front of the lines is left. Each line is one
+/// write.
 fn note_stop(text: &mut String, alloc: Global, number: u64) {
     let mut disk = stored(alloc);
-    let failing = [number].to_vec(alloc).unwrap_or(Vec::new(alloc));
-    let mut out = MemSink::new(alloc, FailPlan::new(failing));
-    note(
-        text,
-        export_buckets(alloc, &mut disk, &two_buckets(), &ALL, &mut out),
-    );
+    let mut out = MemSink::new(alloc, failing(alloc, &[number]));
+    let done = export_buckets(alloc, &mut disk, &two_buckets(), &ALL, &mut out);
     drop(disk);
-    let left = out.bytes();
-    note(
-        text,
-        WHOLE.as_bytes().starts_with(left) && left.len() < WHOLE.len(),
-    );
+    note(text, done);
+    note(text, is_front(out.bytes()));
     drop(out);
 }
 

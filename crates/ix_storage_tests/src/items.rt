@@ -1,6 +1,9 @@
 //! The items of a commit, against bytes that were spelled by hand from the layout.
 
-use crate::said::{bytes_of, compare, note, say, shown};
+ghost use Rattle.ix_items.specs.Spelling.{IsWritable};
+
+use crate::made::bytes_of;
+use crate::said::{compare, note, say, shown};
 use ix_base::{Bytes, ChannelMeta, Spot};
 use ix_items::{Entry, Item, ItemFault, KeptList, one_item, one_list, read_item, write_item};
 use std::alloc::Global;
@@ -147,7 +150,8 @@ fn note_of_store(text: &mut String, item: &Item) {
     }
 }
 
-fn note_item(text: &mut String, item: &Item) {
+/// Writes what an item says.
+pub fn note_item(text: &mut String, item: &Item) {
     match item {
         Item::Channel { name, meta, carry } => note_channel(text, name, meta, carry),
         Item::Ended { name } => note_bytes(text, "ended", name),
@@ -195,43 +199,39 @@ fn have_no_item(alloc: Global, bytes: &[u8]) -> bool {
     none
 }
 
+/// Writes what an item says, and where it is written otherwise than as these bytes.
+fn note_whole(text: &mut String, alloc: Global, item: &Item, row: &[u8])
+    requires { IsWritable item.now }
+{
+    note_item(text, item);
+    let mut out = bytes_of(alloc, b"ab");
+    let is_written = write_item(item, &mut out).is_ok()
+        && out.as_slice().strip_prefix(b"ab".as_slice()) == Some(row);
+    drop(out);
+    note_unless(text, is_written, "is written otherwise");
+}
+
 /// What is read of the item where one byte more stands behind it, and what of it is not as it should be.
 fn item_said(alloc: Global, row: &[u8]) -> String {
     let mut text = String::new(alloc);
     let mut bytes = bytes_of(alloc, row);
     let _ = bytes.push(1);
-    if let Ok((item, len)) = read_item(alloc, bytes.as_slice()) {
-        note_item(&mut text, &item);
+    let read = read_item(alloc, bytes.as_slice());
+    drop(bytes);
+    if let Ok((item, len)) = read {
+        note_whole(&mut text, alloc, &item, row);
         note_unless(&mut text, len == row.len(), "has another length");
-        let mut out = bytes_of(alloc, b"ab");
-        let is_written = write_item(&item, &mut out).is_ok()
-            && out.as_slice().strip_prefix(b"ab".as_slice()) == Some(row);
-        note_unless(&mut text, is_written, "is written otherwise");
-        drop(out);
         drop(item);
     }
-    drop(bytes);
     note_unless(&mut text, have_no_item(alloc, row), "has an item in front");
-    text
-}
-
-/// What the rows say that say anything else than they should, each behind what it should say.
-fn unlike_said(alloc: Global) -> String {
-    let mut text = String::new(alloc);
-    for (row, wanted) in &ROWS {
-        let found = item_said(alloc, row);
-        if found.as_str() != *wanted {
-            say(&mut text, wanted);
-            say(&mut text, found.as_str());
-        }
-        drop(found);
-    }
     text
 }
 
 #[test]
 fn each_kind_is_read_and_written_and_no_prefix_is_an_item(rt: HostRuntime) {
-    compare(&rt, unlike_said(rt.alloc()), "");
+    for (row, wanted) in &ROWS {
+        compare(&rt, item_said(rt.alloc(), row), wanted);
+    }
 }
 
 /// No prefix of these is an item.

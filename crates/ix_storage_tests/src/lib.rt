@@ -17,6 +17,10 @@ mod items;
 #[cfg(test)]
 mod log;
 #[cfg(test)]
+mod machine;
+#[cfg(test)]
+mod made;
+#[cfg(test)]
 mod said;
 #[cfg(test)]
 mod told;

@@ -1,16 +1,16 @@
 //! The log of bodies: what it reads of any bytes, and what stops and crashes leave of it. What a log says is one text, and
-//! each is compared with one that was written by hand. Where memory is lacking a text stays too short, and is not what is
-//! wanted.
+//! each is compared with one that was written by hand.
 
 ghost use Rattle.std.specs.Prelude.{◌≡◌, ◌<◌, ◌+◌, ◌^◌, IfOk, OnOk, IsTrue, length};
 ghost use Rattle.ix_log.specs.Log.{IsMounted, IsUsable, put_so_far};
 
-use ix_base::{Area, Bytes, FailPlan, Failed, File, NoMemory};
-use ix_disk::{Disk, HostDisk, MemDisk, OneFail, StopDisk};
+use crate::machine::{Work, machine_said};
+use crate::made::{bytes_of, empty};
+use crate::said::{compare, note};
+use ix_base::{Area, Bytes, Failed, File, NoMemory};
+use ix_disk::{Disk, MemDisk, OneFail, StopDisk};
 use ix_log::{Log, LogFault, one_list};
 use std::alloc::Global;
-use std::fmt::Debug;
-use std::process::Abort;
 
 const LOG: File = File {
     area: Area::Meta,
@@ -22,16 +22,6 @@ const THREE: &[u8] = b"\x01\x00\x00\x00\x02ab\x01\x00\x00\x00\x00\x01\x00\x00\x0
 
 const THREE_SAID: &[u8] = b"ab..c. None 18";
 
-/// Writes what a call answered.
-fn note<T: Debug + Drop>(text: &mut String, answer: T) {
-    let _ = write!(text, "{answer:?} ");
-}
-
-/// Compares what calls answered with what they are to answer.
-fn compare(rt: &impl Abort, found: String, wanted: &str) {
-    assert_eq!(rt; found.as_str(), wanted);
-}
-
 /// Writes what was found, with a number, where it is not what is wanted.
 fn note_unlike(text: &mut String, number: usize, found: Bytes, wanted: &[u8]) {
     if found.as_slice() != wanted {
@@ -39,10 +29,6 @@ fn note_unlike(text: &mut String, number: usize, found: Bytes, wanted: &[u8]) {
         note(text, found.as_slice());
     }
     drop(found);
-}
-
-fn empty(alloc: Global) -> MemDisk {
-    MemDisk::new(alloc, FailPlan::none(alloc))
 }
 
 /// A disk whose log is this file.
@@ -61,10 +47,12 @@ fn note_body(text: &mut Bytes, body: &[u8]) {
 
 /// Writes where damage was found, and where the log stands.
 fn note_end(text: &mut Bytes, alloc: Global, damaged: Option<u64>, place: u64) {
-    if let Ok(end) = format!(in alloc; " {damaged:?} {place}") {
-        let _ = text.extend(end.as_bytes());
-        drop(end);
-    }
+    let mut end = String::new(alloc);
+    note(&mut end, damaged);
+    note(&mut end, place);
+    let _ = text.push(b' ');
+    let _ = text.extend(end.as_str().trim_end().as_bytes());
+    drop(end);
 }
 
 /// Writes what is left of a log: its bodies with a dot behind each, where it found damage, and where it stands then.
@@ -292,7 +280,7 @@ fn a_length_that_passes_the_end_is_damage(rt: HostRuntime) {
 fn file_of<D: Disk>(alloc: Global, disk: &mut D) -> Bytes {
     let mut buf = [0xEE; 24];
     let n = disk.read(LOG, 0, &mut buf).unwrap_or(0);
-    Bytes::copy_of(alloc, buf.get(..n).unwrap_or(&[])).unwrap_or(Bytes::new(alloc))
+    bytes_of(alloc, buf.get(..n).unwrap_or(&[]))
 }
 
 fn put_said(alloc: Global) -> String {
@@ -309,19 +297,17 @@ fn bodies_that_are_put_are_read(rt: HostRuntime) {
     compare(&rt, put_said(rt.alloc()), "Ok(()) Ok(()) Ok(()) ");
 }
 
-fn kept_said(rt: &HostRuntime) -> String {
-    let mut text = String::new(rt.alloc());
-    let mut disk = HostDisk::new(rt);
-    note(&mut text, disk.remove(LOG));
-    note_three(&mut text, rt.alloc(), &mut disk);
-    note_unlike(&mut text, 0, said(rt.alloc(), &mut disk), THREE_SAID);
-    drop(disk);
-    text
+/// Writes what it answers to put the bodies where no log is left, and what the log says then, if that is anything else.
+pub fn note_kept<D: Disk>(text: &mut String, alloc: Global, disk: &mut D) {
+    note(text, disk.remove(LOG));
+    note_three(text, alloc, disk);
+    note_unlike(text, 0, said(alloc, disk), THREE_SAID);
 }
 
 #[test]
 fn bodies_are_kept_in_a_real_file(rt: HostRuntime) {
-    compare(&rt, kept_said(&rt), "Ok(()) Ok(()) Ok(()) Ok(()) ");
+    let wanted = "Ok(()) Ok(()) Ok(()) Ok(()) ";
+    compare(&rt, machine_said(&rt, Work::Bodies), wanted);
 }
 
 /// Sizes of bodies. The log is read in pieces of 262,144 bytes: the first one ends with the third body, the fourth body is
@@ -474,21 +460,26 @@ fn a_stop_leaves_the_old_bodies_or_one_more(rt: HostRuntime) {
     compare(&rt, stops_said(rt.alloc()), "");
 }
 
-fn is_old(alloc: Global, disk: &mut OneFail<MemDisk>) -> bool {
+fn is_old<D: Disk>(alloc: Global, disk: &mut D) -> bool {
     let left = said(alloc, disk);
     let is_old = left.as_slice() == OLD;
     drop(left);
     is_old
 }
 
-/// Writes what it answers to put a body where one call fails. The body can be put then, where it was not.
+/// Writes what it answers to put a body. The body can be put then, where it was not.
+fn note_put<D: Disk>(text: &mut String, alloc: Global, disk: &mut D) {
+    note(text, add(alloc, disk, b"c", b"d"));
+    if is_old(alloc, disk) {
+        let _ = add(alloc, disk, b"c", b"d");
+    }
+    note_unlike(text, 0, said(alloc, disk), MORE);
+}
+
+/// Writes that of a disk of which one call fails.
 fn note_told(text: &mut String, alloc: Global, number: u64) {
     let mut disk = OneFail::new(disk_of(alloc, ONE), number);
-    note(text, add(alloc, &mut disk, b"c", b"d"));
-    if is_old(alloc, &mut disk) {
-        let _ = add(alloc, &mut disk, b"c", b"d");
-    }
-    note_unlike(text, 0, said(alloc, &mut disk), MORE);
+    note_put(text, alloc, &mut disk);
     drop(disk);
 }
 

@@ -1,8 +1,6 @@
 //! What calls answer, as a text that is compared once. Where memory is lacking the text stays too short, and is not what is
 //! wanted.
 
-use ix_base::Bytes;
-use std::alloc::Global;
 use std::fmt::Debug;
 use std::process::Abort;
 use std::str;
@@ -22,10 +20,11 @@ pub fn compare(rt: &impl Abort, found: String, wanted: &str) {
     assert_eq!(rt; found.as_str(), wanted);
 }
 
-pub fn bytes_of(alloc: Global, bytes: &[u8]) -> Bytes {
-    Bytes::copy_of(alloc, bytes).unwrap_or(Bytes::new(alloc))
-}
-
 pub fn shown(bytes: &[u8]) -> &str {
     str::from_utf8(bytes).unwrap_or("?")
+}
+
+/// The first bytes, as many as were read.
+pub fn front(bytes: &[u8], count: usize) -> &str {
+    shown(bytes.get(..count).unwrap_or(&[]))
 }

@@ -4,12 +4,13 @@ ghost use Rattle.std.specs.Prelude.{IfOk};
 ghost use Rattle.std.specs.List.{AllByRecursion};
 ghost use Rattle.ix_items.specs.Spelling.{HasSpelling};
 
+use crate::items::note_item;
+use crate::said::{compare, note, say};
 use ix_base::{NoMemory, Sequence};
 use ix_book::Whole;
 use ix_items::Item;
 use ix_replay::{ItemWalk, have_room};
 use std::alloc::Global;
-use std::test::Fail;
 
 /// A list of two items.
 fn two(alloc: Global) -> Result<Sequence<Item>, NoMemory>
@@ -21,46 +22,46 @@ fn two(alloc: Global) -> Result<Sequence<Item>, NoMemory>
     Ok(items)
 }
 
-/// What an item is, and its number.
-type Said = (&'static str, u64);
-
-fn said_of(item: Option<Item>) -> Said {
-    let said = match &item {
-        Some(Item::Run { run }) => ("run", *run),
-        Some(Item::NextFile { number }) => ("next file", *number),
-        Some(_) => ("another", 0),
-        None => ("none", 0),
-    };
+/// Writes what the next item says, and lets the item go.
+fn note_next(text: &mut String, item: Option<Item>) {
+    match &item {
+        Some(item) => note_item(text, item),
+        None => say(text, "none"),
+    }
     drop(item);
-    said
 }
 
-/// The items that are told.
-fn told(alloc: Global, walk: ItemWalk) -> [Said; 3] {
+/// Writes the items that are told.
+fn note_told(text: &mut String, alloc: Global, walk: ItemWalk) {
     let mut walk = walk;
-    let first = said_of(walk.take_next());
-    let second = said_of(walk.next(alloc).unwrap_or(None));
-    let third = said_of(walk.take_next());
+    note_next(text, walk.take_next());
+    note_next(text, walk.next(alloc).unwrap_or(None));
+    note_next(text, walk.take_next());
     drop(walk);
-    [first, second, third]
 }
 
-/// Whether the items have room in a body of a log.
-fn has_room(alloc: Global, items: &[Item]) -> bool
-    requires { AllByRecursion HasSpelling items.now }
+/// Whether the items have room in a body of a log, and what is told of them.
+fn items_said(alloc: Global, items: Sequence<Item>) -> String
+    requires { AllByRecursion HasSpelling items }
 {
-    have_room(alloc, items).unwrap_or(false)
+    let mut text = String::new(alloc);
+    note(&mut text, have_room(alloc, items.as_slice()));
+    note_told(&mut text, alloc, ItemWalk::over(items));
+    text
+}
+
+fn two_said(alloc: Global) -> String {
+    match two(alloc) {
+        Ok(items) => items_said(alloc, items),
+        Err(NoMemory) => String::new(alloc),
+    }
 }
 
 #[test]
-fn items_are_told_in_their_order(rt: HostRuntime) -> Result<(), Fail> {
-    let alloc = rt.alloc();
-    let items = two(alloc)?;
-    let room = has_room(alloc, items.as_slice());
-    assert!(rt; room);
-    let [first, second, third] = told(alloc, ItemWalk::over(items));
-    assert_eq!(rt; first, ("run", 7));
-    assert_eq!(rt; second, ("next file", 2));
-    assert_eq!(rt; third, ("none", 0));
-    Ok(())
+fn items_are_told_in_their_order(rt: HostRuntime) {
+    compare(
+        &rt,
+        two_said(rt.alloc()),
+        "Ok(true) run 7 next file 2 none ",
+    );
 }

@@ -1,0 +1,56 @@
+//! Disks of the machine. All tests that need one have it from here, since each function that holds one is proved slowly.
+
+use crate::disk::{Step, note_steps};
+use crate::said::note;
+use crate::{archive, bucket, log};
+use ix_disk::HostDisk;
+use std::rt::Files;
+
+/// What is done with a disk of the machine.
+#[derive(Clone, Copy)]
+pub enum Work {
+    /// Copies of the first bytes of a file.
+    Copies,
+    /// Records of events, and readers of them.
+    Records,
+    /// A log of bodies.
+    Bodies,
+    /// These steps, one behind the other.
+    Steps(&'static [Step]),
+}
+
+/// Does the work with the first disk. The second one is of the same files.
+fn note_work<R: Files + AllocGlobal + Drop>(
+    text: &mut String,
+    rt: &R,
+    disk: &mut HostDisk<R>,
+    beside: &mut HostDisk<R>,
+    work: Work,
+) {
+    match work {
+        Work::Copies => archive::note_run(text, disk),
+        Work::Records => bucket::note_run(text, rt.alloc(), disk),
+        Work::Bodies => log::note_kept(text, rt.alloc(), disk),
+        Work::Steps(steps) => note_steps(text, rt, disk, beside, steps),
+    }
+}
+
+/// Writes what the work answers on a disk of the machine, and how many calls of that disk failed, where one did.
+fn note_machine<R: Files + AllocGlobal + Copy + Drop>(text: &mut String, rt: R, work: Work) {
+    let mut disk = HostDisk::new(rt);
+    let mut beside = HostDisk::new(rt);
+    note_work(text, &rt, &mut disk, &mut beside, work);
+    drop(beside);
+    let faults = disk.faults();
+    drop(disk);
+    if faults > 0 {
+        note(text, faults);
+    }
+}
+
+/// What the work answers on a disk of the machine, and how many calls of that disk failed, where one did.
+pub fn machine_said(rt: &HostRuntime, work: Work) -> String {
+    let mut text = String::new(rt.alloc());
+    note_machine(&mut text, rt, work);
+    text
+}
