@@ -6,8 +6,9 @@ ghost use Rattle.ix_items.specs.Spelling.{HasSpelling};
 ghost use Rattle.ix_keep.specs.Snapshot.{IsOver, IsIdle};
 
 use crate::counted::Counted;
-use crate::script::{file, group, shorten};
-use ix_base::{Area, Bytes, FailPlan, NoMemory, Sequence, Spot};
+use crate::said::{compare, note};
+use crate::script::{empty, file, group, items_or_none, shorten};
+use ix_base::{Area, Bytes, NoMemory, Sequence, Spot};
 use ix_book::PlainBook;
 use ix_disk::{Disk, MemDisk};
 use ix_items::Item;
@@ -23,32 +24,27 @@ fn since(disk: &Counted<MemDisk>, before: (u64, u64, u64)) -> (u64, u64, u64) {
     )
 }
 
-/// Writes what was asked.
-fn write_asked(text: &mut String, asked: (u64, u64, u64)) {
-    let _ = write!(text, "{} {} {} ", asked.0, asked.1, asked.2);
-}
-
 /// What a commit asks of the disk, whether one behind it with nothing staged is Ok, and what that one asks.
 fn commits_said(alloc: Global, keeper: &mut Keeper, disk: &mut Counted<MemDisk>) -> String
     requires { IsOver ⟦<Counted<MemDisk> as Disk>⟧ keeper.old disk.old }
 {
     let mut text = String::new(alloc);
     let before = since(disk, (0, 0, 0));
-    if !group(alloc, keeper, disk, 1).unwrap_or(false) {
+    if !group(alloc, keeper, disk, 1) {
         return text;
     }
     // The bucket's length, its bytes and its sync; the body in five writes, a sync, its gate, and a sync; and how long the log is.
-    write_asked(&mut text, since(disk, before));
+    note(&mut text, since(disk, before));
     let between = since(disk, (0, 0, 0));
     let idle = commit::<Counted<MemDisk>, PlainBook>(keeper, disk).is_ok();
-    let _ = write!(text, "{idle} ");
-    write_asked(&mut text, since(disk, between));
+    note(&mut text, idle);
+    note(&mut text, since(disk, between));
     text
 }
 
 /// The same on a disk that has nothing.
 fn first_commits_said(alloc: Global) -> String {
-    let mut disk = Counted::new(MemDisk::new(alloc, FailPlan::none(alloc)));
+    let mut disk = Counted::new(empty(alloc));
     let mut book = PlainBook::new(alloc);
     let text = match mount(alloc, &mut disk, &mut book) {
         Ok(mut keeper) => {
@@ -65,59 +61,58 @@ fn first_commits_said(alloc: Global) -> String {
 
 #[test]
 fn a_commit_makes_the_syncs_that_it_needs(rt: HostRuntime) {
-    let text = first_commits_said(rt.alloc());
-    assert_eq!(rt; text.as_str(), "11 2 1 true 0 0 0 ");
+    let wanted = "(11, 2, 1) true (0, 0, 0) ";
+    compare(&rt, first_commits_said(rt.alloc()), wanted);
 }
 
 /// An item of somewhat more than a megabyte.
 fn large_items(alloc: Global) -> Result<Sequence<Item>, NoMemory>
     ensures { IfOk result (λ items. AllByRecursion HasSpelling items) }
 {
-    let head = Bytes::from_vec(vec![in alloc; 7u8; 1 << 20]?);
     let path = Bytes::copy_of(alloc, b"large")?;
+    let head = Bytes::from_vec(vec![in alloc; 7u8; 1 << 20]?);
+    let spot = Spot {
+        path,
+        head,
+        offset: 0,
+    };
     let mut items = Sequence::new(alloc);
-    items.push(Item::Spot {
-        spot: Spot {
-            path,
-            head,
-            offset: 0,
-        },
-    })?;
+    items.push(Item::Spot { spot })?;
     Ok(items)
 }
 
 /// Commits such an item. It answers whether that was Ok.
-fn large_group<D: Disk>(alloc: Global, keeper: &mut Keeper, disk: &mut D) -> Result<bool, NoMemory>
+fn large_group<D: Disk>(alloc: Global, keeper: &mut Keeper, disk: &mut D) -> bool
     requires { IsOver D.Disk keeper.old disk.old }
-    ensures over { IfOk result (λ done. IsTrue done → IsOver D.Disk keeper.new disk.new) }
-    ensures idle { IfOk result (λ done. IsTrue done → IsIdle keeper.new) }
+    ensures over { IsTrue result → IsOver D.Disk keeper.new disk.new }
+    ensures idle { IsTrue result → IsIdle keeper.new }
 {
     let draft = Draft {
         pieces: Sequence::new(alloc),
         copies: Sequence::new(alloc),
-        items: large_items(alloc)?,
+        items: items_or_none(alloc, large_items(alloc)),
     };
     if stage(keeper, alloc, draft).is_err() {
-        return Ok(false);
+        return false;
     }
-    Ok(commit::<D, PlainBook>(keeper, disk).is_ok())
+    commit::<D, PlainBook>(keeper, disk).is_ok()
 }
 
 /// Commits such items until a checkpoint is wanted, and answers how many were committed, 0 where a commit failed.
-fn grow<D: Disk>(alloc: Global, keeper: &mut Keeper, disk: &mut D) -> Result<u64, NoMemory>
+fn grow<D: Disk>(alloc: Global, keeper: &mut Keeper, disk: &mut D) -> u64
     requires { IsOver D.Disk keeper.old disk.old }
-    ensures over { IfOk result (λ count. 0 < count → IsOver D.Disk keeper.new disk.new) }
-    ensures idle { IfOk result (λ count. 0 < count → IsIdle keeper.new) }
+    ensures over { 0 < result → IsOver D.Disk keeper.new disk.new }
+    ensures idle { 0 < result → IsIdle keeper.new }
 {
     for count in 1..20u64 {
-        if !large_group(alloc, keeper, disk)? {
-            return Ok(0);
+        if !large_group(alloc, keeper, disk) {
+            return 0;
         }
         if keeper.wants_checkpoint() {
-            return Ok(count);
+            return count;
         }
     }
-    Ok(0)
+    0
 }
 
 /// Writes whether the root log names the second log and no other, and how long both logs are.
@@ -128,7 +123,7 @@ fn write_logs(text: &mut String, disk: &mut MemDisk) {
         == Some(b"\x01\x00\x00\x00\x08\x00\x00\x00\x00\x00\x00\x00\x02\x00".as_slice());
     let old = disk.length(file(Area::Meta, 1)).unwrap_or(u64::MAX);
     let new = disk.length(file(Area::Meta, 2)).unwrap_or(u64::MAX);
-    let _ = write!(text, "{named} {old} {new} ");
+    note(text, (named, old, new));
 }
 
 /// How many commits make the log long, whether it is made short then, the logs, and whether a checkpoint is still wanted.
@@ -136,20 +131,20 @@ fn growth_said(alloc: Global, keeper: &mut Keeper, disk: &mut MemDisk) -> String
     requires { IsOver ⟦<MemDisk as Disk>⟧ keeper.old disk.old }
 {
     let mut text = String::new(alloc);
-    let count = grow(alloc, keeper, disk).unwrap_or(0);
+    let count = grow(alloc, keeper, disk);
     if count == 0 {
         return text;
     }
     let shorter = shorten(alloc, keeper, disk, 5);
-    let _ = write!(text, "{count} {shorter} ");
+    note(&mut text, (count, shorter));
     write_logs(&mut text, disk);
-    let _ = write!(text, "{}", keeper.wants_checkpoint());
+    note(&mut text, keeper.wants_checkpoint());
     text
 }
 
 /// The same on a disk that has nothing.
 fn first_growth_said(alloc: Global) -> String {
-    let mut disk = MemDisk::new(alloc, FailPlan::none(alloc));
+    let mut disk = empty(alloc);
     let mut book = PlainBook::new(alloc);
     let text = match mount(alloc, &mut disk, &mut book) {
         Ok(mut keeper) => {
@@ -166,7 +161,7 @@ fn first_growth_said(alloc: Global) -> String {
 
 #[test]
 fn a_long_log_becomes_one_of_one_body(rt: HostRuntime) {
-    let text = first_growth_said(rt.alloc());
     // The body has 5 bytes of settings, 9 of the run, 17 of the moments and 14 of the removal.
-    assert_eq!(rt; text.as_str(), "8 true true 0 51 false");
+    let wanted = "(8, true) (true, 0, 51) false ";
+    compare(&rt, first_growth_said(rt.alloc()), wanted);
 }

@@ -7,6 +7,8 @@ mod counts;
 #[cfg(test)]
 mod damage;
 #[cfg(test)]
+mod said;
+#[cfg(test)]
 mod script;
 pub mod small;
 #[cfg(test)]

@@ -7,9 +7,9 @@ ghost use Rattle.ix_items.specs.Spelling.{HasSpelling};
 ghost use Rattle.ix_keep.specs.Snapshot.{IsOver, IsIdle};
 
 use crate::walk::Walk;
-use ix_base::{Area, Bytes, File, NoMemory, Sequence};
+use ix_base::{Area, Bytes, FailPlan, File, NoMemory, Sequence};
 use ix_book::PlainBook;
-use ix_disk::Disk;
+use ix_disk::{Disk, MemDisk};
 use ix_items::Item;
 use ix_keep::{Copied, Draft, Keeper, Piece, Place, checkpoint, commit, mount, stage};
 use std::alloc::Global;
@@ -17,6 +17,11 @@ use std::alloc::Global;
 /// A file by its area and number.
 pub fn file(area: Area, number: u64) -> File {
     File { area, number }
+}
+
+/// A disk that has nothing, and of which no call fails.
+pub fn empty(alloc: Global) -> MemDisk {
+    MemDisk::new(alloc, FailPlan::none(alloc))
 }
 
 /// The items of a group: its number as the last moment, and the file that is done with, where there is one.
@@ -60,30 +65,19 @@ fn add_pieces(alloc: Global, group: i64, pieces: &mut Sequence<Piece>) -> Result
     }
 }
 
-/// The pieces of each group.
-fn pieces(alloc: Global, group: i64) -> Result<Sequence<Piece>, NoMemory> {
-    let mut pieces = Sequence::new(alloc);
-    add_pieces(alloc, group, &mut pieces)?;
-    Ok(pieces)
-}
-
-/// The copy of each group: bucket 1 moves in the third group, bucket 2 in the fourth.
-fn copies(alloc: Global, group: i64) -> Result<Sequence<Copied>, NoMemory> {
-    let mut copies = Sequence::new(alloc);
-    let moved = match group {
-        3 => Some((1, 3, 5)),
-        4 => Some((2, 4, 3)),
-        _ => None,
+/// Adds the copy of a group: bucket 1 moves in the third group, bucket 2 in the fourth.
+fn add_copies(group: i64, copies: &mut Sequence<Copied>) -> Result<(), NoMemory> {
+    let (from, number, len) = match group {
+        3 => (1, 3, 5),
+        4 => (2, 4, 3),
+        _ => return Ok(()),
     };
-    if let Some((from, number, len)) = moved {
-        copies.push(Copied {
-            from: file(Area::Home, from),
-            place: Place::Cold,
-            number,
-            len,
-        })?;
-    }
-    Ok(copies)
+    copies.push(Copied {
+        from: file(Area::Home, from),
+        place: Place::Cold,
+        number,
+        len,
+    })
 }
 
 /// The file that each group is done with.
@@ -95,26 +89,42 @@ fn gone(group: i64) -> Option<File> {
     }
 }
 
-/// Stages a group and commits it. It answers whether that was Ok.
-pub fn group<D: Disk>(
-    alloc: Global,
-    keeper: &mut Keeper,
-    disk: &mut D,
-    group: i64,
-) -> Result<bool, NoMemory>
-    requires { IsOver D.Disk keeper.old disk.old }
-    ensures over { IfOk result (λ done. IsTrue done → IsOver D.Disk keeper.new disk.new) }
-    ensures idle { IfOk result (λ done. IsTrue done → IsIdle keeper.new) }
+/// The items, or none where memory is lacking.
+pub fn items_or_none(alloc: Global, items: Result<Sequence<Item>, NoMemory>) -> Sequence<Item>
+    requires { IfOk items (λ items. AllByRecursion HasSpelling items) }
+    ensures { AllByRecursion HasSpelling result }
 {
-    let draft = Draft {
-        pieces: pieces(alloc, group)?,
-        copies: copies(alloc, group)?,
-        items: items(alloc, group, gone(group))?,
-    };
-    if stage(keeper, alloc, draft).is_err() {
-        return Ok(false);
+    match items {
+        Ok(items) => items,
+        Err(NoMemory) => Sequence::new(alloc),
     }
-    Ok(commit::<D, PlainBook>(keeper, disk).is_ok())
+}
+
+/// What a group adds. Where memory is lacking it is less, which is found out by what is committed.
+fn draft(alloc: Global, group: i64) -> Draft
+    ensures { AllByRecursion HasSpelling result.items }
+{
+    let mut pieces = Sequence::new(alloc);
+    let _ = add_pieces(alloc, group, &mut pieces);
+    let mut copies = Sequence::new(alloc);
+    let _ = add_copies(group, &mut copies);
+    Draft {
+        pieces,
+        copies,
+        items: items_or_none(alloc, items(alloc, group, gone(group))),
+    }
+}
+
+/// Stages a group and commits it. It answers whether that was Ok.
+pub fn group<D: Disk>(alloc: Global, keeper: &mut Keeper, disk: &mut D, group: i64) -> bool
+    requires { IsOver D.Disk keeper.old disk.old }
+    ensures over { IsTrue result → IsOver D.Disk keeper.new disk.new }
+    ensures idle { IsTrue result → IsIdle keeper.new }
+{
+    if stage(keeper, alloc, draft(alloc, group)).is_err() {
+        return false;
+    }
+    commit::<D, PlainBook>(keeper, disk).is_ok()
 }
 
 /// Makes a checkpoint behind a group. It answers whether that was Ok.
@@ -129,28 +139,41 @@ pub fn shorten<D: Disk>(alloc: Global, keeper: &mut Keeper, disk: &mut D, group:
     checkpoint::<D, PlainBook, Walk>(keeper, alloc, disk, &mut state).is_ok()
 }
 
-/// Mounts a store and commits so many groups, as long as all goes well, with a checkpoint behind each second one. It answers how many
-/// were committed, and 10 more for each checkpoint.
-pub fn live<D: Disk>(alloc: Global, disk: &mut D, groups: i64) -> Result<i64, NoMemory> {
-    let mut book = PlainBook::new(alloc);
-    let Ok(mut keeper) = mount(alloc, disk, &mut book) else {
-        return Ok(0);
-    };
+/// Commits so many groups, as long as all goes well, with a checkpoint behind each second one. It answers how many were committed,
+/// and 10 more for each checkpoint.
+fn commit_groups<D: Disk>(alloc: Global, keeper: &mut Keeper, disk: &mut D, groups: i64) -> i64
+    requires { IsOver D.Disk keeper.old disk.old }
+{
     let mut done = 0;
     let mut shorter: i64 = 0;
     while done < groups {
-        if !group(alloc, &mut keeper, disk, done + 1)? {
-            return Ok(shorter.saturating_add(done));
+        if !group(alloc, keeper, disk, done + 1) {
+            return shorter.saturating_add(done);
         }
         done += 1;
         if done % 2 == 0 {
-            if !shorten(alloc, &mut keeper, disk, done) {
-                return Ok(shorter.saturating_add(done));
+            if !shorten(alloc, keeper, disk, done) {
+                return shorter.saturating_add(done);
             }
             shorter = shorter.saturating_add(10);
         }
     }
-    Ok(shorter.saturating_add(done))
+    shorter.saturating_add(done)
+}
+
+/// Mounts a store and commits so many groups, as far as that goes.
+pub fn live<D: Disk>(alloc: Global, disk: &mut D, groups: i64) -> i64 {
+    let mut book = PlainBook::new(alloc);
+    let done = match mount(alloc, disk, &mut book) {
+        Ok(mut keeper) => {
+            let done = commit_groups(alloc, &mut keeper, disk, groups);
+            drop(keeper);
+            done
+        }
+        Err(_) => 0,
+    };
+    drop(book);
+    done
 }
 
 /// The last moment in a book: the number of the last group that it has.

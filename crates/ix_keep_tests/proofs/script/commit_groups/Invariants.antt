@@ -1,6 +1,6 @@
 use borrow.Author.Gap.{gap}
 use Rattle.ix_keep.specs.Snapshot.{IsOver}
-use Rattle.ix_keep_tests.proofs.script.live.Given as goal
+use Rattle.ix_keep_tests.proofs.script.commit_groups.Given as goal
 
 abbrev pub invariant-loop-done : goal.invariant-loop-done
 invariant-loop-done g l = IsOver g.D.Disk l.keeper l.disk
