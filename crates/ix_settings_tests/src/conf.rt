@@ -1,14 +1,14 @@
 //! Tests of `ix_conf`: texts, layers and patterns worked by hand.
 
-use crate::said::{add_layer, bytes_of, compare, note, note_unlike, note_wrong, put, repeat};
+use crate::said::{add_layer, bytes_of, check, compare, note, put, repeat};
 use ix_base::{Bytes, NoMemory};
 use ix_conf::{
     ConfFault, Entry, Layer, Layers, Merged, NameFault, NamePattern, built_in_zones, merge, parse,
 };
 use std::alloc::Global;
 
-/// Adds `[name]` for a stanza, and `stanza|key|value` for a setting.
-fn put_entry(out: &mut Bytes, entry: &Entry) {
+/// Writes `[name]` for a stanza, and `stanza|key|value` for a setting.
+fn put_entry(out: &mut String, entry: &Entry) {
     match entry {
         Entry::Stanza(name) => {
             put(out, b"[");
@@ -27,8 +27,8 @@ fn put_entry(out: &mut Bytes, entry: &Entry) {
 }
 
 /// The entries of a text.
-fn entries_of(alloc: Global, text: &[u8]) -> Bytes {
-    let mut out = Bytes::new(alloc);
+fn entries_of(alloc: Global, text: &[u8]) -> String {
+    let mut out = String::new(alloc);
     match parse(alloc, text) {
         Ok(file) => {
             for entry in file.as_slice() {
@@ -41,43 +41,37 @@ fn entries_of(alloc: Global, text: &[u8]) -> Bytes {
     out
 }
 
-static ENTRIES: [(&[u8], &[u8]); 20] = [
-    (b"", b""),
-    (b"\n \t\n\r\n", b""),
-    (b"\xEF\xBB\xBF[a]\nk=v", b"[a]\na|k|v\n"),
-    (b"[a]\r\nk = v \r\n", b"[a]\na|k|v\n"),
-    (b"\t k \t=\t v w \t", b"default|k|v w\n"),
-    (b"k=v\r", b"default|k|v\r\n"),
-    (b"k=a\rb\r\r\n", b"default|k|a\rb\r\n"),
-    (b"k=a=b\nl=", b"default|k|a=b\ndefault|l|\n"),
-    (b"  # [x\n#=\nk=#v", b"default|k|#v\n"),
-    (b"k=v\\", b"default|k|v\n"),
-    (b"k=v\\\n", b"default|k|v\n"),
-    (b"k=a\\\nb\\\r\nc\nl=d", b"default|k|abc\ndefault|l|d\n"),
-    (b"k = a \\\n  b", b"default|k|a   b\n"),
-    (b"k=a\\\\\n\nl=b", b"default|k|a\\\ndefault|l|b\n"),
-    (b"# c\\\nk=v", b"default|k|v\n"),
-    (b"\\\n#k=v", b"default|#k|v\n"),
-    (b"k=a\\\n# b", b"default|k|a# b\n"),
-    (b"[a]b] \nk=1", b"[a]b]\na]b|k|1\n"),
-    (b"[ a ]\n[=]\n[[b]", b"[ a ]\n[=]\n[[b]\n"),
+static ENTRIES: [(&[u8], &str); 20] = [
+    (b"", ""),
+    (b"\n \t\n\r\n", ""),
+    (b"\xEF\xBB\xBF[a]\nk=v", "[a]\na|k|v\n"),
+    (b"[a]\r\nk = v \r\n", "[a]\na|k|v\n"),
+    (b"\t k \t=\t v w \t", "default|k|v w\n"),
+    (b"k=v\r", "default|k|v\r\n"),
+    (b"k=a\rb\r\r\n", "default|k|a\rb\r\n"),
+    (b"k=a=b\nl=", "default|k|a=b\ndefault|l|\n"),
+    (b"  # [x\n#=\nk=#v", "default|k|#v\n"),
+    (b"k=v\\", "default|k|v\n"),
+    (b"k=v\\\n", "default|k|v\n"),
+    (b"k=a\\\nb\\\r\nc\nl=d", "default|k|abc\ndefault|l|d\n"),
+    (b"k = a \\\n  b", "default|k|a   b\n"),
+    (b"k=a\\\\\n\nl=b", "default|k|a\\\ndefault|l|b\n"),
+    (b"# c\\\nk=v", "default|k|v\n"),
+    (b"\\\n#k=v", "default|#k|v\n"),
+    (b"k=a\\\n# b", "default|k|a# b\n"),
+    (b"[a]b] \nk=1", "[a]b]\na]b|k|1\n"),
+    (b"[ a ]\n[=]\n[[b]", "[ a ]\n[=]\n[[b]\n"),
     (
         b"[a]\nK=1\n[b]\nk=2\n[a]\nK=3",
-        b"[a]\na|K|1\n[b]\nb|k|2\n[a]\na|K|3\n",
+        "[a]\na|K|1\n[b]\nb|k|2\n[a]\na|K|3\n",
     ),
 ];
 
-fn entries_unlike(alloc: Global) -> String {
-    let mut text = String::new(alloc);
-    for (asked, wanted) in &ENTRIES {
-        note_unlike(&mut text, asked, entries_of(alloc, asked), wanted);
-    }
-    text
-}
-
 #[test]
 fn a_text_has_its_entries(rt: HostRuntime) {
-    compare(&rt, entries_unlike(rt.alloc()), "");
+    for (asked, wanted) in &ENTRIES {
+        compare(&rt, entries_of(rt.alloc(), asked), wanted);
+    }
 }
 
 fn fault_of(alloc: Global, text: &[u8]) -> Option<ConfFault> {
@@ -106,24 +100,18 @@ static FAULTS: [(&[u8], ConfFault); 13] = [
     (b"x\n\xED\xA0\x80", ConfFault::NotUtf8 { at: 2 }),
 ];
 
-fn faults_unlike(alloc: Global) -> String {
-    let mut text = String::new(alloc);
-    for (asked, wanted) in &FAULTS {
-        note_wrong(&mut text, asked, fault_of(alloc, asked) == Some(*wanted));
-    }
-    text
-}
-
 #[test]
 fn the_first_fault_is_answered(rt: HostRuntime) {
-    compare(&rt, faults_unlike(rt.alloc()), "");
+    for (asked, wanted) in &FAULTS {
+        check(&rt, asked, fault_of(rt.alloc(), asked) == Some(*wanted));
+    }
 }
 
 /// Writes the fault of a stanza's line with a name of so many bytes.
 fn note_stanza(text: &mut String, alloc: Global, len: usize) {
     let mut line = bytes_of(alloc, b"[");
     repeat(&mut line, b"n", len);
-    put(&mut line, b"]");
+    let _ = line.push(b']');
     note(text, fault_of(alloc, line.as_slice()));
     drop(line);
 }
@@ -142,7 +130,7 @@ fn sizes_said(alloc: Global) -> String {
 
 #[test]
 fn sizes_have_their_limits(rt: HostRuntime) {
-    let wanted = " None Some(BadStanza { line: 1 }) None Some(TooLong)";
+    let wanted = "None Some(BadStanza { line: 1 }) None Some(TooLong)";
     compare(&rt, sizes_said(rt.alloc()), wanted);
 }
 
@@ -208,8 +196,8 @@ fn values_said(alloc: Global) -> String {
     let mut text = String::new(alloc);
     if let Ok(merged) = merge_apps(alloc) {
         for (stanza, key, value, layer, wanted) in &VALUES {
-            let is_right = has_value(&merged, stanza, key, value, layer) == *wanted;
-            note_wrong(&mut text, key, is_right);
+            let is_there = has_value(&merged, stanza, key, value, layer);
+            note(&mut text, is_there == *wanted);
         }
         note(&mut text, merged.has(b"Alone"));
         note(&mut text, merged.has(b"alone"));
@@ -220,7 +208,11 @@ fn values_said(alloc: Global) -> String {
 
 #[test]
 fn the_first_layer_counts_and_in_it_the_last_value(rt: HostRuntime) {
-    compare(&rt, values_said(rt.alloc()), " true false");
+    compare(
+        &rt,
+        values_said(rt.alloc()),
+        "true true true true true false",
+    );
 }
 
 const LISTING: &[u8] = b"[Alone]
@@ -247,7 +239,7 @@ fn order_said(alloc: Global) -> String {
 
 #[test]
 fn entries_are_numbered_and_listed_in_order(rt: HostRuntime) {
-    compare(&rt, order_said(rt.alloc()), " true true 8 true");
+    compare(&rt, order_said(rt.alloc()), "true true 8 true");
 }
 
 /// Whether a name fits; nothing where the text is no pattern.
@@ -294,18 +286,12 @@ static NAMES: [(&[u8], bool, &[u8], bool); 29] = [
     (b"[", true, b"{", false),
 ];
 
-fn names_unlike(alloc: Global) -> String {
-    let mut text = String::new(alloc);
-    for (asked, fold, name, wanted) in &NAMES {
-        let fits = name_fits(alloc, asked, *fold, name);
-        note_wrong(&mut text, asked, fits == Some(*wanted));
-    }
-    text
-}
-
 #[test]
 fn names_fit_their_patterns(rt: HostRuntime) {
-    compare(&rt, names_unlike(rt.alloc()), "");
+    for (asked, fold, name, wanted) in &NAMES {
+        let fits = name_fits(rt.alloc(), asked, *fold, name);
+        check(&rt, asked, fits == Some(*wanted));
+    }
 }
 
 fn is_bad(alloc: Global, text: &[u8]) -> bool {
@@ -330,17 +316,11 @@ static PAIRS: [(&[u8], bool); 9] = [
     (b"\\(a)", false),
 ];
 
-fn pairs_unlike(alloc: Global) -> String {
-    let mut text = String::new(alloc);
-    for (asked, wanted) in &PAIRS {
-        note_wrong(&mut text, asked, is_bad(alloc, asked) == *wanted);
-    }
-    text
-}
-
 #[test]
 fn parentheses_pair_and_no_question_follows_them(rt: HostRuntime) {
-    compare(&rt, pairs_unlike(rt.alloc()), "");
+    for (asked, wanted) in &PAIRS {
+        check(&rt, asked, is_bad(rt.alloc(), asked) == *wanted);
+    }
 }
 
 /// Writes whether a long name fits a pattern.
@@ -360,7 +340,7 @@ fn note_alternatives(text: &mut String, alloc: Global) {
 fn note_nested(text: &mut String, alloc: Global) {
     let mut pattern = Bytes::new(alloc);
     repeat(&mut pattern, b"(", 500);
-    put(&mut pattern, b"...a");
+    let _ = pattern.extend(b"...a");
     repeat(&mut pattern, b")", 500);
     note_work(text, alloc, &pattern);
     drop(pattern);
@@ -370,7 +350,7 @@ fn note_dots(text: &mut String, alloc: Global) {
     let mut pattern = Bytes::new(alloc);
     repeat(&mut pattern, b"...a", 255);
     note_work(text, alloc, &pattern);
-    put(&mut pattern, b"b");
+    let _ = pattern.push(b'b');
     note_work(text, alloc, &pattern);
     drop(pattern);
 }
@@ -387,7 +367,7 @@ fn work_said(alloc: Global) -> String {
 /// held once against each place, so they end at once.
 #[test]
 fn work_grows_with_the_product_of_the_lengths(rt: HostRuntime) {
-    let wanted = " Some(false) Some(true) Some(true) Some(false)";
+    let wanted = "Some(false) Some(true) Some(true) Some(false)";
     compare(&rt, work_said(rt.alloc()), wanted);
 }
 
@@ -432,5 +412,5 @@ fn zones_said(alloc: Global) -> String {
 
 #[test]
 fn zones_are_built_in_below_the_files(rt: HostRuntime) {
-    compare(&rt, zones_said(rt.alloc()), " true true 24");
+    compare(&rt, zones_said(rt.alloc()), "true true 24");
 }

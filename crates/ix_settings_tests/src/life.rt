@@ -1,7 +1,7 @@
 //! Tests of `ix_life`, `ix_report` and `ix_monitor`, with outcomes worked by hand. Settings are texts of indexes.conf, and buckets are written as
 //! `ID STATE BYTES OLDEST NEWEST USED`, with `;` between.
 
-use crate::said::{bytes_of, compare, note, note_otherwise, say, settings_of, shown};
+use crate::said::{bytes_of, check, compare, note, say, settings_of, shown};
 use ix_base::{Area, Bytes, File, Spot};
 use ix_items::{Bucket, Entry, Rule, State};
 use ix_life::{
@@ -253,18 +253,11 @@ static LIMITS: [(&str, &str, &str); 24] = [
     ),
 ];
 
-fn limits_unlike(alloc: Global) -> String {
-    let mut text = String::new(alloc);
-    for (settings, index, wanted) in &LIMITS {
-        let found = outcome(alloc, settings, index);
-        note_otherwise(&mut text, settings, found, wanted);
-    }
-    text
-}
-
 #[test]
 fn settings_give_limits(rt: HostRuntime) {
-    compare(&rt, limits_unlike(rt.alloc()), "");
+    for (settings, index, wanted) in &LIMITS {
+        compare(&rt, outcome(rt.alloc(), settings, index), wanted);
+    }
 }
 
 /// Two buckets that take events at the most, each over an hour; a quarantine for what is 100 seconds late or 50 early.
@@ -345,18 +338,11 @@ static PLACED: [(&str, i64, &str); 14] = [
     (FULL, i64::MIN, "Some(5) None true"),
 ];
 
-fn placed_unlike(alloc: Global) -> String {
-    let mut text = String::new(alloc);
-    for (listed, time, wanted) in &PLACED {
-        let found = placed(alloc, listed, *time);
-        note_otherwise(&mut text, listed, found, wanted);
-    }
-    text
-}
-
 #[test]
 fn events_find_their_bucket(rt: HostRuntime) {
-    compare(&rt, placed_unlike(rt.alloc()), "");
+    for (listed, time, wanted) in &PLACED {
+        compare(&rt, placed(rt.alloc(), listed, *time), wanted);
+    }
 }
 
 /// Writes what housekeeping does under limits.
@@ -492,18 +478,12 @@ static MOVED: [(&str, &str, i64, &str); 17] = [
     ("", ENDS, i64::MAX, "[] [] [(1, Age), (2, Age), (3, Total)]"),
 ];
 
-fn moved_unlike(alloc: Global) -> String {
-    let mut text = String::new(alloc);
-    for (settings, listed, moment, wanted) in &MOVED {
-        let found = moved(alloc, settings, listed, *moment);
-        note_otherwise(&mut text, listed, found, wanted);
-    }
-    text
-}
-
 #[test]
 fn housekeeping_moves_buckets(rt: HostRuntime) {
-    compare(&rt, moved_unlike(rt.alloc()), "");
+    for (settings, listed, moment, wanted) in &MOVED {
+        let found = moved(rt.alloc(), settings, listed, *moment);
+        compare(&rt, found, wanted);
+    }
 }
 
 /// Adds an index under the limits of `main`.
@@ -704,18 +684,11 @@ static WATCHED: [(&str, &str); 13] = [
     ("[monitor://a**]\nindex = main\n", "a** localhost - - main;"),
 ];
 
-fn watched_unlike(alloc: Global) -> String {
-    let mut text = String::new(alloc);
-    for (settings, wanted) in &WATCHED {
-        let found = watched(alloc, settings);
-        note_otherwise(&mut text, settings, found, wanted);
-    }
-    text
-}
-
 #[test]
 fn inputs_are_watched(rt: HostRuntime) {
-    compare(&rt, watched_unlike(rt.alloc()), "");
+    for (settings, wanted) in &WATCHED {
+        compare(&rt, watched(rt.alloc(), settings), wanted);
+    }
 }
 
 /// What a pass does with a file, of which a head and a place was kept.
@@ -757,20 +730,10 @@ static STEPS: [(u64, &str, Option<(&'static str, u64)>, Step); 9] = [
     (0, "", Some(("abc", 3)), Step::Again),
 ];
 
-fn steps_unlike(alloc: Global) -> String {
-    let mut text = String::new(alloc);
-    for (size, head, kept, wanted) in &STEPS {
-        let found = step(alloc, *size, head, *kept);
-        if found != *wanted {
-            note(&mut text, *size);
-            say(&mut text, head);
-            note(&mut text, found);
-        }
-    }
-    text
-}
-
 #[test]
 fn a_pass_has_its_steps(rt: HostRuntime) {
-    compare(&rt, steps_unlike(rt.alloc()), "");
+    for (size, head, kept, wanted) in &STEPS {
+        let found = step(rt.alloc(), *size, head, *kept);
+        check(&rt, head.as_bytes(), found == *wanted);
+    }
 }

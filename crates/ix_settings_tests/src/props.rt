@@ -1,9 +1,7 @@
 //! Tests of `ix_values` and `ix_props`: values of each kind, and whole files, by examples worked by hand.
 
-use crate::said::{
-    bytes_of, compare, note, note_unlike, note_wrong, put, repeat, say, settings_of, shown,
-};
-use ix_base::{Bytes, ChannelMeta};
+use crate::said::{bytes_of, check, compare, note, put, repeat, say, settings_of, shown};
+use ix_base::{ChannelMeta, NoMemory};
 use ix_conf::Merged;
 use ix_pattern::{BreakFault, Pattern, PatternFault};
 use ix_props::{MergeSettings, Props, RuleFault, SettingFault, Settings, TimeSettings, Zone};
@@ -30,17 +28,11 @@ static BOOLEANS: [(&[u8], Option<bool>); 14] = [
     (b"01", None),
 ];
 
-fn booleans_unlike(alloc: Global) -> String {
-    let mut text = String::new(alloc);
-    for (asked, wanted) in &BOOLEANS {
-        note_wrong(&mut text, asked, read_boolean(asked) == *wanted);
-    }
-    text
-}
-
 #[test]
 fn booleans_are_ten_words(rt: HostRuntime) {
-    compare(&rt, booleans_unlike(rt.alloc()), "");
+    for (asked, wanted) in &BOOLEANS {
+        check(&rt, asked, read_boolean(asked) == *wanted);
+    }
 }
 
 static NUMBERS: [(&[u8], Option<i64>); 16] = [
@@ -62,25 +54,18 @@ static NUMBERS: [(&[u8], Option<i64>); 16] = [
     (b"0x1", None),
 ];
 
-fn numbers_unlike(alloc: Global) -> String {
-    let mut text = String::new(alloc);
-    for (asked, wanted) in &NUMBERS {
-        let found = read_number(asked, -1, 1_048_576);
-        note_wrong(&mut text, asked, found == *wanted);
-    }
-    text
-}
-
 #[test]
 fn numbers_have_a_sign_or_none_and_ten_digits(rt: HostRuntime) {
-    compare(&rt, numbers_unlike(rt.alloc()), "");
+    for (asked, wanted) in &NUMBERS {
+        check(&rt, asked, read_number(asked, -1, 1_048_576) == *wanted);
+    }
 }
 
-fn put_digit(out: &mut Bytes, digit: u32) {
-    let _ = out.push(b'0' + (digit % 10) as u8);
+fn put_digit(out: &mut String, digit: u32) {
+    let _ = out.push((b'0' + (digit % 10) as u8) as char);
 }
 
-fn put_part(out: &mut Bytes, part: Part) {
+fn put_part(out: &mut String, part: Part) {
     match part {
         Part::Byte(byte) => put(out, &[byte]),
         Part::Group(group) => {
@@ -94,13 +79,13 @@ fn put_part(out: &mut Bytes, part: Part) {
 }
 
 /// Adds the bytes of parts, and `<12>` for group 12.
-fn put_parts(out: &mut Bytes, parts: &[Part]) {
+fn put_parts(out: &mut String, parts: &[Part]) {
     for part in parts {
         put_part(out, *part);
     }
 }
 
-fn put_which(out: &mut Bytes, which: Which) {
+fn put_which(out: &mut String, which: Which) {
     match which {
         Which::First => put(out, b"first"),
         Which::All => put(out, b"all"),
@@ -123,7 +108,7 @@ fn pattern_fault(fault: PatternFault) -> &'static [u8] {
 }
 
 /// Adds which matches are changed and what they become, or which bytes become which.
-fn put_change(out: &mut Bytes, change: &Sed) {
+fn put_change(out: &mut String, change: &Sed) {
     match change {
         Sed::Replace { parts, which, .. } => {
             put_which(out, *which);
@@ -139,8 +124,8 @@ fn put_change(out: &mut Bytes, change: &Sed) {
 }
 
 /// What a text changes, or its fault.
-fn describe_change(alloc: Global, text: &[u8]) -> Bytes {
-    let mut found = Bytes::new(alloc);
+fn describe_change(alloc: Global, text: &[u8]) -> String {
+    let mut found = String::new(alloc);
     match Sed::read(alloc, text) {
         Ok(change) => {
             put_change(&mut found, &change);
@@ -153,47 +138,41 @@ fn describe_change(alloc: Global, text: &[u8]) -> Bytes {
     found
 }
 
-static CHANGES: [(&[u8], &[u8]); 27] = [
-    (b"s/a/b/", b"first|b"),
-    (b"s/a/b/g", b"all|b"),
-    (b"s/a/b/7", b"0007|b"),
-    (b"s/a/b/0010", b"0010|b"),
-    (b"s/a/b/1000", b"1000|b"),
-    (b"s/a//", b"first|"),
-    (b"s/\\//&/", b"first|&"),
-    (b"s/(a)/<\\1\\9>/", b"first|<<01><09>>"),
-    (b"s/a/\\n\\t\\/\\\\/", b"first|\n\t/\\"),
-    (b"s/a/$1/", b"first|$1"),
-    (b"s/a/b/0", b"bad value"),
-    (b"s/a/b/1001", b"bad value"),
-    (b"s/a/b/00001", b"bad value"),
-    (b"s/a/b/G", b"bad value"),
-    (b"s/a/b", b"bad value"),
-    (b"s/a\\/b/", b"bad value"),
-    (b"s/a/\\0/", b"bad value"),
-    (b"s/a/\\x/", b"bad value"),
-    (b"s|a|b|", b"bad value"),
-    (b"", b"bad value"),
-    (b"s/(/b/", b"syntax"),
-    (b"s/(/\\x/", b"bad value"),
-    (b"s/(a*)*/b/", b"empty repeat"),
-    (b"y/ab/cd/", b"ab|cd"),
-    (b"y/\\/\\n/\\t\\\\/", b"/\n|\t\\"),
-    (b"y/ab/c/", b"bad value"),
-    (b"y/a/\\1/", b"bad value"),
+static CHANGES: [(&[u8], &str); 27] = [
+    (b"s/a/b/", "first|b"),
+    (b"s/a/b/g", "all|b"),
+    (b"s/a/b/7", "0007|b"),
+    (b"s/a/b/0010", "0010|b"),
+    (b"s/a/b/1000", "1000|b"),
+    (b"s/a//", "first|"),
+    (b"s/\\//&/", "first|&"),
+    (b"s/(a)/<\\1\\9>/", "first|<<01><09>>"),
+    (b"s/a/\\n\\t\\/\\\\/", "first|\n\t/\\"),
+    (b"s/a/$1/", "first|$1"),
+    (b"s/a/b/0", "bad value"),
+    (b"s/a/b/1001", "bad value"),
+    (b"s/a/b/00001", "bad value"),
+    (b"s/a/b/G", "bad value"),
+    (b"s/a/b", "bad value"),
+    (b"s/a\\/b/", "bad value"),
+    (b"s/a/\\0/", "bad value"),
+    (b"s/a/\\x/", "bad value"),
+    (b"s|a|b|", "bad value"),
+    (b"", "bad value"),
+    (b"s/(/b/", "syntax"),
+    (b"s/(/\\x/", "bad value"),
+    (b"s/(a*)*/b/", "empty repeat"),
+    (b"y/ab/cd/", "ab|cd"),
+    (b"y/\\/\\n/\\t\\\\/", "/\n|\t\\"),
+    (b"y/ab/c/", "bad value"),
+    (b"y/a/\\1/", "bad value"),
 ];
-
-fn changes_unlike(alloc: Global) -> String {
-    let mut text = String::new(alloc);
-    for (asked, wanted) in &CHANGES {
-        note_unlike(&mut text, asked, describe_change(alloc, asked), wanted);
-    }
-    text
-}
 
 #[test]
 fn changes_have_two_forms(rt: HostRuntime) {
-    compare(&rt, changes_unlike(rt.alloc()), "");
+    for (asked, wanted) in &CHANGES {
+        compare(&rt, describe_change(rt.alloc(), asked), wanted);
+    }
 }
 
 /// A directive as a format spells it; `_` for white space, and the byte itself stands behind a `=`.
@@ -226,7 +205,7 @@ fn spelling(directive: Directive) -> &'static [u8] {
     }
 }
 
-fn put_directive(out: &mut Bytes, directive: Directive) {
+fn put_directive(out: &mut String, directive: Directive) {
     put(out, spelling(directive));
     if let Directive::Byte(byte) = directive {
         put(out, &[byte]);
@@ -234,8 +213,8 @@ fn put_directive(out: &mut Bytes, directive: Directive) {
 }
 
 /// The directives of a format, or its fault.
-fn describe_format(alloc: Global, text: &[u8]) -> Bytes {
-    let mut found = Bytes::new(alloc);
+fn describe_format(alloc: Global, text: &[u8]) -> String {
+    let mut found = String::new(alloc);
     match TimeFormat::read(alloc, text) {
         Ok(format) => {
             for directive in format.as_slice() {
@@ -249,40 +228,34 @@ fn describe_format(alloc: Global, text: &[u8]) -> Bytes {
     found
 }
 
-static FORMATS: [(&[u8], &[u8]); 20] = [
-    (b"%s", b"%s"),
-    (b"%j", b"%j"),
-    (b"%m%d", b"%m%d"),
-    (b"%e %b", b"%e__%b"),
-    (b"%B%d", b"%B%d"),
-    (b"%F", b"%Y=-%m=-%d"),
-    (b"%sT%T", b"%s=T%H=:%M=:%S"),
-    (b"%%%s", b"=%%s"),
-    (b"%s.%3N%6N%9N%N", b"%s=.%3%6%9%N"),
-    (b"%s \t\x0B\r\n%p", b"%s__%p"),
-    (b"%a%A%I%y%z%Z%j", b"%a%A%I%y%z%Z%j"),
-    (b"", b"bad value"),
-    (b"%Y-%m", b"bad value"),
-    (b"%Y-%d", b"bad value"),
-    (b"%T", b"bad value"),
-    (b"%s%", b"bad value"),
-    (b"%s%Q", b"bad value"),
-    (b"%s%3", b"bad value"),
-    (b"%s%3S", b"bad value"),
-    (b"%s%1N", b"bad value"),
+static FORMATS: [(&[u8], &str); 20] = [
+    (b"%s", "%s"),
+    (b"%j", "%j"),
+    (b"%m%d", "%m%d"),
+    (b"%e %b", "%e__%b"),
+    (b"%B%d", "%B%d"),
+    (b"%F", "%Y=-%m=-%d"),
+    (b"%sT%T", "%s=T%H=:%M=:%S"),
+    (b"%%%s", "=%%s"),
+    (b"%s.%3N%6N%9N%N", "%s=.%3%6%9%N"),
+    (b"%s \t\x0B\r\n%p", "%s__%p"),
+    (b"%a%A%I%y%z%Z%j", "%a%A%I%y%z%Z%j"),
+    (b"", "bad value"),
+    (b"%Y-%m", "bad value"),
+    (b"%Y-%d", "bad value"),
+    (b"%T", "bad value"),
+    (b"%s%", "bad value"),
+    (b"%s%Q", "bad value"),
+    (b"%s%3", "bad value"),
+    (b"%s%3S", "bad value"),
+    (b"%s%1N", "bad value"),
 ];
-
-fn formats_unlike(alloc: Global) -> String {
-    let mut text = String::new(alloc);
-    for (asked, wanted) in &FORMATS {
-        note_unlike(&mut text, asked, describe_format(alloc, asked), wanted);
-    }
-    text
-}
 
 #[test]
 fn formats_are_lists_of_directives(rt: HostRuntime) {
-    compare(&rt, formats_unlike(rt.alloc()), "");
+    for (asked, wanted) in &FORMATS {
+        compare(&rt, describe_format(rt.alloc(), asked), wanted);
+    }
 }
 
 fn key_letter(key: Key) -> &'static [u8] {
@@ -298,7 +271,7 @@ fn key_letter(key: Key) -> &'static [u8] {
 }
 
 /// Adds source, destination, whether the indexed fields are written, format and default value.
-fn put_transform(out: &mut Bytes, transform: &Transform) {
+fn put_transform(out: &mut String, transform: &Transform) {
     put(out, key_letter(transform.source));
     match transform.dest {
         Some(key) => put(out, key_letter(key)),
@@ -312,7 +285,7 @@ fn put_transform(out: &mut Bytes, transform: &Transform) {
     }
 }
 
-fn put_transform_fault(out: &mut Bytes, fault: &TransformFault) {
+fn put_transform_fault(out: &mut String, fault: &TransformFault) {
     match fault {
         TransformFault::BadValue { key } => {
             put(out, b"bad ");
@@ -328,7 +301,7 @@ fn put_transform_fault(out: &mut Bytes, fault: &TransformFault) {
 }
 
 /// Adds what the stanza `t` is as a transform, where it is there.
-fn put_stanza(out: &mut Bytes, alloc: Global, transforms: &Merged) {
+fn put_stanza(out: &mut String, alloc: Global, transforms: &Merged) {
     if transforms.has(b"t") {
         match Transform::read(alloc, b"t", transforms) {
             Ok(transform) => {
@@ -343,8 +316,8 @@ fn put_stanza(out: &mut Bytes, alloc: Global, transforms: &Merged) {
     }
 }
 
-fn describe_transform(alloc: Global, text: &[u8]) -> Bytes {
-    let mut found = Bytes::new(alloc);
+fn describe_transform(alloc: Global, text: &[u8]) -> String {
+    let mut found = String::new(alloc);
     if let Ok(transforms) = settings_of(alloc, text) {
         put_stanza(&mut found, alloc, &transforms);
         drop(transforms);
@@ -352,68 +325,56 @@ fn describe_transform(alloc: Global, text: &[u8]) -> Bytes {
     found
 }
 
-static TRANSFORMED: [(&[u8], &[u8]); 18] = [
-    (b"[t]\nREGEX=(a)\nWRITE_META=1", b"r-+t::<01>"),
+static TRANSFORMED: [(&[u8], &str); 18] = [
+    (b"[t]\nREGEX=(a)\nWRITE_META=1", "r-+t::<01>"),
     (
         b"[t]\nREGEX=a\nDEST_KEY=queue\nFORMAT=nullQueue",
-        b"rq-nullQueue",
+        "rq-nullQueue",
     ),
     (
         b"[t]\nREGEX=a\nDEST_KEY=_meta\nFORMAT=$0 $12$3x$ $$1",
-        b"rm-<00> <12><03>x$ $<01>",
+        "rm-<00> <12><03>x$ $<01>",
     ),
     (
         b"[t]\nREGEX=a\nSOURCE_KEY=MetaData:Host\nDEST_KEY=_MetaData:Index\nFORMAT=$123\nDEFAULT_VALUE=x y",
-        b"hi-<12>3|x y",
+        "hi-<12>3|x y",
     ),
     (
         b"DEST_KEY=_raw\nREGEX=a\nWRITE_META=y\n[t]\nFORMAT=",
-        b"rr+t::<01>",
+        "rr+t::<01>",
     ),
-    (b"DEST_KEY=_raw\nREGEX=a\n[t]\nDEST_KEY=", b"bad DEST_KEY"),
+    (b"DEST_KEY=_raw\nREGEX=a\n[t]\nDEST_KEY=", "bad DEST_KEY"),
     (
         b"[t]\nREGEX=a\nSOURCE_KEY=MetaData:Sourcetype\nDEST_KEY=MetaData:Source\nFORMAT=$a",
-        b"ts-$a",
+        "ts-$a",
     ),
-    (b"[t]\nREGEX=a", b"bad DEST_KEY"),
-    (b"[t]\nREGEX=a\nWRITE_META=0", b"bad DEST_KEY"),
-    (b"[t]\nREGEX=a\nWRITE_META=2", b"bad DEST_KEY"),
+    (b"[t]\nREGEX=a", "bad DEST_KEY"),
+    (b"[t]\nREGEX=a\nWRITE_META=0", "bad DEST_KEY"),
+    (b"[t]\nREGEX=a\nWRITE_META=2", "bad DEST_KEY"),
     (
         b"[t]\nREGEX=a\nWRITE_META=2\nDEST_KEY=_raw",
-        b"bad WRITE_META",
+        "bad WRITE_META",
     ),
-    (b"[t]\nREGEX=a\nDEST_KEY=raw\nLOOKAHEAD=0", b"bad DEST_KEY"),
-    (
-        b"[t]\nREGEX=(\nDEST_KEY=_raw\nLOOKAHEAD=0",
-        b"bad LOOKAHEAD",
-    ),
+    (b"[t]\nREGEX=a\nDEST_KEY=raw\nLOOKAHEAD=0", "bad DEST_KEY"),
+    (b"[t]\nREGEX=(\nDEST_KEY=_raw\nLOOKAHEAD=0", "bad LOOKAHEAD"),
     (
         b"[t]\nREGEX=a\nDEST_KEY=_raw\nLOOKAHEAD=8388609",
-        b"bad LOOKAHEAD",
+        "bad LOOKAHEAD",
     ),
-    (
-        b"[t]\nREGEX=(\nDEST_KEY=_raw\nSOURCE_KEY=x",
-        b"REGEX syntax",
-    ),
-    (b"[t]\nREGEX=\nDEST_KEY=_raw\nSOURCE_KEY=x", b"bad REGEX"),
-    (b"[t]\nDEST_KEY=_raw", b"bad REGEX"),
+    (b"[t]\nREGEX=(\nDEST_KEY=_raw\nSOURCE_KEY=x", "REGEX syntax"),
+    (b"[t]\nREGEX=\nDEST_KEY=_raw\nSOURCE_KEY=x", "bad REGEX"),
+    (b"[t]\nDEST_KEY=_raw", "bad REGEX"),
     (
         b"[t]\nREGEX=a\nDEST_KEY=_raw\nSOURCE_KEY=MetaData:Index\nWRITE_META=2",
-        b"bad SOURCE_KEY",
+        "bad SOURCE_KEY",
     ),
 ];
 
-fn transforms_unlike(alloc: Global) -> String {
-    let mut text = String::new(alloc);
-    for (asked, wanted) in &TRANSFORMED {
-        note_unlike(&mut text, asked, describe_transform(alloc, asked), wanted);
-    }
-    text
-}
-
 #[test]
 fn transforms_are_stanzas(rt: HostRuntime) {
-    compare(&rt, transforms_unlike(rt.alloc()), "");
+    for (asked, wanted) in &TRANSFORMED {
+        compare(&rt, describe_transform(rt.alloc(), asked), wanted);
+    }
 }
 
 /// How many bytes of the source the stanza `t` looks at.
@@ -440,25 +401,26 @@ static LOOKAHEADS: [(&[u8], u32); 3] = [
     (b"LOOKAHEAD=0\n[t]\nREGEX=a\nDEST_KEY=_raw\nLOOKAHEAD=1", 1),
 ];
 
-fn lookaheads_unlike(alloc: Global) -> String {
-    let mut text = String::new(alloc);
-    for (asked, wanted) in &LOOKAHEADS {
-        if let Ok(transforms) = settings_of(alloc, asked) {
-            let found = lookahead_of(alloc, &transforms);
-            note_wrong(&mut text, b"seen", found != Some(*wanted));
-            note_wrong(&mut text, asked, found == Some(*wanted));
+/// How many bytes of the source the stanza `t` of a text looks at.
+fn lookahead_in(alloc: Global, text: &[u8]) -> Option<u32> {
+    match settings_of(alloc, text) {
+        Ok(transforms) => {
+            let lookahead = lookahead_of(alloc, &transforms);
             drop(transforms);
+            lookahead
         }
+        Err(NoMemory) => None,
     }
-    text
 }
 
 #[test]
 fn transforms_look_ahead(rt: HostRuntime) {
-    compare(&rt, lookaheads_unlike(rt.alloc()), " seen seen seen");
+    for (asked, wanted) in &LOOKAHEADS {
+        check(&rt, asked, lookahead_in(rt.alloc(), asked) == Some(*wanted));
+    }
 }
 
-fn put_word(out: &mut Bytes, word: &[u8]) {
+fn put_word(out: &mut String, word: &[u8]) {
     put(out, b"|");
     put(out, word);
 }
@@ -472,7 +434,7 @@ fn break_fault(fault: BreakFault) -> &'static [u8] {
 }
 
 /// Adds what a fault is, and what it names.
-fn put_fault(out: &mut Bytes, fault: &SettingFault) {
+fn put_fault(out: &mut String, fault: &SettingFault) {
     match fault {
         SettingFault::BadValue { stanza, key } => {
             put(out, b"value");
@@ -563,8 +525,8 @@ fn load_props(alloc: Global, text: &[u8]) -> Result<Props, SettingFault> {
 }
 
 /// The fault of a props.conf beside them, or `good`.
-fn describe_props(alloc: Global, text: &[u8]) -> Bytes {
-    let mut found = Bytes::new(alloc);
+fn describe_props(alloc: Global, text: &[u8]) -> String {
+    let mut found = String::new(alloc);
     match load_props(alloc, text) {
         Ok(props) => {
             put(&mut found, b"good");
@@ -578,96 +540,90 @@ fn describe_props(alloc: Global, text: &[u8]) -> Bytes {
     found
 }
 
-static JUDGED: [(&[u8], &[u8]); 40] = [
-    (b"", b"good"),
-    (b"LINE_BREAKER=", b"good"),
+static JUDGED: [(&[u8], &str); 40] = [
+    (b"", "good"),
+    (b"LINE_BREAKER=", "good"),
     (
         b"Other=(\n[rule::(]\nTRUNCATE=x\n[delayedrule::a]\nTZ=x",
-        b"good",
+        "good",
     ),
-    (b"LINE_BREAKER=a", b"pattern|default|LINE_BREAKER|no group"),
+    (b"LINE_BREAKER=a", "pattern|default|LINE_BREAKER|no group"),
     (
         b"LINE_BREAKER=(a*)",
-        b"pattern|default|LINE_BREAKER|matches empty",
+        "pattern|default|LINE_BREAKER|matches empty",
     ),
-    (b"LINE_BREAKER=(", b"pattern|default|LINE_BREAKER|syntax"),
-    (b"[w]\nTRUNCATE=4294967295", b"good"),
-    (b"[w]\nTRUNCATE=4294967296", b"value|w|TRUNCATE"),
-    (b"[w]\nTRUNCATE=-1", b"value|w|TRUNCATE"),
-    (b"[w]\nSHOULD_LINEMERGE=on", b"value|w|SHOULD_LINEMERGE"),
+    (b"LINE_BREAKER=(", "pattern|default|LINE_BREAKER|syntax"),
+    (b"[w]\nTRUNCATE=4294967295", "good"),
+    (b"[w]\nTRUNCATE=4294967296", "value|w|TRUNCATE"),
+    (b"[w]\nTRUNCATE=-1", "value|w|TRUNCATE"),
+    (b"[w]\nSHOULD_LINEMERGE=on", "value|w|SHOULD_LINEMERGE"),
     (
         b"[w]\nBREAK_ONLY_BEFORE_DATE=2",
-        b"value|w|BREAK_ONLY_BEFORE_DATE",
+        "value|w|BREAK_ONLY_BEFORE_DATE",
     ),
     (
         b"[w]\nBREAK_ONLY_BEFORE=(a*)*",
-        b"pattern|w|BREAK_ONLY_BEFORE|empty repeat",
+        "pattern|w|BREAK_ONLY_BEFORE|empty repeat",
     ),
     (
         b"[w]\nMUST_BREAK_AFTER=)",
-        b"pattern|w|MUST_BREAK_AFTER|syntax",
+        "pattern|w|MUST_BREAK_AFTER|syntax",
     ),
     (
         b"[w]\nMUST_NOT_BREAK_AFTER=[",
-        b"pattern|w|MUST_NOT_BREAK_AFTER|syntax",
+        "pattern|w|MUST_NOT_BREAK_AFTER|syntax",
     ),
     (
         b"[w]\nMUST_NOT_BREAK_BEFORE=a{1001}",
-        b"pattern|w|MUST_NOT_BREAK_BEFORE|too large",
+        "pattern|w|MUST_NOT_BREAK_BEFORE|too large",
     ),
-    (b"[w]\nTIME_PREFIX=*", b"pattern|w|TIME_PREFIX|syntax"),
-    (b"[w]\nMAX_EVENTS=0", b"value|w|MAX_EVENTS"),
-    (b"[w]\nMAX_EVENTS=1000001", b"value|w|MAX_EVENTS"),
-    (b"[w]\nTIME_FORMAT=%Y-%m", b"value|w|TIME_FORMAT"),
-    (b"[w]\nMAX_TIMESTAMP_LOOKAHEAD=-1", b"good"),
+    (b"[w]\nTIME_PREFIX=*", "pattern|w|TIME_PREFIX|syntax"),
+    (b"[w]\nMAX_EVENTS=0", "value|w|MAX_EVENTS"),
+    (b"[w]\nMAX_EVENTS=1000001", "value|w|MAX_EVENTS"),
+    (b"[w]\nTIME_FORMAT=%Y-%m", "value|w|TIME_FORMAT"),
+    (b"[w]\nMAX_TIMESTAMP_LOOKAHEAD=-1", "good"),
     (
         b"[w]\nMAX_TIMESTAMP_LOOKAHEAD=-2",
-        b"value|w|MAX_TIMESTAMP_LOOKAHEAD",
+        "value|w|MAX_TIMESTAMP_LOOKAHEAD",
     ),
-    (b"[w]\nMAX_DAYS_AGO=10952", b"value|w|MAX_DAYS_AGO"),
-    (b"[w]\nMAX_DAYS_HENCE=10951", b"value|w|MAX_DAYS_HENCE"),
-    (b"[w]\npriority=-1000001", b"value|w|priority"),
-    (b"[w]\nTZ=here", b"good"),
-    (b"[w]\nTZ=gone", b"zone|w|gone"),
-    (b"[w]\nTZ=none", b"zone|w|none"),
-    (b"[w]\nTZ=empty", b"zone|w|empty"),
-    (b"[w]\nTZ=bad", b"value|bad|RULE"),
-    (b"[w]\nSEDCMD-=s/a/b/\nSEDCMD-x=s/a/b", b"value|w|SEDCMD-x"),
-    (b"[w]\nSEDCMD-x=s/(/b/", b"pattern|w|SEDCMD-x|syntax"),
-    (b"[w]\nTRANSFORMS-x= good , ,good,", b"good"),
+    (b"[w]\nMAX_DAYS_AGO=10952", "value|w|MAX_DAYS_AGO"),
+    (b"[w]\nMAX_DAYS_HENCE=10951", "value|w|MAX_DAYS_HENCE"),
+    (b"[w]\npriority=-1000001", "value|w|priority"),
+    (b"[w]\nTZ=here", "good"),
+    (b"[w]\nTZ=gone", "zone|w|gone"),
+    (b"[w]\nTZ=none", "zone|w|none"),
+    (b"[w]\nTZ=empty", "zone|w|empty"),
+    (b"[w]\nTZ=bad", "value|bad|RULE"),
+    (b"[w]\nSEDCMD-=s/a/b/\nSEDCMD-x=s/a/b", "value|w|SEDCMD-x"),
+    (b"[w]\nSEDCMD-x=s/(/b/", "pattern|w|SEDCMD-x|syntax"),
+    (b"[w]\nTRANSFORMS-x= good , ,good,", "good"),
     (
         b"[w]\nTRANSFORMS-x=good,gone",
-        b"transform|w|TRANSFORMS-x|gone",
+        "transform|w|TRANSFORMS-x|gone",
     ),
     (
         b"[w]\nTRANSFORMS-x=good\t,gone",
-        b"transform|w|TRANSFORMS-x|good\t",
+        "transform|w|TRANSFORMS-x|good\t",
     ),
-    (b"[w]\nTRANSFORMS-x=nowhere,gone", b"value|nowhere|DEST_KEY"),
-    (b"[w]\nTRANSFORMS-x=open", b"pattern|open|REGEX|syntax"),
-    (b"[w]\nTRANSFORMS-x=far", b"value|far|LOOKAHEAD"),
-    (b"[source::a(]\nTRUNCATE=x", b"stanza|source::a("),
+    (b"[w]\nTRANSFORMS-x=nowhere,gone", "value|nowhere|DEST_KEY"),
+    (b"[w]\nTRANSFORMS-x=open", "pattern|open|REGEX|syntax"),
+    (b"[w]\nTRANSFORMS-x=far", "value|far|LOOKAHEAD"),
+    (b"[source::a(]\nTRUNCATE=x", "stanza|source::a("),
     (
         b"[host::(?b)]\n[a]\nTRUNCATE=x\nTZ=gone",
-        b"value|a|TRUNCATE",
+        "value|a|TRUNCATE",
     ),
     (
         b"[host::a|b*]\n[source::...(/x|y)]\n[host::)]",
-        b"stanza|host::)",
+        "stanza|host::)",
     ),
 ];
 
-fn judged_unlike(alloc: Global) -> String {
-    let mut text = String::new(alloc);
-    for (asked, wanted) in &JUDGED {
-        note_unlike(&mut text, asked, describe_props(alloc, asked), wanted);
-    }
-    text
-}
-
 #[test]
 fn values_of_props_are_judged(rt: HostRuntime) {
-    compare(&rt, judged_unlike(rt.alloc()), "");
+    for (asked, wanted) in &JUDGED {
+        compare(&rt, describe_props(rt.alloc(), asked), wanted);
+    }
 }
 
 /// Writes what is said of a stanza with a source type of so many bytes.
@@ -676,7 +632,7 @@ fn note_sourcetype(text: &mut String, alloc: Global, len: usize) {
     repeat(&mut props, b"n", len);
     let found = describe_props(alloc, props.as_slice());
     drop(props);
-    say(text, shown(found.as_slice()));
+    say(text, found.as_str());
     drop(found);
 }
 
@@ -689,11 +645,7 @@ fn sourcetypes_said(alloc: Global) -> String {
 
 #[test]
 fn a_source_type_has_a_bounded_name(rt: HostRuntime) {
-    compare(
-        &rt,
-        sourcetypes_said(rt.alloc()),
-        " good value|w|sourcetype",
-    );
+    compare(&rt, sourcetypes_said(rt.alloc()), "good value|w|sourcetype");
 }
 
 /// Whether a rule is one, and a copy of its zone too; nothing where memory is lacking.
@@ -721,17 +673,11 @@ static RULES: [(&[u8], bool); 7] = [
     (b"UTC0 ", false),
 ];
 
-fn rules_unlike(alloc: Global) -> String {
-    let mut text = String::new(alloc);
-    for (asked, wanted) in &RULES {
-        note_wrong(&mut text, asked, is_rule(alloc, asked) == Some(*wanted));
-    }
-    text
-}
-
 #[test]
 fn zones_have_rules(rt: HostRuntime) {
-    compare(&rt, rules_unlike(rt.alloc()), "");
+    for (asked, wanted) in &RULES {
+        check(&rt, asked, is_rule(rt.alloc(), asked) == Some(*wanted));
+    }
 }
 
 /// The text of props.conf that a channel's settings come from, and its host, source and source type, which is empty where the
@@ -781,30 +727,28 @@ fn note_time(text: &mut String, time: &TimeSettings) {
     note(text, time.days_hence);
 }
 
-fn note_changes(text: &mut String, alloc: Global, changes: &[Sed]) {
+fn note_changes(text: &mut String, changes: &[Sed]) {
     for change in changes {
-        let mut found = Bytes::new(alloc);
-        put_change(&mut found, change);
-        say(text, shown(found.as_slice()));
-        drop(found);
+        put(text, b" ");
+        put_change(text, change);
     }
 }
 
 /// Writes source type, size of a line, weight of the breaker, merging, time, how many transforms, and changes.
-fn note_settings(text: &mut String, alloc: Global, settings: &Settings) {
+fn note_settings(text: &mut String, settings: &Settings) {
     let _ = text.push_str(shown(settings.sourcetype.as_slice()));
     note(text, settings.truncate);
     note(text, settings.breaker.weight());
     note_merge(text, &settings.merge);
     note_time(text, &settings.time);
     note(text, settings.transforms.len());
-    note_changes(text, alloc, settings.seds.as_slice());
+    note_changes(text, settings.seds.as_slice());
     let _ = text.push('\n');
 }
 
 fn note_copy(text: &mut String, alloc: Global, settings: &Settings) {
     if let Ok(copy) = settings.copy(alloc) {
-        note_settings(text, alloc, &copy);
+        note_settings(text, &copy);
         drop(copy);
     }
 }

@@ -18,49 +18,30 @@ pub fn say(text: &mut String, word: &str) {
     let _ = write!(text, " {word}");
 }
 
-/// Compares what calls answered with what they are to answer.
+/// Compares what calls answered with what they are to answer, without the space in front of the first answer.
 pub fn compare(rt: &impl Abort, found: String, wanted: &str) {
-    assert_eq!(rt; found.as_str(), wanted);
+    assert_eq!(rt; found.as_str().trim_start(), wanted);
 }
 
 /// Says what was asked where the answer is wrong.
-pub fn note_wrong(text: &mut String, asked: &[u8], is_right: bool) {
-    if !is_right {
-        say(text, shown(asked));
-    }
-}
-
-/// Says what was asked where something else was found than is wanted.
-pub fn note_unlike(text: &mut String, asked: &[u8], found: Bytes, wanted: &[u8]) {
-    if found.as_slice() != wanted {
-        say(text, shown(asked));
-        say(text, shown(found.as_slice()));
-    }
-    drop(found);
-}
-
-/// The same of a text that has a space in front.
-pub fn note_otherwise(text: &mut String, asked: &str, found: String, wanted: &str) {
-    if found.as_str().trim_start() != wanted {
-        say(text, asked);
-        say(text, found.as_str());
-    }
-    drop(found);
+pub fn check(rt: &impl Abort, asked: &[u8], is_right: bool) {
+    let asked = shown(asked);
+    assert!(rt; is_right, "{asked}");
 }
 
 pub fn bytes_of(alloc: Global, bytes: &[u8]) -> Bytes {
     Bytes::copy_of(alloc, bytes).unwrap_or(Bytes::new(alloc))
 }
 
-/// Adds bytes at the end.
-pub fn put(out: &mut Bytes, bytes: &[u8]) {
-    let _ = out.extend(bytes);
+/// Writes bytes at the end.
+pub fn put(text: &mut String, bytes: &[u8]) {
+    let _ = text.push_str(shown(bytes));
 }
 
 /// Adds a piece so many times.
 pub fn repeat(out: &mut Bytes, piece: &[u8], count: usize) {
     for _ in 0..count {
-        put(out, piece);
+        let _ = out.extend(piece);
     }
 }
 
