@@ -7,12 +7,12 @@ ghost use Rattle.ix_keep.specs.Snapshot.{IsOver, IsIdle};
 
 use crate::counted::Counted;
 use crate::said::{compare, note};
-use crate::script::{empty, file, group, items_or_none, shorten};
+use crate::script::{commit_draft, empty, file, group, items_or_none, shorten};
 use ix_base::{Area, Bytes, NoMemory, Sequence, Spot};
 use ix_book::PlainBook;
 use ix_disk::{Disk, MemDisk};
 use ix_items::Item;
-use ix_keep::{Draft, Keeper, commit, mount, stage};
+use ix_keep::{Draft, Keeper, commit, mount};
 use std::alloc::Global;
 
 /// What was asked since: calls, syncs of logs, and syncs of other files.
@@ -81,21 +81,15 @@ fn large_items(alloc: Global) -> Result<Sequence<Item>, NoMemory>
     Ok(items)
 }
 
-/// Commits such an item. It answers whether that was Ok.
-fn large_group<D: Disk>(alloc: Global, keeper: &mut Keeper, disk: &mut D) -> bool
-    requires { IsOver D.Disk keeper.old disk.old }
-    ensures over { IsTrue result → IsOver D.Disk keeper.new disk.new }
-    ensures idle { IsTrue result → IsIdle keeper.new }
+/// A command that adds such an item.
+fn large_draft(alloc: Global) -> Draft
+    ensures { AllByRecursion HasSpelling result.items }
 {
-    let draft = Draft {
+    Draft {
         pieces: Sequence::new(alloc),
         copies: Sequence::new(alloc),
         items: items_or_none(alloc, large_items(alloc)),
-    };
-    if stage(keeper, alloc, draft).is_err() {
-        return false;
     }
-    commit::<D, PlainBook>(keeper, disk).is_ok()
 }
 
 /// Commits such items until a checkpoint is wanted, and answers how many were committed, 0 where a commit failed.
@@ -105,7 +99,7 @@ fn grow<D: Disk>(alloc: Global, keeper: &mut Keeper, disk: &mut D) -> u64
     ensures idle { 0 < result → IsIdle keeper.new }
 {
     for count in 1..20u64 {
-        if !large_group(alloc, keeper, disk) {
+        if !commit_draft(alloc, keeper, disk, large_draft(alloc)) {
             return 0;
         }
         if keeper.wants_checkpoint() {

@@ -19,6 +19,30 @@ pub fn file(area: Area, number: u64) -> File {
     File { area, number }
 }
 
+/// The file of bucket 1.
+const ONE: File = File {
+    area: Area::Home,
+    number: 1,
+};
+
+/// The file of bucket 2.
+const TWO: File = File {
+    area: Area::Home,
+    number: 2,
+};
+
+/// The file that bucket 1 moves to.
+const THREE: File = File {
+    area: Area::Cold,
+    number: 3,
+};
+
+/// The file that bucket 2 moves to.
+const FOUR: File = File {
+    area: Area::Cold,
+    number: 4,
+};
+
 /// A disk that has nothing, and of which no call fails.
 pub fn empty(alloc: Global) -> MemDisk {
     MemDisk::new(alloc, FailPlan::none(alloc))
@@ -83,8 +107,8 @@ fn add_copies(group: i64, copies: &mut Sequence<Copied>) -> Result<(), NoMemory>
 /// The file that each group is done with.
 fn gone(group: i64) -> Option<File> {
     match group {
-        3 => Some(file(Area::Home, 1)),
-        4 => Some(file(Area::Home, 2)),
+        3 => Some(ONE),
+        4 => Some(TWO),
         _ => None,
     }
 }
@@ -115,16 +139,26 @@ fn draft(alloc: Global, group: i64) -> Draft
     }
 }
 
-/// Stages a group and commits it. It answers whether that was Ok.
+/// Stages a draft and commits it. It answers whether that was Ok.
+pub fn commit_draft<D: Disk>(alloc: Global, keeper: &mut Keeper, disk: &mut D, draft: Draft) -> bool
+    requires over { IsOver D.Disk keeper.old disk.old }
+    requires spelled { AllByRecursion HasSpelling draft.items }
+    ensures over { IsTrue result → IsOver D.Disk keeper.new disk.new }
+    ensures idle { IsTrue result → IsIdle keeper.new }
+{
+    if stage(keeper, alloc, draft).is_err() {
+        return false;
+    }
+    commit::<D, PlainBook>(keeper, disk).is_ok()
+}
+
+/// Commits a group. It answers whether that was Ok.
 pub fn group<D: Disk>(alloc: Global, keeper: &mut Keeper, disk: &mut D, group: i64) -> bool
     requires { IsOver D.Disk keeper.old disk.old }
     ensures over { IsTrue result → IsOver D.Disk keeper.new disk.new }
     ensures idle { IsTrue result → IsIdle keeper.new }
 {
-    if stage(keeper, alloc, draft(alloc, group)).is_err() {
-        return false;
-    }
-    commit::<D, PlainBook>(keeper, disk).is_ok()
+    commit_draft(alloc, keeper, disk, draft(alloc, group))
 }
 
 /// Makes a checkpoint behind a group. It answers whether that was Ok.
@@ -139,26 +173,44 @@ pub fn shorten<D: Disk>(alloc: Global, keeper: &mut Keeper, disk: &mut D, group:
     checkpoint::<D, PlainBook, Walk>(keeper, alloc, disk, &mut state).is_ok()
 }
 
+/// Commits a group, with a checkpoint behind it where its number is even. It answers how much that adds to the count, 1 for the
+/// group and 10 for the checkpoint, and whether all went well.
+fn commit_next<D: Disk>(
+    alloc: Global,
+    keeper: &mut Keeper,
+    disk: &mut D,
+    number: i64,
+) -> (i64, bool)
+    requires { IsOver D.Disk keeper.old disk.old }
+    ensures { IsTrue result.1 → IsOver D.Disk keeper.new disk.new }
+{
+    if !group(alloc, keeper, disk, number) {
+        return (0, false);
+    }
+    if number % 2 != 0 {
+        return (1, true);
+    }
+    if shorten(alloc, keeper, disk, number) {
+        (11, true)
+    } else {
+        (1, false)
+    }
+}
+
 /// Commits so many groups, as long as all goes well, with a checkpoint behind each second one. It answers how many were committed,
 /// and 10 more for each checkpoint.
 fn commit_groups<D: Disk>(alloc: Global, keeper: &mut Keeper, disk: &mut D, groups: i64) -> i64
     requires { IsOver D.Disk keeper.old disk.old }
 {
-    let mut done = 0;
-    let mut shorter: i64 = 0;
-    while done < groups {
-        if !group(alloc, keeper, disk, done + 1) {
-            return shorter.saturating_add(done);
-        }
-        done += 1;
-        if done % 2 == 0 {
-            if !shorten(alloc, keeper, disk, done) {
-                return shorter.saturating_add(done);
-            }
-            shorter = shorter.saturating_add(10);
+    let mut total: i64 = 0;
+    for number in 1..=groups {
+        let (more, went_well) = commit_next(alloc, keeper, disk, number);
+        total = total.saturating_add(more);
+        if !went_well {
+            return total;
         }
     }
-    shorter.saturating_add(done)
+    total
 }
 
 /// Mounts a store and commits so many groups, as far as that goes.
@@ -196,19 +248,25 @@ fn begins<D: Disk>(disk: &mut D, file: File, bytes: &[u8]) -> bool {
     }
 }
 
+/// What files begin with after so many groups.
+static HELD: [(i64, File, &[u8]); 7] = [
+    (1, ONE, b"abc"),
+    (2, ONE, b"abcde"),
+    (2, TWO, b"x"),
+    (3, THREE, b"abcde"),
+    (3, TWO, b"x"),
+    (4, THREE, b"abcde"),
+    (4, FOUR, b"xyz"),
+];
+
 /// Whether the files begin with what a store has after so many groups.
 pub fn has_files<D: Disk>(disk: &mut D, groups: i64) -> bool {
-    let one = file(Area::Home, 1);
-    let two = file(Area::Home, 2);
-    let three = file(Area::Cold, 3);
-    let four = file(Area::Cold, 4);
-    match groups {
-        1 => begins(disk, one, b"abc"),
-        2 => begins(disk, one, b"abcde") && begins(disk, two, b"x"),
-        3 => begins(disk, three, b"abcde") && begins(disk, two, b"x"),
-        4 => begins(disk, three, b"abcde") && begins(disk, four, b"xyz"),
-        _ => true,
+    for (group, file, bytes) in &HELD {
+        if *group == groups && !begins(disk, *file, bytes) {
+            return false;
+        }
     }
+    true
 }
 
 /// Whether a file is missing, or empty.
@@ -221,7 +279,7 @@ fn is_empty<D: Disk>(disk: &mut D, file: File) -> bool {
 
 /// Whether the files are gone that a store is done with after so many groups.
 pub fn has_no_more<D: Disk>(disk: &mut D, groups: i64) -> bool {
-    let one = groups < 3 || is_empty(disk, file(Area::Home, 1));
-    let two = groups < 4 || is_empty(disk, file(Area::Home, 2));
+    let one = groups < 3 || is_empty(disk, ONE);
+    let two = groups < 4 || is_empty(disk, TWO);
     one && two
 }

@@ -1,5 +1,7 @@
 //! Stops at each call, and each call failing once.
 
+ghost use Rattle.std.specs.Prelude.{◌≤◌};
+
 use crate::said::{compare, note};
 use crate::script::{empty, file, has_files, has_no_more, last_of, live};
 use ix_base::{Area, NoMemory};
@@ -11,6 +13,19 @@ use std::alloc::Global;
 /// How many calls are stopped at; the whole life takes fewer.
 const CALLS: u64 = 130;
 
+/// How many numbers a root log of so many bytes has, at most two.
+fn numbers_in(root: &[u8; 27], n: usize) -> u64
+    ensures { result ≤ 2 }
+{
+    if n > 26 && root[0] == 1 && root[13] == 1 {
+        2
+    } else if n > 13 && root[0] == 1 {
+        1
+    } else {
+        0
+    }
+}
+
 /// How many numbers the root log of a disk has, at most two, where the log of the last one is there, and, but where a removal
 /// may have been undone, none before it.
 fn checkpoints<D: Disk>(disk: &mut D, undone: bool) -> Option<i64> {
@@ -18,11 +33,7 @@ fn checkpoints<D: Disk>(disk: &mut D, undone: bool) -> Option<i64> {
     let Ok(n) = disk.read(file(Area::Meta, 0), 0, &mut root) else {
         return None;
     };
-    let count = match (n > 13 && root[0] == 1, n > 26 && root[13] == 1) {
-        (false, _) => 0,
-        (true, false) => 1,
-        (true, true) => 2,
-    };
+    let count = numbers_in(&root, n);
     for number in 1..=count {
         match disk.length(file(Area::Meta, number)) {
             Ok(0) => {}
