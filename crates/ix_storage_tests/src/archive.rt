@@ -1,6 +1,6 @@
 //! Copies of the first bytes of files.
 
-use crate::machine::{Work, machine_said};
+use crate::machine::{Work, machine_said, memory_said};
 use crate::made::empty;
 use crate::said::{compare, front, note, say};
 use ix_archive::{check, copy};
@@ -79,17 +79,9 @@ pub fn note_run<D: Disk>(text: &mut String, disk: &mut D) {
     }
 }
 
-fn memory_said(alloc: Global) -> String {
-    let mut text = String::new(alloc);
-    let mut disk = empty(alloc);
-    note_run(&mut text, &mut disk);
-    drop(disk);
-    text
-}
-
 #[test]
 fn the_first_bytes_are_copied(rt: HostRuntime) {
-    compare(&rt, memory_said(rt.alloc()), COPIED);
+    compare(&rt, memory_said(rt.alloc(), Work::Copies), COPIED);
     compare(&rt, machine_said(&rt, Work::Copies), COPIED);
 }
 

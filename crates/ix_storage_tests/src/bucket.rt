@@ -1,6 +1,6 @@
 //! Records of events, and readers of them.
 
-use crate::machine::{Work, machine_said};
+use crate::machine::{Work, machine_said, memory_said};
 use crate::made::{MOMENT, empty, put, put_record, record};
 use crate::said::{compare, note, say, shown};
 use ix_base::{Area, EventRef, Failed, File};
@@ -259,17 +259,10 @@ pub fn note_run<D: Disk>(said: &mut String, alloc: Global, disk: &mut D) {
     }
 }
 
-fn memory_said(alloc: Global) -> String {
-    let mut said = String::new(alloc);
-    let mut disk = empty(alloc);
-    note_run(&mut said, alloc, &mut disk);
-    drop(disk);
-    said
-}
-
 #[test]
 fn events_are_read_in_turn_and_anywhere(rt: HostRuntime) {
-    compare(&rt, memory_said(rt.alloc()), RUN_SAID);
+    let found = memory_said(rt.alloc(), Work::Records);
+    compare(&rt, found, RUN_SAID);
 }
 
 #[test]

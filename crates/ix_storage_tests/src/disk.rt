@@ -288,15 +288,11 @@ fn a_disk_stops_before_a_call(rt: HostRuntime) {
 }
 
 /// A disk that is lent to the one that stops it goes on behind it.
-fn note_lent<D: Disk>(text: &mut String, disk: &mut D) {
-    note_all(text, &mut StopDisk::new(&mut *disk, 4), &STOPPED);
-    note_all(text, disk, &[Ask::Held(LOG), Ask::Sync(LOG)]);
-}
-
 fn lent_said(alloc: Global) -> String {
     let mut text = String::new(alloc);
     let mut disk = empty(alloc);
-    note_lent(&mut text, &mut disk);
+    note_all(&mut text, &mut StopDisk::new(&mut disk, 4), &STOPPED);
+    note_all(&mut text, &mut disk, &[Ask::Held(LOG), Ask::Sync(LOG)]);
     drop(disk);
     text
 }

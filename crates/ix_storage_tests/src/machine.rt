@@ -1,12 +1,15 @@
-//! Disks of the machine. All tests that need one have it from here, since each function that holds one is proved slowly.
+//! Disks of the machine, and what is done with disks in memory too. All tests that need a disk of the machine have it from
+//! here, since each function that holds one is proved slowly.
 
 use crate::disk::{Step, note_steps};
+use crate::made::empty;
 use crate::said::note;
 use crate::{archive, bucket, log};
-use ix_disk::HostDisk;
+use ix_disk::{Disk, HostDisk};
+use std::alloc::Global;
 use std::rt::Files;
 
-/// What is done with a disk of the machine.
+/// What is done with a disk.
 #[derive(Clone, Copy)]
 pub enum Work {
     /// Copies of the first bytes of a file.
@@ -15,8 +18,27 @@ pub enum Work {
     Records,
     /// A log of bodies.
     Bodies,
-    /// These steps, one behind the other.
+    /// These steps, one behind the other, which only a disk of the machine takes.
     Steps(&'static [Step]),
+}
+
+/// Does the work that any disk takes.
+fn note_any<D: Disk>(text: &mut String, alloc: Global, disk: &mut D, work: Work) {
+    match work {
+        Work::Copies => archive::note_run(text, disk),
+        Work::Records => bucket::note_run(text, alloc, disk),
+        Work::Bodies => log::note_kept(text, alloc, disk),
+        Work::Steps(_) => {}
+    }
+}
+
+/// What the work answers on a disk in memory.
+pub fn memory_said(alloc: Global, work: Work) -> String {
+    let mut text = String::new(alloc);
+    let mut disk = empty(alloc);
+    note_any(&mut text, alloc, &mut disk, work);
+    drop(disk);
+    text
 }
 
 /// Does the work with the first disk. The second one is of the same files.
@@ -28,10 +50,8 @@ fn note_work<R: Files + AllocGlobal + Drop>(
     work: Work,
 ) {
     match work {
-        Work::Copies => archive::note_run(text, disk),
-        Work::Records => bucket::note_run(text, rt.alloc(), disk),
-        Work::Bodies => log::note_kept(text, rt.alloc(), disk),
         Work::Steps(steps) => note_steps(text, rt, disk, beside, steps),
+        work => note_any(text, rt.alloc(), disk, work),
     }
 }
 
