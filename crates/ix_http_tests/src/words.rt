@@ -1,20 +1,9 @@
-//! Words and what they ask for, worked by hand. Where memory is lacking a text stays too short, and is not what is wanted.
+//! Words and what they ask for, worked by hand.
 
+use crate::said::{compare, note, say};
 use indexd_words::{Refusal, lend_words, read_words};
 use ix_base::Text;
 use std::alloc::Global;
-use std::fmt::Debug;
-use std::process::Abort;
-
-/// Writes an answer.
-fn note<T: Debug + Drop>(text: &mut String, answer: T) {
-    let _ = write!(text, "{answer:?}");
-}
-
-/// Compares what was found with what is wanted.
-fn compare(rt: &impl Abort, found: String, wanted: &str) {
-    assert_eq!(rt; found.as_str(), wanted);
-}
 
 fn add_word(alloc: Global, words: &mut Vec<Text>, word: &str) {
     if let Ok(word) = String::from_str(alloc, word) {
@@ -36,7 +25,9 @@ fn words_of(alloc: Global, line: &str) -> Vec<Text> {
 /// Writes the order of these words, or why there is none.
 fn note_order(text: &mut String, alloc: Global, words: &[&str]) {
     match read_words(alloc, words) {
-        Ok(order) => note(text, order),
+        Ok(order) => {
+            let _ = write!(text, "{order:?}");
+        }
         Err(Refusal::Usage) => {
             let _ = text.push_str("usage");
         }
@@ -137,23 +128,27 @@ static CASES: [(&str, &str); 51] = [
     ("preview|--help", "usage"),
 ];
 
-/// The lines that come to anything else than they should, each with what it comes to.
-fn lines_unlike(alloc: Global) -> String {
-    let mut text = String::new(alloc);
-    for (line, wanted) in &CASES {
-        let found = outcome(alloc, line);
-        if found.as_str() != *wanted {
-            note(&mut text, *line);
-            note(&mut text, found.as_str());
-        }
-        drop(found);
+/// Writes a line that comes to anything else than it should, with what it comes to.
+fn note_unlike(unlike: &mut String, alloc: Global, line: &str, wanted: &str) {
+    let found = outcome(alloc, line);
+    if found.as_str() != wanted {
+        say(unlike, line);
+        say(unlike, found.as_str());
     }
-    text
+    drop(found);
+}
+
+fn lines_unlike(alloc: Global, cases: &[(&str, &str)]) -> String {
+    let mut unlike = String::new(alloc);
+    for (line, wanted) in cases {
+        note_unlike(&mut unlike, alloc, line, wanted);
+    }
+    unlike
 }
 
 #[test]
 fn words_ask_for_commands(rt: HostRuntime) {
-    compare(&rt, lines_unlike(rt.alloc()), "");
+    compare(&rt, lines_unlike(rt.alloc(), &CASES), "");
 }
 
 /// Writes whether these names are taken.
@@ -188,5 +183,5 @@ fn names_said(alloc: Global) -> String {
 /// The longest names, and one byte more.
 #[test]
 fn names_have_their_length(rt: HostRuntime) {
-    compare(&rt, names_said(rt.alloc()), "truefalse");
+    compare(&rt, names_said(rt.alloc()), "true false ");
 }

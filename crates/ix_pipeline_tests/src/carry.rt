@@ -2,6 +2,7 @@
 
 ghost use Rattle.std.specs.Prelude.{◌≡◌, ◌<◌};
 
+use crate::said::{compare, shown};
 use ix_base::{Bytes, LineList, NoMemory, Steps};
 use ix_carry::{Carry, CarryRules, ResumeFault, one_carry, read_carry};
 use ix_lines::{LineParts, Lines, default_breaker};
@@ -9,8 +10,6 @@ use ix_merge::Merge;
 use std::alloc::Global;
 use std::fmt::Debug;
 use std::marker::Brand;
-use std::process::Abort;
-use std::str;
 use std::sync::ledger::{Blank, Ledger};
 
 /// Writes what a call answered. Where memory is lacking a text stays too short, and is not what is wanted.
@@ -20,15 +19,6 @@ fn note<T: Debug + Drop>(text: &mut String, answer: T) {
 
 fn say(text: &mut String, word: &str) {
     let _ = write!(text, "{word} ");
-}
-
-/// Compares what was found with what is wanted.
-fn compare(rt: &impl Abort, found: String, wanted: &str) {
-    assert_eq!(rt; found.as_str(), wanted);
-}
-
-fn shown(bytes: &Bytes) -> &str {
-    str::from_utf8(bytes.as_slice()).unwrap_or("?")
 }
 
 const MOMENT: i64 = 1_700_000_000_000_000;
@@ -166,12 +156,12 @@ fn an_open_stream_has_a_carry_of_25_bytes(rt: HostRuntime) {
 fn note_lines(text: &mut String, lines: &LineParts) {
     note(text, lines.before);
     for run in lines.pending.as_slice() {
-        say(text, shown(&run.bytes));
+        say(text, shown(run.bytes.as_slice()));
         note(text, run.moment);
     }
     if let Some(line) = &lines.line {
         say(text, "line");
-        say(text, shown(&line.bytes));
+        say(text, shown(line.bytes.as_slice()));
         note(text, line.moment);
     }
 }
@@ -181,7 +171,7 @@ fn note_carry(text: &mut String, carry: &Carry) {
     note_lines(text, &carry.lines);
     if let Some(event) = &carry.merge.event {
         say(text, "event");
-        say(text, shown(&event.raw));
+        say(text, shown(event.raw.as_slice()));
         note(text, event.moment);
         note(text, event.lines);
     }

@@ -4,28 +4,12 @@ ghost use Rattle.std.specs.Prelude.{All, IfOk};
 ghost use Rattle.ix_values.specs.Seds.{IsApplicable};
 ghost use Rattle.ix_values.specs.Transforms.{HasDestination};
 
+use crate::said::{bytes_of, compare, many, merged, put, put_event};
 use ix_base::{Bytes, Event, NoMemory, Routed};
-use ix_conf::{Layer, Layers, Merged, merge, parse};
+use ix_conf::Merged;
 use ix_transforms::apply;
 use ix_values::{Sed, SedList, Transform, TransformList};
 use std::alloc::Global;
-use std::fmt::Display;
-use std::process::Abort;
-use std::str;
-
-/// Writes a word, a number or a piece of a text.
-fn put<T: Display + Drop>(text: &mut String, word: T) {
-    let _ = write!(text, "{word}");
-}
-
-/// Compares what rows come to with what they are to come to. Where memory is lacking the text stays too short.
-fn compare(rt: &impl Abort, found: String, wanted: &str) {
-    assert_eq!(rt; found.as_str(), wanted);
-}
-
-fn bytes_of(alloc: Global, bytes: &[u8]) -> Bytes {
-    Bytes::copy_of(alloc, bytes).unwrap_or(Bytes::new(alloc))
-}
 
 fn sed_of(alloc: Global, text: &[u8]) -> Result<Sed, NoMemory>
     ensures { IfOk result (λ sed. IsApplicable sed) }
@@ -47,31 +31,6 @@ fn seds_of(alloc: Global, texts: &str) -> Result<SedList, NoMemory>
         }
     }
     Ok(seds)
-}
-
-/// Adds a layer of this text, unless the text has a fault of grammar.
-fn add_layer(alloc: Global, layers: &mut Layers, text: &str) -> bool {
-    match parse(alloc, text.as_bytes()) {
-        Ok(file) => {
-            let name = bytes_of(alloc, b"local");
-            layers.push(Layer { name, file }).is_ok()
-        }
-        Err(_) => false,
-    }
-}
-
-/// The settings of a text. No text here has a fault of grammar.
-fn merged(alloc: Global, text: &str) -> Result<Merged, NoMemory> {
-    let mut layers = Layers::new(alloc);
-    let is_added = add_layer(alloc, &mut layers, text);
-    let merged = merge(alloc, &layers);
-    drop(layers);
-    if is_added {
-        merged
-    } else {
-        drop(merged);
-        Err(NoMemory)
-    }
 }
 
 fn transform_of(alloc: Global, merged: &Merged, name: &[u8]) -> Result<Transform, NoMemory>
@@ -142,28 +101,11 @@ fn outcome(alloc: Global, merged: &Merged, row: &str) -> Result<Routed, NoMemory
     routed
 }
 
-fn shown(bytes: &Bytes) -> &str {
-    str::from_utf8(bytes.as_slice()).unwrap_or("?")
-}
-
-/// Writes a field with a bar behind it.
-fn put_field(text: &mut String, field: &Bytes) {
-    put(text, shown(field));
-    put(text, "|");
-}
-
 /// Writes the fields of an event that is kept, with bars between, or `null`.
 fn put_routed(text: &mut String, routed: &Routed) {
     match routed {
         Routed::Null => put(text, "null"),
-        Routed::To(event) => {
-            put_field(text, &event.index);
-            put_field(text, &event.host);
-            put_field(text, &event.source);
-            put_field(text, &event.sourcetype);
-            put_field(text, &event.meta);
-            put(text, shown(&event.raw));
-        }
+        Routed::To(event) => put_event(text, event, "|"),
     }
 }
 
@@ -414,11 +356,6 @@ fn each_key_is_read_and_written(rt: HostRuntime) {
 #[test]
 fn events_are_routed(rt: HostRuntime) {
     compare(&rt, outcomes(rt.alloc(), ROUTES, EVENTS), ROUTED);
-}
-
-/// So many of one byte.
-fn many(alloc: Global, byte: u8, count: usize) -> Bytes {
-    Bytes::from_vec(vec![in alloc; byte; count].unwrap_or(Vec::new(alloc)))
 }
 
 const SIZES: &str = "[raw]\nREGEX = ^\nDEST_KEY = _raw\nFORMAT = $0$0\n\

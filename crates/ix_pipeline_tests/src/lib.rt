@@ -22,3 +22,5 @@ mod pattern;
 mod read;
 #[cfg(test)]
 mod rows;
+#[cfg(test)]
+mod said;

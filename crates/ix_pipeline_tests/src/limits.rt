@@ -1,6 +1,7 @@
 //! In which part of a text a time is read, and which time an event takes.
 
-use crate::rows::{compare, put, put_time, settings};
+use crate::rows::{put_time, settings};
+use crate::said::{compare, put};
 use ix_base::{Bytes, NoMemory};
 use ix_pattern::Pattern;
 use ix_props::TimeSettings;

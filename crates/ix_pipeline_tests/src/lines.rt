@@ -3,13 +3,13 @@
 ghost use Rattle.std.specs.Prelude.{◌≡◌, ◌<◌, IfOk};
 ghost use Rattle.ix_lines.specs.Parts.{IsBreaker};
 
+use crate::said::{bytes_of, compare, filled, many, put, shown};
 use ix_base::{Bytes, NoMemory, Steps};
 use ix_lines::{Line, LineList, LineParts, Lines};
 use ix_pattern::Pattern;
 use std::alloc::Global;
 use std::marker::Brand;
 use std::sync::ledger::{Blank, Ledger};
-use std::test::Fail;
 
 const NEWLINES: &[u8] = b"([\\r\\n]+)";
 
@@ -33,13 +33,12 @@ struct Stream<'a> {
     resumed: bool,
 }
 
-/// What the stream comes to.
+/// What is known of a stream before it is closed.
 #[derive(Drop)]
 struct Ran {
-    lines: LineList,
-    /// How many lines had been given out before the stream was closed.
+    /// How many lines were given out.
     given: usize,
-    /// What was carried of the stream then.
+    /// What is carried of it.
     parts: LineParts,
 }
 
@@ -50,26 +49,45 @@ fn resumed(alloc: Global, stream: Stream<'_>, parts: LineParts) -> Result<Lines,
 }
 
 /// Feeds the blocks.
-fn fed_in<L: Ledger>(
+fn feed_all<L: Ledger>(
     alloc: Global,
-    mut lines: Lines,
+    lines: &mut Lines,
     stream: Stream<'_>,
     out: &mut LineList,
     steps: &mut Steps<L>,
-) -> Result<Lines, NoMemory> {
+) -> Result<(), NoMemory> {
     for (bytes, moment) in stream.blocks {
         lines.feed(bytes, *moment, out, steps)?;
         if stream.resumed {
-            lines = resumed(alloc, stream, lines.parts()?)?;
+            *lines = resumed(alloc, stream, lines.parts()?)?;
         }
     }
-    Ok(lines)
+    Ok(())
+}
+
+/// Closes the stream, and answers what was carried of a copy of it before.
+fn closed<L: Ledger>(
+    lines: Lines,
+    out: &mut LineList,
+    steps: &mut Steps<L>,
+) -> Result<LineParts, NoMemory> {
+    let copy = lines.copy()?;
+    let parts = copy.parts();
+    drop(copy);
+    match lines.close(out, steps) {
+        Ok(()) => parts,
+        Err(NoMemory) => {
+            drop(parts);
+            Err(NoMemory)
+        }
+    }
 }
 
 fn run_in<L: Ledger>(
     alloc: Global,
-    lines: Lines,
+    mut lines: Lines,
     stream: Stream<'_>,
+    out: &mut LineList,
     blank: Blank,
 ) -> Result<Ran, NoMemory>
     requires name { blank.name ≡ L.name }
@@ -77,31 +95,56 @@ fn run_in<L: Ledger>(
     requires some { 0 < blank.parts }
 {
     let mut steps = Steps::<L>::new(blank);
-    let mut out = LineList::new(alloc);
-    let lines = fed_in(alloc, lines, stream, &mut out, &mut steps)?;
+    feed_all(alloc, &mut lines, stream, out, &mut steps)?;
     let given = out.len();
-    let parts = lines.copy()?.parts()?;
-    lines.close(&mut out, &mut steps)?;
-    Ok(Ran {
-        lines: out,
-        given,
-        parts,
-    })
+    let parts = closed(lines, out, &mut steps)?;
+    Ok(Ran { given, parts })
 }
 
-/// What comes of the stream behind the lines of an earlier part.
-fn run_from(alloc: Global, lines: Lines, stream: Stream<'_>) -> Result<Ran, NoMemory> {
-    run_in::<Brand>(alloc, lines, stream, Blank::new(1))
+/// Adds the lines of the stream behind the lines of an earlier part.
+fn run_from(
+    alloc: Global,
+    lines: Lines,
+    stream: Stream<'_>,
+    out: &mut LineList,
+) -> Result<Ran, NoMemory> {
+    run_in::<Brand>(alloc, lines, stream, out, Blank::new(1))
 }
 
-fn run(alloc: Global, stream: Stream<'_>) -> Result<Ran, NoMemory> {
+/// Adds the lines of the stream.
+fn run(alloc: Global, stream: Stream<'_>, out: &mut LineList) -> Result<Ran, NoMemory> {
     let breaker = breaker_of(alloc, stream.breaker)?;
     let lines = Lines::new(alloc, breaker, stream.truncate)?;
-    run_from(alloc, lines, stream)
+    run_from(alloc, lines, stream, out)
+}
+
+/// Writes lines with a bar behind each.
+fn join(text: &mut Bytes, lines: &LineList) {
+    for line in lines.as_slice() {
+        let _ = text.extend(line.bytes.as_slice());
+        let _ = text.push(b'|');
+    }
+}
+
+/// The lines of a stream, with a bar behind each.
+fn lines_of(alloc: Global, stream: Stream<'_>) -> Bytes {
+    let mut text = Bytes::new(alloc);
+    let mut lines = LineList::new(alloc);
+    match run(alloc, stream, &mut lines) {
+        Ok(ran) => {
+            drop(ran);
+            join(&mut text, &lines);
+        }
+        Err(NoMemory) => {
+            let _ = text.extend(b"no memory");
+        }
+    }
+    drop(lines);
+    text
 }
 
 /// The bytes in pieces of this size, each at the moment of its number.
-fn pieces(alloc: Global, bytes: &[u8], size: usize) -> Result<Vec<(&[u8], i64)>, NoMemory> {
+fn pieces(alloc: Global, bytes: &[u8], size: usize) -> Vec<(&[u8], i64)> {
     let mut blocks = Vec::new(alloc);
     let mut rest = bytes;
     for moment in 0..i64::MAX {
@@ -109,20 +152,10 @@ fn pieces(alloc: Global, bytes: &[u8], size: usize) -> Result<Vec<(&[u8], i64)>,
             break;
         }
         let n = rest.len().min(size);
-        blocks.push((&rest[..n], moment))?;
+        let _ = blocks.push((&rest[..n], moment));
         rest = &rest[n..];
     }
-    Ok(blocks)
-}
-
-/// The lines with a bar behind each. Where memory is lacking the text stays too short, and is not what is wanted.
-fn joined(alloc: Global, lines: &LineList) -> Bytes {
-    let mut text = Bytes::new(alloc);
-    for line in lines.as_slice() {
-        let _ = text.extend(line.bytes.as_slice());
-        let _ = text.push(b'|');
-    }
-    text
+    blocks
 }
 
 /// How bytes are cut into lines.
@@ -136,23 +169,31 @@ struct Cut<'a> {
 }
 
 /// The lines of a stream in pieces, with a bar behind each.
-fn cut_up(alloc: Global, bytes: &[u8], cut: Cut<'_>) -> Result<Bytes, NoMemory> {
-    let blocks = pieces(alloc, bytes, cut.size)?;
+fn cut_up(alloc: Global, bytes: &[u8], cut: Cut<'_>) -> Bytes {
+    let blocks = pieces(alloc, bytes, cut.size);
     let stream = Stream {
         breaker: cut.breaker,
         truncate: cut.truncate,
         blocks: blocks.as_slice(),
         resumed: cut.resumed,
     };
-    let ran = run(alloc, stream)?;
-    Ok(joined(alloc, &ran.lines))
+    let text = lines_of(alloc, stream);
+    drop(blocks);
+    text
 }
 
-/// So many equal bytes, with others behind them.
-fn repeated(alloc: Global, byte: u8, count: usize, others: &[u8]) -> Result<Bytes, NoMemory> {
-    let mut bytes = Bytes::from_vec(vec![in alloc; byte; count]?);
-    bytes.extend(others)?;
-    Ok(bytes)
+/// Writes the lines of a stream in pieces, where they are not those that are wanted.
+fn note_unlike(unlike: &mut String, alloc: Global, bytes: &[u8], cut: Cut<'_>, wanted: &[u8]) {
+    let text = cut_up(alloc, bytes, cut);
+    if text.as_slice() != wanted {
+        put(unlike, shown(cut.breaker));
+        put(unlike, " in pieces of ");
+        put(unlike, cut.size);
+        put(unlike, " but ");
+        put(unlike, shown(text.as_slice()));
+        put(unlike, "\n");
+    }
+    drop(text);
 }
 
 /// Breakers, how many bytes a line may have, bytes, and their lines with a bar behind each.
@@ -197,28 +238,35 @@ static BROKEN: [(&[u8], u32, &[u8], &[u8]); 13] = [
     (b"(?m)^(#)", 10000, b"#a#b\n#c", b"a#b\n|c|"),
 ];
 
-#[test]
-fn lines_end_at_breaks_in_any_pieces(rt: HostRuntime) -> Result<(), Fail> {
-    for (breaker, truncate, bytes, want) in BROKEN {
-        for (size, resumed) in [
-            (1, false),
-            (1, true),
-            (2, false),
-            (3, true),
-            (7, false),
-            (99, true),
-        ] {
+/// How many bytes each piece has, and whether the stream is taken up again behind each.
+static PIECES: [(usize, bool); 6] = [
+    (1, false),
+    (1, true),
+    (2, false),
+    (3, true),
+    (7, false),
+    (99, true),
+];
+
+fn broken_unlike(alloc: Global) -> String {
+    let mut unlike = String::new(alloc);
+    for (breaker, truncate, bytes, wanted) in &BROKEN {
+        for (size, resumed) in &PIECES {
             let cut = Cut {
                 breaker,
-                truncate,
-                size,
-                resumed,
+                truncate: *truncate,
+                size: *size,
+                resumed: *resumed,
             };
-            let text = cut_up(rt.alloc(), bytes, cut)?;
-            assert!(rt; text.as_slice() == want, "pieces of {size}");
+            note_unlike(&mut unlike, alloc, bytes, cut, wanted);
         }
     }
-    Ok(())
+    unlike
+}
+
+#[test]
+fn lines_end_at_breaks_in_any_pieces(rt: HostRuntime) {
+    compare(&rt, broken_unlike(rt.alloc()), "");
 }
 
 /// How many bytes a line may have, the byte that it has and how often, others behind it, and how many of them are kept.
@@ -238,112 +286,145 @@ static LONG: [(u32, u8, usize, &[u8], usize); 12] = [
 ];
 
 /// How many bytes the lines have, with one for the bar behind each.
-fn kept(alloc: Global, bytes: &[u8], truncate: u32) -> Result<usize, NoMemory> {
+fn kept(alloc: Global, bytes: &[u8], truncate: u32) -> usize {
     let cut = Cut {
         breaker: NEWLINES,
         truncate,
         size: 524288,
         resumed: true,
     };
-    let text = cut_up(alloc, bytes, cut)?;
-    Ok(text.len())
+    let text = cut_up(alloc, bytes, cut);
+    let kept = text.len();
+    drop(text);
+    kept
 }
 
-#[test]
-fn long_lines_are_cut_between_characters(rt: HostRuntime) -> Result<(), Fail> {
-    for (truncate, byte, count, others, want) in LONG {
-        let line = repeated(rt.alloc(), byte, count, others)?;
-        let kept = kept(rt.alloc(), line.as_slice(), truncate)?;
-        assert!(rt;
-            kept.checked_sub(1) == Some(want),
-            "{count} bytes at {truncate}"
-        );
+/// Writes how many bytes are kept, with one for the bar behind them, where that is anything else.
+fn long_unlike(alloc: Global) -> String {
+    let mut unlike = String::new(alloc);
+    for (truncate, byte, count, others, wanted) in &LONG {
+        if let Ok(line) = filled(alloc, b"", *byte, *count, others) {
+            let kept = kept(alloc, line.as_slice(), *truncate);
+            if kept.checked_sub(1) != Some(*wanted) {
+                put(&mut unlike, *count);
+                put(&mut unlike, " bytes at ");
+                put(&mut unlike, *truncate);
+                put(&mut unlike, " but ");
+                put(&mut unlike, kept);
+                put(&mut unlike, "\n");
+            }
+            drop(line);
+        } else {
+            put(&mut unlike, "no line\n");
+        }
     }
-    Ok(())
-}
-
-/// An `a`, so many line ends, and a `b`.
-fn run_of(alloc: Global, count: usize) -> Result<Bytes, NoMemory> {
-    let mut bytes = Bytes::copy_of(alloc, b"a")?;
-    let ends = repeated(alloc, b'\n', count, b"b")?;
-    bytes.extend(ends.as_slice())?;
-    Ok(bytes)
-}
-
-/// The lines of bytes in pieces of this size.
-fn taken_up(alloc: Global, breaker: &[u8], bytes: &Bytes, size: usize) -> Result<Bytes, NoMemory> {
-    let cut = Cut {
-        breaker,
-        truncate: 10000,
-        size,
-        resumed: true,
-    };
-    cut_up(alloc, bytes.as_slice(), cut)
+    unlike
 }
 
 #[test]
-fn a_run_of_line_ends_is_one_break(rt: HostRuntime) -> Result<(), Fail> {
-    let run = run_of(rt.alloc(), 49999)?;
-    for size in [997, 16385] {
-        let text = taken_up(rt.alloc(), NEWLINES, &run, size)?;
-        assert!(rt; text.as_slice() == b"a|b|".as_slice(), "pieces of {size}");
+fn long_lines_are_cut_between_characters(rt: HostRuntime) {
+    compare(&rt, long_unlike(rt.alloc()), "");
+}
+
+/// A breaker, some bytes with so many newlines and a `b` behind them, how many bytes each piece has, whether the stream is taken up
+/// again behind each, and the lines.
+type Run = (
+    &'static [u8],
+    &'static [u8],
+    usize,
+    usize,
+    bool,
+    &'static [u8],
+);
+
+fn runs_unlike(alloc: Global, rows: &[Run]) -> String {
+    let mut unlike = String::new(alloc);
+    for (breaker, before, count, size, resumed, wanted) in rows {
+        if let Ok(bytes) = filled(alloc, before, b'\n', *count, b"b") {
+            let cut = Cut {
+                breaker,
+                truncate: 10000,
+                size: *size,
+                resumed: *resumed,
+            };
+            note_unlike(&mut unlike, alloc, bytes.as_slice(), cut, wanted);
+            drop(bytes);
+        } else {
+            put(&mut unlike, "no bytes\n");
+        }
     }
-    Ok(())
+    unlike
 }
 
-/// A match is up to 3,600 newlines and an `x`, or any newlines.
-const FAR: &[u8] = b"(?:\\n{1,60}){60}x|(\\n+)";
+static ONE_BREAK: [Run; 2] = [
+    (NEWLINES, b"a", 49999, 997, true, b"a|b|"),
+    (NEWLINES, b"a", 49999, 16385, true, b"a|b|"),
+];
 
-/// The lines of so many newlines and a `b` that come byte by byte.
-fn one_by_one(alloc: Global, breaker: &[u8], count: usize) -> Result<Bytes, NoMemory> {
-    let bytes = repeated(alloc, b'\n', count, b"b")?;
-    let cut = Cut {
-        breaker,
-        truncate: 10000,
-        size: 1,
-        resumed: false,
-    };
-    cut_up(alloc, bytes.as_slice(), cut)
-}
-
-/// An attempt that is begun anew with each byte, or that walks again over what it was given, takes minutes for this.
 #[test]
-fn an_attempt_goes_on_from_byte_to_byte(rt: HostRuntime) -> Result<(), Fail> {
-    let text = one_by_one(rt.alloc(), FAR, 16384)?;
-    assert!(rt; text.as_slice() == b"b|".as_slice());
-    Ok(())
+fn a_run_of_line_ends_is_one_break(rt: HostRuntime) {
+    compare(&rt, runs_unlike(rt.alloc(), &ONE_BREAK), "");
 }
+
+/// A match is up to 3,600 newlines and an `x`, or any newlines. An attempt that is begun anew with each byte, or that walks again over
+/// what it was given, takes minutes for this.
+static FAR: [Run; 1] = [(b"(?:\\n{1,60}){60}x|(\\n+)", b"", 16384, 1, false, b"b|")];
+
+#[test]
+fn an_attempt_goes_on_from_byte_to_byte(rt: HostRuntime) {
+    compare(&rt, runs_unlike(rt.alloc(), &FAR), "");
+}
+
+fn weight_of(alloc: Global, text: &[u8]) -> u64 {
+    match breaker_of(alloc, text) {
+        Ok(breaker) => {
+            let weight = breaker.weight();
+            drop(breaker);
+            weight
+        }
+        Err(NoMemory) => 0,
+    }
+}
+
+static ONE_BY_ONE: [Run; 1] = [(NEWLINES, b"", 10000, 1, false, b"b|")];
 
 /// By the contract of `feed` a call takes no step where bytes waited and the place stays at which a break is sought, and at
 /// most 6 * 512 where none did.
 #[test]
-fn newlines_byte_by_byte_are_one_break(rt: HostRuntime) -> Result<(), Fail> {
-    assert!(rt; breaker_of(rt.alloc(), NEWLINES)?.weight() == 6);
-    let text = one_by_one(rt.alloc(), NEWLINES, 10000)?;
-    assert!(rt; text.as_slice() == b"b|".as_slice());
-    Ok(())
+fn newlines_byte_by_byte_are_one_break(rt: HostRuntime) {
+    assert_eq!(rt; weight_of(rt.alloc(), NEWLINES), 6);
+    compare(&rt, runs_unlike(rt.alloc(), &ONE_BY_ONE), "");
 }
+
+static SEEN: [Run; 4] = [
+    (NEWLINES, b"", 16384, 16384, true, b"b|"),
+    (b"(\\n+)b", b"", 16383, 16384, true, b"b|"),
+    (b"(\\n+)b", b"", 16384, 16384, true, b"\n|b|"),
+    (b"(\\n+)$|b()", b"", 16384, 16384, true, b"b|"),
+];
 
 #[test]
-fn an_attempt_sees_16384_bytes(rt: HostRuntime) -> Result<(), Fail> {
-    let near = repeated(rt.alloc(), b'\n', 16383, b"b")?;
-    let far = repeated(rt.alloc(), b'\n', 16384, b"b")?;
-    for (breaker, bytes, want) in [
-        (NEWLINES, &far, &b"b|"[..]),
-        (b"(\\n+)b", &near, b"b|"),
-        (b"(\\n+)b", &far, b"\n|b|"),
-        (b"(\\n+)$|b()", &far, b"b|"),
-    ] {
-        let text = taken_up(rt.alloc(), breaker, bytes, 16384)?;
-        assert!(rt; text.as_slice() == want);
-    }
-    Ok(())
+fn an_attempt_sees_16384_bytes(rt: HostRuntime) {
+    compare(&rt, runs_unlike(rt.alloc(), &SEEN), "");
 }
 
-/// How many lines are given out behind the first one, two, three and more bytes, a digit each.
-fn given(alloc: Global, breaker: &[u8], bytes: &[u8]) -> Result<Bytes, NoMemory> {
-    let blocks = pieces(alloc, bytes, 1)?;
-    let mut digits = Bytes::new(alloc);
+/// Writes how many lines of a stream are given out before it is closed.
+fn put_given(text: &mut String, alloc: Global, stream: Stream<'_>) {
+    let mut lines = LineList::new(alloc);
+    match run(alloc, stream, &mut lines) {
+        Ok(ran) => {
+            put(text, ran.given);
+            drop(ran);
+        }
+        Err(NoMemory) => put(text, "no memory"),
+    }
+    drop(lines);
+}
+
+/// How many lines are given out behind the first byte, two, three and more bytes, a digit each.
+fn given(alloc: Global, breaker: &[u8], bytes: &[u8]) -> String {
+    let mut digits = String::new(alloc);
+    let blocks = pieces(alloc, bytes, 1);
     for count in 1..=blocks.len() {
         let stream = Stream {
             breaker,
@@ -351,53 +432,41 @@ fn given(alloc: Global, breaker: &[u8], bytes: &[u8]) -> Result<Bytes, NoMemory>
             blocks: blocks.as_slice().get(..count).unwrap_or(&[]),
             resumed: false,
         };
-        let ran = run(alloc, stream)?;
-        digits.push(b'0' + ran.given.min(9) as u8)?;
+        put_given(&mut digits, alloc, stream);
     }
-    Ok(digits)
+    drop(blocks);
+    digits
 }
 
 #[test]
-fn a_line_is_settled_once_its_break_is(rt: HostRuntime) -> Result<(), Fail> {
-    for (breaker, bytes, want) in [
-        (NEWLINES, &b"a\r\nb"[..], &b"0001"[..]),
-        (DATED, b"x\n at y\n2024-01", b"000000000000111"),
-    ] {
-        let digits = given(rt.alloc(), breaker, bytes)?;
-        assert!(rt; digits.as_slice() == want);
-    }
-    Ok(())
+fn a_line_is_settled_once_its_break_is(rt: HostRuntime) {
+    compare(&rt, given(rt.alloc(), NEWLINES, b"a\r\nb"), "0001");
+    let dated = given(rt.alloc(), DATED, b"x\n at y\n2024-01");
+    compare(&rt, dated, "000000000000111");
 }
 
-/// Writes lines with the digits of their moments.
-fn note_lines(text: &mut Bytes, lines: &LineList) {
+/// Writes a line with its moment.
+fn put_line(text: &mut String, line: &Line) {
+    put(text, shown(line.bytes.as_slice()));
+    put(text, "@");
+    put(text, line.moment);
+}
+
+fn put_lines(text: &mut String, lines: &LineList) {
     for line in lines.as_slice() {
-        let _ = text.extend(line.bytes.as_slice());
-        let _ = text.push(b'@');
-        let _ = text.push(b'0' + line.moment.clamp(0, 9) as u8);
+        put_line(text, line);
     }
 }
 
-/// The lines of a stream, what waited before it was closed, the byte before that, and the line that was open, with bars
-/// between.
-fn shown(alloc: Global, ran: Ran) -> Result<Bytes, NoMemory> {
-    let Ran { lines, parts, .. } = ran;
-    let LineParts {
-        before,
-        pending,
-        line,
-    } = parts;
-    let mut open = LineList::new(alloc);
-    if let Some(line) = line {
-        open.push(line)?;
+/// Writes what waited, the byte before that, and the line that was open, with bars between.
+fn put_parts(text: &mut String, parts: &LineParts) {
+    put_lines(text, &parts.pending);
+    put(text, "|");
+    put(text, parts.before.unwrap_or(b'?') as char);
+    put(text, "|");
+    if let Some(line) = &parts.line {
+        put_line(text, line);
     }
-    let mut text = Bytes::new(alloc);
-    note_lines(&mut text, &lines);
-    let _ = text.push(b'|');
-    note_lines(&mut text, &pending);
-    let _ = text.extend(&[b'|', before.unwrap_or(b'?'), b'|']);
-    note_lines(&mut text, &open);
-    Ok(text)
 }
 
 static BLOCKS: [(&[u8], i64); 8] = [
@@ -411,75 +480,102 @@ static BLOCKS: [(&[u8], i64); 8] = [
     (b"\n", -5),
 ];
 
-#[test]
-fn a_line_has_the_moment_of_its_first_byte_and_what_waits_has_runs(
-    rt: HostRuntime,
-) -> Result<(), Fail> {
-    for resumed in [false, true] {
-        let stream = Stream {
-            breaker: NEWLINES,
-            truncate: 10000,
-            blocks: &BLOCKS,
-            resumed,
-        };
-        let text = shown(rt.alloc(), run(rt.alloc(), stream)?)?;
-        assert!(rt; text.as_slice() == b"ab@1cde@1f@3|\n\n\r@3\n\n@5\n@0|f|f@3".as_slice());
+/// The lines of these blocks, and what was carried of them.
+fn moments(alloc: Global, resumed: bool) -> String {
+    let mut text = String::new(alloc);
+    let mut lines = LineList::new(alloc);
+    let stream = Stream {
+        breaker: NEWLINES,
+        truncate: 10000,
+        blocks: &BLOCKS,
+        resumed,
+    };
+    if let Ok(ran) = run(alloc, stream, &mut lines) {
+        put_lines(&mut text, &lines);
+        put(&mut text, "|");
+        put_parts(&mut text, &ran.parts);
+        drop(ran);
     }
-    Ok(())
+    drop(lines);
+    text
+}
+
+#[test]
+fn a_line_has_the_moment_of_its_first_byte_and_what_waits_has_runs(rt: HostRuntime) {
+    let wanted = "ab@1cde@1f@3|\n\n\r@3\n\n@5\n@0|f|f@3";
+    compare(&rt, moments(rt.alloc(), false), wanted);
+    compare(&rt, moments(rt.alloc(), true), wanted);
 }
 
 /// Line ends that wait, each with a moment of its own.
-fn waiting(alloc: Global) -> Result<LineParts, NoMemory> {
+fn waiting(alloc: Global) -> LineList {
     let mut pending = LineList::new(alloc);
     for moment in 10..16010 {
-        let bytes = Bytes::copy_of(alloc, b"\n")?;
-        pending.push(Line { bytes, moment })?;
+        let bytes = bytes_of(alloc, b"\n");
+        let _ = pending.push(Line { bytes, moment });
     }
-    Ok(LineParts {
-        before: None,
-        pending,
-        line: None,
-    })
+    pending
 }
 
-/// The lines that are given out where many line ends wait, and then a block comes at moment 9.
-fn behind_many(alloc: Global, block: &[u8]) -> Result<Ran, NoMemory> {
+/// Adds the lines that are given out where many line ends wait, and then a block comes at moment 9.
+fn behind_many(alloc: Global, block: &[u8], out: &mut LineList) -> Result<Ran, NoMemory> {
     let stream = Stream {
         breaker: NEWLINES,
         truncate: 10000,
         blocks: &[(block, 9)],
         resumed: false,
     };
-    let lines = resumed(alloc, stream, waiting(alloc)?)?;
-    run_from(alloc, lines, stream)
+    let parts = LineParts {
+        before: None,
+        pending: waiting(alloc),
+        line: None,
+    };
+    let lines = resumed(alloc, stream, parts)?;
+    run_from(alloc, lines, stream, out)
 }
 
-fn is_line(line: &Line, bytes: &[u8], moment: i64) -> bool {
-    line.moment == moment && line.bytes.as_slice() == bytes
-}
-
-/// So many copies of the bytes.
-fn copies(alloc: Global, bytes: &[u8], count: usize) -> Result<Bytes, NoMemory> {
+/// So many copies of the bytes, with a line end behind each.
+fn copies(alloc: Global, bytes: &[u8], count: usize) -> Bytes {
     let mut all = Bytes::new(alloc);
     for _ in 0..count {
-        all.extend(bytes)?;
+        let _ = all.extend(bytes);
+        let _ = all.push(b'\n');
     }
-    Ok(all)
+    all
+}
+
+/// How many of the lines have these bytes and moment 9.
+fn count_like(lines: &LineList, bytes: &[u8]) -> usize {
+    let mut count: usize = 0;
+    for line in lines.as_slice() {
+        if line.moment == 9 && line.bytes.as_slice() == bytes {
+            count = count.saturating_add(1);
+        }
+    }
+    count
+}
+
+/// How many lines of 1,023 bytes are given out before and behind the end, and how many of them are as they came.
+fn megabyte(alloc: Global) -> String {
+    let mut text = String::new(alloc);
+    let mut lines = LineList::new(alloc);
+    let line = many(alloc, b'x', 1023);
+    let block = copies(alloc, line.as_slice(), 1024);
+    if let Ok(ran) = behind_many(alloc, block.as_slice(), &mut lines) {
+        put(&mut text, ran.given);
+        drop(ran);
+    }
+    drop(block);
+    put(&mut text, " ");
+    put(&mut text, lines.len());
+    put(&mut text, " ");
+    put(&mut text, count_like(&lines, line.as_slice()));
+    drop(line);
+    drop(lines);
+    text
 }
 
 #[test]
-fn a_megabyte_behind_bytes_of_many_moments_has_its_own(rt: HostRuntime) -> Result<(), Fail> {
-    let mut line = repeated(rt.alloc(), b'x', 1023, b"\n")?;
-    let block = copies(rt.alloc(), line.as_slice(), 1024)?;
-    let ran = behind_many(rt.alloc(), block.as_slice())?;
-    line.truncate(1023);
-    let bytes = line.as_slice();
-    assert!(rt; ran.given == 1023 && ran.lines.len() == 1024);
-    assert!(rt;
-        ran.lines
-            .as_slice()
-            .iter()
-            .all(|found| is_line(found, bytes, 9))
-    );
-    Ok(())
+fn a_megabyte_behind_bytes_of_many_moments_has_its_own(rt: HostRuntime) {
+    compare(&rt, megabyte(rt.alloc()), "1023 1024 1024");
 }

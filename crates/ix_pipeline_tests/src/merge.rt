@@ -2,11 +2,10 @@
 
 ghost use Rattle.std.specs.Prelude.{◌≡◌, ◌≤◌, length, IsFalse, IfOk, OnOk};
 
+use crate::said::{bytes_of, compare, many, put, put_unlike, shown};
 use ix_base::{Bytes, Line, NoMemory};
 use ix_merge::{Marks, Merge, Whole};
 use std::alloc::Global;
-use std::str;
-use std::test::Fail;
 
 /// What is done with the value behind each line.
 #[derive(Clone, Copy)]
@@ -25,14 +24,15 @@ struct Lines<'a> {
     lines: &'a str,
 }
 
-fn line_of(alloc: Global, bytes: &[u8], moment: i64) -> Result<Line, NoMemory>
+fn line_of(bytes: Bytes, moment: i64) -> Result<Line, NoMemory>
     ensures { IfOk result (λ line. length line.bytes ≤ 1048576) }
 {
     if bytes.len() > 1_048_576 {
-        return Err(NoMemory);
+        drop(bytes);
+        Err(NoMemory)
+    } else {
+        Ok(Line { bytes, moment })
     }
-    let bytes = Bytes::copy_of(alloc, bytes)?;
-    Ok(Line { bytes, moment })
 }
 
 fn has(letters: &str, letter: u8) -> bool {
@@ -48,54 +48,84 @@ fn marks_of(letters: &str) -> Marks {
     }
 }
 
-/// Writes an event as its moment, the number of its lines and its text, with a bar behind it. Where memory is lacking the text
-/// stays too short, and is not what is wanted.
+/// Writes an event as its moment, the number of its lines and its text, with a bar behind it.
 fn note(text: &mut String, ended: Option<Whole>) {
     if let Some(event) = ended {
-        let raw = str::from_utf8(event.raw.as_slice()).unwrap_or("?");
+        let raw = shown(event.raw.as_slice());
         let _ = write!(text, "{}+{}:{raw}|", event.moment, event.lines);
+        drop(event);
     }
 }
 
-fn carried(
+/// Puts a copy in place of a value, or what goes on with what is carried of it.
+fn carry_over(
     alloc: Global,
-    merge: Merge,
+    merge: &mut Merge,
     lines: Lines<'_>,
     between: Between,
-) -> Result<Merge, NoMemory>
+) -> Result<(), NoMemory>
     requires some { 1 ≤ lines.max_lines }
-    requires whole { IsFalse merge.broken }
-    requires on { merge.on ≡ lines.on }
-    requires max_lines { merge.max_lines ≡ lines.max_lines }
-    ensures { IfOk result (λ next. IsFalse next.broken × (next.on ≡ merge.on) × (next.max_lines ≡ merge.max_lines)) }
+    requires whole { IsFalse merge.old.broken }
+    requires on { merge.old.on ≡ lines.on }
+    requires max_lines { merge.old.max_lines ≡ lines.max_lines }
+    ensures whole { OnOk result (IsFalse merge.new.broken) }
+    ensures on { OnOk result (merge.new.on ≡ merge.old.on) }
+    ensures max_lines { OnOk result (merge.new.max_lines ≡ merge.old.max_lines) }
 {
     match between {
-        Between::Nothing => Ok(merge),
-        Between::Copied => merge.copy(),
+        Between::Nothing => Ok(()),
+        Between::Copied => {
+            *merge = merge.copy()?;
+            Ok(())
+        }
         Between::Resumed => {
             let parts = merge.parts()?;
-            Ok(Merge::resume(alloc, lines.on, lines.max_lines, parts))
+            *merge = Merge::resume(alloc, lines.on, lines.max_lines, parts);
+            Ok(())
         }
     }
 }
 
+/// Takes in the lines, and writes the events that they end.
+fn take_in(
+    alloc: Global,
+    merge: &mut Merge,
+    lines: Lines<'_>,
+    between: Between,
+    text: &mut String,
+) -> Result<(), NoMemory>
+    requires some { 1 ≤ lines.max_lines }
+    requires whole { IsFalse merge.old.broken }
+    requires on { merge.old.on ≡ lines.on }
+    requires max_lines { merge.old.max_lines ≡ lines.max_lines }
+    ensures { OnOk result (IsFalse merge.new.broken) }
+{
+    let mut place = 0;
+    for line in lines.lines.split('|') {
+        if let Some((letters, bytes)) = line.split_once(':') {
+            let line = line_of(bytes_of(alloc, bytes.as_bytes()), place)?;
+            note(text, merge.add(line, marks_of(letters))?);
+            carry_over(alloc, merge, lines, between)?;
+            place = place.saturating_add(1);
+        }
+    }
+    Ok(())
+}
+
 /// The events of the lines.
-fn events_of(alloc: Global, lines: Lines<'_>, between: Between) -> Result<String, NoMemory>
+fn events_of(alloc: Global, lines: Lines<'_>, between: Between) -> String
     requires { 1 ≤ lines.max_lines }
 {
     let mut text = String::new(alloc);
     let mut merge = Merge::new(alloc, lines.on, lines.max_lines);
-    let mut place = 0;
-    for line in lines.lines.split('|') {
-        if let Some((letters, bytes)) = line.split_once(':') {
-            let line = line_of(alloc, bytes.as_bytes(), place)?;
-            note(&mut text, merge.add(line, marks_of(letters))?);
-            merge = carried(alloc, merge, lines, between)?;
-            place = place.saturating_add(1);
+    match take_in(alloc, &mut merge, lines, between, &mut text) {
+        Ok(()) => note(&mut text, merge.close()),
+        Err(NoMemory) => {
+            drop(merge);
+            put(&mut text, "no memory");
         }
     }
-    note(&mut text, merge.close());
-    Ok(text)
+    text
 }
 
 /// Lines by their marks, and the events that they make: the moment and the number of lines of each, and its text.
@@ -137,21 +167,36 @@ static BY_MARKS: [(bool, u32, &str, &str); 21] = [
     (false, 1, "h:a|wf:b|v:c", "0+1:a|1+1:b|2+1:c|"),
 ];
 
-#[test]
-fn lines_make_events_by_their_marks(rt: HostRuntime) -> Result<(), Fail> {
-    for (on, max_lines, lines, want) in &BY_MARKS {
+static BETWEEN: [Between; 3] = [Between::Nothing, Between::Copied, Between::Resumed];
+
+/// Writes the events of the lines, where they are not those that are wanted.
+fn note_unlike(unlike: &mut String, alloc: Global, lines: Lines<'_>, wanted: &str) {
+    for between in &BETWEEN {
+        if lines.max_lines >= 1 {
+            let events = events_of(alloc, lines, *between);
+            put_unlike(unlike, lines.lines, events, wanted);
+        } else {
+            put(unlike, "no line\n");
+        }
+    }
+}
+
+fn marks_unlike(alloc: Global) -> String {
+    let mut unlike = String::new(alloc);
+    for (on, max_lines, lines, wanted) in &BY_MARKS {
         let lines = Lines {
             on: *on,
             max_lines: *max_lines,
             lines,
         };
-        for between in [Between::Nothing, Between::Copied, Between::Resumed] {
-            assert!(rt; lines.max_lines >= 1);
-            let events = events_of(rt.alloc(), lines, between)?;
-            assert_eq!(rt; events.as_str(), *want);
-        }
+        note_unlike(&mut unlike, alloc, lines, wanted);
     }
-    Ok(())
+    unlike
+}
+
+#[test]
+fn lines_make_events_by_their_marks(rt: HostRuntime) {
+    compare(&rt, marks_unlike(rt.alloc()), "");
 }
 
 /// How many equal lines come one behind the other, their marks, and how many bytes each has.
@@ -161,36 +206,41 @@ type Repeated<'a> = (u32, &'a str, usize);
 fn note_size(text: &mut String, ended: Option<Whole>) {
     if let Some(event) = ended {
         let _ = write!(text, "{}+{}|", event.lines, event.raw.len());
+        drop(event);
     }
 }
 
-fn add_repeated(
+/// Takes in the lines, and writes the sizes of the events that they end.
+fn add_all(
     alloc: Global,
     merge: &mut Merge,
-    lines: Repeated<'_>,
+    lines: &[Repeated<'_>],
     text: &mut String,
 ) -> Result<(), NoMemory>
     requires { IsFalse merge.old.broken }
     ensures { OnOk result (IsFalse merge.new.broken) }
 {
-    let (count, letters, length) = lines;
-    let bytes = vec![in alloc; b'L'; length]?;
-    for _ in 0..count {
-        let line = line_of(alloc, &bytes, 0)?;
-        note_size(text, merge.add(line, marks_of(letters))?);
+    for (count, letters, length) in lines {
+        for _ in 0..*count {
+            let line = line_of(many(alloc, b'L', *length), 0)?;
+            note_size(text, merge.add(line, marks_of(letters))?);
+        }
     }
     Ok(())
 }
 
 /// The sizes of the events of lines, with at most 256 lines each.
-fn sizes_of(alloc: Global, lines: &[Repeated<'_>]) -> Result<String, NoMemory> {
+fn sizes_of(alloc: Global, lines: &[Repeated<'_>]) -> String {
     let mut text = String::new(alloc);
     let mut merge = Merge::new(alloc, true, 256);
-    for repeated in lines {
-        add_repeated(alloc, &mut merge, *repeated, &mut text)?;
+    match add_all(alloc, &mut merge, lines, &mut text) {
+        Ok(()) => note_size(&mut text, merge.close()),
+        Err(NoMemory) => {
+            drop(merge);
+            put(&mut text, "no memory");
+        }
     }
-    note_size(&mut text, merge.close());
-    Ok(text)
+    text
 }
 
 const MOST: usize = 1_048_576;
@@ -207,11 +257,15 @@ static SIZES: [(&[Repeated<'static>], &str); 6] = [
     (&[(8, "", MOST)], "3+3145730|3+3145730|2+2097153|"),
 ];
 
-#[test]
-fn events_have_so_many_lines_and_bytes_at_most(rt: HostRuntime) -> Result<(), Fail> {
-    for (lines, want) in SIZES {
-        let sizes = sizes_of(rt.alloc(), lines)?;
-        assert_eq!(rt; sizes.as_str(), want);
+fn sizes_unlike(alloc: Global) -> String {
+    let mut unlike = String::new(alloc);
+    for (lines, wanted) in &SIZES {
+        put_unlike(&mut unlike, wanted, sizes_of(alloc, lines), wanted);
     }
-    Ok(())
+    unlike
+}
+
+#[test]
+fn events_have_so_many_lines_and_bytes_at_most(rt: HostRuntime) {
+    compare(&rt, sizes_unlike(rt.alloc()), "");
 }

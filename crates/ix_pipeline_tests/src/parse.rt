@@ -3,57 +3,29 @@
 ghost use Rattle.std.specs.Prelude.{◌≡◌, ◌<◌, IfOk, IsSome};
 ghost use Rattle.ix_props.specs.Settings.{AreUsable};
 
-use ix_base::{Bytes, ChannelMeta, Event, NoMemory, Steps};
-use ix_conf::{Layer, Layers, Merged, merge, parse};
+use crate::said::{bytes_of, compare, merged, put, put_event};
+use ix_base::{Bytes, ChannelMeta, NoMemory, Steps};
+use ix_conf::Merged;
 use ix_parse::{Channel, Routed, RoutedList};
 use ix_props::{Props, Settings};
 use std::alloc::Global;
-use std::fmt::Write;
 use std::marker::Brand;
 use std::sync::ledger::{Blank, Ledger};
-use std::test::Fail;
 
-fn text_of(bytes: &Bytes) -> &str {
-    str::from_utf8(bytes.as_slice()).unwrap_or("?")
-}
-
-/// Writes an event: its two moments, its fields with commas behind, and its raw text. Where memory is lacking the text stays too
-/// short, and is not what is wanted.
-fn note_event(text: &mut String, event: &Event) {
-    let _ = write!(text, "{} {} ", event.time, event.arrival);
-    for field in [
-        &event.index,
-        &event.host,
-        &event.source,
-        &event.sourcetype,
-        &event.meta,
-    ] {
-        let _ = write!(text, "{},", text_of(field));
-    }
-    let _ = write!(text, "{}", text_of(&event.raw));
-}
-
-/// Writes what events come to, with a bar behind each.
-fn note(text: &mut String, routed: &RoutedList) {
+/// Writes what events come to, with a bar behind each: of one that is kept its two moments, its fields with commas behind, and its
+/// raw text.
+fn note(text: &mut String, routed: RoutedList) {
     for to in routed.as_slice() {
         if let Routed::To(event) = to {
-            note_event(text, event);
+            put(text, event.time);
+            put(text, " ");
+            put(text, event.arrival);
+            put(text, " ");
+            put_event(text, event, ",");
         }
-        let _ = write!(text, "|");
+        put(text, "|");
     }
-}
-
-/// The merged entries of one text of settings.
-fn merged(alloc: Global, text: &str) -> Result<Merged, NoMemory> {
-    let Ok(file) = parse(alloc, text.as_bytes()) else {
-        return Err(NoMemory);
-    };
-    let mut layers = Layers::new(alloc);
-    layers.push(Layer {
-        name: Bytes::copy_of(alloc, b"l")?,
-        file,
-    })?;
-    merge(alloc, &layers)
+    drop(routed);
 }
 
 /// The texts of props.conf and of transforms.conf.
@@ -63,41 +35,69 @@ struct Files {
     transforms: &'static str,
 }
 
+/// What the entries of the files say. No text here has a fault.
+fn loaded(
+    alloc: Global,
+    props: &Result<Merged, NoMemory>,
+    transforms: &Result<Merged, NoMemory>,
+    zones: &Result<Merged, NoMemory>,
+) -> Result<Props, NoMemory> {
+    if let Ok(props) = props
+        && let Ok(transforms) = transforms
+        && let Ok(zones) = zones
+    {
+        match Props::load(alloc, props, transforms, zones) {
+            Ok(loaded) => Ok(loaded),
+            Err(_) => Err(NoMemory),
+        }
+    } else {
+        Err(NoMemory)
+    }
+}
+
+fn props_of(alloc: Global, files: Files) -> Result<Props, NoMemory> {
+    let props = merged(alloc, files.props);
+    let transforms = merged(alloc, files.transforms);
+    let zones = merged(alloc, "");
+    let loaded = loaded(alloc, &props, &transforms, &zones);
+    drop(zones);
+    drop(transforms);
+    drop(props);
+    loaded
+}
+
 /// The settings of these files for a channel.
 fn settings_of(alloc: Global, files: Files, meta: &ChannelMeta) -> Result<Settings, NoMemory>
     ensures { IfOk result (λ settings. AreUsable settings) }
 {
-    let props = merged(alloc, files.props)?;
-    let transforms = merged(alloc, files.transforms)?;
-    let none = merged(alloc, "")?;
-    let Ok(props) = Props::load(alloc, &props, &transforms, &none) else {
-        return Err(NoMemory);
-    };
-    props.settings(alloc, meta)
+    let props = props_of(alloc, files)?;
+    let settings = props.settings(alloc, meta);
+    drop(props);
+    settings
 }
 
 /// What a channel states.
-fn meta_of(alloc: Global) -> Result<ChannelMeta, NoMemory>
-    ensures { IfOk result (λ meta. IsSome meta.index) }
+fn meta_of(alloc: Global) -> ChannelMeta
+    ensures { IsSome result.index }
 {
-    Ok(ChannelMeta {
-        host: Bytes::copy_of(alloc, b"h")?,
-        source: Bytes::copy_of(alloc, b"s")?,
-        sourcetype: Some(Bytes::copy_of(alloc, b"t")?),
-        index: Some(Bytes::copy_of(alloc, b"i")?),
-    })
+    ChannelMeta {
+        host: bytes_of(alloc, b"h"),
+        source: bytes_of(alloc, b"s"),
+        sourcetype: Some(bytes_of(alloc, b"t")),
+        index: Some(bytes_of(alloc, b"i")),
+    }
 }
 
 /// A channel that has no byte yet, with the settings of these files.
 fn channel_of(alloc: Global, files: Files) -> Result<Channel, NoMemory> {
-    let meta = meta_of(alloc)?;
+    let meta = meta_of(alloc);
     let settings = settings_of(alloc, files, &meta)?;
     Channel::start(alloc, settings, meta)
 }
 
 /// A channel that goes on from a carry.
 fn channel_from(alloc: Global, files: Files, carry: &[u8]) -> Result<Channel, NoMemory> {
-    let meta = meta_of(alloc)?;
+    let meta = meta_of(alloc);
     let settings = settings_of(alloc, files, &meta)?;
     match Channel::resume(alloc, settings, meta, carry) {
         Ok(channel) => Ok(channel),
@@ -117,7 +117,9 @@ const LATER: i64 = 1_704_300_000_000_000;
 /// What is carried of a channel that has no byte yet.
 fn first_carry(alloc: Global, files: Files) -> Result<Bytes, NoMemory> {
     let channel = channel_of(alloc, files)?;
-    channel.carry()
+    let carry = channel.carry();
+    drop(channel);
+    carry
 }
 
 /// Feeds a byte to the channel that goes on from a carry, adds what it settles, and answers what is carried then.
@@ -130,53 +132,64 @@ fn next_carry<L: Ledger>(
     steps: &mut Steps<L>,
 ) -> Result<Bytes, NoMemory> {
     let channel = channel_from(alloc, files, carry)?;
-    let (next, routed) = channel.fed(&[byte], LATER, steps)?;
-    note(text, &routed);
-    next.carry()
+    let fed = channel.fed(&[byte], LATER, steps);
+    drop(channel);
+    let (next, routed) = fed?;
+    note(text, routed);
+    let carry = next.carry();
+    drop(next);
+    carry
 }
 
 /// Adds what the end settles of the channel that goes on from a carry.
 fn note_end(alloc: Global, files: Files, carry: &[u8], text: &mut String) -> Result<(), NoMemory> {
     let channel = channel_from(alloc, files, carry)?;
-    let ended = channel.ended()?;
-    note(text, &ended);
+    let ended = channel.ended();
+    drop(channel);
+    note(text, ended?);
     Ok(())
 }
 
-/// What a channel settles of a stream that is fed byte by byte and then closed, where it goes on from its carry behind each byte.
-fn carried_in<L: Ledger>(
+/// Adds what a channel settles of a stream that is fed byte by byte and then closed, where it goes on from its carry behind each
+/// byte.
+fn carry_on<L: Ledger>(
     alloc: Global,
     files: Files,
     bytes: &[u8],
+    text: &mut String,
     blank: Blank,
-) -> Result<String, NoMemory>
+) -> Result<(), NoMemory>
     requires name { blank.name ≡ L.name }
     requires parts { blank.parts ≡ L.parts }
     requires some { 0 < blank.parts }
 {
-    let mut steps = Steps::<L>::new(blank);
-    let mut text = String::new(alloc);
     let mut carry = first_carry(alloc, files)?;
+    let mut steps = Steps::<L>::new(blank);
     for byte in bytes {
-        carry = next_carry(alloc, files, carry.as_slice(), *byte, &mut text, &mut steps)?;
+        carry = next_carry(alloc, files, carry.as_slice(), *byte, text, &mut steps)?;
     }
-    note_end(alloc, files, carry.as_slice(), &mut text)?;
-    Ok(text)
+    let noted = note_end(alloc, files, carry.as_slice(), text);
+    drop(carry);
+    noted
 }
 
-/// The same, counted in a ledger of its own.
-fn carried(alloc: Global, files: Files, stream: &str) -> Result<String, NoMemory> {
-    carried_in::<Brand>(alloc, files, stream.as_bytes(), Blank::new(1))
+/// What is settled of the stream, counted in a ledger of its own.
+fn carried(alloc: Global, files: Files, stream: &str) -> String {
+    let mut text = String::new(alloc);
+    let bytes = stream.as_bytes();
+    if carry_on::<Brand>(alloc, files, bytes, &mut text, Blank::new(1)).is_err() {
+        put(&mut text, "no memory");
+    }
+    text
 }
 
 const CUT_AT_FIVE: &str =
     "1704300000000000 1704300000000000 i,h,s,t,,ab|1704300000000000 1704300000000000 i,h,s,t,,longe|1704300000000000 1704300000000000 i,h,s,t,,e|";
 
 #[test]
-fn events_have_the_fields_of_the_channel(rt: HostRuntime) -> Result<(), Fail> {
-    let text = carried(rt.alloc(), SHORT, "ab\nlonger\ne")?;
-    assert!(rt; text.as_str() == CUT_AT_FIVE);
-    Ok(())
+fn events_have_the_fields_of_the_channel(rt: HostRuntime) {
+    let text = carried(rt.alloc(), SHORT, "ab\nlonger\ne");
+    compare(&rt, text, CUT_AT_FIVE);
 }
 
 /// Merged by dates, and by a pattern.
@@ -189,12 +202,10 @@ const TIME_OF_THE_DROPPED: &str =
     "1699999801000000 1704300000000000 i,h,s,t,,2023-11-14 22:10:01 start\n at a||1699999805000000 1704300000000000 i,h,s,t,,end\n at c|";
 
 #[test]
-fn an_event_takes_the_time_of_one_that_was_dropped(rt: HostRuntime) -> Result<(), Fail> {
+fn an_event_takes_the_time_of_one_that_was_dropped(rt: HostRuntime) {
     let stream =
         "2023-11-14 22:10:01 start\n at a\r\n2023-11-14 22:10:05 debug\n at b\n\nend\n at c\n";
-    let text = carried(rt.alloc(), DATED, stream)?;
-    assert!(rt; text.as_str() == TIME_OF_THE_DROPPED);
-    Ok(())
+    compare(&rt, carried(rt.alloc(), DATED, stream), TIME_OF_THE_DROPPED);
 }
 
 /// Held back, out of room, and forced.
@@ -207,8 +218,7 @@ const THREE_LINES_AT_MOST: &str =
     "1704300000000000 1704300000000000 i,h,s,t,,L1\nx\nBEGIN|1704300000000000 1704300000000000 i,h,s,t,,L2\nL3\nEND|1704300000000000 1704300000000000 i,h,s,t,,m|1704300000000000 1704300000000000 i,h,s,t,,L4|";
 
 #[test]
-fn marks_are_carried(rt: HostRuntime) -> Result<(), Fail> {
-    let text = carried(rt.alloc(), HELD, "L1\nx\nBEGIN\nL2\nL3\nEND\nm\nL4")?;
-    assert!(rt; text.as_str() == THREE_LINES_AT_MOST);
-    Ok(())
+fn marks_are_carried(rt: HostRuntime) {
+    let text = carried(rt.alloc(), HELD, "L1\nx\nBEGIN\nL2\nL3\nEND\nm\nL4");
+    compare(&rt, text, THREE_LINES_AT_MOST);
 }

@@ -1,6 +1,7 @@
 //! What reads, and which instant it comes to.
 
-use crate::rows::{compare, wrong_rows};
+use crate::rows::wrong_rows;
+use crate::said::compare;
 
 /// 2023-11-14T22:13:20Z.
 const MOMENT: i64 = 1_700_000_000_000_000;

@@ -1,21 +1,10 @@
 //! Times as rows of text. Where memory is lacking a text stays too short, and is not what is wanted.
 
+use crate::said::{put, put_unlike};
 use ix_base::NoMemory;
 use ix_props::{TimeFormat, TimeSettings, Zone};
 use ix_time::{Origin, TimeFound, time_of};
 use std::alloc::Global;
-use std::fmt::Display;
-use std::process::Abort;
-
-/// Writes a word or a number.
-pub(crate) fn put<T: Display + Drop>(text: &mut String, word: T) {
-    let _ = write!(text, "{word}");
-}
-
-/// Compares what was found with what is wanted.
-pub(crate) fn compare(rt: &impl Abort, found: String, wanted: &str) {
-    assert_eq!(rt; found.as_str(), wanted);
-}
 
 fn format_of(alloc: Global, format: &str) -> Result<Option<TimeFormat>, NoMemory> {
     if format.is_empty() {
@@ -78,13 +67,7 @@ fn put_wrong(wrong: &mut String, alloc: Global, row: &str, arrival: i64) {
     let text = parts.next().unwrap_or("");
     let wanted = parts.next().unwrap_or("");
     let found = row_time(alloc, format, rule, text, arrival);
-    if found.as_str() != wanted {
-        put(wrong, row);
-        put(wrong, " but ");
-        put(wrong, found.as_str());
-        put(wrong, "\n");
-    }
-    drop(found);
+    put_unlike(wrong, row, found, wanted);
 }
 
 /// The rows whose time is another than the wanted one. A row is `FORMAT|RULE|TEXT|TIME`; an empty format is none.

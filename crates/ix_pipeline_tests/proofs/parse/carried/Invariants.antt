@@ -1,5 +1,5 @@
 use Rattle.ix_pipeline_tests.proofs.parse.carried.Given as goal
 
 -- the ledger of the blank one
-abbrev pub ghosts-carried_in : goal.ghosts-carried_in
-ghosts-carried_in a = record { name = a.blank.name; parts = a.blank.parts }
+abbrev pub ghosts-carry_on : goal.ghosts-carry_on
+ghosts-carry_on a = record { name = a.blank.name; parts = a.blank.parts }

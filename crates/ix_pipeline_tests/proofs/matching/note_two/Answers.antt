@@ -1,7 +1,7 @@
 use Rattle.std.proofs.Common.{sym, ◌∙◌, ap, inr, drop, ◌++◌}
 use Rattle.std.proofs.lemmas.List.{take-append-drop}
 use Rattle.ix_match.specs.Scans.{Scanned}
-use Rattle.ix_pipeline_tests.proofs.matching.in_two.Goals as goal
+use Rattle.ix_pipeline_tests.proofs.matching.note_two.Goals as goal
 
 -- what was given is the front of the text
 pub advance-requires-2-clause-goes_on : goal.advance-requires-2-clause-goes_on

@@ -1,5 +1,5 @@
 use Rattle.std.proofs.Common.{◌≡◌, IsFalse}
-use Rattle.ix_pipeline_tests.proofs.merge.events_of.Given as goal
+use Rattle.ix_pipeline_tests.proofs.merge.take_in.Given as goal
 
 abbrev pub invariant-loop-line : goal.invariant-loop-line
 invariant-loop-line l = record {
