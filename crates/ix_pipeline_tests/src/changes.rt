@@ -1,6 +1,6 @@
 //! Events that are changed, routed and dropped. Changes are texts of SEDCMD, transforms are texts of transforms.conf.
 
-ghost use Rattle.std.specs.Prelude.{All, IfOk};
+ghost use Rattle.std.specs.Prelude.{All, IfOk, OnOk};
 ghost use Rattle.ix_values.specs.Seds.{IsApplicable};
 ghost use Rattle.ix_values.specs.Transforms.{HasDestination};
 
@@ -20,17 +20,17 @@ fn sed_of(alloc: Global, text: &[u8]) -> Result<Sed, NoMemory>
     }
 }
 
-/// The changes of a text, with `~` between. No text here is refused.
-fn seds_of(alloc: Global, texts: &str) -> Result<SedList, NoMemory>
-    ensures { IfOk result (λ seds. All (λ sed. IsApplicable sed) seds) }
+/// Adds the changes of a text, with `~` between. No text here is refused.
+fn add_seds(alloc: Global, texts: &str, seds: &mut SedList) -> Result<(), NoMemory>
+    requires { All (λ sed. IsApplicable sed) seds.old }
+    ensures { OnOk result (All (λ sed. IsApplicable sed) seds.new) }
 {
-    let mut seds = SedList::new(alloc);
     for text in texts.split('~') {
         if !text.is_empty() {
             seds.push(sed_of(alloc, text.as_bytes())?)?;
         }
     }
-    Ok(seds)
+    Ok(())
 }
 
 fn transform_of(alloc: Global, merged: &Merged, name: &[u8]) -> Result<Transform, NoMemory>
@@ -45,17 +45,22 @@ fn transform_of(alloc: Global, merged: &Merged, name: &[u8]) -> Result<Transform
     }
 }
 
-/// The transforms of stanzas, with commas between the names. No stanza here is missing or refused.
-fn transforms_of(alloc: Global, merged: &Merged, names: &str) -> Result<TransformList, NoMemory>
-    ensures { IfOk result (λ transforms. All (λ transform. HasDestination transform) transforms) }
+/// Adds the transforms of stanzas, with commas between the names. No stanza here is missing or refused.
+fn add_transforms(
+    alloc: Global,
+    merged: &Merged,
+    names: &str,
+    transforms: &mut TransformList,
+) -> Result<(), NoMemory>
+    requires { All (λ transform. HasDestination transform) transforms.old }
+    ensures { OnOk result (All (λ transform. HasDestination transform) transforms.new) }
 {
-    let mut transforms = TransformList::new(alloc);
     for name in names.split(',') {
         if !name.is_empty() {
             transforms.push(transform_of(alloc, merged, name.as_bytes())?)?;
         }
     }
-    Ok(transforms)
+    Ok(())
 }
 
 /// An event of these indexed fields and this raw text.
@@ -72,20 +77,24 @@ fn event(alloc: Global, meta: Bytes, raw: Bytes) -> Event {
     }
 }
 
-/// What a raw text comes to by changes and the transforms of stanzas.
+/// What an event comes to by changes and the transforms of stanzas.
 fn routed(
     alloc: Global,
     seds: &SedList,
     merged: &Merged,
     names: &str,
-    raw: &str,
+    event: Event,
 ) -> Result<Routed, NoMemory>
     requires { All (λ sed. IsApplicable sed) seds.now }
 {
-    let transforms = transforms_of(alloc, merged, names)?;
-    let meta = bytes_of(alloc, b"a::1");
-    let raw = bytes_of(alloc, raw.as_bytes());
-    let routed = apply(alloc, seds, &transforms, event(alloc, meta, raw));
+    let mut transforms = TransformList::new(alloc);
+    let routed = match add_transforms(alloc, merged, names, &mut transforms) {
+        Ok(()) => apply(alloc, seds, &transforms, event),
+        Err(NoMemory) => {
+            drop(event);
+            Err(NoMemory)
+        }
+    };
     drop(transforms);
     routed
 }
@@ -93,10 +102,18 @@ fn routed(
 /// What a row comes to: texts of SEDCMD, stanzas and a raw text, with tabs between.
 fn outcome(alloc: Global, merged: &Merged, row: &str) -> Result<Routed, NoMemory> {
     let mut fields = row.split('\t');
-    let seds = seds_of(alloc, fields.next().unwrap_or(""))?;
+    let texts = fields.next().unwrap_or("");
     let names = fields.next().unwrap_or("");
-    let raw = fields.next().unwrap_or("");
-    let routed = routed(alloc, &seds, merged, names, raw);
+    let raw = bytes_of(alloc, fields.next().unwrap_or("").as_bytes());
+    let event = event(alloc, bytes_of(alloc, b"a::1"), raw);
+    let mut seds = SedList::new(alloc);
+    let routed = match add_seds(alloc, texts, &mut seds) {
+        Ok(()) => routed(alloc, &seds, merged, names, event),
+        Err(NoMemory) => {
+            drop(event);
+            Err(NoMemory)
+        }
+    };
     drop(seds);
     routed
 }
@@ -373,12 +390,10 @@ fn cut(
     meta: usize,
     raw: usize,
 ) -> Result<Routed, NoMemory> {
-    let transforms = transforms_of(alloc, merged, names)?;
-    let seds = SedList::new(alloc);
     let event = event(alloc, many(alloc, b'm', meta), many(alloc, b'r', raw));
-    let routed = apply(alloc, &seds, &transforms, event);
+    let seds = SedList::new(alloc);
+    let routed = routed(alloc, &seds, merged, names, event);
     drop(seds);
-    drop(transforms);
     routed
 }
 

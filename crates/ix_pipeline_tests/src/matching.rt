@@ -410,8 +410,17 @@ fn attempted(alloc: Global, pattern: &str, text: Text<'_>) -> String {
     said
 }
 
-/// Patterns, the byte before, what stands in the text and how often, whether the text is closed, and what the attempt comes to.
-static ATTEMPTS: [(&str, Option<u8>, &str, usize, bool, &str); 44] = [
+/// A pattern, the byte before, what stands in the text and how often, whether the text is closed, and what the attempt comes to.
+type Attempt = (
+    &'static str,
+    Option<u8>,
+    &'static str,
+    usize,
+    bool,
+    &'static str,
+);
+
+static ATTEMPTS: [Attempt; 44] = [
     ("a", None, "a", 1, false, "0-1"),
     ("a", None, "b", 1, false, "none"),
     ("a", None, "", 1, false, "more"),
@@ -458,9 +467,9 @@ static ATTEMPTS: [(&str, Option<u8>, &str, usize, bool, &str); 44] = [
     ("[ab]+$", None, "ab", 8193, false, "0-16384"),
 ];
 
-fn attempts_unlike(alloc: Global) -> String {
+fn attempts_unlike(alloc: Global, rows: &[Attempt]) -> String {
     let mut unlike = String::new(alloc);
-    for (pattern, before, bytes, times, closed, wanted) in &ATTEMPTS {
+    for (pattern, before, bytes, times, closed, wanted) in rows {
         if let Ok(bytes) = bytes.repeat(alloc, *times) {
             let text = Text {
                 before: *before,
@@ -479,7 +488,7 @@ fn attempts_unlike(alloc: Global) -> String {
 
 #[test]
 fn an_attempt_depends_on_what_is_still_to_come(rt: HostRuntime) {
-    compare(&rt, attempts_unlike(rt.alloc()), "");
+    compare(&rt, attempts_unlike(rt.alloc(), &ATTEMPTS), "");
 }
 
 /// Writes what attempts come to at the first bytes of a text, as many as are told, and then at all of them.
@@ -611,9 +620,9 @@ fn passed_over(alloc: Global, pattern: &str, text: &str) -> Option<usize> {
     }
 }
 
-fn passed_unlike(alloc: Global) -> String {
+fn passed_unlike(alloc: Global, rows: &[(&str, &str, usize)]) -> String {
     let mut unlike = String::new(alloc);
-    for (pattern, text, wanted) in &PASSED {
+    for (pattern, text, wanted) in rows {
         if passed_over(alloc, pattern, text) != Some(*wanted) {
             put(&mut unlike, *pattern);
             put(&mut unlike, " in ");
@@ -626,5 +635,5 @@ fn passed_unlike(alloc: Global) -> String {
 
 #[test]
 fn bytes_at_which_no_match_begins_are_passed_over(rt: HostRuntime) {
-    compare(&rt, passed_unlike(rt.alloc()), "");
+    compare(&rt, passed_unlike(rt.alloc(), &PASSED), "");
 }

@@ -66,16 +66,6 @@ fn props_of(alloc: Global, files: Files) -> Result<Props, NoMemory> {
     loaded
 }
 
-/// The settings of these files for a channel.
-fn settings_of(alloc: Global, files: Files, meta: &ChannelMeta) -> Result<Settings, NoMemory>
-    ensures { IfOk result (λ settings. AreUsable settings) }
-{
-    let props = props_of(alloc, files)?;
-    let settings = props.settings(alloc, meta);
-    drop(props);
-    settings
-}
-
 /// What a channel states.
 fn meta_of(alloc: Global) -> ChannelMeta
     ensures { IsSome result.index }
@@ -88,18 +78,28 @@ fn meta_of(alloc: Global) -> ChannelMeta
     }
 }
 
+/// The settings of these files for the channel.
+fn settings_of(alloc: Global, files: Files) -> Result<Settings, NoMemory>
+    ensures { IfOk result (λ settings. AreUsable settings) }
+{
+    let props = props_of(alloc, files)?;
+    let meta = meta_of(alloc);
+    let settings = props.settings(alloc, &meta);
+    drop(meta);
+    drop(props);
+    settings
+}
+
 /// A channel that has no byte yet, with the settings of these files.
 fn channel_of(alloc: Global, files: Files) -> Result<Channel, NoMemory> {
-    let meta = meta_of(alloc);
-    let settings = settings_of(alloc, files, &meta)?;
-    Channel::start(alloc, settings, meta)
+    let settings = settings_of(alloc, files)?;
+    Channel::start(alloc, settings, meta_of(alloc))
 }
 
 /// A channel that goes on from a carry.
 fn channel_from(alloc: Global, files: Files, carry: &[u8]) -> Result<Channel, NoMemory> {
-    let meta = meta_of(alloc);
-    let settings = settings_of(alloc, files, &meta)?;
-    match Channel::resume(alloc, settings, meta, carry) {
+    let settings = settings_of(alloc, files)?;
+    match Channel::resume(alloc, settings, meta_of(alloc), carry) {
         Ok(channel) => Ok(channel),
         Err(_) => Err(NoMemory),
     }

@@ -1,8 +1,8 @@
 //! Tests of `ix_pattern`: texts of patterns, with the tree or the fault of each.
 
+use crate::said::{compare, put, put_unlike};
 use ix_pattern::{BreakFault, Node, Pattern, PatternFault};
 use std::alloc::{AllocError, Global};
-use std::test::Fail;
 
 /// The text of a piece that stands before this one.
 fn text_at(texts: &[String], at: usize) -> &str {
@@ -12,79 +12,99 @@ fn text_at(texts: &[String], at: usize) -> &str {
     }
 }
 
-/// Two pieces with a mark between.
-fn pair(
-    alloc: Global,
-    texts: &[String],
-    (first, mark, second): (usize, &str, usize),
-) -> Result<String, AllocError> {
-    let first = text_at(texts, first);
-    let second = text_at(texts, second);
-    format!(in alloc; "({first}{mark}{second})")
+/// Writes two pieces with a mark between.
+fn put_pair(text: &mut String, texts: &[String], first: usize, mark: &str, second: usize) {
+    put(text, "(");
+    put(text, text_at(texts, first));
+    put(text, mark);
+    put(text, text_at(texts, second));
+    put(text, ")");
 }
 
-/// A piece that is counted, with its bounds and the mark of a lazy one.
-fn counted(
-    alloc: Global,
-    inside: &str,
-    least: u32,
-    most: Option<u32>,
-    mark: &str,
-) -> Result<String, AllocError> {
-    match most {
-        Some(most) => format!(in alloc; "{inside}{{{least},{most}}}{mark}"),
-        None => format!(in alloc; "{inside}{{{least},}}{mark}"),
+/// Writes the bounds of a count.
+fn put_count(text: &mut String, least: u32, most: Option<u32>) {
+    put(text, "{");
+    put(text, least);
+    put(text, ",");
+    if let Some(most) = most {
+        put(text, most);
     }
+    put(text, "}");
 }
 
-/// A piece in short, with the texts of those inside.
-fn shown(alloc: Global, node: Node, texts: &[String]) -> Result<String, AllocError> {
+/// Writes a piece that stands inside another one.
+fn put_inside(text: &mut String, texts: &[String], inside: usize) {
+    put(text, "<");
+    put(text, text_at(texts, inside));
+    put(text, ">");
+}
+
+/// Writes a piece in short, with the texts of those inside.
+fn put_node(text: &mut String, node: Node, texts: &[String]) {
     match node {
-        Node::Nothing => String::from_str(alloc, "e"),
-        Node::Bytes => String::from_str(alloc, "b"),
-        Node::Start { lines } => String::from_str(alloc, if lines { "^m" } else { "^" }),
-        Node::Finish { lines } => String::from_str(alloc, if lines { "$m" } else { "$" }),
-        Node::Word => String::from_str(alloc, "w"),
-        Node::Seq { first, rest } => pair(alloc, texts, (first, " ", rest)),
-        Node::Either { first, other } => pair(alloc, texts, (first, "|", other)),
+        Node::Nothing => put(text, "e"),
+        Node::Bytes => put(text, "b"),
+        Node::Start { lines } => put(text, if lines { "^m" } else { "^" }),
+        Node::Finish { lines } => put(text, if lines { "$m" } else { "$" }),
+        Node::Word => put(text, "w"),
+        Node::Seq { first, rest } => put_pair(text, texts, first, " ", rest),
+        Node::Either { first, other } => put_pair(text, texts, first, "|", other),
         Node::Count {
             inside,
             least,
             most,
             lazy,
         } => {
-            let mark = if lazy { "?" } else { "" };
-            counted(alloc, text_at(texts, inside), least, most, mark)
+            put(text, text_at(texts, inside));
+            put_count(text, least, most);
+            put(text, if lazy { "?" } else { "" });
         }
         Node::Group { number, inside } => {
-            format!(in alloc; "g{number}<{}>", text_at(texts, inside))
+            put(text, "g");
+            put(text, number);
+            put_inside(text, texts, inside);
         }
         Node::Ahead { inside, wanted } => {
-            let mark = if wanted { "=" } else { "!" };
-            format!(in alloc; "{mark}<{}>", text_at(texts, inside))
+            put(text, if wanted { "=" } else { "!" });
+            put_inside(text, texts, inside);
         }
     }
 }
 
-/// The tree of a pattern in short.
-fn tree(alloc: Global, p: &Pattern) -> Result<String, AllocError> {
+/// A piece in short.
+fn node_said(alloc: Global, node: Node, texts: &[String]) -> String {
+    let mut text = String::new(alloc);
+    put_node(&mut text, node, texts);
+    text
+}
+
+/// Writes the tree of a pattern in short.
+fn put_tree(text: &mut String, alloc: Global, p: &Pattern) {
     let root = p.root();
     let mut texts = Vec::new(alloc);
     for k in 0..root {
-        texts.push(shown(alloc, p.node(k), &texts)?)?;
+        let piece = node_said(alloc, p.node(k), &texts);
+        let _ = texts.push(piece);
     }
-    shown(alloc, p.node(root), &texts)
+    put_node(text, p.node(root), &texts);
+    drop(texts);
 }
 
 /// The tree of a text, how many groups it has, and its weight, or its fault.
-fn read(alloc: Global, text: &str) -> Result<String, AllocError> {
+fn read(alloc: Global, text: &str) -> String {
+    let mut said = String::new(alloc);
     match Pattern::read(alloc, text.as_bytes()) {
         Ok(p) => {
-            let tree = tree(alloc, &p)?;
-            format!(in alloc; "{tree} {} {}", p.groups(), p.weight())
+            put_tree(&mut said, alloc, &p);
+            put(&mut said, " ");
+            put(&mut said, p.groups());
+            put(&mut said, " ");
+            put(&mut said, p.weight());
+            drop(p);
         }
-        Err(fault) => format!(in alloc; "{fault:?}"),
+        Err(_) => put(&mut said, "no pattern"),
     }
+    said
 }
 
 static TREES: [(&str, &str); 31] = [
@@ -124,13 +144,17 @@ static TREES: [(&str, &str); 31] = [
     ),
 ];
 
-#[test]
-fn texts_have_these_trees(rt: HostRuntime) -> Result<(), Fail> {
-    for (text, want) in &TREES {
-        let found = read(rt.alloc(), text)?;
-        assert_eq!(rt; found.as_str(), *want);
+fn trees_unlike(alloc: Global, rows: &[(&str, &str)]) -> String {
+    let mut unlike = String::new(alloc);
+    for (text, wanted) in rows {
+        put_unlike(&mut unlike, text, read(alloc, text), wanted);
     }
-    Ok(())
+    unlike
+}
+
+#[test]
+fn texts_have_these_trees(rt: HostRuntime) {
+    compare(&rt, trees_unlike(rt.alloc(), &TREES), "");
 }
 
 fn fault_of(alloc: Global, text: &str) -> Option<PatternFault> {
@@ -157,64 +181,90 @@ static FAULTS: [(Option<PatternFault>, &str); 4] = [
     ),
 ];
 
-#[test]
-fn texts_have_these_faults(rt: HostRuntime) {
-    for (want, texts) in &FAULTS {
+/// Writes a text whose fault is another one than it should be.
+fn note_fault(
+    unlike: &mut String,
+    text: &str,
+    fault: Option<PatternFault>,
+    wanted: Option<PatternFault>,
+) {
+    if fault != wanted {
+        put(unlike, text);
+        put(unlike, "\n");
+    }
+}
+
+fn faults_unlike(alloc: Global, rows: &[(Option<PatternFault>, &str)]) -> String {
+    let mut unlike = String::new(alloc);
+    for (wanted, texts) in rows {
         for text in texts.split(' ') {
-            assert!(rt; fault_of(rt.alloc(), text) == *want, "of {text}");
+            note_fault(&mut unlike, text, fault_of(alloc, text), *wanted);
         }
     }
+    unlike
 }
 
-/// The fault of so many copies of a text, with another behind them.
-fn fault_of_copies(
-    alloc: Global,
-    part: &str,
-    count: usize,
-    end: &str,
-) -> Result<Option<PatternFault>, AllocError> {
-    let mut text = part.repeat(alloc, count)?;
-    text.push_str(end)?;
-    Ok(fault_of(alloc, text.as_str()))
+#[test]
+fn texts_have_these_faults(rt: HostRuntime) {
+    compare(&rt, faults_unlike(rt.alloc(), &FAULTS), "");
 }
 
-static COPIES: [(&str, usize, &str, Option<PatternFault>); 8] = [
-    ("a", 4096, "", None),
-    ("a", 4097, "", Some(PatternFault::TooLarge)),
-    ("(", 4097, "", Some(PatternFault::TooLarge)),
-    ("(", 4096, "", Some(PatternFault::Syntax)),
-    ("()", 32, "", None),
-    ("()", 33, "", Some(PatternFault::TooLarge)),
-    ("()", 33, "(", Some(PatternFault::Syntax)),
-    ("|", 4096, "", None),
+/// A text so many times and another one so many times, and their fault.
+type Copies = (
+    &'static str,
+    usize,
+    &'static str,
+    usize,
+    Option<PatternFault>,
+);
+
+fn add_copies(text: &mut String, (front, count, back, times, _): Copies) -> Result<(), AllocError> {
+    for _ in 0..count {
+        text.push_str(front)?;
+    }
+    for _ in 0..times {
+        text.push_str(back)?;
+    }
+    Ok(())
+}
+
+fn fault_of_copies(alloc: Global, copies: Copies) -> Option<PatternFault> {
+    let mut text = String::new(alloc);
+    let fault = match add_copies(&mut text, copies) {
+        Ok(()) => fault_of(alloc, text.as_str()),
+        Err(_) => Some(PatternFault::NoMemory),
+    };
+    drop(text);
+    fault
+}
+
+/// Long texts, and deep ones.
+static COPIES: [Copies; 11] = [
+    ("a", 4096, "", 0, None),
+    ("a", 4097, "", 0, Some(PatternFault::TooLarge)),
+    ("(", 4097, "", 0, Some(PatternFault::TooLarge)),
+    ("(", 4096, "", 0, Some(PatternFault::Syntax)),
+    ("()", 32, "", 0, None),
+    ("()", 33, "", 0, Some(PatternFault::TooLarge)),
+    ("()", 33, "(", 1, Some(PatternFault::Syntax)),
+    ("|", 4096, "", 0, None),
+    ("(?:", 64, ")", 64, None),
+    ("(?:", 65, ")", 65, Some(PatternFault::TooLarge)),
+    ("(?:", 1000, ")", 1000, Some(PatternFault::TooLarge)),
 ];
 
-#[test]
-fn long_texts_have_these_faults(rt: HostRuntime) -> Result<(), Fail> {
-    for (part, count, end, want) in &COPIES {
-        let have = fault_of_copies(rt.alloc(), part, *count, end)?;
-        assert!(rt; have == *want, "of {part} {count} times");
+fn copies_unlike(alloc: Global, rows: &[Copies]) -> String {
+    let mut unlike = String::new(alloc);
+    for copies in rows {
+        let fault = fault_of_copies(alloc, *copies);
+        note_fault(&mut unlike, copies.0, fault, copies.4);
     }
-    Ok(())
-}
-
-/// The fault of so many groups, each in the one before.
-fn fault_of_depth(alloc: Global, depth: usize) -> Result<Option<PatternFault>, AllocError> {
-    let end = ")".repeat(alloc, depth)?;
-    fault_of_copies(alloc, "(?:", depth, end.as_str())
+    unlike
 }
 
 #[test]
-fn deep_texts_have_these_faults(rt: HostRuntime) -> Result<(), Fail> {
-    for (depth, want) in [
-        (64, None),
-        (65, Some(PatternFault::TooLarge)),
-        (1000, Some(PatternFault::TooLarge)),
-    ] {
-        let have = fault_of_depth(rt.alloc(), depth)?;
-        assert!(rt; have == want, "{depth} deep");
-    }
-    Ok(())
+fn long_and_deep_texts_have_these_faults(rt: HostRuntime) {
+    compare(&rt, copies_unlike(rt.alloc(), &COPIES), "");
 }
 
 fn break_fault_of(alloc: Global, text: &str) -> Option<BreakFault> {
