@@ -337,22 +337,31 @@ static REFUSED: [(usize, &[u8]); 28] = [
     (6, b"\x01\x00"),
 ];
 
-/// What becomes of the rows, a mark each.
-fn outcomes(alloc: Global, rows: &[(usize, &[u8])]) -> String {
+/// What becomes of the parts with that of each row in place of one of them, a mark each.
+fn outcomes(
+    alloc: Global,
+    rules: CarryRules,
+    parts: &Parts<'_>,
+    rows: &[(usize, &[u8])],
+) -> String {
     let mut marks = String::new(alloc);
     for (place, part) in rows {
-        let bytes = spelled(alloc, &FULL, *place, part);
-        put_outcome(&mut marks, alloc, MERGING, bytes);
+        let bytes = spelled(alloc, parts, *place, part);
+        put_outcome(&mut marks, alloc, rules, bytes);
     }
     marks
 }
 
 #[test]
 fn a_part_out_of_form_is_refused(rt: HostRuntime) {
-    compare(&rt, outcomes(rt.alloc(), &TAKEN), "....................");
     compare(
         &rt,
-        outcomes(rt.alloc(), &REFUSED),
+        outcomes(rt.alloc(), MERGING, &FULL, &TAKEN),
+        "....................",
+    );
+    compare(
+        &rt,
+        outcomes(rt.alloc(), MERGING, &FULL, &REFUSED),
         "xxxxxxxxxxxxxxxxxxxxxxxxxxxx",
     );
 }
@@ -371,23 +380,17 @@ static WITHOUT_MERGING: [(usize, &[u8]); 7] = [
     (5, b"\x01\x00\x00\x00\x00\x00\x00\x00\x00"),
 ];
 
-fn single_outcomes(alloc: Global) -> String {
-    let mut marks = String::new(alloc);
-    for (place, part) in &WITHOUT_MERGING {
-        let bytes = spelled(alloc, &BARE, *place, part);
-        put_outcome(&mut marks, alloc, SINGLE, bytes);
-    }
-    marks
-}
-
 #[test]
 fn without_merging_there_is_no_event_and_no_mark(rt: HostRuntime) {
-    compare(&rt, single_outcomes(rt.alloc()), "...xxx.");
+    let marks = outcomes(rt.alloc(), SINGLE, &BARE, &WITHOUT_MERGING);
+    compare(&rt, marks, "...xxx.");
 }
 
-/// A long string in a part: where it stands, what is before it, and its length, which may be so and no greater in each second
-/// row.
-static LONG: [(usize, &[u8], u32); 6] = [
+/// A long string in a part: where it stands, what is before it, and its length.
+type Long = (usize, &'static [u8], u32);
+
+/// The length may be so and no greater in each second row.
+static LONG: [Long; 6] = [
     (
         1,
         b"\x00\x00\x00\x01\x00\x06\x0A\x24\x18\x1E\x40\x00",
@@ -424,14 +427,10 @@ fn with_string(alloc: Global, place: usize, front: &[u8], len: u32) -> Bytes {
     bytes
 }
 
-fn long_outcomes(alloc: Global) -> String {
-    let rules = CarryRules {
-        truncate: 0,
-        merging: true,
-        max_lines: 2,
-    };
+/// What becomes of the rows, a mark each.
+fn long_outcomes(alloc: Global, rules: CarryRules, rows: &[Long]) -> String {
     let mut marks = String::new(alloc);
-    for (place, front, len) in &LONG {
+    for (place, front, len) in rows {
         let bytes = with_string(alloc, *place, front, *len);
         put_outcome(&mut marks, alloc, rules, bytes);
     }
@@ -440,24 +439,22 @@ fn long_outcomes(alloc: Global) -> String {
 
 #[test]
 fn strings_have_their_greatest_lengths(rt: HostRuntime) {
-    compare(&rt, long_outcomes(rt.alloc()), ".x.x.x");
+    let rules = CarryRules {
+        truncate: 0,
+        merging: true,
+        max_lines: 2,
+    };
+    compare(&rt, long_outcomes(rt.alloc(), rules, &LONG), ".x.x.x");
 }
 
 /// A run of a byte at one moment, and where the next one begins at another.
 const TWO_RUNS: &[u8] =
     b"\x00\x00\x00\x02\x00\x00\x00\x00\x00\x00\x00\x00\x00\x00\x00\x01a\x00\x00\x00\x00\x00\x00\x00\x01";
 
-/// What becomes of two runs that have together so many bytes as may wait, and of one more.
-fn runs_outcomes(alloc: Global) -> String {
-    let mut marks = String::new(alloc);
-    for len in [16382, 16383] {
-        let bytes = with_string(alloc, 1, TWO_RUNS, len);
-        put_outcome(&mut marks, alloc, MERGING, bytes);
-    }
-    marks
-}
+/// Two runs that have together so many bytes as may wait, and one more.
+static RUNS: [Long; 2] = [(1, TWO_RUNS, 16382), (1, TWO_RUNS, 16383)];
 
 #[test]
 fn all_runs_together_have_16383_bytes(rt: HostRuntime) {
-    compare(&rt, runs_outcomes(rt.alloc()), ".x");
+    compare(&rt, long_outcomes(rt.alloc(), MERGING, &RUNS), ".x");
 }

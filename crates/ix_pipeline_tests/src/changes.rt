@@ -33,19 +33,29 @@ fn add_seds(alloc: Global, texts: &str, seds: &mut SedList) -> Result<(), NoMemo
     Ok(())
 }
 
-fn transform_of(alloc: Global, merged: &Merged, name: &[u8]) -> Result<Transform, NoMemory>
-    ensures { IfOk result (λ transform. HasDestination transform) }
+/// Adds the transform of a stanza. No stanza here is missing or refused.
+fn add_transform(
+    alloc: Global,
+    merged: &Merged,
+    name: &[u8],
+    transforms: &mut TransformList,
+) -> Result<(), NoMemory>
+    requires { All (λ transform. HasDestination transform) transforms.old }
+    ensures { OnOk result (All (λ transform. HasDestination transform) transforms.new) }
 {
     if !merged.has(name) {
         return Err(NoMemory);
     }
     match Transform::read(alloc, name, merged) {
-        Ok(transform) => Ok(transform),
+        Ok(transform) => {
+            transforms.push(transform)?;
+            Ok(())
+        }
         Err(_) => Err(NoMemory),
     }
 }
 
-/// Adds the transforms of stanzas, with commas between the names. No stanza here is missing or refused.
+/// Adds the transforms of stanzas, with commas between the names.
 fn add_transforms(
     alloc: Global,
     merged: &Merged,
@@ -57,7 +67,7 @@ fn add_transforms(
 {
     for name in names.split(',') {
         if !name.is_empty() {
-            transforms.push(transform_of(alloc, merged, name.as_bytes())?)?;
+            add_transform(alloc, merged, name.as_bytes(), transforms)?;
         }
     }
     Ok(())
@@ -104,15 +114,15 @@ fn outcome(alloc: Global, merged: &Merged, row: &str) -> Result<Routed, NoMemory
     let mut fields = row.split('\t');
     let texts = fields.next().unwrap_or("");
     let names = fields.next().unwrap_or("");
-    let raw = bytes_of(alloc, fields.next().unwrap_or("").as_bytes());
-    let event = event(alloc, bytes_of(alloc, b"a::1"), raw);
+    let raw = fields.next().unwrap_or("");
     let mut seds = SedList::new(alloc);
     let routed = match add_seds(alloc, texts, &mut seds) {
-        Ok(()) => routed(alloc, &seds, merged, names, event),
-        Err(NoMemory) => {
-            drop(event);
-            Err(NoMemory)
+        Ok(()) => {
+            let meta = bytes_of(alloc, b"a::1");
+            let raw = bytes_of(alloc, raw.as_bytes());
+            routed(alloc, &seds, merged, names, event(alloc, meta, raw))
         }
+        Err(NoMemory) => Err(NoMemory),
     };
     drop(seds);
     routed

@@ -176,15 +176,21 @@ const ROWS: &str = "\
     end(\\n)begin|end2(\\n)begin2|begin3¦c begin3 d¦0¦2-8 - -¶\
     (\\w+)=(\"[^\"]*\"|\\S+)¦k=\"v w\" x=1¦0¦0-7 0-1 2-7";
 
+/// Writes two places.
+fn put_span(said: &mut String, from: usize, to: usize) {
+    put(said, from);
+    put(said, "-");
+    put(said, to);
+}
+
 /// Writes the places of a match and of its groups, in short.
 fn note_places(said: &mut String, found: &Found) {
-    let _ = write!(said, "{}-{}", found.start, found.end);
+    put_span(said, found.start, found.end);
     for group in found.groups.as_slice() {
+        put(said, " ");
         match group {
-            Some((from, to)) => {
-                let _ = write!(said, " {from}-{to}");
-            }
-            None => put(said, " -"),
+            Some((from, to)) => put_span(said, *from, *to),
+            None => put(said, "-"),
         }
     }
 }

@@ -3,6 +3,7 @@
 use crate::said::{compare, put, put_unlike};
 use ix_pattern::{BreakFault, Node, Pattern, PatternFault};
 use std::alloc::{AllocError, Global};
+use std::fmt::Display;
 
 /// The text of a piece that stands before this one.
 fn text_at(texts: &[String], at: usize) -> &str {
@@ -32,8 +33,9 @@ fn put_count(text: &mut String, least: u32, most: Option<u32>) {
     put(text, "}");
 }
 
-/// Writes a piece that stands inside another one.
-fn put_inside(text: &mut String, texts: &[String], inside: usize) {
+/// Writes a mark, and the piece that it stands before.
+fn put_inside<T: Display + Drop>(text: &mut String, mark: T, texts: &[String], inside: usize) {
+    put(text, mark);
     put(text, "<");
     put(text, text_at(texts, inside));
     put(text, ">");
@@ -44,8 +46,10 @@ fn put_node(text: &mut String, node: Node, texts: &[String]) {
     match node {
         Node::Nothing => put(text, "e"),
         Node::Bytes => put(text, "b"),
-        Node::Start { lines } => put(text, if lines { "^m" } else { "^" }),
-        Node::Finish { lines } => put(text, if lines { "$m" } else { "$" }),
+        Node::Start { lines: true } => put(text, "^m"),
+        Node::Start { lines: false } => put(text, "^"),
+        Node::Finish { lines: true } => put(text, "$m"),
+        Node::Finish { lines: false } => put(text, "$"),
         Node::Word => put(text, "w"),
         Node::Seq { first, rest } => put_pair(text, texts, first, " ", rest),
         Node::Either { first, other } => put_pair(text, texts, first, "|", other),
@@ -57,17 +61,22 @@ fn put_node(text: &mut String, node: Node, texts: &[String]) {
         } => {
             put(text, text_at(texts, inside));
             put_count(text, least, most);
-            put(text, if lazy { "?" } else { "" });
+            if lazy {
+                put(text, "?");
+            }
         }
         Node::Group { number, inside } => {
             put(text, "g");
-            put(text, number);
-            put_inside(text, texts, inside);
+            put_inside(text, number, texts, inside);
         }
-        Node::Ahead { inside, wanted } => {
-            put(text, if wanted { "=" } else { "!" });
-            put_inside(text, texts, inside);
-        }
+        Node::Ahead {
+            inside,
+            wanted: true,
+        } => put_inside(text, "=", texts, inside),
+        Node::Ahead {
+            inside,
+            wanted: false,
+        } => put_inside(text, "!", texts, inside),
     }
 }
 
