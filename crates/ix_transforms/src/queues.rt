@@ -99,11 +99,11 @@ fn prefixed(alloc: Global, prefix: &[u8], field: &[u8]) -> Result<Bytes, NoMemor
 fn set_behind(field: &mut Bytes, prefix: &[u8], text: &[u8]) -> Result<(), NoMemory>
     ensures { OnOk result (field.new ≡ behind_or field.old prefix.now text.now) }
 {
-    if text.starts_with(prefix) {
-        field.clear();
-        field.extend(&text[prefix.len()..])?;
+    if !text.starts_with(prefix) {
+        return Ok(());
     }
-    Ok(())
+    field.clear();
+    field.extend(&text[prefix.len()..])
 }
 
 impl Queued {
