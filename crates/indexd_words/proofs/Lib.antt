@@ -1,4 +1,5 @@
 pub mod TableLemmas
+pub mod TableSteps
 pub mod ParseLemmas
 pub mod ValueLemmas
 pub mod PlainLemmas

@@ -86,6 +86,16 @@ program = on_top
 abbrev pub with_one : App → App → App
 with_one above one = with_subcommand above one.top
 
+-- the program with the first commands, and with more and more of those behind them
+unfoldable pub first_commands : App
+first_commands = with_one (with_one (with_one program preview) btool) feed
+
+unfoldable pub next_commands : App
+next_commands = with_one (with_one (with_one first_commands serve) monitor) buckets
+
+unfoldable pub index_commands : App
+index_commands = with_one (with_one (with_one next_commands export) roll) thaw
+
 -- the program with all its commands
 unfoldable pub table : App
 table =
