@@ -26,7 +26,8 @@ use Rattle.indexd_store.specs.declared.stop.Stop.{Stop}
 use Rattle.indexd_store.specs.Ends.{IsLeft, HasLasted, Ends, Only, AtMost}
 use Rattle.indexd_store.specs.Opened.{configuring, IsUnset}
 use Rattle.indexd_store.specs.declared.stop.Stop.TheVariants as stops
-use Rattle.indexd_store.specs.Stops.{of_mount, of_refusal, of_commit, of_give, loses, Caused}
+use Rattle.indexd_store.specs.Stops.{of_mount, of_refusal, of_commit, of_give, loses, is_output, is_input, Caused}
+use Rattle.indexd_store.specs.Shortened.{is_short_at}
 
 none_more : (h : List Order) → h ++ [] ≡ h
 none_more [] = refl
@@ -137,3 +138,28 @@ full_of_mount mounts.Disk is = cc
 full_of_mount (mounts.Damaged file at) is = cc
 full_of_mount mounts.Full is = refl
 full_of_mount mounts.NoMemory is = cc
+
+-- What else is said of a run that mounts nothing.
+pub disk_of_mount : (fault : MountFault) → of_mount fault ≡ stops.Disk → fault ≡ mounts.Disk
+disk_of_mount mounts.Disk is = refl
+disk_of_mount (mounts.Damaged file at) is = cc
+disk_of_mount mounts.Full is = cc
+disk_of_mount mounts.NoMemory is = cc
+
+pub quiet_mount : (fault : MountFault) → is_output (of_mount fault) ≡ false
+quiet_mount mounts.Disk = refl
+quiet_mount (mounts.Damaged file at) = refl
+quiet_mount mounts.Full = refl
+quiet_mount mounts.NoMemory = refl
+
+pub unread_mount : (fault : MountFault) → is_input (of_mount fault) ≡ false
+unread_mount mounts.Disk = refl
+unread_mount (mounts.Damaged file at) = refl
+unread_mount mounts.Full = refl
+unread_mount mounts.NoMemory = refl
+
+pub short_mount : (fault : MountFault) → is_short_at (of_mount fault) ≡ true → fault ≡ mounts.Full
+short_mount mounts.Disk is = cc
+short_mount (mounts.Damaged file at) is = cc
+short_mount mounts.Full is = refl
+short_mount mounts.NoMemory is = cc

@@ -1,7 +1,8 @@
 -- A checkpoint at the end of a run changes nothing of what was given: every image since stands for all of it.
-use Rattle.std.proofs.Common.{◌≡◌, ◌≤◌, ◌⊎◌, ℕ, ℤ, Bool, true, false, List, [], ◌∷◌, ◌++◌, length, refl, sym, ap, ◌∙◌, subst, arith, inl, inr, length-append}
+use Rattle.std.proofs.Common.{◌≡◌, ◌≤◌, ◌⊎◌, ℕ, ℤ, Bool, true, false, List, [], ◌∷◌, ◌++◌, length, refl, sym, ap, ◌∙◌, subst, arith, le_refl, le_trans, inl, inr, length-append}
 use Rattle.std.specs.List.{AllByRecursion}
 use Rattle.std.specs.Prelude.{Option, Result, Ok, Err, OnOk, IfErr}
+use Rattle.ix_base.specs.Faults.{Rose}
 use Rattle.ix_base.specs.declared.events.ChannelMeta.{ChannelMeta}
 use Rattle.ix_base.specs.declared.files.File.{File}
 use Rattle.ix_book.specs.Book.{Book}
@@ -57,6 +58,17 @@ by_end P stop other same memory disk (inr (inr is)) = subst P (sym is) disk
 pub by_fault : (P : Stop → Type 0) (other : Stop) → P stops.Memory → P stops.Disk → IsOfCheckpoint other → P other
 by_fault P other memory disk (inl is) = subst P (sym is) memory
 by_fault P other memory disk (inr is) = subst P (sym is) disk
+
+-- a count that rose within has risen over all
+rose_within : (first mid next last : ℕ) → first ≤ mid → next ≤ last → Rose mid next → Rose first last
+rose_within first mid next last began ended (inl less) = inl (omega arith)
+rose_within first mid next last began ended (inr full) = inr (le_trans full ended)
+
+-- a run that stops for a fault of the disk has seen it fail, before the checkpoint or at it
+pub rose_by_end : (first mid next last : ℕ) (stop : Stop) → first ≤ mid → mid ≤ next → next ≤ last → (stop ≡ stops.Disk → Rose mid next) →
+    (stop ≡ stops.Disk) ⊎ Rose next last → Rose first last
+rose_by_end first mid next last stop began went ended rose (inl is) = rose_within first mid next last began ended (rose is)
+rose_by_end first mid next last stop began went ended rose (inr risen) = rose_within first next last last (le_trans began went) (le_refl last) risen
 
 -- a run that is not cut leaves the store at rest
 uncut_so : (fault : RunFault) → loses (of_run fault) ≡ false → is_run_cut (Err fault) ≡ false

@@ -1,17 +1,20 @@
-use Rattle.std.proofs.Common.{rules, ◌≡◌, ◌∙◌, true, false, take, refl, ap, subst, inl, w64, to_z, of_z}
+use Rattle.std.proofs.Common.{rules, le_trans, ◌≡◌, ◌∙◌, true, false, take, refl, sym, ap, subst, inl, inr, w64, to_z, of_z}
 use Rattle.std.specs.Prelude.{Err, Some}
 use Rattle.std.proofs.lemmas.Int.{to_z-of_z}
 use mir.Val.{SFits}
+use Rattle.ix_keep.proofs.Reading.{anyhow_through}
+use Rattle.ix_store.specs.declared.fault.MountFault.{MountFault}
 use Rattle.ix_store.specs.declared.fault.MountFault.TheVariants as mounts
 use Rattle.ix_run.proofs.Stored.{all_taken}
 use Rattle.indexd_store.specs.Ends.{AtMost, same_kept}
 use Rattle.indexd_store.specs.Opened.{configuring, IsUnset}
-use Rattle.indexd_store.specs.Stops.{of_mount, loses}
+use Rattle.indexd_store.specs.Stops.{of_mount, loses, is_output, is_input}
+use Rattle.indexd_store.specs.Shortened.{is_short_at}
 use Rattle.indexd_store.specs.declared.stop.Stop.{Stop}
 use Rattle.indexd_store.specs.declared.stop.Stop.TheVariants as stops
-use Rattle.indexd_store.proofs.Ending.{unset, consistent_mount, full_of_mount}
+use Rattle.indexd_store.proofs.Ending.{unset, consistent_mount, full_of_mount, disk_of_mount, quiet_mount, unread_mount, short_mount}
 use Rattle.indexd_store.proofs.Joining.{front_has, committed, configured_as, opened_same, opened_by, stopped_by}
-use Rattle.indexd_store.proofs.Shortening.{by_end, damaged_end, stopped_short, most_taken}
+use Rattle.indexd_store.proofs.Shortening.{by_end, rose_by_end, damaged_end, stopped_short, most_taken}
 use Rattle.indexd_store.proofs.Undamaged.{damaged_of_mount, seen_on}
 use Rattle.indexd_store.proofs.opening.open.Goals as goal
 
@@ -92,3 +95,50 @@ returns-in-Err-run_last-clause-undamaged g c = λ file at is choose history k ch
 
 pub returns-in-Err-run_last-clause-short : goal.returns-in-Err-run_last-clause-short
 returns-in-Err-run_last-clause-short g c = λ ok. inl (c.stop_run.ensures.short ok)
+
+-- ---- the clauses that speak of the disk, of the output and of the input at a stop
+
+pub returns-in-Err-clause-cause : goal.returns-in-Err-clause-cause
+returns-in-Err-clause-cause g c = λ is.
+    let stop : of_mount c.in-Err.fault ≡ stops.Disk = cc (is, c.of_mount.ensures) in
+    c.mount.ensures.cause (c.in-Err.is ∙ ap (λ (f : MountFault). Err f) (disk_of_mount c.in-Err.fault stop))
+
+pub returns-in-Err-clause-quiet : goal.returns-in-Err-clause-quiet
+returns-in-Err-clause-quiet g c = ap is_output c.of_mount.ensures ∙ quiet_mount c.in-Err.fault
+
+pub returns-in-Err-clause-unread : goal.returns-in-Err-clause-unread
+returns-in-Err-clause-unread g c = ap is_input c.of_mount.ensures ∙ unread_mount c.in-Err.fault
+
+pub returns-in-Err-clause-short : goal.returns-in-Err-clause-short
+returns-in-Err-clause-short g c = λ is.
+    let full : c.in-Err.fault ≡ mounts.Full = short_mount c.in-Err.fault (sym (ap is_short_at c.of_mount.ensures) ∙ is) in
+    inr (c.of_mount.ensures ∙ ap of_mount full, c.in-Err.ensures.full (cc (full)))
+
+pub returns-in-Ok-run_last-clause-told : goal.returns-in-Ok-run_last-clause-told
+returns-in-Ok-run_last-clause-told g c =
+    anyhow_through (g.D.Disk.seen c.args.disk.now) (g.D.Disk.seen c.mount.new.disk) (g.D.Disk.seen c.run_last.new.disk) c.mount.ensures.told c.run_last.ensures.told
+
+pub returns-in-Ok-run_last-clause-later : goal.returns-in-Ok-run_last-clause-later
+returns-in-Ok-run_last-clause-later g c = le_trans c.mount.ensures.later c.run_last.ensures.later
+
+pub returns-in-Err-run_last-clause-told : goal.returns-in-Err-run_last-clause-told
+returns-in-Err-run_last-clause-told g c =
+    anyhow_through (g.D.Disk.seen c.args.disk.now) (g.D.Disk.seen c.mount.new.disk) (g.D.Disk.seen c.stop_run.new.disk) c.mount.ensures.told
+    (anyhow_through (g.D.Disk.seen c.mount.new.disk) (g.D.Disk.seen c.run_last.new.disk) (g.D.Disk.seen c.stop_run.new.disk) c.run_last.ensures.told c.stop_run.ensures.told)
+
+pub returns-in-Err-run_last-clause-later : goal.returns-in-Err-run_last-clause-later
+returns-in-Err-run_last-clause-later g c = le_trans c.mount.ensures.later (le_trans c.run_last.ensures.later c.stop_run.ensures.later)
+
+pub returns-in-Err-run_last-clause-cause : goal.returns-in-Err-run_last-clause-cause
+returns-in-Err-run_last-clause-cause g c = λ is.
+    let at : c.stop_run.result ≡ stops.Disk = cc (is) in
+    rose_by_end (g.D.Disk.faults c.args.disk.now) (g.D.Disk.faults c.mount.new.disk) (g.D.Disk.faults c.run_last.new.disk) (g.D.Disk.faults c.stop_run.new.disk) c.in-Err-run_last.stop
+    c.mount.ensures.later c.run_last.ensures.later c.stop_run.ensures.later (λ stop. c.run_last.ensures.cause (c.in-Err-run_last.is ∙ ap (λ (s : Stop). Err s) stop)) (c.stop_run.ensures.cause at)
+
+pub returns-in-Err-run_last-clause-quiet : goal.returns-in-Err-run_last-clause-quiet
+returns-in-Err-run_last-clause-quiet g c =
+    by_end (λ (stop : Stop). is_output stop ≡ false) c.in-Err-run_last.stop c.stop_run.result c.in-Err-run_last.ensures.quiet refl refl c.stop_run.ensures.why
+
+pub returns-in-Err-run_last-clause-unread : goal.returns-in-Err-run_last-clause-unread
+returns-in-Err-run_last-clause-unread g c =
+    by_end (λ (stop : Stop). is_input stop ≡ false) c.in-Err-run_last.stop c.stop_run.result c.in-Err-run_last.ensures.unread refl refl c.stop_run.ensures.why

@@ -1,12 +1,15 @@
-use Rattle.std.proofs.Common.{rules, ◌≡◌, ◌∙◌, ℕ, true, false, Ok, Err, ap, subst, w64}
+use Rattle.std.proofs.Common.{rules, ◌≡◌, ◌∙◌, ℕ, true, false, Ok, Err, ap, subst, w64, refl, le_refl, le_trans}
 use Rattle.std.specs.Prelude.{Some}
 use Rattle.std.proofs.lemmas.Int.{to_z-of_z}
 use mir.Val.{SFits}
 use Rattle.ix_run.proofs.Stored.{all_taken}
-use Rattle.indexd_store.specs.Stops.{loses, is_output}
+use Rattle.indexd_store.specs.Stops.{loses, is_output, is_input}
 use Rattle.indexd_store.specs.Tasks.{orders_in, Gave, IsWhy}
 use Rattle.indexd_store.specs.declared.stop.Stop.{Stop}
-use Rattle.indexd_store.proofs.Shortening.{by_end, damaged_end, ends_short, stopped_short, gave_taken, gave_other}
+use Rattle.indexd_store.specs.declared.stop.Stop.TheVariants as stops
+use Rattle.ix_keep.proofs.Reading.{anyhow_through}
+use Rattle.ix_disk.proofs.Runs.{rose_later}
+use Rattle.indexd_store.proofs.Shortening.{by_end, damaged_end, ends_short, stopped_short, gave_taken, gave_other, by_fault, rose_by_end}
 use Rattle.indexd_store.proofs.Tasks.{gave_whole}
 use Rattle.indexd_store.proofs.run.give_task.Goals as goal
 
@@ -64,3 +67,48 @@ returns-in-Err-clause-undamaged g c = λ file at is choose h base chooser taken 
     let same = c.stop_run.ensures.closed (ap loses blamed) in
     c.give_command.ensures.undamaged file at (c.in-Err.is ∙ ap (λ (s : Stop). Err s) blamed) choose h base chooser taken hold image
     (subst (λ d. g.D.Disk.seen d ≡ Some image) same.1.1 seen)
+
+-- ---- the clauses that speak of the disk, of the output and of the input
+
+pub returns-in-Ok-make_short-clause-told : goal.returns-in-Ok-make_short-clause-told
+returns-in-Ok-make_short-clause-told g c = anyhow_through (g.D.Disk.seen c.args.disk.now) (g.D.Disk.seen c.give_command.new.disk) (g.D.Disk.seen c.make_short.new.disk) c.give_command.ensures.told c.make_short.ensures.told
+
+pub returns-in-Ok-make_short-clause-later : goal.returns-in-Ok-make_short-clause-later
+returns-in-Ok-make_short-clause-later g c = le_trans c.give_command.ensures.later c.make_short.ensures.later
+
+pub returns-in-Err-make_short-clause-told : goal.returns-in-Err-make_short-clause-told
+returns-in-Err-make_short-clause-told g c = anyhow_through (g.D.Disk.seen c.args.disk.now) (g.D.Disk.seen c.give_command.new.disk) (g.D.Disk.seen c.make_short.new.disk) c.give_command.ensures.told c.make_short.ensures.told
+
+pub returns-in-Err-make_short-clause-later : goal.returns-in-Err-make_short-clause-later
+returns-in-Err-make_short-clause-later g c = le_trans c.give_command.ensures.later c.make_short.ensures.later
+
+pub returns-in-Err-make_short-clause-cause : goal.returns-in-Err-make_short-clause-cause
+returns-in-Err-make_short-clause-cause g c = λ is.
+    let at : c.in-Err-make_short.stop ≡ stops.Disk = cc (is) in
+    rose_later (g.D.Disk.faults c.args.disk.now) (g.D.Disk.faults c.give_command.new.disk) (g.D.Disk.faults c.make_short.new.disk) c.give_command.ensures.later (c.make_short.ensures.cause (c.in-Err-make_short.is ∙ ap (λ (s : Stop). Err s) at))
+
+pub returns-in-Err-make_short-clause-quiet : goal.returns-in-Err-make_short-clause-quiet
+returns-in-Err-make_short-clause-quiet g c = by_fault (λ (stop : Stop). is_output stop ≡ false) c.in-Err-make_short.stop refl refl c.in-Err-make_short.ensures.faults
+
+pub returns-in-Err-make_short-clause-unread : goal.returns-in-Err-make_short-clause-unread
+returns-in-Err-make_short-clause-unread g c = by_fault (λ (stop : Stop). is_input stop ≡ false) c.in-Err-make_short.stop refl refl c.in-Err-make_short.ensures.faults
+
+pub returns-in-Err-clause-told : goal.returns-in-Err-clause-told
+returns-in-Err-clause-told g c = anyhow_through (g.D.Disk.seen c.args.disk.now) (g.D.Disk.seen c.give_command.new.disk) (g.D.Disk.seen c.stop_run.new.disk) c.give_command.ensures.told c.stop_run.ensures.told
+
+pub returns-in-Err-clause-later : goal.returns-in-Err-clause-later
+returns-in-Err-clause-later g c = le_trans c.give_command.ensures.later c.stop_run.ensures.later
+
+pub returns-in-Err-clause-cause : goal.returns-in-Err-clause-cause
+returns-in-Err-clause-cause g c = λ is.
+    let at : c.stop_run.result ≡ stops.Disk = cc (is) in
+    rose_by_end (g.D.Disk.faults c.args.disk.now) (g.D.Disk.faults c.args.disk.now) (g.D.Disk.faults c.give_command.new.disk) (g.D.Disk.faults c.stop_run.new.disk) c.in-Err.stop (le_refl (g.D.Disk.faults c.args.disk.now)) c.give_command.ensures.later c.stop_run.ensures.later
+    (λ stop. c.give_command.ensures.cause (c.in-Err.is ∙ ap (λ (s : Stop). Err s) stop)) (c.stop_run.ensures.cause at)
+
+pub returns-in-Err-clause-quiet : goal.returns-in-Err-clause-quiet
+returns-in-Err-clause-quiet g c =
+    by_end (λ (stop : Stop). is_output stop ≡ false) c.in-Err.stop c.stop_run.result c.in-Err.ensures.quiet refl refl c.stop_run.ensures.why
+
+pub returns-in-Err-clause-unread : goal.returns-in-Err-clause-unread
+returns-in-Err-clause-unread g c =
+    by_end (λ (stop : Stop). is_input stop ≡ false) c.in-Err.stop c.stop_run.result c.in-Err.ensures.unread refl refl c.stop_run.ensures.why
