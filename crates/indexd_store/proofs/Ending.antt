@@ -1,5 +1,5 @@
 -- How a run over a store ends: what was given last.
-use Rattle.std.proofs.Common.{◌≡◌, ℕ, ℤ, Bool, true, false, List, [], ◌∷◌, ◌++◌, length, refl, sym, ap, subst, arith, inl, inr}
+use Rattle.std.proofs.Common.{◌≡◌, ℕ, ℤ, Bool, true, false, List, [], ◌∷◌, ◌++◌, length, refl, sym, ap, ◌∙◌, subst, arith, inl, inr}
 use Rattle.ix_disk.specs.declared.disk.Disk.{Ghosts}
 use Rattle.ix_book.specs.Book.{Book}
 use Rattle.ix_keep.specs.declared.fault.CommitFault.{CommitFault}
@@ -14,10 +14,13 @@ use Rattle.ix_machine.specs.declared.answers.Refusal.TheVariants as refusals
 use Rattle.ix_machine.specs.declared.answers.Accepted.{Accepted}
 use Rattle.ix_machine.specs.declared.commands.Config.{Config}
 use Rattle.ix_machine.specs.declared.commands.Order.{Order}
-use Rattle.ix_store.specs.Holding.{Holds}
+use Rattle.ix_store.specs.Holding.{Holds, IsUnchanged}
 use Rattle.ix_store.specs.declared.fault.MountFault.{MountFault}
 use Rattle.ix_store.specs.declared.fault.MountFault.TheVariants as mounts
 use Rattle.ix_store.specs.declared.store.Store.{Store}
+use Rattle.ix_keep.proofs.Beginning.{over_same}
+use Rattle.ix_run.proofs.Rested.{idle_same, measured_same}
+use Rattle.ix_run.specs.Resting.{IsAtRest}
 use Rattle.ix_run.specs.Giving.{IsKept}
 use Rattle.ix_run.specs.Running.{HasStood, HasGone, IsNotGiven}
 use Rattle.ix_run.specs.declared.giving.GiveFault.{GiveFault}
@@ -163,3 +166,48 @@ short_mount mounts.Disk is = cc
 short_mount (mounts.Damaged file at) is = cc
 short_mount mounts.Full is = refl
 short_mount mounts.NoMemory is = cc
+
+-- What else is said of a run whose last command is not given.
+of_refused : (P : Stop → Type 0) (refusal : Refusal) → P stops.Inconsistent → P stops.NotFound → P stops.TooManyChannels → P stops.Full → P stops.Memory → P (of_refusal refusal)
+of_refused P refusals.Closed unsound missing many full memory = unsound
+of_refused P refusals.NoChannel unsound missing many full memory = unsound
+of_refused P refusals.ChannelOpen unsound missing many full memory = unsound
+of_refused P refusals.UnknownIndex unsound missing many full memory = missing
+of_refused P refusals.NoBucket unsound missing many full memory = missing
+of_refused P refusals.NotArchived unsound missing many full memory = missing
+of_refused P refusals.AlreadyThawed unsound missing many full memory = missing
+of_refused P refusals.TooManyChannels unsound missing many full memory = many
+of_refused P refusals.Full unsound missing many full memory = full
+of_refused P refusals.NoMemory unsound missing many full memory = memory
+
+refused_keeps : (refusal : Refusal) → loses (of_refusal refusal) ≡ false
+refused_keeps refusal = of_refused (λ (stop : Stop). loses stop ≡ false) refusal refl refl refl refl refl
+
+pub quiet_give : (fault : GiveFault) → is_output (of_give fault) ≡ false
+quiet_give (Refused refusal) = of_refused (λ (stop : Stop). is_output stop ≡ false) refusal refl refl refl refl refl
+quiet_give (Commit commits.Disk) = refl
+quiet_give (Commit (commits.Damaged file at)) = refl
+
+pub unread_give : (fault : GiveFault) → is_input (of_give fault) ≡ false
+unread_give (Refused refusal) = of_refused (λ (stop : Stop). is_input stop ≡ false) refusal refl refl refl refl refl
+unread_give (Commit commits.Disk) = refl
+unread_give (Commit (commits.Damaged file at)) = refl
+
+pub disk_of_give : (fault : GiveFault) → of_give fault ≡ stops.Disk → fault ≡ Commit commits.Disk
+disk_of_give (Refused refusal) is = let e : false ≡ true = sym (refused_keeps refusal) ∙ ap loses is in absurd (cc)
+disk_of_give (Commit commits.Disk) is = refl
+disk_of_give (Commit (commits.Damaged file at)) is = cc
+
+-- a refused command leaves the store at rest
+pub rest_of_give : {D : Type 0} (g : Ghosts D) (fits : Book → Type 0) {M : Type 0} (store later : Store M) (disk last : D) (fault : GiveFault) →
+    ((refusal : Refusal) → fault ≡ Refused refusal → IsUnchanged store later × (last ≡ disk)) → loses (of_give fault) ≡ false → IsAtRest g store.keeper disk → IsAtRest g later.keeper last
+rest_of_give g fits store later disk last (Refused refusal) unchanged kept rest =
+    let same = unchanged refusal refl in
+    let keeper = same.0.keeper in
+    subst (λ d. IsAtRest g later.keeper d) (sym same.1) (record {
+      over = over_same g fits store.keeper later.keeper disk keeper.logs rest.over;
+      idle = idle_same g store.keeper later.keeper keeper rest.idle;
+      measured = measured_same g store.keeper later.keeper disk keeper.logs.log keeper.bytes rest.measured;
+    })
+rest_of_give g fits store later disk last (Commit commits.Disk) unchanged kept rest = absurd (cc)
+rest_of_give g fits store later disk last (Commit (commits.Damaged file at)) unchanged kept rest = absurd (cc)

@@ -1,10 +1,14 @@
-use Rattle.std.proofs.Common.{◌≡◌, ◌∙◌, Ok, Err, ap, subst}
+use Rattle.std.proofs.Common.{◌≡◌, ◌∙◌, Ok, Err, ap, subst, false, refl, le_refl, le_trans}
 use Rattle.std.specs.Prelude.{Some}
 use Rattle.ix_run.proofs.Stored.{all_taken}
 use Rattle.indexd_store.specs.Previews.{Fed}
-use Rattle.indexd_store.specs.Stops.{loses, loses_in}
+use Rattle.indexd_store.specs.Stops.{loses, loses_in, is_output}
 use Rattle.indexd_store.specs.declared.stop.Stop.{Stop}
-use Rattle.indexd_store.proofs.Shortening.{damaged_end, short_end, ends_short, stopped_short, fed_taken, fed_end, fed_stop}
+use Rattle.indexd_store.specs.declared.stop.Stop.TheVariants as stops
+use Rattle.ix_keep.proofs.Reading.{anyhow_through}
+use Rattle.ix_disk.proofs.Runs.{rose_later}
+use Rattle.indexd_store.proofs.Tasks.{if_err_by, at_err}
+use Rattle.indexd_store.proofs.Shortening.{damaged_end, short_end, ends_short, stopped_short, fed_taken, fed_end, fed_stop, by_end, by_fault, rose_by_end}
 use Rattle.indexd_store.proofs.preview.store_preview.Goals as goal
 
 pub returns-in-Ok-clause-ends : goal.returns-in-Ok-clause-ends
@@ -39,3 +43,33 @@ returns-in-Err-clause-undamaged g c = λ file at is choose h base chooser taken 
     let same = c.stop_run.ensures.closed (ap loses blamed) in
     c.store_all.ensures.undamaged file at (c.in-Err.is ∙ ap (λ (s : Stop). Err s) blamed) choose h base chooser taken hold image
     (subst (λ d. g.D.Disk.seen d ≡ Some image) same.1.1 seen)
+
+-- ---- the clauses that speak of the disk and of the output
+
+pub returns-in-Ok-clause-told : goal.returns-in-Ok-clause-told
+returns-in-Ok-clause-told g c = anyhow_through (g.D.Disk.seen c.args.disk.now) (g.D.Disk.seen c.store_all.new.disk) (g.D.Disk.seen c.make_short.new.disk) c.store_all.ensures.told c.make_short.ensures.told
+
+pub returns-in-Ok-clause-later : goal.returns-in-Ok-clause-later
+returns-in-Ok-clause-later g c = le_trans c.store_all.ensures.later c.make_short.ensures.later
+
+pub returns-in-Ok-clause-cause : goal.returns-in-Ok-clause-cause
+returns-in-Ok-clause-cause g c = λ is. rose_later (g.D.Disk.faults c.args.disk.now) (g.D.Disk.faults c.store_all.new.disk) (g.D.Disk.faults c.make_short.new.disk) c.store_all.ensures.later (c.make_short.ensures.cause is)
+
+pub returns-in-Ok-clause-quiet : goal.returns-in-Ok-clause-quiet
+returns-in-Ok-clause-quiet g c = if_err_by c.make_short.result _ (λ stop is. by_fault (λ (s : Stop). is_output s ≡ false) stop refl refl (at_err c.make_short.result stop _ is c.make_short.ensures.faults))
+
+pub returns-in-Err-clause-told : goal.returns-in-Err-clause-told
+returns-in-Err-clause-told g c = anyhow_through (g.D.Disk.seen c.args.disk.now) (g.D.Disk.seen c.store_all.new.disk) (g.D.Disk.seen c.stop_run.new.disk) c.store_all.ensures.told c.stop_run.ensures.told
+
+pub returns-in-Err-clause-later : goal.returns-in-Err-clause-later
+returns-in-Err-clause-later g c = le_trans c.store_all.ensures.later c.stop_run.ensures.later
+
+pub returns-in-Err-clause-cause : goal.returns-in-Err-clause-cause
+returns-in-Err-clause-cause g c = λ is.
+    let at : c.stop_run.result ≡ stops.Disk = cc (is) in
+    rose_by_end (g.D.Disk.faults c.args.disk.now) (g.D.Disk.faults c.args.disk.now) (g.D.Disk.faults c.store_all.new.disk) (g.D.Disk.faults c.stop_run.new.disk) c.in-Err.stop (le_refl (g.D.Disk.faults c.args.disk.now)) c.store_all.ensures.later c.stop_run.ensures.later
+    (λ stop. c.store_all.ensures.cause (c.in-Err.is ∙ ap (λ (s : Stop). Err s) stop)) (c.stop_run.ensures.cause at)
+
+pub returns-in-Err-clause-quiet : goal.returns-in-Err-clause-quiet
+returns-in-Err-clause-quiet g c =
+    by_end (λ (stop : Stop). is_output stop ≡ false) c.in-Err.stop c.stop_run.result c.in-Err.ensures.quiet refl refl c.stop_run.ensures.why

@@ -5,9 +5,11 @@ use Rattle.ix_machine.specs.Step.{after}
 use Rattle.ix_store.specs.Counting.{numbers}
 use Rattle.ix_machine.specs.declared.commands.Command.{Command}
 use Rattle.indexd_store.specs.Ends.{Only, AtMost}
-use Rattle.indexd_store.specs.Stops.{loses}
+use Rattle.indexd_store.specs.Stops.{loses, loses_in}
 use Rattle.indexd_store.specs.Tasks.{command_in, orders_by, orders_in, Gave, moved_by}
+use Rattle.indexd_store.specs.declared.stop.Stop.{Stop}
 use Rattle.indexd_store.specs.declared.stop.Stop.TheVariants as stops
+use Rattle.ix_keep.proofs.Reading.{anyhow_same}
 use Rattle.indexd_store.proofs.Causes.{fine_none, fine_by, why_not}
 use Rattle.indexd_store.proofs.Tasks.{none_given, left_weaker, ends_weaker, partly, allowed_one}
 use Rattle.indexd_store.proofs.run.give_command.Goals as goal
@@ -74,3 +76,22 @@ pub returns-in-Err-run_last-clause-undamaged : goal.returns-in-Err-run_last-clau
 returns-in-Err-run_last-clause-undamaged g c = λ file at is.
     let was : c.run_last.result ≡ Err (stops.Damaged file at) = cc (is, c.in-Err-run_last.is) in
     c.run_last.ensures.undamaged file at was
+
+-- ---- the clauses that speak of the disk, of the output and of the input
+
+pub returns-in-Ok-None-clause-told : goal.returns-in-Ok-None-clause-told
+returns-in-Ok-None-clause-told g c = anyhow_same (g.D.Disk.seen c.args.disk.now) (g.D.Disk.seen c.args.disk.now) refl
+
+pub returns-in-Err-clause-told : goal.returns-in-Err-clause-told
+returns-in-Err-clause-told g c = anyhow_same (g.D.Disk.seen c.args.disk.now) (g.D.Disk.seen c.args.disk.now) refl
+
+pub returns-in-Err-run_last-clause-cause : goal.returns-in-Err-run_last-clause-cause
+returns-in-Err-run_last-clause-cause g c = λ is.
+    let at : c.in-Err-run_last.stop ≡ stops.Disk = cc (is) in
+    c.run_last.ensures.cause (c.in-Err-run_last.is ∙ ap (λ (s : Stop). Err s) at)
+
+pub returns-in-Err-run_last-clause-rest : goal.returns-in-Err-run_last-clause-rest
+returns-in-Err-run_last-clause-rest g c = λ kept. c.run_last.ensures.rest (ap loses_in c.in-Err-run_last.is ∙ kept) c.requires.rest
+
+pub returns-in-Ok-clause-rest : goal.returns-in-Ok-clause-rest
+returns-in-Ok-clause-rest g c = λ kept. c.in-Ok.ensures.rest refl c.requires.rest
