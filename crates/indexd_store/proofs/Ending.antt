@@ -2,6 +2,8 @@
 use Rattle.std.proofs.Common.{◌≡◌, ℕ, ℤ, Bool, true, false, List, [], ◌∷◌, ◌++◌, length, refl, sym, ap, ◌∙◌, subst, arith, inl, inr}
 use Rattle.ix_disk.specs.declared.disk.Disk.{Ghosts}
 use Rattle.ix_book.specs.Book.{Book}
+use Rattle.ix_book.specs.declared.fault.CheckpointFault.{CheckpointFault}
+use Rattle.ix_book.specs.declared.fault.CheckpointFault.TheVariants as checkpoints
 use Rattle.ix_keep.specs.declared.fault.CommitFault.{CommitFault}
 use Rattle.ix_keep.specs.declared.fault.CommitFault.TheVariants as commits
 use Rattle.ix_machine.specs.Bounds.{IsAllowed, IsRefused}
@@ -15,6 +17,8 @@ use Rattle.ix_machine.specs.declared.answers.Accepted.{Accepted}
 use Rattle.ix_machine.specs.declared.commands.Config.{Config}
 use Rattle.ix_machine.specs.declared.commands.Order.{Order}
 use Rattle.ix_store.specs.Holding.{Holds, IsUnchanged}
+use Rattle.ix_run.specs.declared.input.RunFault.{RunFault}
+use Rattle.ix_run.specs.declared.input.RunFault.TheVariants as runs
 use Rattle.ix_store.specs.declared.fault.MountFault.{MountFault}
 use Rattle.ix_store.specs.declared.fault.MountFault.TheVariants as mounts
 use Rattle.ix_store.specs.declared.store.Store.{Store}
@@ -29,7 +33,7 @@ use Rattle.indexd_store.specs.declared.stop.Stop.{Stop}
 use Rattle.indexd_store.specs.Ends.{IsLeft, HasLasted, Ends, Only, AtMost}
 use Rattle.indexd_store.specs.Opened.{configuring, IsUnset}
 use Rattle.indexd_store.specs.declared.stop.Stop.TheVariants as stops
-use Rattle.indexd_store.specs.Stops.{of_mount, of_refusal, of_commit, of_give, loses, is_output, is_input, Caused}
+use Rattle.indexd_store.specs.Stops.{of_mount, of_refusal, of_commit, of_give, of_run, of_checkpoint, loses, is_output, is_input, Caused}
 use Rattle.indexd_store.specs.Shortened.{is_short_at}
 
 none_more : (h : List Order) → h ++ [] ≡ h
@@ -211,3 +215,18 @@ rest_of_give g fits store later disk last (Refused refusal) unchanged kept rest 
     })
 rest_of_give g fits store later disk last (Commit commits.Disk) unchanged kept rest = absurd (cc)
 rest_of_give g fits store later disk last (Commit (commits.Damaged file at)) unchanged kept rest = absurd (cc)
+
+-- What else is said of a run whose input is not stored, or whose log is not made short.
+pub quiet_run : (fault : RunFault) → is_output (of_run fault) ≡ false
+quiet_run (runs.Given fault) = quiet_give fault
+quiet_run runs.Input = refl
+quiet_run runs.Endless = refl
+
+pub disk_of_run : (fault : RunFault) → of_run fault ≡ stops.Disk → fault ≡ runs.Given (Commit commits.Disk)
+disk_of_run (runs.Given fault) is = ap (λ (f : GiveFault). runs.Given f) (disk_of_give fault is)
+disk_of_run runs.Input is = cc
+disk_of_run runs.Endless is = cc
+
+pub disk_of_checkpoint : (fault : CheckpointFault) → of_checkpoint fault ≡ stops.Disk → fault ≡ checkpoints.Disk
+disk_of_checkpoint checkpoints.Disk is = refl
+disk_of_checkpoint checkpoints.NoMemory is = cc

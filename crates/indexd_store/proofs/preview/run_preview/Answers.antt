@@ -1,4 +1,4 @@
-use Rattle.std.proofs.Common.{rules, ◌≡◌, Bool, take, refl, ap, subst, inl, inr, w64, le_trans}
+use Rattle.std.proofs.Common.{rules, ◌≡◌, Bool, take, refl, ap, subst, inl, inr, w64}
 use Rattle.std.specs.Prelude.{Err}
 use Rattle.std.proofs.lemmas.Int.{to_z-of_z}
 use mir.Val.{SFits}
@@ -7,8 +7,6 @@ use Rattle.indexd_store.specs.Opened.{is_configured, WhenOpen, HasRun}
 use Rattle.indexd_store.specs.Previews.{HasFed}
 use Rattle.indexd_store.specs.Stops.{loses_in}
 use Rattle.indexd_store.specs.declared.stop.Stop.TheVariants as stops
-use Rattle.ix_keep.proofs.Reading.{anyhow_through}
-use Rattle.ix_disk.proofs.Runs.{rose_later}
 use Rattle.indexd_store.proofs.Feeding.{none_taken, fed_sound}
 use Rattle.indexd_store.proofs.Joining.{front_has, begun_taken, fed_when, shut_sound}
 use Rattle.indexd_store.proofs.Shortening.{ends_as}
@@ -75,12 +73,3 @@ returns-clause-undamaged g c = λ file at is choose history k chooser taken begi
 
 pub returns-clause-short : goal.returns-clause-short
 returns-clause-short g c = ends_as g.D.Disk _ c.store_preview.result c.args.disk.now c.store_preview.new.disk c.store_preview.ensures.short
-
-pub returns-clause-told : goal.returns-clause-told
-returns-clause-told g c = anyhow_through (g.D.Disk.seen c.args.disk.now) (g.D.Disk.seen c.open.new.disk) (g.D.Disk.seen c.store_preview.new.disk) c.open.ensures.told c.store_preview.ensures.told
-
-pub returns-clause-later : goal.returns-clause-later
-returns-clause-later g c = le_trans c.open.ensures.later c.store_preview.ensures.later
-
-pub returns-clause-cause : goal.returns-clause-cause
-returns-clause-cause g c = λ is. rose_later (g.D.Disk.faults c.args.disk.now) (g.D.Disk.faults c.open.new.disk) (g.D.Disk.faults c.store_preview.new.disk) c.open.ensures.later (c.store_preview.ensures.cause is)

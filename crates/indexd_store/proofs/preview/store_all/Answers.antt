@@ -1,12 +1,14 @@
-use Rattle.std.proofs.Common.{◌≡◌, length, refl}
+use Rattle.std.proofs.Common.{◌≡◌, length, refl, ap, ◌∙◌}
 use Rattle.std.specs.Prelude.{Err}
 use Rattle.ix_keep.specs.declared.fault.CommitFault.TheVariants as commits
 use Rattle.ix_run.specs.Storing.{joined}
 use Rattle.ix_run.specs.declared.giving.GiveFault.TheVariants.{Commit}
+use Rattle.ix_run.specs.declared.input.RunFault.{RunFault}
 use Rattle.ix_run.specs.declared.input.RunFault.TheVariants as runs
-use Rattle.indexd_store.specs.Stops.{of_run}
+use Rattle.indexd_store.specs.Stops.{of_run, is_output}
 use Rattle.indexd_store.specs.Previews.{Fed}
 use Rattle.indexd_store.specs.declared.stop.Stop.TheVariants as stops
+use Rattle.indexd_store.proofs.Ending.{quiet_run, disk_of_run}
 use Rattle.indexd_store.proofs.Feeding.{none_fed, none_taken, feeds, read_as, unfed_as}
 use Rattle.indexd_store.proofs.Shortening.{uncut}
 use Rattle.indexd_store.proofs.Tasks.{none_given}
@@ -55,3 +57,11 @@ returns-in-Err-clause-undamaged g c = λ file at is choose h base chooser taken 
 
 pub returns-in-Err-clause-rest : goal.returns-in-Err-clause-rest
 returns-in-Err-clause-rest g c = λ kept. c.in-Err.ensures.rest (uncut c.in-Err.fault c.of_run.result c.of_run.ensures kept) c.requires.rest.measured
+
+pub returns-in-Err-clause-quiet : goal.returns-in-Err-clause-quiet
+returns-in-Err-clause-quiet g c = ap is_output c.of_run.ensures ∙ quiet_run c.in-Err.fault
+
+pub returns-in-Err-clause-cause : goal.returns-in-Err-clause-cause
+returns-in-Err-clause-cause g c = λ is.
+    let stop : of_run c.in-Err.fault ≡ stops.Disk = cc (is, c.of_run.ensures) in
+    c.store_input.ensures.cause (c.in-Err.is ∙ ap (λ (f : RunFault). Err f) (disk_of_run c.in-Err.fault stop))

@@ -1,12 +1,10 @@
-use Rattle.std.proofs.Common.{rules, ◌≡◌, take, refl, inl, inr, w64, le_trans}
+use Rattle.std.proofs.Common.{rules, ◌≡◌, take, refl, inl, inr, w64}
 use Rattle.std.specs.Prelude.{Err}
 use Rattle.std.proofs.lemmas.Int.{to_z-of_z}
 use mir.Val.{SFits}
 use Rattle.ix_run.specs.Giving.{given_all}
 use Rattle.indexd_store.specs.Opened.{is_configured}
 use Rattle.indexd_store.specs.declared.stop.Stop.TheVariants as stops
-use Rattle.ix_keep.proofs.Reading.{anyhow_through}
-use Rattle.ix_disk.proofs.Runs.{rose_later}
 use Rattle.indexd_store.proofs.Joining.{front_has, begun_taken, done_when, halted_when, shut_sound}
 use Rattle.indexd_store.proofs.Shortening.{ends_as}
 use Rattle.indexd_store.proofs.Undamaged.{seen_on}
@@ -71,12 +69,3 @@ returns-clause-undamaged g c = λ file at is choose history k chooser taken begi
 
 pub returns-clause-short : goal.returns-clause-short
 returns-clause-short g c = ends_as g.D.Disk _ c.carry_out.result c.args.disk.now c.carry_out.new.disk c.carry_out.ensures.short
-
-pub returns-clause-told : goal.returns-clause-told
-returns-clause-told g c = anyhow_through (g.D.Disk.seen c.args.disk.now) (g.D.Disk.seen c.open.new.disk) (g.D.Disk.seen c.carry_out.new.disk) c.open.ensures.told c.carry_out.ensures.told
-
-pub returns-clause-later : goal.returns-clause-later
-returns-clause-later g c = le_trans c.open.ensures.later c.carry_out.ensures.later
-
-pub returns-clause-cause : goal.returns-clause-cause
-returns-clause-cause g c = λ is. rose_later (g.D.Disk.faults c.args.disk.now) (g.D.Disk.faults c.open.new.disk) (g.D.Disk.faults c.carry_out.new.disk) c.open.ensures.later (c.carry_out.ensures.cause is)
