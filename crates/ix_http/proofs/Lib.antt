@@ -6,3 +6,4 @@ pub mod TakingLemmas
 pub mod AskLemmas
 pub mod RouteLemmas
 pub mod LimitLemmas
+pub mod PutLemmas
