@@ -54,10 +54,14 @@ fn commit_due<M: Listing + Drop, D: Disk>(
     ensures later { D.Disk.faults disk.old ≤ D.Disk.faults disk.new }
     ensures cause { IfErr result (λ fault. fault ≡ CommitFault.Disk → Rose (D.Disk.faults disk.old) (D.Disk.faults disk.new)) }
 {
-    if !store.due() {
+    let due = store.due();
+    if !due {
         return Ok(());
     }
-    store.commit(disk)?;
+    match store.commit(disk) {
+        Ok(()) => {}
+        Err(fault) => return Err(fault),
+    }
     match shorten(store, disk) {
         Ok(()) => Ok(()),
         // What is committed stays so, and the long log is still the current one.

@@ -1,12 +1,16 @@
-use Rattle.std.proofs.Common.{rules, ◌≡◌}
+use Rattle.std.proofs.Common.{rules, ◌≡◌, refl}
 use Rattle.std.specs.Prelude.{Err}
 use Rattle.ix_keep.specs.declared.fault.CommitFault.TheVariants as commits
+use Rattle.ix_keep.proofs.Beginning.{over_same}
+use Rattle.ix_keep.proofs.Reading.{anyhow_same}
 use Rattle.std.proofs.lemmas.Int.{to_z-of_z}
 use mir.Val.{SFits}
 use Rattle.std.specs.Int.{w64}
 use Rattle.ix_store.proofs.Joining.{more_taken, staged_same}
 use Rattle.ix_store.proofs.Lawful.{held_then}
+use Rattle.ix_run.proofs.Faults.{not_ok, refused_or_commit, commit_or_refused, not_commit, cause_is}
 use Rattle.ix_run.proofs.Gone.{gone_none, given, given_stood}
+use Rattle.ix_run.proofs.Rested.{measured_same}
 use Rattle.ix_run.proofs.giving.give.Goals as goal
 
 pub returns-in-Err-clause-fault : goal.returns-in-Err-clause-fault
@@ -37,3 +41,52 @@ returns-in-Err-commit_due-clause-undamaged g c = λ file at is choose h base k c
     let accepted = simp to_z-of_z at (c.in-Ok.ensures.accepted choose h base k hold.old chooser taken hold.staged) in
     let was : c.commit_due.result ≡ Err (commits.Damaged file at) = cc (is, c.in-Err-commit_due.is) in
     c.commit_due.ensures.undamaged file at was choose _ base k (held_then g.D.Disk _ g.M.Memory.holds choose h _ base k c.args.store.now c.accept.new.self c.args.disk.now hold c.accept.ensures.logs accepted.staged)
+
+pub commit_due-requires : goal.commit_due-requires
+commit_due-requires g c = over_same g.D.Disk g.M.Book.Replay.fits c.args.store.now.keeper c.accept.new.self.keeper c.args.disk.now c.accept.ensures.logs c.requires.over
+
+pub returns-in-Err-clause-still : goal.returns-in-Err-clause-still
+returns-in-Err-clause-still g c = λ refusal is. over_same g.D.Disk g.M.Book.Replay.fits c.args.store.now.keeper c.accept.new.self.keeper c.args.disk.now c.accept.ensures.logs c.requires.over
+
+pub returns-in-Err-clause-unchanged : goal.returns-in-Err-clause-unchanged
+returns-in-Err-clause-unchanged g c = λ refusal is. (c.in-Err.ensures.err, refl)
+
+pub returns-in-Err-clause-undamaged : goal.returns-in-Err-clause-undamaged
+returns-in-Err-clause-undamaged g c = λ file at is. absurd (not_commit is)
+
+pub returns-in-Err-clause-told : goal.returns-in-Err-clause-told
+returns-in-Err-clause-told g c = anyhow_same (g.D.Disk.seen c.args.disk.now) (g.D.Disk.seen c.args.disk.now) refl
+
+pub returns-in-Err-clause-cause : goal.returns-in-Err-clause-cause
+returns-in-Err-clause-cause g c = λ is. absurd (refused_or_commit is)
+
+pub returns-in-Ok-commit_due-clause-over : goal.returns-in-Ok-commit_due-clause-over
+returns-in-Ok-commit_due-clause-over g c = c.in-Ok-commit_due.ensures.over
+
+pub returns-in-Ok-commit_due-clause-measured : goal.returns-in-Ok-commit_due-clause-measured
+returns-in-Ok-commit_due-clause-measured g c = λ measured.
+    c.in-Ok-commit_due.ensures.measured (measured_same g.D.Disk c.args.store.now.keeper c.accept.new.self.keeper c.args.disk.now c.accept.ensures.logs.log c.accept.ensures.bytes measured)
+
+pub returns-in-Ok-commit_due-clause-undamaged : goal.returns-in-Ok-commit_due-clause-undamaged
+returns-in-Ok-commit_due-clause-undamaged g c = λ file at is. absurd (not_ok is)
+
+pub returns-in-Ok-commit_due-clause-told : goal.returns-in-Ok-commit_due-clause-told
+returns-in-Ok-commit_due-clause-told g c = c.commit_due.ensures.told
+
+pub returns-in-Ok-commit_due-clause-later : goal.returns-in-Ok-commit_due-clause-later
+returns-in-Ok-commit_due-clause-later g c = c.commit_due.ensures.later
+
+pub returns-in-Err-commit_due-clause-still : goal.returns-in-Err-commit_due-clause-still
+returns-in-Err-commit_due-clause-still g c = λ refusal is. absurd (commit_or_refused is)
+
+pub returns-in-Err-commit_due-clause-unchanged : goal.returns-in-Err-commit_due-clause-unchanged
+returns-in-Err-commit_due-clause-unchanged g c = λ refusal is. absurd (commit_or_refused is)
+
+pub returns-in-Err-commit_due-clause-told : goal.returns-in-Err-commit_due-clause-told
+returns-in-Err-commit_due-clause-told g c = c.commit_due.ensures.told
+
+pub returns-in-Err-commit_due-clause-later : goal.returns-in-Err-commit_due-clause-later
+returns-in-Err-commit_due-clause-later g c = c.commit_due.ensures.later
+
+pub returns-in-Err-commit_due-clause-cause : goal.returns-in-Err-commit_due-clause-cause
+returns-in-Err-commit_due-clause-cause g c = λ is. c.in-Err-commit_due.ensures.cause (cause_is c.in-Err-commit_due.fault commits.Disk is)

@@ -5,6 +5,8 @@ use Rattle.ix_run.specs.declared.giving.GiveFault.TheVariants as faults
 use Rattle.std.proofs.lemmas.Int.{to_z-of_z}
 use mir.Val.{SFits}
 use Rattle.std.specs.Int.{w64}
+use Rattle.ix_run.proofs.Faults.{given_ok, uncut_refused}
+use Rattle.ix_run.proofs.Rested.{measured_same}
 use Rattle.ix_run.proofs.Stored.{gave_one, gave_none}
 use Rattle.ix_run.proofs.input.give_one.Goals as goal
 
@@ -24,3 +26,38 @@ pub returns-in-Err-clause-undamaged : goal.returns-in-Err-clause-undamaged
 returns-in-Err-clause-undamaged g c = λ file at is.
     let was : c.give.result ≡ Err (faults.Commit (commits.Damaged file at)) = cc (is, c.in-Err.is) in
     c.give.ensures.undamaged file at was
+
+pub returns-in-Ok-clause-over : goal.returns-in-Ok-clause-over
+returns-in-Ok-clause-over g c = λ uncut. c.in-Ok.ensures.over
+
+pub returns-in-Ok-clause-measured : goal.returns-in-Ok-clause-measured
+returns-in-Ok-clause-measured g c = λ uncut measured. c.in-Ok.ensures.measured measured
+
+pub returns-in-Ok-clause-undamaged : goal.returns-in-Ok-clause-undamaged
+returns-in-Ok-clause-undamaged g c = λ file at is. absurd (given_ok is)
+
+pub returns-in-Ok-clause-told : goal.returns-in-Ok-clause-told
+returns-in-Ok-clause-told g c = c.give.ensures.told
+
+pub returns-in-Ok-clause-later : goal.returns-in-Ok-clause-later
+returns-in-Ok-clause-later g c = c.give.ensures.later
+
+pub returns-in-Err-clause-over : goal.returns-in-Err-clause-over
+returns-in-Err-clause-over g c = λ uncut.
+    let refused = uncut_refused c.in-Err.fault uncut in
+    c.in-Err.ensures.still refused.0 refused.1
+
+pub returns-in-Err-clause-measured : goal.returns-in-Err-clause-measured
+returns-in-Err-clause-measured g c = λ uncut measured.
+    let refused = uncut_refused c.in-Err.fault uncut in
+    let same = c.in-Err.ensures.unchanged refused.0 refused.1 in
+    rw same.1 (measured_same g.D.Disk c.args.store.now.keeper c.give.new.store.keeper c.args.disk.now same.0.keeper.logs.log same.0.keeper.bytes measured)
+
+pub returns-in-Err-clause-told : goal.returns-in-Err-clause-told
+returns-in-Err-clause-told g c = c.give.ensures.told
+
+pub returns-in-Err-clause-later : goal.returns-in-Err-clause-later
+returns-in-Err-clause-later g c = c.give.ensures.later
+
+pub returns-in-Err-clause-cause : goal.returns-in-Err-clause-cause
+returns-in-Err-clause-cause g c = c.in-Err.ensures.cause

@@ -1,14 +1,24 @@
-use Rattle.std.proofs.Common.{rules, ◌≡◌, ◌∷◌, []}
-use Rattle.std.specs.Prelude.{Err}
+use Rattle.std.proofs.Common.{rules, ◌≡◌, ◌∙◌, ◌∷◌, [], sym, arith}
+use Rattle.std.specs.Prelude.{Result, Err}
+use Rattle.std.proofs.lemmas.Bool.{false≢true, true≢false}
 use Rattle.std.proofs.lemmas.Int.{to_z-of_z}
 use mir.Val.{SFits}
 use Rattle.std.specs.Int.{w64}
+use Rattle.ix_disk.proofs.Runs.{rose_earlier, rose_later}
+use Rattle.ix_keep.specs.declared.fault.CommitFault.{CommitFault}
 use Rattle.ix_keep.specs.declared.fault.CommitFault.TheVariants as commits
+use Rattle.ix_keep.proofs.Reading.{anyhow_through}
 use Rattle.ix_machine.specs.Judged.{is_begun}
 use Rattle.ix_machine.specs.Step.{after}
 use Rattle.ix_run.specs.Storing.{tilde, filling, end_order}
+use Rattle.ix_run.specs.declared.giving.GiveFault.TheVariants as faults
+use Rattle.ix_run.specs.declared.input.RunFault.{RunFault}
+use Rattle.ix_run.specs.declared.input.RunFault.TheVariants as stops
 use Rattle.ix_run.proofs.Stored.{read_failed, failed, settled, cut, cut_at, fed_holds}
 use Rattle.ix_run.proofs.input.store_input.Goals as goal
+
+cause_back : (a b : CommitFault) → (let result : Result Unit RunFault = Err (stops.Given (faults.Commit a)) in result ≡ Err (stops.Given (faults.Commit b))) → a ≡ b
+cause_back a b is = cc
 
 pub returns-then-is_run_cut-clause-stored : goal.returns-then-is_run_cut-clause-stored
 returns-then-is_run_cut-clause-stored g c =
@@ -67,3 +77,63 @@ returns-in-Err-clause-undamaged g c = λ file at is choose h base k chooser take
     (simp to_z-of_z at (read.done choose h base k chooser taken hold)) in
     let was : c.commit_all.result ≡ Err (commits.Damaged file at) = cc (is, c.in-Err.is) in
     c.commit_all.ensures.undamaged file at was choose fed.0 base fed.1 fed.2
+
+pub commit_all-requires : goal.commit_all-requires
+commit_all-requires g c = c.run-stored.ensures.over (sym c.is_run_cut.ensures ∙ c.if-is_run_cut.false)
+
+pub returns-then-is_run_cut-clause-rest : goal.returns-then-is_run_cut-clause-rest
+returns-then-is_run_cut-clause-rest g c = λ uncut measured. absurd (false≢true (sym uncut ∙ (sym c.is_run_cut.ensures ∙ c.if-is_run_cut.true)))
+
+pub returns-then-is_run_cut-clause-over : goal.returns-then-is_run_cut-clause-over
+returns-then-is_run_cut-clause-over g c = c.run-stored.ensures.over
+
+pub returns-then-is_run_cut-clause-undamaged : goal.returns-then-is_run_cut-clause-undamaged
+returns-then-is_run_cut-clause-undamaged g c = c.run-stored.ensures.undamaged
+
+pub returns-then-is_run_cut-clause-told : goal.returns-then-is_run_cut-clause-told
+returns-then-is_run_cut-clause-told g c = c.run-stored.ensures.told
+
+pub returns-then-is_run_cut-clause-later : goal.returns-then-is_run_cut-clause-later
+returns-then-is_run_cut-clause-later g c = c.run-stored.ensures.later
+
+pub returns-then-is_run_cut-clause-read_later : goal.returns-then-is_run_cut-clause-read_later
+returns-then-is_run_cut-clause-read_later g c = c.run-stored.ensures.read_later
+
+pub returns-then-is_run_cut-clause-cause : goal.returns-then-is_run_cut-clause-cause
+returns-then-is_run_cut-clause-cause g c = c.run-stored.ensures.cause
+
+pub returns-in-Ok-clause-over : goal.returns-in-Ok-clause-over
+returns-in-Ok-clause-over g c = λ uncut. c.in-Ok.ensures.over
+
+pub returns-in-Ok-clause-rest : goal.returns-in-Ok-clause-rest
+returns-in-Ok-clause-rest g c = λ uncut measured. c.in-Ok.ensures.rest (c.run-stored.ensures.measured uncut measured)
+
+pub returns-in-Ok-clause-told : goal.returns-in-Ok-clause-told
+returns-in-Ok-clause-told g c = anyhow_through (g.D.Disk.seen c.args.disk.now) (g.D.Disk.seen c.run-stored.new.disk) (g.D.Disk.seen c.commit_all.new.disk) c.run-stored.ensures.told c.commit_all.ensures.told
+
+pub returns-in-Ok-clause-later : goal.returns-in-Ok-clause-later
+returns-in-Ok-clause-later g c = omega (arith, c.run-stored.ensures.later, c.commit_all.ensures.later)
+
+pub returns-in-Ok-clause-read_later : goal.returns-in-Ok-clause-read_later
+returns-in-Ok-clause-read_later g c = c.run-stored.ensures.read_later
+
+pub returns-in-Ok-clause-cause : goal.returns-in-Ok-clause-cause
+returns-in-Ok-clause-cause g c = λ is. rose_earlier (g.D.Disk.faults c.args.disk.now) (g.D.Disk.faults c.run-stored.new.disk) (g.D.Disk.faults c.commit_all.new.disk) (c.run-stored.ensures.cause is) c.commit_all.ensures.later
+
+pub returns-in-Err-clause-over : goal.returns-in-Err-clause-over
+returns-in-Err-clause-over g c = λ uncut. absurd (true≢false uncut)
+
+pub returns-in-Err-clause-rest : goal.returns-in-Err-clause-rest
+returns-in-Err-clause-rest g c = λ uncut measured. absurd (true≢false uncut)
+
+pub returns-in-Err-clause-told : goal.returns-in-Err-clause-told
+returns-in-Err-clause-told g c = anyhow_through (g.D.Disk.seen c.args.disk.now) (g.D.Disk.seen c.run-stored.new.disk) (g.D.Disk.seen c.commit_all.new.disk) c.run-stored.ensures.told c.commit_all.ensures.told
+
+pub returns-in-Err-clause-later : goal.returns-in-Err-clause-later
+returns-in-Err-clause-later g c = omega (arith, c.run-stored.ensures.later, c.commit_all.ensures.later)
+
+pub returns-in-Err-clause-read_later : goal.returns-in-Err-clause-read_later
+returns-in-Err-clause-read_later g c = c.run-stored.ensures.read_later
+
+pub returns-in-Err-clause-cause : goal.returns-in-Err-clause-cause
+returns-in-Err-clause-cause g c = λ is. rose_later (g.D.Disk.faults c.args.disk.now) (g.D.Disk.faults c.run-stored.new.disk) (g.D.Disk.faults c.commit_all.new.disk) c.run-stored.ensures.later (c.in-Err.ensures.cause (cause_back c.in-Err.fault commits.Disk is))

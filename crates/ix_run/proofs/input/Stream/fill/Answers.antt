@@ -1,5 +1,5 @@
 use Rattle.std.proofs.Common.{◌≡◌, ◌≤◌, ◌+◌, ℕ, List, [], ◌∷◌, ◌++◌, length, map, take, refl, sym, subst, arith}
-use Rattle.std.specs.Prelude.{Option, Ok, Err}
+use Rattle.std.specs.Prelude.{Option, Result, Ok, Err}
 use Rattle.std.proofs.lemmas.List.{length-take, length-take-le}
 use Rattle.ix_base.specs.Told.{Told, Took}
 use Rattle.ix_disk.proofs.Runs.{rose_later}
@@ -8,10 +8,22 @@ use Rattle.ix_keep.proofs.Reading.{anyhow_same, anyhow_through}
 use Rattle.ix_store.proofs.Booked.{all_more}
 use Rattle.ix_run.specs.Giving.{given_all}
 use Rattle.ix_run.specs.Storing.{block_order, joined, IsBlock, input_limit}
+use Rattle.ix_run.specs.declared.giving.GiveFault.{GiveFault}
 use Rattle.ix_run.specs.declared.giving.GiveFault.TheVariants as faults
+use Rattle.ix_run.specs.declared.input.RunFault.{RunFault}
+use Rattle.ix_run.specs.declared.input.RunFault.TheVariants as stops
 use Rattle.ix_run.proofs.Stored.{took_none, took_more, all_taken, blocks_taken, given_none}
 use Rattle.ix_run.proofs.Filled.{joined_length, took_end, end_still, given_block, feeds_halt, feeds_all}
 use Rattle.ix_run.proofs.input.Stream.fill.Goals as goal
+
+not_ok : {done : Unit} {fault : RunFault} → (let result : Result Unit RunFault = Ok done in result ≡ Err fault) → ⊥
+not_ok is = cc
+
+not_input : {fault : GiveFault} → (let result : Result Unit RunFault = Err stops.Input in result ≡ Err (stops.Given fault)) → ⊥
+not_input is = cc
+
+not_endless : {fault : GiveFault} → (let result : Result Unit RunFault = Err stops.Endless in result ≡ Err (stops.Given fault)) → ⊥
+not_endless is = cc
 
 pub loop-taken-init : goal.loop-taken-init
 loop-taken-init g c = record {
@@ -122,3 +134,82 @@ returns-in-Err-add-clause-undamaged g c = λ file at is choose h base k chooser 
 
 pub returns-in-Err-add-clause-measured : goal.returns-in-Err-add-clause-measured
 returns-in-Err-add-clause-measured g c = λ whole before. c.in-Err-add.ensures.measured whole (c.loop-taken.invariant.measured before)
+
+pub returns-in-Err-clause-over : goal.returns-in-Err-clause-over
+returns-in-Err-clause-over g c = λ uncut. c.loop-taken.invariant.over
+
+pub returns-in-Err-clause-measured : goal.returns-in-Err-clause-measured
+returns-in-Err-clause-measured g c = λ uncut measured. c.loop-taken.invariant.measured measured
+
+pub returns-in-Err-clause-undamaged : goal.returns-in-Err-clause-undamaged
+returns-in-Err-clause-undamaged g c = λ file at is. absurd (not_input is)
+
+pub returns-in-Err-clause-told : goal.returns-in-Err-clause-told
+returns-in-Err-clause-told g c = c.loop-taken.invariant.told
+
+pub returns-in-Err-clause-later : goal.returns-in-Err-clause-later
+returns-in-Err-clause-later g c = c.loop-taken.invariant.later
+
+pub returns-in-Err-clause-read_later : goal.returns-in-Err-clause-read_later
+returns-in-Err-clause-read_later g c = omega (arith, c.loop-taken.invariant.read_later, c.read.ensures.cause.later)
+
+pub returns-in-Err-clause-cause : goal.returns-in-Err-clause-cause
+returns-in-Err-clause-cause g c = λ is. absurd (not_input is)
+
+pub returns-then-n-eq0-clause-over : goal.returns-then-n-eq0-clause-over
+returns-then-n-eq0-clause-over g c = λ uncut. c.loop-taken.invariant.over
+
+pub returns-then-n-eq0-clause-measured : goal.returns-then-n-eq0-clause-measured
+returns-then-n-eq0-clause-measured g c = λ uncut measured. c.loop-taken.invariant.measured measured
+
+pub returns-then-n-eq0-clause-undamaged : goal.returns-then-n-eq0-clause-undamaged
+returns-then-n-eq0-clause-undamaged g c = λ file at is. absurd (not_ok is)
+
+pub returns-then-n-eq0-clause-told : goal.returns-then-n-eq0-clause-told
+returns-then-n-eq0-clause-told g c = c.loop-taken.invariant.told
+
+pub returns-then-n-eq0-clause-later : goal.returns-then-n-eq0-clause-later
+returns-then-n-eq0-clause-later g c = c.loop-taken.invariant.later
+
+pub returns-then-n-eq0-clause-read_later : goal.returns-then-n-eq0-clause-read_later
+returns-then-n-eq0-clause-read_later g c = omega (arith, c.loop-taken.invariant.read_later, c.read.ensures.cause.later)
+
+pub returns-then-n-eq0-clause-cause : goal.returns-then-n-eq0-clause-cause
+returns-then-n-eq0-clause-cause g c = λ is. absurd (not_ok is)
+
+pub returns-clause-over : goal.returns-clause-over
+returns-clause-over g c = λ uncut. c.loop-taken.invariant.over
+
+pub returns-clause-measured : goal.returns-clause-measured
+returns-clause-measured g c = λ uncut measured. c.loop-taken.invariant.measured measured
+
+pub returns-clause-undamaged : goal.returns-clause-undamaged
+returns-clause-undamaged g c = λ file at is. absurd (not_endless is)
+
+pub returns-clause-told : goal.returns-clause-told
+returns-clause-told g c = c.loop-taken.invariant.told
+
+pub returns-clause-later : goal.returns-clause-later
+returns-clause-later g c = c.loop-taken.invariant.later
+
+pub returns-clause-read_later : goal.returns-clause-read_later
+returns-clause-read_later g c = c.loop-taken.invariant.read_later
+
+pub returns-clause-cause : goal.returns-clause-cause
+returns-clause-cause g c = λ is. absurd (not_endless is)
+
+pub returns-in-Err-add-clause-over : goal.returns-in-Err-add-clause-over
+returns-in-Err-add-clause-over g c = c.in-Err-add.ensures.over
+
+pub returns-in-Err-add-clause-told : goal.returns-in-Err-add-clause-told
+returns-in-Err-add-clause-told g c =
+    anyhow_through (g.D.Disk.seen c.args.disk.now) (g.D.Disk.seen c.loop-taken.disk) (g.D.Disk.seen c.add.new.disk) c.loop-taken.invariant.told c.add.ensures.told
+
+pub returns-in-Err-add-clause-later : goal.returns-in-Err-add-clause-later
+returns-in-Err-add-clause-later g c = omega (arith, c.loop-taken.invariant.later, c.add.ensures.later)
+
+pub returns-in-Err-add-clause-read_later : goal.returns-in-Err-add-clause-read_later
+returns-in-Err-add-clause-read_later g c = omega (arith, c.loop-taken.invariant.read_later, c.read.ensures.cause.later)
+
+pub add-requires-clause-over : goal.add-requires-clause-over
+add-requires-clause-over g c = c.loop-taken.invariant.over

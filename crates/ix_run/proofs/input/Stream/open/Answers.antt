@@ -1,11 +1,14 @@
-use Rattle.std.proofs.Common.{◌≡◌, ◌∷◌, []}
+use Rattle.std.proofs.Common.{◌≡◌, ◌∷◌, [], refl, arith}
 use Rattle.std.specs.Prelude.{Err}
+use Rattle.ix_disk.proofs.Runs.{rose_later}
 use Rattle.ix_keep.specs.declared.fault.CommitFault.TheVariants as commits
+use Rattle.ix_keep.proofs.Reading.{anyhow_through}
 use Rattle.ix_machine.specs.Judged.{is_begun}
 use Rattle.ix_machine.specs.Step.{after}
 use Rattle.ix_run.specs.Giving.{given_all}
 use Rattle.ix_run.specs.declared.giving.GiveFault.TheVariants as faults
 use Rattle.ix_run.specs.Storing.{tilde, end_order}
+use Rattle.ix_run.proofs.Faults.{if_err}
 use Rattle.ix_run.proofs.Stored.{all_taken, began, begun_again, not_ended}
 use Rattle.ix_run.proofs.input.Stream.open.Goals as goal
 
@@ -38,3 +41,54 @@ pub returns-in-Err-clause-undamaged : goal.returns-in-Err-clause-undamaged
 returns-in-Err-clause-undamaged g c = λ file at is.
     let was : c.end.result ≡ Err (faults.Commit (commits.Damaged file at)) = cc (is, c.in-Err.is) in
     c.end.ensures.undamaged file at was
+
+pub returns-then-not-has_channel-clause-over : goal.returns-then-not-has_channel-clause-over
+returns-then-not-has_channel-clause-over g c = c.begin.ensures.over
+
+pub returns-then-not-has_channel-clause-measured : goal.returns-then-not-has_channel-clause-measured
+returns-then-not-has_channel-clause-measured g c = c.begin.ensures.measured
+
+pub returns-then-not-has_channel-clause-undamaged : goal.returns-then-not-has_channel-clause-undamaged
+returns-then-not-has_channel-clause-undamaged g c = c.begin.ensures.undamaged
+
+pub returns-then-not-has_channel-clause-told : goal.returns-then-not-has_channel-clause-told
+returns-then-not-has_channel-clause-told g c = c.begin.ensures.told
+
+pub returns-then-not-has_channel-clause-later : goal.returns-then-not-has_channel-clause-later
+returns-then-not-has_channel-clause-later g c = c.begin.ensures.later
+
+pub returns-then-not-has_channel-clause-cause : goal.returns-then-not-has_channel-clause-cause
+returns-then-not-has_channel-clause-cause g c = c.begin.ensures.cause
+
+pub returns-in-Ok-clause-over : goal.returns-in-Ok-clause-over
+returns-in-Ok-clause-over g c = c.begin-in-Ok.ensures.over
+
+pub returns-in-Ok-clause-measured : goal.returns-in-Ok-clause-measured
+returns-in-Ok-clause-measured g c = λ uncut measured. c.begin-in-Ok.ensures.measured uncut (c.in-Ok.ensures.measured refl measured)
+
+pub returns-in-Ok-clause-told : goal.returns-in-Ok-clause-told
+returns-in-Ok-clause-told g c =
+    anyhow_through (g.D.Disk.seen c.args.disk.now) (g.D.Disk.seen c.end.new.disk) (g.D.Disk.seen c.begin-in-Ok.new.disk) c.end.ensures.told c.begin-in-Ok.ensures.told
+
+pub returns-in-Ok-clause-later : goal.returns-in-Ok-clause-later
+returns-in-Ok-clause-later g c = omega (arith, c.end.ensures.later, c.begin-in-Ok.ensures.later)
+
+pub returns-in-Err-clause-over : goal.returns-in-Err-clause-over
+returns-in-Err-clause-over g c = c.in-Err.ensures.over
+
+pub returns-in-Err-clause-measured : goal.returns-in-Err-clause-measured
+returns-in-Err-clause-measured g c = c.in-Err.ensures.measured
+
+pub returns-in-Err-clause-told : goal.returns-in-Err-clause-told
+returns-in-Err-clause-told g c = c.end.ensures.told
+
+pub returns-in-Err-clause-later : goal.returns-in-Err-clause-later
+returns-in-Err-clause-later g c = c.end.ensures.later
+
+pub returns-in-Err-clause-cause : goal.returns-in-Err-clause-cause
+returns-in-Err-clause-cause g c = c.in-Err.ensures.cause
+
+pub returns-in-Ok-clause-cause : goal.returns-in-Ok-clause-cause
+returns-in-Ok-clause-cause g c =
+    if_err c.begin-in-Ok.result (λ fault so is. rose_later (g.D.Disk.faults c.args.disk.now) (g.D.Disk.faults c.end.new.disk) (g.D.Disk.faults c.begin-in-Ok.new.disk) c.end.ensures.later (so is))
+    c.begin-in-Ok.ensures.cause

@@ -1,16 +1,36 @@
-use Rattle.std.proofs.Common.{◌≡◌, [], ◌∷◌, ◌++◌, arith, map, refl}
-use Rattle.std.specs.Prelude.{Ok, Err}
+use Rattle.std.proofs.Common.{◌≡◌, ◌∙◌, [], ◌∷◌, ◌++◌, arith, map, refl, sym}
+use Rattle.std.specs.Prelude.{Result, Ok, Err}
+use Rattle.ix_disk.proofs.Runs.{rose_later}
+use Rattle.ix_keep.specs.declared.fault.CommitFault.{CommitFault}
 use Rattle.ix_keep.specs.declared.fault.CommitFault.TheVariants as commits
+use Rattle.ix_keep.proofs.Reading.{anyhow_same, anyhow_through}
 use Rattle.ix_machine.specs.Judged.{is_begun}
+use Rattle.ix_machine.specs.declared.answers.Refusal.TheVariants as refusals
 use Rattle.ix_machine.specs.Step.{after}
 use Rattle.ix_store.proofs.Booked.{all_more}
 use Rattle.ix_run.specs.Giving.{given_all}
+use Rattle.ix_run.specs.declared.giving.GiveFault.{GiveFault}
 use Rattle.ix_run.specs.declared.giving.GiveFault.TheVariants as faults
+use Rattle.ix_run.specs.declared.input.RunFault.{RunFault}
 use Rattle.ix_run.specs.declared.input.RunFault.TheVariants as stops
 use Rattle.ix_run.specs.Storing.{tilde, opening, block_order, end_order}
 use Rattle.ix_run.proofs.Stored.{took_none, all_taken, blocks_taken, opening_taken, gives_on, halted_first, opened, feeds_on, feeds_more}
 use Rattle.ix_run.proofs.Filled.{filled_on}
 use Rattle.ix_run.proofs.input.Stream.run.Goals as goal
+
+not_ok : {done : Unit} {fault : RunFault} → (let result : Result Unit RunFault = Ok done in result ≡ Err fault) → ⊥
+not_ok is = cc
+
+given_back : (a b : GiveFault) → (let result : Result Unit RunFault = Err (stops.Given a) in result ≡ Err (stops.Given b)) → a ≡ b
+given_back a b is = cc
+
+not_refused : (cause : CommitFault) → faults.Refused refusals.NoMemory ≡ faults.Commit cause → ⊥
+not_refused cause is = cc
+
+-- what is refused is no fault of the disk
+not_cut : (fault : GiveFault) (cause : CommitFault) → fault ≡ faults.Refused refusals.NoMemory →
+    (let result : Result Unit RunFault = Err (stops.Given fault) in result ≡ Err (stops.Given (faults.Commit cause))) → ⊥
+not_cut fault cause refused is = not_refused cause (sym refused ∙ given_back fault (faults.Commit cause) is)
 
 pub returns-in-Err-clause-read : goal.returns-in-Err-clause-read
 returns-in-Err-clause-read g c = rw c.in-Err.ensures.refused record {
@@ -124,3 +144,89 @@ returns-in-Ok-end-clause-measured g c = λ uncut measured. c.in-Ok-end.ensures.m
 
 pub returns-clause-measured : goal.returns-clause-measured
 returns-clause-measured g c = λ uncut measured. c.in-Err-end.ensures.measured uncut (c.in-Ok-fill.ensures.measured refl (c.in-Ok-open.ensures.measured refl measured))
+
+pub returns-in-Err-clause-over : goal.returns-in-Err-clause-over
+returns-in-Err-clause-over g c = λ uncut. c.requires.over
+
+pub returns-in-Err-clause-measured : goal.returns-in-Err-clause-measured
+returns-in-Err-clause-measured g c = λ uncut measured. measured
+
+pub returns-in-Err-clause-undamaged : goal.returns-in-Err-clause-undamaged
+returns-in-Err-clause-undamaged g c = λ file at is. absurd (not_cut c.in-Err.fault (commits.Damaged file at) c.in-Err.ensures.refused is)
+
+pub returns-in-Err-clause-told : goal.returns-in-Err-clause-told
+returns-in-Err-clause-told g c = anyhow_same (g.D.Disk.seen c.args.disk.now) (g.D.Disk.seen c.args.disk.now) refl
+
+pub returns-in-Err-clause-cause : goal.returns-in-Err-clause-cause
+returns-in-Err-clause-cause g c = λ is. absurd (not_cut c.in-Err.fault commits.Disk c.in-Err.ensures.refused is)
+
+pub returns-in-Err-open-clause-over : goal.returns-in-Err-open-clause-over
+returns-in-Err-open-clause-over g c = c.in-Err-open.ensures.over
+
+pub returns-in-Err-open-clause-measured : goal.returns-in-Err-open-clause-measured
+returns-in-Err-open-clause-measured g c = c.in-Err-open.ensures.measured
+
+pub returns-in-Err-open-clause-told : goal.returns-in-Err-open-clause-told
+returns-in-Err-open-clause-told g c = c.open.ensures.told
+
+pub returns-in-Err-open-clause-later : goal.returns-in-Err-open-clause-later
+returns-in-Err-open-clause-later g c = c.open.ensures.later
+
+pub returns-in-Err-open-clause-cause : goal.returns-in-Err-open-clause-cause
+returns-in-Err-open-clause-cause g c = λ is. c.in-Err-open.ensures.cause (given_back c.in-Err-open.fault (faults.Commit commits.Disk) is)
+
+pub returns-in-Err-fill-clause-over : goal.returns-in-Err-fill-clause-over
+returns-in-Err-fill-clause-over g c = c.in-Err-fill.ensures.over
+
+pub returns-in-Err-fill-clause-measured : goal.returns-in-Err-fill-clause-measured
+returns-in-Err-fill-clause-measured g c = λ uncut measured. c.in-Err-fill.ensures.measured uncut (c.in-Ok-open.ensures.measured refl measured)
+
+pub returns-in-Err-fill-clause-told : goal.returns-in-Err-fill-clause-told
+returns-in-Err-fill-clause-told g c =
+    anyhow_through (g.D.Disk.seen c.args.disk.now) (g.D.Disk.seen c.open.new.disk) (g.D.Disk.seen c.fill.new.disk) c.open.ensures.told c.fill.ensures.told
+
+pub returns-in-Err-fill-clause-later : goal.returns-in-Err-fill-clause-later
+returns-in-Err-fill-clause-later g c = omega (arith, c.open.ensures.later, c.fill.ensures.later)
+
+pub returns-in-Err-fill-clause-read_later : goal.returns-in-Err-fill-clause-read_later
+returns-in-Err-fill-clause-read_later g c = c.fill.ensures.read_later
+
+pub returns-in-Err-fill-clause-cause : goal.returns-in-Err-fill-clause-cause
+returns-in-Err-fill-clause-cause g c = λ is.
+    rose_later (g.D.Disk.faults c.args.disk.now) (g.D.Disk.faults c.open.new.disk) (g.D.Disk.faults c.fill.new.disk) c.open.ensures.later (c.in-Err-fill.ensures.cause is)
+
+pub returns-in-Ok-end-clause-over : goal.returns-in-Ok-end-clause-over
+returns-in-Ok-end-clause-over g c = λ uncut. c.in-Ok-end.ensures.over refl
+
+pub returns-in-Ok-end-clause-undamaged : goal.returns-in-Ok-end-clause-undamaged
+returns-in-Ok-end-clause-undamaged g c = λ file at is. absurd (not_ok is)
+
+pub returns-in-Ok-end-clause-told : goal.returns-in-Ok-end-clause-told
+returns-in-Ok-end-clause-told g c =
+    anyhow_through (g.D.Disk.seen c.args.disk.now) (g.D.Disk.seen c.fill.new.disk) (g.D.Disk.seen c.end.new.disk) (anyhow_through (g.D.Disk.seen c.args.disk.now) (g.D.Disk.seen c.open.new.disk) (g.D.Disk.seen c.fill.new.disk) c.open.ensures.told c.fill.ensures.told) c.end.ensures.told
+
+pub returns-in-Ok-end-clause-later : goal.returns-in-Ok-end-clause-later
+returns-in-Ok-end-clause-later g c = omega (arith, c.open.ensures.later, c.fill.ensures.later, c.end.ensures.later)
+
+pub returns-in-Ok-end-clause-read_later : goal.returns-in-Ok-end-clause-read_later
+returns-in-Ok-end-clause-read_later g c = c.fill.ensures.read_later
+
+pub returns-in-Ok-end-clause-cause : goal.returns-in-Ok-end-clause-cause
+returns-in-Ok-end-clause-cause g c = λ is. absurd (not_ok is)
+
+pub returns-clause-over : goal.returns-clause-over
+returns-clause-over g c = c.in-Err-end.ensures.over
+
+pub returns-clause-told : goal.returns-clause-told
+returns-clause-told g c =
+    anyhow_through (g.D.Disk.seen c.args.disk.now) (g.D.Disk.seen c.fill.new.disk) (g.D.Disk.seen c.end.new.disk) (anyhow_through (g.D.Disk.seen c.args.disk.now) (g.D.Disk.seen c.open.new.disk) (g.D.Disk.seen c.fill.new.disk) c.open.ensures.told c.fill.ensures.told) c.end.ensures.told
+
+pub returns-clause-later : goal.returns-clause-later
+returns-clause-later g c = omega (arith, c.open.ensures.later, c.fill.ensures.later, c.end.ensures.later)
+
+pub returns-clause-read_later : goal.returns-clause-read_later
+returns-clause-read_later g c = c.fill.ensures.read_later
+
+pub returns-clause-cause : goal.returns-clause-cause
+returns-clause-cause g c = λ is.
+    rose_later (g.D.Disk.faults c.args.disk.now) (g.D.Disk.faults c.fill.new.disk) (g.D.Disk.faults c.end.new.disk) (omega (arith, c.open.ensures.later, c.fill.ensures.later)) (c.in-Err-end.ensures.cause (given_back c.in-Err-end.fault (faults.Commit commits.Disk) is))
