@@ -24,6 +24,9 @@ not_commit is = cc
 pub cause_is : (a b : CommitFault) → faults.Commit a ≡ faults.Commit b → a ≡ b
 cause_is a b is = cc
 
+pub cause_back : (a b : CommitFault) → (let result : Result Accepted GiveFault = Err (faults.Commit a) in result ≡ Err (faults.Commit b)) → a ≡ b
+cause_back a b is = cc
+
 pub if_err : {T E : Type 0} {P Q : E → Type 0} (result : Result T E) → ((fault : E) → P fault → Q fault) → IfErr result P → IfErr result Q
 if_err (Ok value) so is = tt
 if_err (Err fault) so is = so fault is
@@ -33,7 +36,7 @@ if_err (Err fault) so is = so fault is
 pub given_ok : {done : Unit} {fault : GiveFault} → (let result : Result Unit GiveFault = Ok done in result ≡ Err fault) → ⊥
 given_ok is = cc
 
-fault_is : (a b : GiveFault) → (let result : Result Unit GiveFault = Err a in result ≡ Err b) → a ≡ b
+pub fault_is : (a b : GiveFault) → (let result : Result Unit GiveFault = Err a in result ≡ Err b) → a ≡ b
 fault_is a b is = cc
 
 -- what is refused is no fault of the disk

@@ -51,6 +51,8 @@ pub fn shorten<M: Listing + Drop, D: Disk>(
     if !store.wants_checkpoint() {
         return Ok(());
     }
-    store.checkpoint(disk)?;
-    Ok(())
+    match store.checkpoint(disk) {
+        Ok(()) => Ok(()),
+        Err(fault) => Err(fault),
+    }
 }

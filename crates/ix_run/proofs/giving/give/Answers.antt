@@ -1,5 +1,6 @@
-use Rattle.std.proofs.Common.{rules, ◌≡◌, refl}
+use Rattle.std.proofs.Common.{rules, refl, ap}
 use Rattle.std.specs.Prelude.{Err}
+use Rattle.ix_keep.specs.declared.fault.CommitFault.{CommitFault}
 use Rattle.ix_keep.specs.declared.fault.CommitFault.TheVariants as commits
 use Rattle.ix_keep.proofs.Beginning.{over_same}
 use Rattle.ix_keep.proofs.Reading.{anyhow_same}
@@ -8,7 +9,7 @@ use mir.Val.{SFits}
 use Rattle.std.specs.Int.{w64}
 use Rattle.ix_store.proofs.Joining.{more_taken, staged_same}
 use Rattle.ix_store.proofs.Lawful.{held_then}
-use Rattle.ix_run.proofs.Faults.{not_ok, refused_or_commit, commit_or_refused, not_commit, cause_is}
+use Rattle.ix_run.proofs.Faults.{not_ok, refused_or_commit, commit_or_refused, not_commit, cause_is, cause_back}
 use Rattle.ix_run.proofs.Gone.{gone_none, given, given_stood}
 use Rattle.ix_run.proofs.Rested.{measured_same}
 use Rattle.ix_run.proofs.giving.give.Goals as goal
@@ -39,8 +40,8 @@ pub returns-in-Err-commit_due-clause-undamaged : goal.returns-in-Err-commit_due-
 returns-in-Err-commit_due-clause-undamaged g c = λ file at is choose h base k chooser taken hold.
     let fits : SFits w64 c.args.moment = search rules in
     let accepted = simp to_z-of_z at (c.in-Ok.ensures.accepted choose h base k hold.old chooser taken hold.staged) in
-    let was : c.commit_due.result ≡ Err (commits.Damaged file at) = cc (is, c.in-Err-commit_due.is) in
-    c.commit_due.ensures.undamaged file at was choose _ base k (held_then g.D.Disk _ g.M.Memory.holds choose h _ base k c.args.store.now c.accept.new.self c.args.disk.now hold c.accept.ensures.logs accepted.staged)
+    let cause = cause_back c.in-Err-commit_due.fault (commits.Damaged file at) is in
+    c.in-Err-commit_due.ensures.undamaged file at (ap (λ (f : CommitFault). Err f) cause) choose _ base k (held_then g.D.Disk _ g.M.Memory.holds choose h _ base k c.args.store.now c.accept.new.self c.args.disk.now hold c.accept.ensures.logs accepted.staged)
 
 pub commit_due-requires : goal.commit_due-requires
 commit_due-requires g c = over_same g.D.Disk g.M.Book.Replay.fits c.args.store.now.keeper c.accept.new.self.keeper c.args.disk.now c.accept.ensures.logs c.requires.over

@@ -1,11 +1,12 @@
-use Rattle.std.proofs.Common.{rules, ◌≡◌}
+use Rattle.std.proofs.Common.{rules, ap}
 use Rattle.std.specs.Prelude.{Err}
 use Rattle.ix_keep.specs.declared.fault.CommitFault.TheVariants as commits
+use Rattle.ix_run.specs.declared.giving.GiveFault.{GiveFault}
 use Rattle.ix_run.specs.declared.giving.GiveFault.TheVariants as faults
 use Rattle.std.proofs.lemmas.Int.{to_z-of_z}
 use mir.Val.{SFits}
 use Rattle.std.specs.Int.{w64}
-use Rattle.ix_run.proofs.Faults.{given_ok, uncut_refused}
+use Rattle.ix_run.proofs.Faults.{given_ok, fault_is, uncut_refused}
 use Rattle.ix_run.proofs.Rested.{measured_same}
 use Rattle.ix_run.proofs.Stored.{gave_one, gave_none}
 use Rattle.ix_run.proofs.input.give_one.Goals as goal
@@ -24,8 +25,7 @@ returns-in-Err-clause-given g c = λ choose h base k chooser taken hold.
 
 pub returns-in-Err-clause-undamaged : goal.returns-in-Err-clause-undamaged
 returns-in-Err-clause-undamaged g c = λ file at is.
-    let was : c.give.result ≡ Err (faults.Commit (commits.Damaged file at)) = cc (is, c.in-Err.is) in
-    c.give.ensures.undamaged file at was
+    c.in-Err.ensures.undamaged file at (ap (λ (f : GiveFault). Err f) (fault_is c.in-Err.fault (faults.Commit (commits.Damaged file at)) is))
 
 pub returns-in-Ok-clause-over : goal.returns-in-Ok-clause-over
 returns-in-Ok-clause-over g c = λ uncut. c.in-Ok.ensures.over

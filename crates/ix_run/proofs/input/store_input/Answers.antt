@@ -1,4 +1,4 @@
-use Rattle.std.proofs.Common.{rules, ◌≡◌, ◌∙◌, ◌∷◌, [], sym, arith}
+use Rattle.std.proofs.Common.{rules, ◌≡◌, ◌∙◌, ◌∷◌, [], sym, ap, arith}
 use Rattle.std.specs.Prelude.{Result, Err}
 use Rattle.std.proofs.lemmas.Bool.{false≢true, true≢false}
 use Rattle.std.proofs.lemmas.Int.{to_z-of_z}
@@ -30,7 +30,7 @@ returns-then-is_run_cut-clause-stored g c =
       done = λ choose h base k chooser taken hold.
           let fits : SFits w64 c.args.arrival.moment = search rules in
           cut g.D.Disk g.M.Book.Replay.fits g.M.Memory.holds choose h base k c.run-stored.new.store c.args.disk.now c.run-stored.new.disk c.run-stored.result
-          (filling (is_begun (after choose h) tilde) c.args.arrival.origin c.args.arrival.moment read.pieces) (end_order c.args.arrival.moment ∷ []) (cc)
+          (filling (is_begun (after choose h) tilde) c.args.arrival.origin c.args.arrival.moment read.pieces) (end_order c.args.arrival.moment ∷ []) (sym c.is_run_cut.ensures ∙ c.if-is_run_cut.true)
           (simp to_z-of_z at (read.done choose h base k chooser taken hold));
     }
 
@@ -45,7 +45,7 @@ returns-in-Ok-clause-stored g c =
           let fits : SFits w64 c.args.arrival.moment = search rules in
           settled g.D.Disk g.M.Book.Replay.fits g.M.Memory.holds choose h base k c.run-stored.new.store c.commit_all.new.store c.args.disk.now c.run-stored.new.disk c.commit_all.new.disk
           (c.commit_all.ensures.stood choose) (c.in-Ok.ensures.done choose) c.run-stored.result
-          (filling (is_begun (after choose h) tilde) c.args.arrival.origin c.args.arrival.moment read.pieces) (end_order c.args.arrival.moment ∷ []) (cc)
+          (filling (is_begun (after choose h) tilde) c.args.arrival.origin c.args.arrival.moment read.pieces) (end_order c.args.arrival.moment ∷ []) (sym c.is_run_cut.ensures ∙ c.if-is_run_cut.false)
           (simp to_z-of_z at (read.done choose h base k chooser taken hold));
     }
 
@@ -60,23 +60,23 @@ returns-in-Err-clause-stored g c =
           let fits : SFits w64 c.args.arrival.moment = search rules in
           failed g.D.Disk g.M.Book.Replay.fits g.M.Memory.holds choose h base k c.run-stored.new.store c.commit_all.new.store c.args.disk.now c.run-stored.new.disk c.commit_all.new.disk
           (c.commit_all.ensures.stood choose) c.run-stored.result c.in-Err.fault
-          (filling (is_begun (after choose h) tilde) c.args.arrival.origin c.args.arrival.moment read.pieces) (end_order c.args.arrival.moment ∷ []) (cc)
+          (filling (is_begun (after choose h) tilde) c.args.arrival.origin c.args.arrival.moment read.pieces) (end_order c.args.arrival.moment ∷ []) (sym c.is_run_cut.ensures ∙ c.if-is_run_cut.false)
           (simp to_z-of_z at (read.done choose h base k chooser taken hold));
     }
 
 pub returns-in-Ok-clause-undamaged : goal.returns-in-Ok-clause-undamaged
 returns-in-Ok-clause-undamaged g c = λ file at is choose h base k chooser taken hold.
-    absurd (cut_at c.run-stored.result (commits.Damaged file at) (cc) is)
+    absurd (cut_at c.run-stored.result (commits.Damaged file at) (sym c.is_run_cut.ensures ∙ c.if-is_run_cut.false) is)
 
 pub returns-in-Err-clause-undamaged : goal.returns-in-Err-clause-undamaged
 returns-in-Err-clause-undamaged g c = λ file at is choose h base k chooser taken hold.
     let read = c.run-stored.ensures.read in
     let fits : SFits w64 c.args.arrival.moment = search rules in
     let fed = fed_holds g.D.Disk g.M.Book.Replay.fits g.M.Memory.holds choose h base k c.run-stored.new.store c.args.disk.now c.run-stored.new.disk c.run-stored.result
-    (filling (is_begun (after choose h) tilde) c.args.arrival.origin c.args.arrival.moment read.pieces) (end_order c.args.arrival.moment ∷ []) (cc)
+    (filling (is_begun (after choose h) tilde) c.args.arrival.origin c.args.arrival.moment read.pieces) (end_order c.args.arrival.moment ∷ []) (sym c.is_run_cut.ensures ∙ c.if-is_run_cut.false)
     (simp to_z-of_z at (read.done choose h base k chooser taken hold)) in
-    let was : c.commit_all.result ≡ Err (commits.Damaged file at) = cc (is, c.in-Err.is) in
-    c.commit_all.ensures.undamaged file at was choose fed.0 base fed.1 fed.2
+    let was = cause_back c.in-Err.fault (commits.Damaged file at) is in
+    c.in-Err.ensures.undamaged file at (ap (λ (f : CommitFault). Err f) was) choose fed.0 base fed.1 fed.2
 
 pub commit_all-requires : goal.commit_all-requires
 commit_all-requires g c = c.run-stored.ensures.over (sym c.is_run_cut.ensures ∙ c.if-is_run_cut.false)
@@ -137,3 +137,6 @@ returns-in-Err-clause-read_later g c = c.run-stored.ensures.read_later
 
 pub returns-in-Err-clause-cause : goal.returns-in-Err-clause-cause
 returns-in-Err-clause-cause g c = λ is. rose_later (g.D.Disk.faults c.args.disk.now) (g.D.Disk.faults c.run-stored.new.disk) (g.D.Disk.faults c.commit_all.new.disk) c.run-stored.ensures.later (c.in-Err.ensures.cause (cause_back c.in-Err.fault commits.Disk is))
+
+pub run-stored-requires-clause-over : goal.run-stored-requires-clause-over
+run-stored-requires-clause-over g c = c.requires.over

@@ -1,12 +1,13 @@
-use Rattle.std.proofs.Common.{rules, ◌≡◌, arith}
+use Rattle.std.proofs.Common.{rules, ap, arith}
 use Rattle.std.specs.Prelude.{Err}
 use Rattle.ix_disk.proofs.Runs.{rose_later}
+use Rattle.ix_keep.specs.declared.fault.CommitFault.{CommitFault}
 use Rattle.ix_keep.specs.declared.fault.CommitFault.TheVariants as commits
 use Rattle.ix_keep.proofs.Reading.{anyhow_through}
 use Rattle.std.proofs.lemmas.Int.{to_z-of_z}
 use mir.Val.{SFits}
 use Rattle.std.specs.Int.{w64}
-use Rattle.ix_run.proofs.Faults.{not_ok, commit_or_refused, cause_is}
+use Rattle.ix_run.proofs.Faults.{not_ok, commit_or_refused, cause_is, cause_back}
 use Rattle.ix_run.proofs.Given.{kept_last, stood_last}
 use Rattle.ix_run.proofs.single.give_last.Goals as goal
 
@@ -28,8 +29,8 @@ pub returns-in-Err-commit_all-clause-undamaged : goal.returns-in-Err-commit_all-
 returns-in-Err-commit_all-clause-undamaged g c = λ file at is choose h base k chooser taken hold.
     let fits : SFits w64 c.args.moment = search rules in
     let one = simp to_z-of_z at (c.in-Ok.ensures.given choose h base k chooser taken hold) in
-    let was : c.commit_all.result ≡ Err (commits.Damaged file at) = cc (is, c.in-Err-commit_all.is) in
-    c.commit_all.ensures.undamaged file at was choose _ base one.gone.count one.gone.hold
+    let cause = cause_back c.in-Err-commit_all.fault (commits.Damaged file at) is in
+    c.in-Err-commit_all.ensures.undamaged file at (ap (λ (f : CommitFault). Err f) cause) choose _ base one.gone.count one.gone.hold
 
 pub commit_all-requires : goal.commit_all-requires
 commit_all-requires g c = c.in-Ok.ensures.over

@@ -1,4 +1,4 @@
-use Rattle.std.proofs.Common.{◌≡◌, ◌≤◌, ◌+◌, ℕ, List, [], ◌∷◌, ◌++◌, length, map, take, refl, sym, subst, arith}
+use Rattle.std.proofs.Common.{◌≡◌, ◌≤◌, ◌+◌, ℕ, List, [], ◌∷◌, ◌++◌, length, map, take, refl, sym, ap, subst, arith}
 use Rattle.std.specs.Prelude.{Option, Result, Ok, Err}
 use Rattle.std.proofs.lemmas.List.{length-take, length-take-le}
 use Rattle.ix_base.specs.Told.{Told, Took}
@@ -24,6 +24,9 @@ not_input is = cc
 
 not_endless : {fault : GiveFault} → (let result : Result Unit RunFault = Err stops.Endless in result ≡ Err (stops.Given fault)) → ⊥
 not_endless is = cc
+
+given_back : (a b : GiveFault) → (let result : Result Unit RunFault = Err (stops.Given a) in result ≡ Err (stops.Given b)) → a ≡ b
+given_back a b is = cc
 
 pub loop-taken-init : goal.loop-taken-init
 loop-taken-init g c = record {
@@ -89,7 +92,7 @@ returns-in-Err-add-clause-read g c =
 
 pub returns-in-Err-add-clause-cause : goal.returns-in-Err-add-clause-cause
 returns-in-Err-add-clause-cause g c = λ is.
-    let e : c.in-Err-add.fault ≡ faults.Commit commits.Disk = cc in
+    let e = given_back c.in-Err-add.fault (faults.Commit commits.Disk) is in
     rose_later (g.D.Disk.faults c.args.disk.now) (g.D.Disk.faults c.loop-taken.disk) (g.D.Disk.faults c.add.new.disk) c.loop-taken.invariant.later (c.in-Err-add.ensures.cause e)
 
 pub loop-taken-preserved : goal.loop-taken-preserved
@@ -127,8 +130,8 @@ returns-clause-read g c = record {
 pub returns-in-Err-add-clause-undamaged : goal.returns-in-Err-add-clause-undamaged
 returns-in-Err-add-clause-undamaged g c = λ file at is choose h base k chooser taken hold.
     let one = c.loop-taken.invariant.given choose h base k chooser taken hold in
-    let was : c.add.result ≡ Err (faults.Commit (commits.Damaged file at)) = cc (is, c.in-Err-add.is) in
-    c.add.ensures.undamaged file at was choose (given_all choose h (map (block_order c.args.self.moment) c.loop-taken.invariant.pieces)) base one.count chooser
+    let was : c.in-Err-add.fault ≡ faults.Commit (commits.Damaged file at) = given_back c.in-Err-add.fault (faults.Commit (commits.Damaged file at)) is in
+    c.in-Err-add.ensures.undamaged file at (ap (λ (f : GiveFault). Err f) was) choose (given_all choose h (map (block_order c.args.self.moment) c.loop-taken.invariant.pieces)) base one.count chooser
     (all_taken g.M.Memory.takes g.met.M.Memory.ticks_are_taken choose h (map (block_order c.args.self.moment) c.loop-taken.invariant.pieces) taken
     (blocks_taken g.M.Memory.takes c.args.self.moment c.requires.takes c.loop-taken.invariant.pieces c.loop-taken.invariant.sizes)) one.hold
 

@@ -1,4 +1,4 @@
-use Rattle.std.proofs.Common.{◌≡◌, ◌∙◌, [], ◌∷◌, ◌++◌, arith, map, refl, sym}
+use Rattle.std.proofs.Common.{◌≡◌, ◌∙◌, [], ◌∷◌, ◌++◌, arith, map, refl, sym, ap}
 use Rattle.std.specs.Prelude.{Result, Ok, Err}
 use Rattle.ix_disk.proofs.Runs.{rose_later}
 use Rattle.ix_keep.specs.declared.fault.CommitFault.{CommitFault}
@@ -116,8 +116,7 @@ returns-in-Err-fill-clause-undamaged g c = λ file at is choose h base k chooser
     let a = opening (is_begun (after choose h) tilde) c.args.origin c.args.self.moment in
     let one = c.in-Ok-open.ensures.given choose h base k chooser taken hold in
     let all = all_taken g.M.Memory.takes g.met.M.Memory.ticks_are_taken choose h a taken (opening_taken g.M.Memory.takes c.args.origin c.args.self.moment c.requires.ends c.requires.begins (is_begun (after choose h) tilde)) in
-    let was : c.fill.result ≡ Err (stops.Given (faults.Commit (commits.Damaged file at))) = cc (is, c.in-Err-fill.is) in
-    c.fill.ensures.undamaged file at was choose (given_all choose h a) base one.count chooser all one.hold
+    c.in-Err-fill.ensures.undamaged file at is choose (given_all choose h a) base one.count chooser all one.hold
 
 pub returns-clause-undamaged : goal.returns-clause-undamaged
 returns-clause-undamaged g c = λ file at is choose h base k chooser taken hold.
@@ -131,13 +130,13 @@ returns-clause-undamaged g c = λ file at is choose h base k chooser taken hold.
     (read.done choose (given_all choose h a) base one.count chooser all one.hold) in
     let more = all_taken g.M.Memory.takes g.met.M.Memory.ticks_are_taken choose h (a ++ b) taken
     (all_more g.M.Memory.takes a b open_taken (blocks_taken g.M.Memory.takes c.args.self.moment c.requires.adds read.pieces read.sizes)) in
-    let was : c.end.result ≡ Err (faults.Commit (commits.Damaged file at)) = cc (is, c.in-Err-end.is) in
-    c.end.ensures.undamaged file at was choose (given_all choose h (a ++ b)) base both.count chooser more both.hold
+    let was : c.in-Err-end.fault ≡ faults.Commit (commits.Damaged file at) = given_back c.in-Err-end.fault (faults.Commit (commits.Damaged file at)) is in
+    c.in-Err-end.ensures.undamaged file at (ap (λ (f : GiveFault). Err f) was) choose (given_all choose h (a ++ b)) base both.count chooser more both.hold
 
 pub returns-in-Err-open-clause-undamaged : goal.returns-in-Err-open-clause-undamaged
 returns-in-Err-open-clause-undamaged g c = λ file at is.
-    let was : c.open.result ≡ Err (faults.Commit (commits.Damaged file at)) = cc (is, c.in-Err-open.is) in
-    c.open.ensures.undamaged file at was
+    let was : c.in-Err-open.fault ≡ faults.Commit (commits.Damaged file at) = given_back c.in-Err-open.fault (faults.Commit (commits.Damaged file at)) is in
+    c.in-Err-open.ensures.undamaged file at (ap (λ (f : GiveFault). Err f) was)
 
 pub returns-in-Ok-end-clause-measured : goal.returns-in-Ok-end-clause-measured
 returns-in-Ok-end-clause-measured g c = λ uncut measured. c.in-Ok-end.ensures.measured refl (c.in-Ok-fill.ensures.measured refl (c.in-Ok-open.ensures.measured refl measured))
@@ -230,3 +229,24 @@ returns-clause-read_later g c = c.fill.ensures.read_later
 pub returns-clause-cause : goal.returns-clause-cause
 returns-clause-cause g c = λ is.
     rose_later (g.D.Disk.faults c.args.disk.now) (g.D.Disk.faults c.fill.new.disk) (g.D.Disk.faults c.end.new.disk) (omega (arith, c.open.ensures.later, c.fill.ensures.later)) (c.in-Err-end.ensures.cause (given_back c.in-Err-end.fault (faults.Commit commits.Disk) is))
+
+pub open-requires-clause-over : goal.open-requires-clause-over
+open-requires-clause-over g c = c.requires.over
+
+pub open-requires-clause-ends : goal.open-requires-clause-ends
+open-requires-clause-ends g c = c.requires.ends
+
+pub open-requires-clause-begins : goal.open-requires-clause-begins
+open-requires-clause-begins g c = c.requires.begins
+
+pub fill-requires-clause-over : goal.fill-requires-clause-over
+fill-requires-clause-over g c = c.in-Ok-open.ensures.over refl
+
+pub fill-requires-clause-takes : goal.fill-requires-clause-takes
+fill-requires-clause-takes g c = c.requires.adds
+
+pub end-requires-clause-over : goal.end-requires-clause-over
+end-requires-clause-over g c = c.in-Ok-fill.ensures.over refl
+
+pub end-requires-clause-takes : goal.end-requires-clause-takes
+end-requires-clause-takes g c = c.requires.ends
