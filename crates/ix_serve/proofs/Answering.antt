@@ -34,7 +34,7 @@ use Rattle.ix_serve.specs.Answer.{Answer, Found, Says, MayChange, is_whole, acce
 use Rattle.ix_serve.specs.Entries.{Entry, state, order}
 use Rattle.ix_serve.specs.Prefixes.{StandsIn}
 use Rattle.ix_serve.specs.Replies.{Reply, reply, text_of, refused}
-use Rattle.ix_serve.specs.Serving.{Wrote, Gave, IsClean, IsOpen, IsUndamaged, IsTold, HoldsFrom, Answers, Serves}
+use Rattle.ix_serve.specs.Serving.{Wrote, Gave, IsClean, IsOpen, IsUndamaged, IsTold, HoldsFrom, Answers, Serves, Comes}
 use Rattle.ix_serve.specs.declared.served.Served.{Served}
 use Rattle.ix_serve.specs.declared.served.Served.TheVariants as served
 use Rattle.ix_serve.specs.declared.served.ServeFault.{ServeFault}
@@ -122,6 +122,62 @@ open_undamaged g new result stays file at is image seen = absurd (subst IsOpen i
 pub closed : (cause : CommitFault) → IsOpen (Err (answer_of_fault cause)) → ⊥
 closed commits.Disk is = is
 closed (commits.Damaged file at) is = is
+
+pub not_open : (error : ServeFault) (cause : CommitFault) → error ≡ answer_of_fault cause → IsOpen (Err error) → ⊥
+not_open error cause same stays = closed cause (subst (λ (f : ServeFault). IsOpen (Err f)) same stays)
+
+pub err_back : (a b : ServeFault) → (let result : Result Served ServeFault = Err a in result ≡ Err b) → a ≡ b
+err_back a b is = cc
+
+pub disk_back : (cause : CommitFault) → answer_of_fault cause ≡ fault.Disk → cause ≡ commits.Disk
+disk_back commits.Disk is = refl
+disk_back (commits.Damaged file at) is = absurd (cc is)
+
+pub no_link : (cause : CommitFault) → answer_of_fault cause ≡ fault.Link → ⊥
+no_link commits.Disk is = cc
+no_link (commits.Damaged file at) is = cc
+
+-- calls that leave the store open
+pub comes_open : (link link' link'' disk disk' : ℕ) (result : Result Served ServeFault) → link ≤ link' → link' ≤ link'' → (result ≡ Err fault.Link → Rose link' link'') → disk ≤ disk' → IsOpen result →
+    Comes link link'' disk disk' result
+comes_open link link' link'' disk disk' result first later failed on stays = record {
+  link_later = omega (arith, first, later);
+  disk_later = on;
+  by_link = λ is. rose_later link link' link'' first (failed is);
+  by_disk = λ is. absurd (subst IsOpen is stays);
+}
+
+-- calls that close it
+pub comes_closed : (link link' disk disk' : ℕ) (result : Result Served ServeFault) (cause : CommitFault) → result ≡ Err (answer_of_fault cause) → link ≤ link' → disk ≤ disk' →
+    (cause ≡ commits.Disk → Rose disk disk') → Comes link link' disk disk' result
+comes_closed link link' disk disk' result cause same first later rose = record {
+  link_later = first;
+  disk_later = later;
+  by_link = λ is. absurd (no_link cause (err_back (answer_of_fault cause) fault.Link (sym same ∙ is)));
+  by_disk = λ is. rose (disk_back cause (err_back (answer_of_fault cause) fault.Disk (sym same ∙ is)));
+}
+
+-- more calls of the link before
+pub comes_later : (link link' link'' disk disk' : ℕ) (result : Result Served ServeFault) → link ≤ link' → Comes link' link'' disk disk' result → Comes link link'' disk disk' result
+comes_later link link' link'' disk disk' result first comes = record {
+  link_later = omega (arith, first, comes.link_later);
+  disk_later = comes.disk_later;
+  by_link = λ is. rose_later link link' link'' first (comes.by_link is);
+  by_disk = comes.by_disk;
+}
+
+-- a commit behind a call of the link
+pub comes_settled : (link link' disk disk' : ℕ) (came result : Result Served ServeFault) → link ≤ link' → (came ≡ Err fault.Link → Rose link link') →
+    (result ≡ came) ⊎ ((cause : CommitFault) × (result ≡ Err (answer_of_fault cause))) → disk ≤ disk' → (result ≡ Err fault.Disk → Rose disk disk') → Comes link link' disk disk' result
+comes_settled link link' disk disk' came result first failed either later broken = record {
+  link_later = first;
+  disk_later = later;
+  by_link = λ is. ⊎_elim
+      (λ (same : result ≡ came). failed (sym same ∙ is))
+      (λ (w : (cause : CommitFault) × (result ≡ Err (answer_of_fault cause))). absurd (no_link w.0 (err_back (answer_of_fault w.0) fault.Link (sym w.1 ∙ is))))
+      either;
+  by_disk = broken;
+}
 
 -- ---- answers
 

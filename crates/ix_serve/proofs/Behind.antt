@@ -1,18 +1,22 @@
 -- What becomes of an answer where a checkpoint is made behind its reply.
-use Rattle.std.proofs.Common.{◌≡◌, ◌≤◌, ◌⊎◌, ℕ, Bool, false, List, ◌++◌, length, take, sym, subst, inl, inr, Option, Some, None, Result, Ok, Err, arith}
-use Rattle.std.specs.Prelude.{nat_lt}
+use Rattle.std.proofs.Common.{◌≡◌, ◌≤◌, ◌⊎◌, ◌∙◌, ℕ, Bool, true, false, List, ◌++◌, length, take, refl, sym, subst, inl, inr, Option, Some, None, Result, Ok, Err, arith}
+use Rattle.std.specs.Prelude.{◌↔◌, IsTrue, nat_lt}
+use Rattle.std.proofs.lemmas.Bool.{false≢true}
 use Rattle.std.proofs.lemmas.Bool.Decides.{nat_tests}
+use Rattle.ix_base.specs.Faults.{Rose}
 use Rattle.ix_base.specs.Told.{Told}
 use Rattle.ix_book.specs.Book.{Book}
 use Rattle.ix_disk.specs.Image.{Image}
 use Rattle.ix_disk.specs.Moments.{Always}
 use Rattle.ix_disk.specs.declared.disk.Disk.{Ghosts}
-use Rattle.ix_disk.proofs.Runs.{always_on, always_weaker, seen_before}
+use Rattle.ix_disk.proofs.Runs.{always_on, always_weaker, rose_later, seen_before}
 use Rattle.ix_heads.specs.declared.faults.LinkFault.TheVariants as link
 use Rattle.ix_http.specs.declared.kinds.Ask.{Ask}
 use Rattle.ix_http.specs.declared.kinds.Ask.TheVariants as asks
 use Rattle.ix_http.specs.declared.kinds.Incoming.TheVariants as was
+use Rattle.ix_keep.specs.Snapshot.{IsLong}
 use Rattle.ix_keep.specs.declared.fault.CommitFault.{CommitFault}
+use Rattle.ix_keep.specs.declared.keeper.Keeper.{Keeper}
 use Rattle.ix_machine.specs.Given.{Chooser}
 use Rattle.ix_machine.specs.declared.commands.Order.{Order}
 use Rattle.ix_store.specs.Holding.{Holds}
@@ -22,12 +26,12 @@ use Rattle.ix_serve.specs.Answer.{Answer, Found, Says, MayBe, answer_of_fault, i
 use Rattle.ix_serve.specs.Entries.{Entry}
 use Rattle.ix_serve.specs.Prefixes.{StandsIn}
 use Rattle.ix_serve.specs.Replies.{Reply}
-use Rattle.ix_serve.specs.Serving.{Gave, IsOpen, IsTold, IsUndamaged, Serves}
+use Rattle.ix_serve.specs.Serving.{Comes, Gave, IsOpen, IsShort, IsTold, IsUndamaged, Serves}
 use Rattle.ix_serve.specs.declared.served.Served.{Served}
 use Rattle.ix_serve.specs.declared.served.Served.TheVariants as served
 use Rattle.ix_serve.specs.declared.served.ServeFault.{ServeFault}
 use Rattle.ix_serve.specs.declared.served.ServeFault.TheVariants as fault
-use Rattle.ix_serve.proofs.Answering.{gave_up, closed, open_undamaged}
+use Rattle.ix_serve.proofs.Answering.{gave_up, err_back, no_link, not_open, open_undamaged}
 use Rattle.ix_serve.proofs.Standing.{committing, of_all}
 
 -- ---- what is said
@@ -71,6 +75,27 @@ pub gave_fault : (r : Option Reply) (delimited : Bool) (clean : Type 0) (result 
     Gave r delimited clean result given given' → Gave r delimited clean (Err (answer_of_fault cause)) given given'
 gave_fault None delimited clean result cause given given' is = is
 gave_fault (Some r) delimited clean result cause given given' is = gave_up r delimited clean result cause given given' is
+
+-- ---- faults
+
+module _ (link link' disk disk' disk'' : ℕ) (came : Result Served ServeFault) (first : Comes link link' disk disk' came) (later : disk' ≤ disk'') where
+  -- the reply is what comes of it
+  pub comes_reply : (value : Served) → Comes link link' disk disk'' (Ok value)
+  comes_reply value = record {
+    link_later = first.link_later;
+    disk_later = omega (arith, first.disk_later, later);
+    by_link = λ is. absurd (ok_err is);
+    by_disk = λ is. absurd (ok_err is);
+  }
+
+  -- the disk has failed behind the reply
+  pub comes_fault : (error : ServeFault) (cause : CommitFault) → error ≡ answer_of_fault cause → (error ≡ fault.Disk → Rose disk' disk'') → Comes link link' disk disk'' (Err error)
+  comes_fault error cause same rose = record {
+    link_later = first.link_later;
+    disk_later = omega (arith, first.disk_later, later);
+    by_link = λ is. absurd (no_link cause (sym same ∙ err_back error fault.Link is));
+    by_disk = λ is. rose_later disk disk' disk'' first.disk_later (rose (err_back error fault.Disk is));
+  }
 
 -- ---- what is held
 
@@ -134,10 +159,15 @@ module _ {D : Type 0} (g : Ghosts D) {M : Type 0} (fits : Book → Type 0) (hold
   serves_failed error cause same failed images = serves_behind (Err error)
       (λ gave. subst (λ (f : ServeFault). Gave first.answers.answer.reply (is_whole first.read) clean (Err f) given given') (sym same)
       (gave_fault first.answers.answer.reply (is_whole first.read) clean came cause given given' gave))
-      (λ stays. absurd (closed cause (subst (λ (f : ServeFault). IsOpen (Err f)) same stays))) images
+      (λ stays. absurd (not_open error cause same stays)) images
       (λ k hold. disk_undamaged g new error (failed k hold))
 
 -- ---- the checkpoint
+
+-- what is told behind a checkpoint is whether the log is long
+pub short_told : (long staged : Bool) (keeper : Keeper) → (IsTrue long ↔ IsLong keeper.bytes keeper.first) → IsShort staged keeper long
+short_told true staged keeper is = inr (inr refl)
+short_told false staged keeper is = inr (inl (λ long. false≢true (is.1 long)))
 
 -- nothing is staged, so all is committed
 pub all_in : (k n : ℕ) → k ≤ n → nat_lt k n ≡ false → k ≡ n

@@ -55,11 +55,8 @@ fn serve_change<K: Link, M: Memory + Drop, D: Disk>(
     match store.accept(command, moment) {
         Ok(_) => {
             let came = give(link, status, Kind::Json, body, true);
-            if store.due() {
-                settle(store, disk, came)
-            } else {
-                came
-            }
+            let due = store.due();
+            if due { settle(store, disk, came) } else { came }
         }
         Err(refusal) => give_refusal(link, refusal),
     }

@@ -77,7 +77,8 @@ pub(crate) fn shorten_behind<M: Listing + Drop, D: Disk>(
     if store.staged() {
         return Ok(false);
     }
-    if !store.wants_checkpoint() {
+    let long = store.wants_checkpoint();
+    if !long {
         return Ok(false);
     }
     // With nothing staged this does nothing. Behind it a checkpoint may follow.

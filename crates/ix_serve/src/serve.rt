@@ -67,7 +67,6 @@ fn serve_ask<K: Link, M: Memory + Drop, D: Disk>(
 }
 
 /// Reads a request from the link, serves what it asks, and commits where that is due. The log stays as long as it is.
-#[tactic(auto, using(ix_link::proofs::GoesLemmas::goings))]
 fn serve_request<K: Link, M: Memory + Drop, D: Disk>(
     alloc: Global,
     store: &mut Store<M>,
@@ -102,7 +101,6 @@ fn serve_request<K: Link, M: Memory + Drop, D: Disk>(
 /// where an acknowledgement was asked for that is not there yet. Before the lines of an index all is committed. Want of memory is replied
 /// with 503, and changes nothing. A fault of the disk is replied with 500 where no reply was written yet; it closes the store, which is to be
 /// mounted again. Last, behind a reply, the log is made short by a checkpoint where it is long and nothing is staged.
-#[tactic(auto, using(ix_link::proofs::GoesLemmas::goings))]
 pub fn serve_one<K: Link, M: Listing + Drop, D: Disk>(
     alloc: Global,
     store: &mut Store<M>,

@@ -1,15 +1,16 @@
-use Rattle.std.proofs.Common.{◌∙◌, ℕ, sym, subst, refl, true, rules}
+use Rattle.std.proofs.Common.{◌∙◌, ℕ, sym, subst, refl, true, arith, rules}
 use mir.Val.{SFits}
 use Rattle.std.specs.Int.{w64}
 use Rattle.std.proofs.lemmas.Int.{to_z-of_z}
 use Rattle.ix_disk.specs.Moments.{Always}
 use Rattle.ix_http.specs.declared.kinds.Kind.TheVariants.{Json}
+use Rattle.ix_keep.proofs.Beginning.{over_same}
 use Rattle.ix_store.specs.Making.{with_order}
 use Rattle.ix_serve.specs.Entries.{entry, order}
 use Rattle.ix_serve.specs.Prefixes.{StandsIn}
 use Rattle.ix_serve.specs.Replies.{reply}
 use Rattle.ix_serve.specs.Serving.{IsClean}
-use Rattle.ix_serve.proofs.Answering.{changed, held_accepted, run_accepted, refused_so, wrote_settled, open_undamaged, due_held, undue_held}
+use Rattle.ix_serve.proofs.Answering.{changed, comes_open, comes_settled, held_accepted, run_accepted, refused_so, wrote_settled, open_undamaged, due_held, undue_held}
 use Rattle.ix_serve.proofs.Standing.{standing, measured_same}
 use Rattle.ix_serve.proofs.changes.serve_change.Goals as goal
 
@@ -40,7 +41,7 @@ returns-else-due-clause-answers g c = λ choose h base k chooser taken hold.
     let clean = IsClean (g.K.Link.faults c.args.link.now) (g.K.Link.faults c.give-came.new.link) (g.K.Link.standing c.args.link.now) (g.K.Link.standing c.give-came.new.link) in
     changed g.D.Disk g.M.Book.Replay.fits g.M.Memory.holds e c.args.command (reply c.args.status Json c.args.body.now) clean c.give-came.result (g.K.Link.given c.args.link.now) (g.K.Link.given c.give-came.new.link)
     c.args.store.now c.accept.new.self c.accept.new.self c.args.disk.now c.args.disk.now _ hold is c.give-came.ensures.gave
-    (λ stays. undue_held g.D.Disk g.M.Book.Replay.fits g.M.Memory.holds e _ h2 c.accept.new.self c.args.disk.now (sym (c.due.ensures choose h2 base k hold.old is.staged) ∙ c.if-due.false) now)
+    (λ stays. undue_held g.D.Disk g.M.Book.Replay.fits g.M.Memory.holds e _ h2 c.accept.new.self c.args.disk.now (sym (c.due-due.ensures choose h2 base k hold.old is.staged) ∙ c.if-due.false) now)
     (subst (λ (run : ℕ). Always g.D.Disk c.args.disk.now c.args.disk.now (StandsIn g.M.Book.Replay.fits run choose h2 k))
     (run_accepted g.D.Disk g.M.Book.Replay.fits g.M.Memory.holds e c.args.command c.args.store.now c.accept.new.self c.args.disk.now _ hold is)
     (standing g.D.Disk g.M.Book.Replay.fits g.M.Memory.holds choose h2 base k c.accept.new.self c.args.disk.now now))
@@ -63,3 +64,67 @@ returns-else-due-clause-measured g c = λ measured stays. measured_same g.D.Disk
 
 pub returns-in-Err-clause-measured : goal.returns-in-Err-clause-measured
 returns-in-Err-clause-measured g c = λ measured stays. measured_same g.D.Disk c.args.store.now.keeper c.accept.new.self.keeper c.args.disk.now c.accept.ensures.logs c.accept.ensures.bytes measured
+
+pub returns-then-due-clause-comes : goal.returns-then-due-clause-comes
+returns-then-due-clause-comes g c =
+    comes_settled (g.K.Link.faults c.args.link.now) (g.K.Link.faults c.give-came.new.link) (g.D.Disk.faults c.args.disk.now) (g.D.Disk.faults c.settle.new.disk) c.give-came.result c.settle.result
+    c.give-came.ensures.later c.give-came.ensures.failed c.settle.ensures.came c.settle.ensures.later c.settle.ensures.failed
+
+pub returns-else-due-clause-comes : goal.returns-else-due-clause-comes
+returns-else-due-clause-comes g c =
+    comes_open (g.K.Link.faults c.args.link.now) (g.K.Link.faults c.args.link.now) (g.K.Link.faults c.give-came.new.link) (g.D.Disk.faults c.args.disk.now) (g.D.Disk.faults c.args.disk.now) c.give-came.result (omega arith) c.give-came.ensures.later c.give-came.ensures.failed (omega arith) c.give-came.ensures.open
+
+pub returns-in-Err-clause-comes : goal.returns-in-Err-clause-comes
+returns-in-Err-clause-comes g c =
+    comes_open (g.K.Link.faults c.args.link.now) (g.K.Link.faults c.args.link.now) (g.K.Link.faults c.give_refusal.new.link) (g.D.Disk.faults c.args.disk.now) (g.D.Disk.faults c.args.disk.now) c.give_refusal.result (omega arith) c.give_refusal.ensures.later c.give_refusal.ensures.failed (omega arith) c.give_refusal.ensures.open
+
+pub settle-requires-clause-over : goal.settle-requires-clause-over
+settle-requires-clause-over g c = over_same g.D.Disk g.M.Book.Replay.fits c.args.store.now.keeper c.accept.new.self.keeper c.args.disk.now c.accept.ensures.logs c.requires.over
+
+pub returns-then-due-clause-over : goal.returns-then-due-clause-over
+returns-then-due-clause-over g c = c.settle.ensures.over
+
+pub returns-else-due-clause-over : goal.returns-else-due-clause-over
+returns-else-due-clause-over g c = λ stays. over_same g.D.Disk g.M.Book.Replay.fits c.args.store.now.keeper c.accept.new.self.keeper c.args.disk.now c.accept.ensures.logs c.requires.over
+
+pub returns-in-Err-clause-over : goal.returns-in-Err-clause-over
+returns-in-Err-clause-over g c = λ stays. over_same g.D.Disk g.M.Book.Replay.fits c.args.store.now.keeper c.accept.new.self.keeper c.args.disk.now c.accept.ensures.logs c.requires.over
+
+pub returns-then-due-clause-run : goal.returns-then-due-clause-run
+returns-then-due-clause-run g c = c.settle.ensures.run ∙ c.accept.ensures.run
+
+pub returns-then-due-clause-told : goal.returns-then-due-clause-told
+returns-then-due-clause-told g c = c.settle.ensures.told
+
+pub returns-then-due-clause-left : goal.returns-then-due-clause-left
+returns-then-due-clause-left g c = c.give-came.ensures.left
+
+pub returns-then-due-clause-goes : goal.returns-then-due-clause-goes
+returns-then-due-clause-goes g c = c.give-came.ensures.goes
+
+pub returns-else-due-clause-left : goal.returns-else-due-clause-left
+returns-else-due-clause-left g c = c.give-came.ensures.left
+
+pub returns-else-due-clause-goes : goal.returns-else-due-clause-goes
+returns-else-due-clause-goes g c = c.give-came.ensures.goes
+
+pub returns-else-due-clause-run : goal.returns-else-due-clause-run
+returns-else-due-clause-run g c = c.accept.ensures.run
+
+pub returns-in-Err-clause-left : goal.returns-in-Err-clause-left
+returns-in-Err-clause-left g c = c.give_refusal.ensures.left
+
+pub returns-in-Err-clause-goes : goal.returns-in-Err-clause-goes
+returns-in-Err-clause-goes g c = c.give_refusal.ensures.goes
+
+pub returns-in-Err-clause-run : goal.returns-in-Err-clause-run
+returns-in-Err-clause-run g c = c.accept.ensures.run
+
+pub settle-requires-clause-open : goal.settle-requires-clause-open
+settle-requires-clause-open g c = c.give-came.ensures.open
+
+pub returns-else-due-clause-told : goal.returns-else-due-clause-told
+returns-else-due-clause-told g c = λ told. told
+
+pub returns-in-Err-clause-told : goal.returns-in-Err-clause-told
+returns-in-Err-clause-told g c = λ told. told

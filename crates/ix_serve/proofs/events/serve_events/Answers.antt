@@ -1,4 +1,4 @@
-use Rattle.std.proofs.Common.{◌≡◌, ℕ, List, refl, ap, subst, inl, inr, ⊎_elim, Some, true, false}
+use Rattle.std.proofs.Common.{◌≡◌, ◌∙◌, ℕ, List, refl, sym, ap, subst, inl, inr, ⊎_elim, Some, true, false, arith}
 use Rattle.ix_http.specs.declared.kinds.Ask.TheVariants as asks
 use Rattle.ix_serve.specs.Answer.{MayBe, IsExport, says, answer_of_fault}
 use Rattle.ix_serve.specs.Entries.{entry}
@@ -6,7 +6,7 @@ use Rattle.ix_serve.specs.Exports.{reply_of, MayReply}
 use Rattle.ix_serve.specs.Replies.{Reply, no_memory, broken}
 use Rattle.ix_serve.specs.Serving.{IsClean, IsOpen, IsTold}
 use Rattle.ix_serve.specs.declared.served.ServeFault.TheVariants as fault
-use Rattle.ix_serve.proofs.Answering.{queried, due_held, open_undamaged, closed, damaged_back}
+use Rattle.ix_serve.proofs.Answering.{comes_open, comes_closed, err_back, queried, due_held, open_undamaged, closed, damaged_back}
 use Rattle.ix_serve.proofs.events.serve_events.Goals as goal
 
 pub returns-in-Ok-clause-answers : goal.returns-in-Ok-clause-answers
@@ -41,5 +41,53 @@ returns-in-Err-clause-answers g c = λ choose h base k chooser taken hold.
     (λ stays. absurd (closed c.in-Err.cause (subst IsOpen c.give_up.ensures.result stays)))
     (c.committed_lines.ensures.images choose h base k hold)
     (λ file at is image seen.
-    let same : answer_of_fault c.in-Err.cause ≡ fault.Damaged file at = cc (c.give_up.ensures.result, is) in
+    let same = err_back (answer_of_fault c.in-Err.cause) (fault.Damaged file at) (sym c.give_up.ensures.result ∙ is) in
     c.in-Err.ensures.undamaged choose h base k chooser taken hold file at (damaged_back c.in-Err.cause file at same) image seen)
+
+pub returns-in-Ok-clause-left : goal.returns-in-Ok-clause-left
+returns-in-Ok-clause-left g c = c.give_exported.ensures.left
+
+pub returns-in-Ok-clause-over : goal.returns-in-Ok-clause-over
+returns-in-Ok-clause-over g c = λ stays. c.in-Ok.ensures.over
+
+pub returns-in-Ok-clause-measured : goal.returns-in-Ok-clause-measured
+returns-in-Ok-clause-measured g c = λ measured stays. c.in-Ok.ensures.measured measured
+
+pub returns-in-Ok-clause-run : goal.returns-in-Ok-clause-run
+returns-in-Ok-clause-run g c = c.committed_lines.ensures.run
+
+pub returns-in-Ok-clause-told : goal.returns-in-Ok-clause-told
+returns-in-Ok-clause-told g c = c.committed_lines.ensures.told
+
+pub returns-in-Ok-clause-goes : goal.returns-in-Ok-clause-goes
+returns-in-Ok-clause-goes g c = c.give_exported.ensures.goes
+
+pub returns-in-Ok-clause-comes : goal.returns-in-Ok-clause-comes
+returns-in-Ok-clause-comes g c =
+    comes_open (g.K.Link.faults c.args.link.now) (g.K.Link.faults c.args.link.now) (g.K.Link.faults c.give_exported.new.link) (g.D.Disk.faults c.args.disk.now) (g.D.Disk.faults c.committed_lines.new.disk) c.give_exported.result (omega arith) c.give_exported.ensures.later c.give_exported.ensures.failed c.committed_lines.ensures.later
+    c.give_exported.ensures.open
+
+pub returns-in-Err-clause-left : goal.returns-in-Err-clause-left
+returns-in-Err-clause-left g c = c.give_up.ensures.left
+
+pub returns-in-Err-clause-over : goal.returns-in-Err-clause-over
+returns-in-Err-clause-over g c = λ stays. absurd (closed c.in-Err.cause (subst IsOpen c.give_up.ensures.result stays))
+
+pub returns-in-Err-clause-measured : goal.returns-in-Err-clause-measured
+returns-in-Err-clause-measured g c = λ measured stays. absurd (closed c.in-Err.cause (subst IsOpen c.give_up.ensures.result stays))
+
+pub returns-in-Err-clause-run : goal.returns-in-Err-clause-run
+returns-in-Err-clause-run g c = c.committed_lines.ensures.run
+
+pub returns-in-Err-clause-told : goal.returns-in-Err-clause-told
+returns-in-Err-clause-told g c = c.committed_lines.ensures.told
+
+pub returns-in-Err-clause-goes : goal.returns-in-Err-clause-goes
+returns-in-Err-clause-goes g c = c.give_up.ensures.goes
+
+pub returns-in-Err-clause-comes : goal.returns-in-Err-clause-comes
+returns-in-Err-clause-comes g c =
+    comes_closed (g.K.Link.faults c.args.link.now) (g.K.Link.faults c.give_up.new.link) (g.D.Disk.faults c.args.disk.now) (g.D.Disk.faults c.committed_lines.new.disk) c.give_up.result c.in-Err.cause c.give_up.ensures.result c.give_up.ensures.later c.committed_lines.ensures.later c.in-Err.ensures.failed
+
+pub committed_lines-requires : goal.committed_lines-requires
+committed_lines-requires g c = record { over = c.requires.over }

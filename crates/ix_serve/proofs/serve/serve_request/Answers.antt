@@ -1,17 +1,24 @@
-use Rattle.std.proofs.Common.{ap, refl, subst, Some, None, List, ℕ, Bool, Option, true, false, Ok, Err, ◌∙◌, rules}
+use Rattle.std.proofs.Common.{ap, refl, subst, Some, None, List, ℕ, Bool, Option, true, false, Result, Ok, Err, ◌≡◌, ◌∙◌, arith, rules}
 use mir.Val.{SFits}
 use Rattle.std.specs.Int.{w64}
 use Rattle.std.proofs.lemmas.Int.{to_z-of_z}
 use Rattle.ix_heads.specs.declared.faults.LinkFault.TheVariants as link
 use Rattle.ix_http.specs.declared.kinds.Incoming.TheVariants as was
+use Rattle.ix_link.proofs.GoesLemmas.{goes_on}
 use Rattle.ix_serve.specs.Answer.{Found, MayBe, Says}
 use Rattle.ix_serve.specs.Entries.{entry}
 use Rattle.ix_serve.specs.Replies.{no_memory, unread}
 use Rattle.ix_serve.specs.Serving.{Gave, IsClean, IsTold}
+use Rattle.ix_serve.specs.declared.served.Served.{Served}
 use Rattle.ix_serve.specs.declared.served.Served.TheVariants as served
+use Rattle.ix_serve.specs.declared.served.ServeFault.{ServeFault}
 use Rattle.ix_serve.specs.declared.served.ServeFault.TheVariants as fault
-use Rattle.ix_serve.proofs.Answering.{idle, served_so, clean_behind, cleaner, gave_cleaner}
+use Rattle.ix_serve.proofs.Answering.{idle, served_so, clean_behind, cleaner, comes_later, comes_open, gave_cleaner}
+use Rattle.ix_serve.proofs.Behind.{ok_err}
 use Rattle.ix_serve.proofs.serve.serve_request.Goals as goal
+
+not_link : (let result : Result Served ServeFault = Err fault.Cut in result ≡ Err fault.Link) → ⊥
+not_link is = cc
 
 pub returns-in-Ok-Ended-clause-serves : goal.returns-in-Ok-Ended-clause-serves
 returns-in-Ok-Ended-clause-serves g c = λ choose h base k chooser taken hold.
@@ -90,3 +97,124 @@ returns-in-Ok-Asked-clause-serves g c = λ choose h base k chooser taken hold.
     (clean_behind (g.K.Link.faults c.args.link.now) (g.K.Link.faults c.read_request.new.link) (g.K.Link.faults c.serve_ask.new.link) (g.K.Link.standing c.args.link.now) (g.K.Link.standing c.read_request.new.link) (g.K.Link.standing c.serve_ask.new.link)
     c.read_request.ensures.reads.later c.read_request.ensures.reads.goes.writing) c.read_request.ensures.reads.given
     (simp to_z-of_z at (c.serve_ask.ensures.answers choose h base k chooser taken hold)))
+
+pub returns-in-Ok-Ended-clause-over : goal.returns-in-Ok-Ended-clause-over
+returns-in-Ok-Ended-clause-over g c = λ stays. c.requires.over
+
+pub returns-in-Ok-Ended-clause-measured : goal.returns-in-Ok-Ended-clause-measured
+returns-in-Ok-Ended-clause-measured g c = λ measured stays. measured
+
+pub returns-in-Ok-Ended-clause-goes : goal.returns-in-Ok-Ended-clause-goes
+returns-in-Ok-Ended-clause-goes g c = c.read_request.ensures.reads.goes
+
+pub returns-in-Ok-Ended-clause-comes : goal.returns-in-Ok-Ended-clause-comes
+returns-in-Ok-Ended-clause-comes g c = comes_open (g.K.Link.faults c.args.link.now) (g.K.Link.faults c.read_request.new.link) (g.K.Link.faults c.read_request.new.link) (g.D.Disk.faults c.args.disk.now) (g.D.Disk.faults c.args.disk.now) (Ok served.Ended) c.read_request.ensures.reads.later (omega arith) (λ is. absurd (ok_err is)) (omega arith) tt
+
+pub returns-in-Err-Failed-clause-over : goal.returns-in-Err-Failed-clause-over
+returns-in-Err-Failed-clause-over g c = λ stays. c.requires.over
+
+pub returns-in-Err-Failed-clause-measured : goal.returns-in-Err-Failed-clause-measured
+returns-in-Err-Failed-clause-measured g c = λ measured stays. measured
+
+pub returns-in-Err-Failed-clause-goes : goal.returns-in-Err-Failed-clause-goes
+returns-in-Err-Failed-clause-goes g c = c.read_request.ensures.reads.goes
+
+pub returns-in-Err-Failed-clause-comes : goal.returns-in-Err-Failed-clause-comes
+returns-in-Err-Failed-clause-comes g c =
+    comes_open (g.K.Link.faults c.args.link.now) (g.K.Link.faults c.args.link.now) (g.K.Link.faults c.read_request.new.link) (g.D.Disk.faults c.args.disk.now) (g.D.Disk.faults c.args.disk.now) (Err fault.Link) (omega arith) c.read_request.ensures.reads.later (λ is. c.read_request.ensures.failed (c.in-Err-Failed.is ∙ ap Err c.in-Err-Failed.field-0-is)) (omega arith) tt
+
+pub returns-in-Err-Cut-clause-over : goal.returns-in-Err-Cut-clause-over
+returns-in-Err-Cut-clause-over g c = λ stays. c.requires.over
+
+pub returns-in-Err-Cut-clause-measured : goal.returns-in-Err-Cut-clause-measured
+returns-in-Err-Cut-clause-measured g c = λ measured stays. measured
+
+pub returns-in-Err-Cut-clause-goes : goal.returns-in-Err-Cut-clause-goes
+returns-in-Err-Cut-clause-goes g c = c.read_request.ensures.reads.goes
+
+pub returns-in-Err-Cut-clause-comes : goal.returns-in-Err-Cut-clause-comes
+returns-in-Err-Cut-clause-comes g c = comes_open (g.K.Link.faults c.args.link.now) (g.K.Link.faults c.read_request.new.link) (g.K.Link.faults c.read_request.new.link) (g.D.Disk.faults c.args.disk.now) (g.D.Disk.faults c.args.disk.now) (Err fault.Cut) c.read_request.ensures.reads.later (omega arith) (λ is. absurd (not_link is)) (omega arith) tt
+
+pub returns-in-Ok-Refused-clause-over : goal.returns-in-Ok-Refused-clause-over
+returns-in-Ok-Refused-clause-over g c = λ stays. c.requires.over
+
+pub returns-in-Ok-Refused-clause-measured : goal.returns-in-Ok-Refused-clause-measured
+returns-in-Ok-Refused-clause-measured g c = λ measured stays. measured
+
+pub returns-in-Ok-Refused-clause-goes : goal.returns-in-Ok-Refused-clause-goes
+returns-in-Ok-Refused-clause-goes g c = goes_on c.read_request.ensures.reads.goes c.give_unread.ensures.goes
+
+pub returns-in-Ok-Refused-clause-comes : goal.returns-in-Ok-Refused-clause-comes
+returns-in-Ok-Refused-clause-comes g c =
+    comes_open (g.K.Link.faults c.args.link.now) (g.K.Link.faults c.read_request.new.link) (g.K.Link.faults c.give_unread.new.link) (g.D.Disk.faults c.args.disk.now) (g.D.Disk.faults c.args.disk.now) c.give_unread.result c.read_request.ensures.reads.later c.give_unread.ensures.later c.give_unread.ensures.failed (omega arith) c.give_unread.ensures.open
+
+pub returns-in-Err-NoMemory-clause-over : goal.returns-in-Err-NoMemory-clause-over
+returns-in-Err-NoMemory-clause-over g c = λ stays. c.requires.over
+
+pub returns-in-Err-NoMemory-clause-measured : goal.returns-in-Err-NoMemory-clause-measured
+returns-in-Err-NoMemory-clause-measured g c = λ measured stays. measured
+
+pub returns-in-Err-NoMemory-clause-goes : goal.returns-in-Err-NoMemory-clause-goes
+returns-in-Err-NoMemory-clause-goes g c = goes_on c.read_request.ensures.reads.goes c.decline.ensures.goes
+
+pub returns-in-Err-NoMemory-clause-comes : goal.returns-in-Err-NoMemory-clause-comes
+returns-in-Err-NoMemory-clause-comes g c =
+    comes_open (g.K.Link.faults c.args.link.now) (g.K.Link.faults c.read_request.new.link) (g.K.Link.faults c.decline.new.link) (g.D.Disk.faults c.args.disk.now) (g.D.Disk.faults c.args.disk.now) c.decline.result c.read_request.ensures.reads.later c.decline.ensures.later c.decline.ensures.failed (omega arith) c.decline.ensures.open
+
+pub returns-in-Ok-Asked-clause-over : goal.returns-in-Ok-Asked-clause-over
+returns-in-Ok-Asked-clause-over g c = c.serve_ask.ensures.over
+
+pub returns-in-Ok-Asked-clause-measured : goal.returns-in-Ok-Asked-clause-measured
+returns-in-Ok-Asked-clause-measured g c = c.serve_ask.ensures.measured
+
+pub returns-in-Ok-Asked-clause-run : goal.returns-in-Ok-Asked-clause-run
+returns-in-Ok-Asked-clause-run g c = c.serve_ask.ensures.run
+
+pub returns-in-Ok-Asked-clause-told : goal.returns-in-Ok-Asked-clause-told
+returns-in-Ok-Asked-clause-told g c = c.serve_ask.ensures.told
+
+pub returns-in-Ok-Asked-clause-goes : goal.returns-in-Ok-Asked-clause-goes
+returns-in-Ok-Asked-clause-goes g c = goes_on c.read_request.ensures.reads.goes c.serve_ask.ensures.goes
+
+pub returns-in-Ok-Asked-clause-comes : goal.returns-in-Ok-Asked-clause-comes
+returns-in-Ok-Asked-clause-comes g c =
+    comes_later (g.K.Link.faults c.args.link.now) (g.K.Link.faults c.read_request.new.link) (g.K.Link.faults c.serve_ask.new.link) (g.D.Disk.faults c.args.disk.now) (g.D.Disk.faults c.serve_ask.new.disk) c.serve_ask.result c.read_request.ensures.reads.later c.serve_ask.ensures.comes
+
+pub serve_ask-requires-clause-over : goal.serve_ask-requires-clause-over
+serve_ask-requires-clause-over g c = c.requires.over
+
+pub serve_ask-requires-clause-takes : goal.serve_ask-requires-clause-takes
+serve_ask-requires-clause-takes g c = c.requires.takes
+
+pub serve_ask-requires-clause-within : goal.serve_ask-requires-clause-within
+serve_ask-requires-clause-within g c = rw c.in-Ok-Asked.field-0-is at c.in-Ok-Asked.ensures.within
+
+pub returns-in-Ok-Ended-clause-run : goal.returns-in-Ok-Ended-clause-run
+returns-in-Ok-Ended-clause-run g c = refl
+
+pub returns-in-Ok-Ended-clause-told : goal.returns-in-Ok-Ended-clause-told
+returns-in-Ok-Ended-clause-told g c = λ told. told
+
+pub returns-in-Err-Failed-clause-run : goal.returns-in-Err-Failed-clause-run
+returns-in-Err-Failed-clause-run g c = refl
+
+pub returns-in-Err-Failed-clause-told : goal.returns-in-Err-Failed-clause-told
+returns-in-Err-Failed-clause-told g c = λ told. told
+
+pub returns-in-Err-Cut-clause-run : goal.returns-in-Err-Cut-clause-run
+returns-in-Err-Cut-clause-run g c = refl
+
+pub returns-in-Err-Cut-clause-told : goal.returns-in-Err-Cut-clause-told
+returns-in-Err-Cut-clause-told g c = λ told. told
+
+pub returns-in-Ok-Refused-clause-run : goal.returns-in-Ok-Refused-clause-run
+returns-in-Ok-Refused-clause-run g c = refl
+
+pub returns-in-Ok-Refused-clause-told : goal.returns-in-Ok-Refused-clause-told
+returns-in-Ok-Refused-clause-told g c = λ told. told
+
+pub returns-in-Err-NoMemory-clause-run : goal.returns-in-Err-NoMemory-clause-run
+returns-in-Err-NoMemory-clause-run g c = refl
+
+pub returns-in-Err-NoMemory-clause-told : goal.returns-in-Err-NoMemory-clause-told
+returns-in-Err-NoMemory-clause-told g c = λ told. told
