@@ -14,117 +14,78 @@ use Rattle.ix_serve.proofs.Answering.{changed, comes_open, comes_settled, held_a
 use Rattle.ix_serve.proofs.Standing.{standing, measured_same}
 use Rattle.ix_serve.proofs.changes.serve_change.Goals as goal
 
-pub returns-then-due-clause-answers : goal.returns-then-due-clause-answers
-returns-then-due-clause-answers g c = λ choose h base k chooser taken hold.
-    let fits : SFits w64 c.args.moment = search rules in
-    let e = entry choose h base k c.args.store.now.run c.args.moment in
-    let is = simp to_z-of_z at (c.in-Ok.ensures.accepted choose h base k hold.old chooser taken hold.staged) in
-    let h2 = with_order choose h (order e c.args.command) in
-    let now = held_accepted g.D.Disk g.M.Book.Replay.fits g.M.Memory.holds e c.args.command c.args.store.now c.accept.new.self c.args.disk.now _ hold c.accept.ensures.logs is in
-    let clean = IsClean (g.K.Link.faults c.args.link.now) (g.K.Link.faults c.give-came.new.link) (g.K.Link.standing c.args.link.now) (g.K.Link.standing c.give-came.new.link) in
-    changed g.D.Disk g.M.Book.Replay.fits g.M.Memory.holds e c.args.command (reply c.args.status Json c.args.body.now) clean c.settle.result (g.K.Link.given c.args.link.now) (g.K.Link.given c.give-came.new.link)
-    c.args.store.now c.accept.new.self c.settle.new.store c.args.disk.now c.settle.new.disk _ hold is
-    (wrote_settled (reply c.args.status Json c.args.body.now) true clean c.give-came.result c.settle.result (g.K.Link.given c.args.link.now) (g.K.Link.given c.give-came.new.link) c.settle.ensures.came
-    c.give-came.ensures.gave)
-    (λ stays. due_held g.D.Disk g.M.Book.Replay.fits g.M.Memory.holds e _ h2 c.settle.new.store c.settle.new.disk now.staged.within (c.settle.ensures.done choose h2 base k now stays))
-    (subst (λ (run : ℕ). Always g.D.Disk c.args.disk.now c.settle.new.disk (StandsIn g.M.Book.Replay.fits run choose h2 k))
-    (run_accepted g.D.Disk g.M.Book.Replay.fits g.M.Memory.holds e c.args.command c.args.store.now c.accept.new.self c.args.disk.now _ hold is) (c.settle.ensures.images choose h2 base k now))
-    (c.settle.ensures.undamaged choose h2 base k now)
+pub returns-then-due : goal.returns-then-due
+returns-then-due g c = record {
+  answers = λ choose h base k chooser taken hold.
+      let fits : SFits w64 c.args.moment = search rules in
+      let e = entry choose h base k c.args.store.now.run c.args.moment in
+      let is = simp to_z-of_z at (c.in-Ok.ensures.accepted choose h base k hold.old chooser taken hold.staged) in
+      let h2 = with_order choose h (order e c.args.command) in
+      let now = held_accepted g.D.Disk g.M.Book.Replay.fits g.M.Memory.holds e c.args.command c.args.store.now c.accept.new.self c.args.disk.now _ hold c.accept.ensures.logs is in
+      let clean = IsClean (g.K.Link.faults c.args.link.now) (g.K.Link.faults c.give-came.new.link) (g.K.Link.standing c.args.link.now) (g.K.Link.standing c.give-came.new.link) in
+      changed g.D.Disk g.M.Book.Replay.fits g.M.Memory.holds e c.args.command (reply c.args.status Json c.args.body.now) clean c.settle.result (g.K.Link.given c.args.link.now) (g.K.Link.given c.give-came.new.link)
+      c.args.store.now c.accept.new.self c.settle.new.store c.args.disk.now c.settle.new.disk _ hold is
+      (wrote_settled (reply c.args.status Json c.args.body.now) true clean c.give-came.result c.settle.result (g.K.Link.given c.args.link.now) (g.K.Link.given c.give-came.new.link) c.settle.ensures.came
+      c.give-came.ensures.gave)
+      (λ stays. due_held g.D.Disk g.M.Book.Replay.fits g.M.Memory.holds e _ h2 c.settle.new.store c.settle.new.disk now.staged.within (c.settle.ensures.done choose h2 base k now stays))
+      (subst (λ (run : ℕ). Always g.D.Disk c.args.disk.now c.settle.new.disk (StandsIn g.M.Book.Replay.fits run choose h2 k))
+      (run_accepted g.D.Disk g.M.Book.Replay.fits g.M.Memory.holds e c.args.command c.args.store.now c.accept.new.self c.args.disk.now _ hold is) (c.settle.ensures.images choose h2 base k now))
+      (c.settle.ensures.undamaged choose h2 base k now);
+  left = c.give-came.ensures.left;
+  over = c.settle.ensures.over;
+  measured = λ measured. c.settle.ensures.measured (measured_same g.D.Disk c.args.store.now.keeper c.accept.new.self.keeper c.args.disk.now c.accept.ensures.logs c.accept.ensures.bytes measured);
+  run = c.settle.ensures.run ∙ c.accept.ensures.run;
+  told = c.settle.ensures.told;
+  goes = c.give-came.ensures.goes;
+  comes =     comes_settled (g.K.Link.faults c.args.link.now) (g.K.Link.faults c.give-came.new.link) (g.D.Disk.faults c.args.disk.now) (g.D.Disk.faults c.settle.new.disk) c.give-came.result c.settle.result
+      c.give-came.ensures.later c.give-came.ensures.failed c.settle.ensures.came c.settle.ensures.later c.settle.ensures.failed;
+}
 
-pub returns-else-due-clause-answers : goal.returns-else-due-clause-answers
-returns-else-due-clause-answers g c = λ choose h base k chooser taken hold.
-    let fits : SFits w64 c.args.moment = search rules in
-    let e = entry choose h base k c.args.store.now.run c.args.moment in
-    let is = simp to_z-of_z at (c.in-Ok.ensures.accepted choose h base k hold.old chooser taken hold.staged) in
-    let h2 = with_order choose h (order e c.args.command) in
-    let now = held_accepted g.D.Disk g.M.Book.Replay.fits g.M.Memory.holds e c.args.command c.args.store.now c.accept.new.self c.args.disk.now _ hold c.accept.ensures.logs is in
-    let clean = IsClean (g.K.Link.faults c.args.link.now) (g.K.Link.faults c.give-came.new.link) (g.K.Link.standing c.args.link.now) (g.K.Link.standing c.give-came.new.link) in
-    changed g.D.Disk g.M.Book.Replay.fits g.M.Memory.holds e c.args.command (reply c.args.status Json c.args.body.now) clean c.give-came.result (g.K.Link.given c.args.link.now) (g.K.Link.given c.give-came.new.link)
-    c.args.store.now c.accept.new.self c.accept.new.self c.args.disk.now c.args.disk.now _ hold is c.give-came.ensures.gave
-    (λ stays. undue_held g.D.Disk g.M.Book.Replay.fits g.M.Memory.holds e _ h2 c.accept.new.self c.args.disk.now (sym (c.due-due.ensures choose h2 base k hold.old is.staged) ∙ c.if-due.false) now)
-    (subst (λ (run : ℕ). Always g.D.Disk c.args.disk.now c.args.disk.now (StandsIn g.M.Book.Replay.fits run choose h2 k))
-    (run_accepted g.D.Disk g.M.Book.Replay.fits g.M.Memory.holds e c.args.command c.args.store.now c.accept.new.self c.args.disk.now _ hold is)
-    (standing g.D.Disk g.M.Book.Replay.fits g.M.Memory.holds choose h2 base k c.accept.new.self c.args.disk.now now))
-    (open_undamaged g.D.Disk c.args.disk.now c.give-came.result c.give-came.ensures.open)
+pub returns-else-due : goal.returns-else-due
+returns-else-due g c = record {
+  answers = λ choose h base k chooser taken hold.
+      let fits : SFits w64 c.args.moment = search rules in
+      let e = entry choose h base k c.args.store.now.run c.args.moment in
+      let is = simp to_z-of_z at (c.in-Ok.ensures.accepted choose h base k hold.old chooser taken hold.staged) in
+      let h2 = with_order choose h (order e c.args.command) in
+      let now = held_accepted g.D.Disk g.M.Book.Replay.fits g.M.Memory.holds e c.args.command c.args.store.now c.accept.new.self c.args.disk.now _ hold c.accept.ensures.logs is in
+      let clean = IsClean (g.K.Link.faults c.args.link.now) (g.K.Link.faults c.give-came.new.link) (g.K.Link.standing c.args.link.now) (g.K.Link.standing c.give-came.new.link) in
+      changed g.D.Disk g.M.Book.Replay.fits g.M.Memory.holds e c.args.command (reply c.args.status Json c.args.body.now) clean c.give-came.result (g.K.Link.given c.args.link.now) (g.K.Link.given c.give-came.new.link)
+      c.args.store.now c.accept.new.self c.accept.new.self c.args.disk.now c.args.disk.now _ hold is c.give-came.ensures.gave
+      (λ stays. undue_held g.D.Disk g.M.Book.Replay.fits g.M.Memory.holds e _ h2 c.accept.new.self c.args.disk.now (sym (c.due-due.ensures choose h2 base k hold.old is.staged) ∙ c.if-due.false) now)
+      (subst (λ (run : ℕ). Always g.D.Disk c.args.disk.now c.args.disk.now (StandsIn g.M.Book.Replay.fits run choose h2 k))
+      (run_accepted g.D.Disk g.M.Book.Replay.fits g.M.Memory.holds e c.args.command c.args.store.now c.accept.new.self c.args.disk.now _ hold is)
+      (standing g.D.Disk g.M.Book.Replay.fits g.M.Memory.holds choose h2 base k c.accept.new.self c.args.disk.now now))
+      (open_undamaged g.D.Disk c.args.disk.now c.give-came.result c.give-came.ensures.open);
+  left = c.give-came.ensures.left;
+  over = λ stays. over_same g.D.Disk g.M.Book.Replay.fits c.args.store.now.keeper c.accept.new.self.keeper c.args.disk.now c.accept.ensures.logs c.requires.over;
+  measured = λ measured stays. measured_same g.D.Disk c.args.store.now.keeper c.accept.new.self.keeper c.args.disk.now c.accept.ensures.logs c.accept.ensures.bytes measured;
+  run = c.accept.ensures.run;
+  told = λ told. told;
+  goes = c.give-came.ensures.goes;
+  comes =     comes_open (g.K.Link.faults c.args.link.now) (g.K.Link.faults c.args.link.now) (g.K.Link.faults c.give-came.new.link) (g.D.Disk.faults c.args.disk.now) (g.D.Disk.faults c.args.disk.now) c.give-came.result (omega arith) c.give-came.ensures.later c.give-came.ensures.failed (omega arith) c.give-came.ensures.open;
+}
 
-pub returns-in-Err-clause-answers : goal.returns-in-Err-clause-answers
-returns-in-Err-clause-answers g c = λ choose h base k chooser taken hold.
-    let fits : SFits w64 c.args.moment = search rules in
-    let e = entry choose h base k c.args.store.now.run c.args.moment in
-    let refused = simp to_z-of_z at (c.in-Err.ensures.refused choose h base k hold.old chooser taken hold.staged) in
-    refused_so g.D.Disk g.M.Book.Replay.fits g.M.Memory.holds e c.args.command (reply c.args.status Json c.args.body.now) (IsClean (g.K.Link.faults c.args.link.now) (g.K.Link.faults c.give_refusal.new.link) (g.K.Link.standing c.args.link.now) (g.K.Link.standing c.give_refusal.new.link)) c.give_refusal.result
-    (g.K.Link.given c.args.link.now) (g.K.Link.given c.give_refusal.new.link) c.args.store.now c.accept.new.self c.args.disk.now c.in-Err.refusal refl hold c.accept.ensures.logs c.in-Err.ensures.err refused
-    c.give_refusal.ensures.gave c.give_refusal.ensures.open
-
-pub returns-then-due-clause-measured : goal.returns-then-due-clause-measured
-returns-then-due-clause-measured g c = λ measured. c.settle.ensures.measured (measured_same g.D.Disk c.args.store.now.keeper c.accept.new.self.keeper c.args.disk.now c.accept.ensures.logs c.accept.ensures.bytes measured)
-
-pub returns-else-due-clause-measured : goal.returns-else-due-clause-measured
-returns-else-due-clause-measured g c = λ measured stays. measured_same g.D.Disk c.args.store.now.keeper c.accept.new.self.keeper c.args.disk.now c.accept.ensures.logs c.accept.ensures.bytes measured
-
-pub returns-in-Err-clause-measured : goal.returns-in-Err-clause-measured
-returns-in-Err-clause-measured g c = λ measured stays. measured_same g.D.Disk c.args.store.now.keeper c.accept.new.self.keeper c.args.disk.now c.accept.ensures.logs c.accept.ensures.bytes measured
-
-pub returns-then-due-clause-comes : goal.returns-then-due-clause-comes
-returns-then-due-clause-comes g c =
-    comes_settled (g.K.Link.faults c.args.link.now) (g.K.Link.faults c.give-came.new.link) (g.D.Disk.faults c.args.disk.now) (g.D.Disk.faults c.settle.new.disk) c.give-came.result c.settle.result
-    c.give-came.ensures.later c.give-came.ensures.failed c.settle.ensures.came c.settle.ensures.later c.settle.ensures.failed
-
-pub returns-else-due-clause-comes : goal.returns-else-due-clause-comes
-returns-else-due-clause-comes g c =
-    comes_open (g.K.Link.faults c.args.link.now) (g.K.Link.faults c.args.link.now) (g.K.Link.faults c.give-came.new.link) (g.D.Disk.faults c.args.disk.now) (g.D.Disk.faults c.args.disk.now) c.give-came.result (omega arith) c.give-came.ensures.later c.give-came.ensures.failed (omega arith) c.give-came.ensures.open
-
-pub returns-in-Err-clause-comes : goal.returns-in-Err-clause-comes
-returns-in-Err-clause-comes g c =
-    comes_open (g.K.Link.faults c.args.link.now) (g.K.Link.faults c.args.link.now) (g.K.Link.faults c.give_refusal.new.link) (g.D.Disk.faults c.args.disk.now) (g.D.Disk.faults c.args.disk.now) c.give_refusal.result (omega arith) c.give_refusal.ensures.later c.give_refusal.ensures.failed (omega arith) c.give_refusal.ensures.open
+pub returns-in-Err : goal.returns-in-Err
+returns-in-Err g c = record {
+  answers = λ choose h base k chooser taken hold.
+      let fits : SFits w64 c.args.moment = search rules in
+      let e = entry choose h base k c.args.store.now.run c.args.moment in
+      let refused = simp to_z-of_z at (c.in-Err.ensures.refused choose h base k hold.old chooser taken hold.staged) in
+      refused_so g.D.Disk g.M.Book.Replay.fits g.M.Memory.holds e c.args.command (reply c.args.status Json c.args.body.now) (IsClean (g.K.Link.faults c.args.link.now) (g.K.Link.faults c.give_refusal.new.link) (g.K.Link.standing c.args.link.now) (g.K.Link.standing c.give_refusal.new.link)) c.give_refusal.result
+      (g.K.Link.given c.args.link.now) (g.K.Link.given c.give_refusal.new.link) c.args.store.now c.accept.new.self c.args.disk.now c.in-Err.refusal refl hold c.accept.ensures.logs c.in-Err.ensures.err refused
+      c.give_refusal.ensures.gave c.give_refusal.ensures.open;
+  left = c.give_refusal.ensures.left;
+  over = λ stays. over_same g.D.Disk g.M.Book.Replay.fits c.args.store.now.keeper c.accept.new.self.keeper c.args.disk.now c.accept.ensures.logs c.requires.over;
+  measured = λ measured stays. measured_same g.D.Disk c.args.store.now.keeper c.accept.new.self.keeper c.args.disk.now c.accept.ensures.logs c.accept.ensures.bytes measured;
+  run = c.accept.ensures.run;
+  told = λ told. told;
+  goes = c.give_refusal.ensures.goes;
+  comes =     comes_open (g.K.Link.faults c.args.link.now) (g.K.Link.faults c.args.link.now) (g.K.Link.faults c.give_refusal.new.link) (g.D.Disk.faults c.args.disk.now) (g.D.Disk.faults c.args.disk.now) c.give_refusal.result (omega arith) c.give_refusal.ensures.later c.give_refusal.ensures.failed (omega arith) c.give_refusal.ensures.open;
+}
 
 pub settle-requires-clause-over : goal.settle-requires-clause-over
 settle-requires-clause-over g c = over_same g.D.Disk g.M.Book.Replay.fits c.args.store.now.keeper c.accept.new.self.keeper c.args.disk.now c.accept.ensures.logs c.requires.over
 
-pub returns-then-due-clause-over : goal.returns-then-due-clause-over
-returns-then-due-clause-over g c = c.settle.ensures.over
-
-pub returns-else-due-clause-over : goal.returns-else-due-clause-over
-returns-else-due-clause-over g c = λ stays. over_same g.D.Disk g.M.Book.Replay.fits c.args.store.now.keeper c.accept.new.self.keeper c.args.disk.now c.accept.ensures.logs c.requires.over
-
-pub returns-in-Err-clause-over : goal.returns-in-Err-clause-over
-returns-in-Err-clause-over g c = λ stays. over_same g.D.Disk g.M.Book.Replay.fits c.args.store.now.keeper c.accept.new.self.keeper c.args.disk.now c.accept.ensures.logs c.requires.over
-
-pub returns-then-due-clause-run : goal.returns-then-due-clause-run
-returns-then-due-clause-run g c = c.settle.ensures.run ∙ c.accept.ensures.run
-
-pub returns-then-due-clause-told : goal.returns-then-due-clause-told
-returns-then-due-clause-told g c = c.settle.ensures.told
-
-pub returns-then-due-clause-left : goal.returns-then-due-clause-left
-returns-then-due-clause-left g c = c.give-came.ensures.left
-
-pub returns-then-due-clause-goes : goal.returns-then-due-clause-goes
-returns-then-due-clause-goes g c = c.give-came.ensures.goes
-
-pub returns-else-due-clause-left : goal.returns-else-due-clause-left
-returns-else-due-clause-left g c = c.give-came.ensures.left
-
-pub returns-else-due-clause-goes : goal.returns-else-due-clause-goes
-returns-else-due-clause-goes g c = c.give-came.ensures.goes
-
-pub returns-else-due-clause-run : goal.returns-else-due-clause-run
-returns-else-due-clause-run g c = c.accept.ensures.run
-
-pub returns-in-Err-clause-left : goal.returns-in-Err-clause-left
-returns-in-Err-clause-left g c = c.give_refusal.ensures.left
-
-pub returns-in-Err-clause-goes : goal.returns-in-Err-clause-goes
-returns-in-Err-clause-goes g c = c.give_refusal.ensures.goes
-
-pub returns-in-Err-clause-run : goal.returns-in-Err-clause-run
-returns-in-Err-clause-run g c = c.accept.ensures.run
-
 pub settle-requires-clause-open : goal.settle-requires-clause-open
 settle-requires-clause-open g c = c.give-came.ensures.open
-
-pub returns-else-due-clause-told : goal.returns-else-due-clause-told
-returns-else-due-clause-told g c = λ told. told
-
-pub returns-in-Err-clause-told : goal.returns-in-Err-clause-told
-returns-in-Err-clause-told g c = λ told. told

@@ -20,165 +20,131 @@ use Rattle.ix_serve.proofs.serve.serve_request.Goals as goal
 not_link : (let result : Result Served ServeFault = Err fault.Cut in result ≡ Err fault.Link) → ⊥
 not_link is = cc
 
-pub returns-in-Ok-Ended-clause-serves : goal.returns-in-Ok-Ended-clause-serves
-returns-in-Ok-Ended-clause-serves g c = λ choose h base k chooser taken hold.
-    let e = entry choose h base k c.args.store.now.run c.args.moment in
-    let read : Found = Ok was.Ended in
-    let clean = IsClean (g.K.Link.faults c.args.link.now) (g.K.Link.faults c.read_request.new.link) (g.K.Link.standing c.args.link.now) (g.K.Link.standing c.read_request.new.link) in
-    served_so g.D.Disk g.M.Book.Replay.fits g.M.Memory.holds e clean (Ok served.Ended) (g.K.Link.left c.args.link.now) (g.K.Link.left c.read_request.new.link) (g.K.Link.left c.read_request.new.link)
-    (g.K.Link.given c.args.link.now) (g.K.Link.given c.read_request.new.link) c.args.store.now c.args.disk.now c.args.disk.now c.read_request.result read (c.in-Ok-Ended.is ∙ ap Ok c.in-Ok-Ended.field-0-is) refl c.read_request.ensures.read c.read_request.ensures.within
-    (idle g.D.Disk g.M.Book.Replay.fits g.M.Memory.holds e (Says e (IsTold g.D.Disk c.args.disk.now) read (Ok served.Ended)) true clean (Ok served.Ended) (g.K.Link.given c.args.link.now) (g.K.Link.given c.read_request.new.link)
-    c.args.store.now c.args.disk.now None (refl, refl) c.read_request.ensures.reads.given tt refl hold)
+pub returns-in-Ok-Ended : goal.returns-in-Ok-Ended
+returns-in-Ok-Ended g c = record {
+  serves = λ choose h base k chooser taken hold.
+      let e = entry choose h base k c.args.store.now.run c.args.moment in
+      let read : Found = Ok was.Ended in
+      let clean = IsClean (g.K.Link.faults c.args.link.now) (g.K.Link.faults c.read_request.new.link) (g.K.Link.standing c.args.link.now) (g.K.Link.standing c.read_request.new.link) in
+      served_so g.D.Disk g.M.Book.Replay.fits g.M.Memory.holds e clean (Ok served.Ended) (g.K.Link.left c.args.link.now) (g.K.Link.left c.read_request.new.link) (g.K.Link.left c.read_request.new.link)
+      (g.K.Link.given c.args.link.now) (g.K.Link.given c.read_request.new.link) c.args.store.now c.args.disk.now c.args.disk.now c.read_request.result read (c.in-Ok-Ended.is ∙ ap Ok c.in-Ok-Ended.field-0-is) refl c.read_request.ensures.read c.read_request.ensures.within
+      (idle g.D.Disk g.M.Book.Replay.fits g.M.Memory.holds e (Says e (IsTold g.D.Disk c.args.disk.now) read (Ok served.Ended)) true clean (Ok served.Ended) (g.K.Link.given c.args.link.now) (g.K.Link.given c.read_request.new.link)
+      c.args.store.now c.args.disk.now None (refl, refl) c.read_request.ensures.reads.given tt refl hold);
+  over = λ stays. c.requires.over;
+  measured = λ measured stays. measured;
+  run = refl;
+  told = λ told. told;
+  goes = c.read_request.ensures.reads.goes;
+  comes = comes_open (g.K.Link.faults c.args.link.now) (g.K.Link.faults c.read_request.new.link) (g.K.Link.faults c.read_request.new.link) (g.D.Disk.faults c.args.disk.now) (g.D.Disk.faults c.args.disk.now) (Ok served.Ended) c.read_request.ensures.reads.later (omega arith) (λ is. absurd (ok_err is)) (omega arith) tt;
+}
 
-pub returns-in-Err-Failed-clause-serves : goal.returns-in-Err-Failed-clause-serves
-returns-in-Err-Failed-clause-serves g c = λ choose h base k chooser taken hold.
-    let e = entry choose h base k c.args.store.now.run c.args.moment in
-    let read : Found = Err link.Failed in
-    let clean = IsClean (g.K.Link.faults c.args.link.now) (g.K.Link.faults c.read_request.new.link) (g.K.Link.standing c.args.link.now) (g.K.Link.standing c.read_request.new.link) in
-    served_so g.D.Disk g.M.Book.Replay.fits g.M.Memory.holds e clean (Err fault.Link) (g.K.Link.left c.args.link.now) (g.K.Link.left c.read_request.new.link) (g.K.Link.left c.read_request.new.link)
-    (g.K.Link.given c.args.link.now) (g.K.Link.given c.read_request.new.link) c.args.store.now c.args.disk.now c.args.disk.now c.read_request.result read (c.in-Err-Failed.is ∙ ap Err c.in-Err-Failed.field-0-is) refl c.read_request.ensures.read c.read_request.ensures.within
-    (idle g.D.Disk g.M.Book.Replay.fits g.M.Memory.holds e (Says e (IsTold g.D.Disk c.args.disk.now) read (Err fault.Link)) false clean (Err fault.Link) (g.K.Link.given c.args.link.now) (g.K.Link.given c.read_request.new.link)
-    c.args.store.now c.args.disk.now None (refl, refl) c.read_request.ensures.reads.given tt refl hold)
+pub returns-in-Err-Failed : goal.returns-in-Err-Failed
+returns-in-Err-Failed g c = record {
+  serves = λ choose h base k chooser taken hold.
+      let e = entry choose h base k c.args.store.now.run c.args.moment in
+      let read : Found = Err link.Failed in
+      let clean = IsClean (g.K.Link.faults c.args.link.now) (g.K.Link.faults c.read_request.new.link) (g.K.Link.standing c.args.link.now) (g.K.Link.standing c.read_request.new.link) in
+      served_so g.D.Disk g.M.Book.Replay.fits g.M.Memory.holds e clean (Err fault.Link) (g.K.Link.left c.args.link.now) (g.K.Link.left c.read_request.new.link) (g.K.Link.left c.read_request.new.link)
+      (g.K.Link.given c.args.link.now) (g.K.Link.given c.read_request.new.link) c.args.store.now c.args.disk.now c.args.disk.now c.read_request.result read (c.in-Err-Failed.is ∙ ap Err c.in-Err-Failed.field-0-is) refl c.read_request.ensures.read c.read_request.ensures.within
+      (idle g.D.Disk g.M.Book.Replay.fits g.M.Memory.holds e (Says e (IsTold g.D.Disk c.args.disk.now) read (Err fault.Link)) false clean (Err fault.Link) (g.K.Link.given c.args.link.now) (g.K.Link.given c.read_request.new.link)
+      c.args.store.now c.args.disk.now None (refl, refl) c.read_request.ensures.reads.given tt refl hold);
+  over = λ stays. c.requires.over;
+  measured = λ measured stays. measured;
+  run = refl;
+  told = λ told. told;
+  goes = c.read_request.ensures.reads.goes;
+  comes =     comes_open (g.K.Link.faults c.args.link.now) (g.K.Link.faults c.args.link.now) (g.K.Link.faults c.read_request.new.link) (g.D.Disk.faults c.args.disk.now) (g.D.Disk.faults c.args.disk.now) (Err fault.Link) (omega arith) c.read_request.ensures.reads.later (λ is. c.read_request.ensures.failed (c.in-Err-Failed.is ∙ ap Err c.in-Err-Failed.field-0-is)) (omega arith) tt;
+}
 
-pub returns-in-Err-Cut-clause-serves : goal.returns-in-Err-Cut-clause-serves
-returns-in-Err-Cut-clause-serves g c = λ choose h base k chooser taken hold.
-    let e = entry choose h base k c.args.store.now.run c.args.moment in
-    let read : Found = Err link.Cut in
-    let clean = IsClean (g.K.Link.faults c.args.link.now) (g.K.Link.faults c.read_request.new.link) (g.K.Link.standing c.args.link.now) (g.K.Link.standing c.read_request.new.link) in
-    served_so g.D.Disk g.M.Book.Replay.fits g.M.Memory.holds e clean (Err fault.Cut) (g.K.Link.left c.args.link.now) (g.K.Link.left c.read_request.new.link) (g.K.Link.left c.read_request.new.link)
-    (g.K.Link.given c.args.link.now) (g.K.Link.given c.read_request.new.link) c.args.store.now c.args.disk.now c.args.disk.now c.read_request.result read (c.in-Err-Cut.is ∙ ap Err c.in-Err-Cut.field-0-is) refl c.read_request.ensures.read c.read_request.ensures.within
-    (idle g.D.Disk g.M.Book.Replay.fits g.M.Memory.holds e (Says e (IsTold g.D.Disk c.args.disk.now) read (Err fault.Cut)) false clean (Err fault.Cut) (g.K.Link.given c.args.link.now) (g.K.Link.given c.read_request.new.link)
-    c.args.store.now c.args.disk.now None (refl, refl) c.read_request.ensures.reads.given tt refl hold)
+pub returns-in-Err-Cut : goal.returns-in-Err-Cut
+returns-in-Err-Cut g c = record {
+  serves = λ choose h base k chooser taken hold.
+      let e = entry choose h base k c.args.store.now.run c.args.moment in
+      let read : Found = Err link.Cut in
+      let clean = IsClean (g.K.Link.faults c.args.link.now) (g.K.Link.faults c.read_request.new.link) (g.K.Link.standing c.args.link.now) (g.K.Link.standing c.read_request.new.link) in
+      served_so g.D.Disk g.M.Book.Replay.fits g.M.Memory.holds e clean (Err fault.Cut) (g.K.Link.left c.args.link.now) (g.K.Link.left c.read_request.new.link) (g.K.Link.left c.read_request.new.link)
+      (g.K.Link.given c.args.link.now) (g.K.Link.given c.read_request.new.link) c.args.store.now c.args.disk.now c.args.disk.now c.read_request.result read (c.in-Err-Cut.is ∙ ap Err c.in-Err-Cut.field-0-is) refl c.read_request.ensures.read c.read_request.ensures.within
+      (idle g.D.Disk g.M.Book.Replay.fits g.M.Memory.holds e (Says e (IsTold g.D.Disk c.args.disk.now) read (Err fault.Cut)) false clean (Err fault.Cut) (g.K.Link.given c.args.link.now) (g.K.Link.given c.read_request.new.link)
+      c.args.store.now c.args.disk.now None (refl, refl) c.read_request.ensures.reads.given tt refl hold);
+  over = λ stays. c.requires.over;
+  measured = λ measured stays. measured;
+  run = refl;
+  told = λ told. told;
+  goes = c.read_request.ensures.reads.goes;
+  comes = comes_open (g.K.Link.faults c.args.link.now) (g.K.Link.faults c.read_request.new.link) (g.K.Link.faults c.read_request.new.link) (g.D.Disk.faults c.args.disk.now) (g.D.Disk.faults c.args.disk.now) (Err fault.Cut) c.read_request.ensures.reads.later (omega arith) (λ is. absurd (not_link is)) (omega arith) tt;
+}
 
-pub returns-in-Ok-Refused-clause-serves : goal.returns-in-Ok-Refused-clause-serves
-returns-in-Ok-Refused-clause-serves g c = λ choose h base k chooser taken hold.
-    let e = entry choose h base k c.args.store.now.run c.args.moment in
-    let read : Found = Ok (was.Refused c.in-Ok-Refused.fault c.in-Ok-Refused.delimited) in
-    let clean = IsClean (g.K.Link.faults c.args.link.now) (g.K.Link.faults c.give_unread.new.link) (g.K.Link.standing c.args.link.now) (g.K.Link.standing c.give_unread.new.link) in
-    let later = IsClean (g.K.Link.faults c.read_request.new.link) (g.K.Link.faults c.give_unread.new.link) (g.K.Link.standing c.read_request.new.link) (g.K.Link.standing c.give_unread.new.link) in
-    served_so g.D.Disk g.M.Book.Replay.fits g.M.Memory.holds e clean c.give_unread.result (g.K.Link.left c.args.link.now) (g.K.Link.left c.read_request.new.link) (g.K.Link.left c.give_unread.new.link)
-    (g.K.Link.given c.args.link.now) (g.K.Link.given c.give_unread.new.link) c.args.store.now c.args.disk.now c.args.disk.now c.read_request.result read (c.in-Ok-Refused.is ∙ ap Ok c.in-Ok-Refused.field-0-is) c.give_unread.ensures.left c.read_request.ensures.read c.read_request.ensures.within
-    (idle g.D.Disk g.M.Book.Replay.fits g.M.Memory.holds e (Says e (IsTold g.D.Disk c.args.disk.now) read c.give_unread.result) c.in-Ok-Refused.delimited clean c.give_unread.result (g.K.Link.given c.args.link.now) (g.K.Link.given c.give_unread.new.link)
-    c.args.store.now c.args.disk.now (Some (unread c.in-Ok-Refused.fault)) refl
-    (gave_cleaner (Some (unread c.in-Ok-Refused.fault)) c.in-Ok-Refused.delimited later clean c.give_unread.result (g.K.Link.given c.args.link.now) (g.K.Link.given c.give_unread.new.link)
-    (clean_behind (g.K.Link.faults c.args.link.now) (g.K.Link.faults c.read_request.new.link) (g.K.Link.faults c.give_unread.new.link) (g.K.Link.standing c.args.link.now) (g.K.Link.standing c.read_request.new.link) (g.K.Link.standing c.give_unread.new.link)
-    c.read_request.ensures.reads.later c.read_request.ensures.reads.goes.writing)
-    (subst (λ (x : Option (List ℕ)). Gave (Some (unread c.in-Ok-Refused.fault)) c.in-Ok-Refused.delimited later c.give_unread.result x (g.K.Link.given c.give_unread.new.link)) c.read_request.ensures.reads.given c.give_unread.ensures.gave))
-    c.give_unread.ensures.open refl hold)
+pub returns-in-Ok-Refused : goal.returns-in-Ok-Refused
+returns-in-Ok-Refused g c = record {
+  serves = λ choose h base k chooser taken hold.
+      let e = entry choose h base k c.args.store.now.run c.args.moment in
+      let read : Found = Ok (was.Refused c.in-Ok-Refused.fault c.in-Ok-Refused.delimited) in
+      let clean = IsClean (g.K.Link.faults c.args.link.now) (g.K.Link.faults c.give_unread.new.link) (g.K.Link.standing c.args.link.now) (g.K.Link.standing c.give_unread.new.link) in
+      let later = IsClean (g.K.Link.faults c.read_request.new.link) (g.K.Link.faults c.give_unread.new.link) (g.K.Link.standing c.read_request.new.link) (g.K.Link.standing c.give_unread.new.link) in
+      served_so g.D.Disk g.M.Book.Replay.fits g.M.Memory.holds e clean c.give_unread.result (g.K.Link.left c.args.link.now) (g.K.Link.left c.read_request.new.link) (g.K.Link.left c.give_unread.new.link)
+      (g.K.Link.given c.args.link.now) (g.K.Link.given c.give_unread.new.link) c.args.store.now c.args.disk.now c.args.disk.now c.read_request.result read (c.in-Ok-Refused.is ∙ ap Ok c.in-Ok-Refused.field-0-is) c.give_unread.ensures.left c.read_request.ensures.read c.read_request.ensures.within
+      (idle g.D.Disk g.M.Book.Replay.fits g.M.Memory.holds e (Says e (IsTold g.D.Disk c.args.disk.now) read c.give_unread.result) c.in-Ok-Refused.delimited clean c.give_unread.result (g.K.Link.given c.args.link.now) (g.K.Link.given c.give_unread.new.link)
+      c.args.store.now c.args.disk.now (Some (unread c.in-Ok-Refused.fault)) refl
+      (gave_cleaner (Some (unread c.in-Ok-Refused.fault)) c.in-Ok-Refused.delimited later clean c.give_unread.result (g.K.Link.given c.args.link.now) (g.K.Link.given c.give_unread.new.link)
+      (clean_behind (g.K.Link.faults c.args.link.now) (g.K.Link.faults c.read_request.new.link) (g.K.Link.faults c.give_unread.new.link) (g.K.Link.standing c.args.link.now) (g.K.Link.standing c.read_request.new.link) (g.K.Link.standing c.give_unread.new.link)
+      c.read_request.ensures.reads.later c.read_request.ensures.reads.goes.writing)
+      (subst (λ (x : Option (List ℕ)). Gave (Some (unread c.in-Ok-Refused.fault)) c.in-Ok-Refused.delimited later c.give_unread.result x (g.K.Link.given c.give_unread.new.link)) c.read_request.ensures.reads.given c.give_unread.ensures.gave))
+      c.give_unread.ensures.open refl hold);
+  over = λ stays. c.requires.over;
+  measured = λ measured stays. measured;
+  run = refl;
+  told = λ told. told;
+  goes = goes_on c.read_request.ensures.reads.goes c.give_unread.ensures.goes;
+  comes =     comes_open (g.K.Link.faults c.args.link.now) (g.K.Link.faults c.read_request.new.link) (g.K.Link.faults c.give_unread.new.link) (g.D.Disk.faults c.args.disk.now) (g.D.Disk.faults c.args.disk.now) c.give_unread.result c.read_request.ensures.reads.later c.give_unread.ensures.later c.give_unread.ensures.failed (omega arith) c.give_unread.ensures.open;
+}
 
-pub returns-in-Err-NoMemory-clause-serves : goal.returns-in-Err-NoMemory-clause-serves
-returns-in-Err-NoMemory-clause-serves g c = λ choose h base k chooser taken hold.
-    let e = entry choose h base k c.args.store.now.run c.args.moment in
-    let read : Found = Err (link.NoMemory c.in-Err-NoMemory.whole) in
-    let clean = IsClean (g.K.Link.faults c.args.link.now) (g.K.Link.faults c.decline.new.link) (g.K.Link.standing c.args.link.now) (g.K.Link.standing c.decline.new.link) in
-    let later = IsClean (g.K.Link.faults c.read_request.new.link) (g.K.Link.faults c.decline.new.link) (g.K.Link.standing c.read_request.new.link) (g.K.Link.standing c.decline.new.link) in
-    served_so g.D.Disk g.M.Book.Replay.fits g.M.Memory.holds e clean c.decline.result (g.K.Link.left c.args.link.now) (g.K.Link.left c.read_request.new.link) (g.K.Link.left c.decline.new.link)
-    (g.K.Link.given c.args.link.now) (g.K.Link.given c.decline.new.link) c.args.store.now c.args.disk.now c.args.disk.now c.read_request.result read (c.in-Err-NoMemory.is ∙ ap Err c.in-Err-NoMemory.field-0-is) c.decline.ensures.left c.read_request.ensures.read c.read_request.ensures.within
-    (idle g.D.Disk g.M.Book.Replay.fits g.M.Memory.holds e (Says e (IsTold g.D.Disk c.args.disk.now) read c.decline.result) c.in-Err-NoMemory.whole clean c.decline.result (g.K.Link.given c.args.link.now) (g.K.Link.given c.decline.new.link)
-    c.args.store.now c.args.disk.now (Some no_memory) refl
-    (gave_cleaner (Some no_memory) c.in-Err-NoMemory.whole later clean c.decline.result (g.K.Link.given c.args.link.now) (g.K.Link.given c.decline.new.link)
-    (clean_behind (g.K.Link.faults c.args.link.now) (g.K.Link.faults c.read_request.new.link) (g.K.Link.faults c.decline.new.link) (g.K.Link.standing c.args.link.now) (g.K.Link.standing c.read_request.new.link) (g.K.Link.standing c.decline.new.link)
-    c.read_request.ensures.reads.later c.read_request.ensures.reads.goes.writing)
-    (subst (λ (x : Option (List ℕ)). Gave (Some no_memory) c.in-Err-NoMemory.whole later c.decline.result x (g.K.Link.given c.decline.new.link)) c.read_request.ensures.reads.given
-    (subst (λ (w : Bool). Gave (Some no_memory) w later c.decline.result (g.K.Link.given c.read_request.new.link) (g.K.Link.given c.decline.new.link)) c.in-Err-NoMemory.whole-is c.decline.ensures.gave)))
-    c.decline.ensures.open refl hold)
+pub returns-in-Err-NoMemory : goal.returns-in-Err-NoMemory
+returns-in-Err-NoMemory g c = record {
+  serves = λ choose h base k chooser taken hold.
+      let e = entry choose h base k c.args.store.now.run c.args.moment in
+      let read : Found = Err (link.NoMemory c.in-Err-NoMemory.whole) in
+      let clean = IsClean (g.K.Link.faults c.args.link.now) (g.K.Link.faults c.decline.new.link) (g.K.Link.standing c.args.link.now) (g.K.Link.standing c.decline.new.link) in
+      let later = IsClean (g.K.Link.faults c.read_request.new.link) (g.K.Link.faults c.decline.new.link) (g.K.Link.standing c.read_request.new.link) (g.K.Link.standing c.decline.new.link) in
+      served_so g.D.Disk g.M.Book.Replay.fits g.M.Memory.holds e clean c.decline.result (g.K.Link.left c.args.link.now) (g.K.Link.left c.read_request.new.link) (g.K.Link.left c.decline.new.link)
+      (g.K.Link.given c.args.link.now) (g.K.Link.given c.decline.new.link) c.args.store.now c.args.disk.now c.args.disk.now c.read_request.result read (c.in-Err-NoMemory.is ∙ ap Err c.in-Err-NoMemory.field-0-is) c.decline.ensures.left c.read_request.ensures.read c.read_request.ensures.within
+      (idle g.D.Disk g.M.Book.Replay.fits g.M.Memory.holds e (Says e (IsTold g.D.Disk c.args.disk.now) read c.decline.result) c.in-Err-NoMemory.whole clean c.decline.result (g.K.Link.given c.args.link.now) (g.K.Link.given c.decline.new.link)
+      c.args.store.now c.args.disk.now (Some no_memory) refl
+      (gave_cleaner (Some no_memory) c.in-Err-NoMemory.whole later clean c.decline.result (g.K.Link.given c.args.link.now) (g.K.Link.given c.decline.new.link)
+      (clean_behind (g.K.Link.faults c.args.link.now) (g.K.Link.faults c.read_request.new.link) (g.K.Link.faults c.decline.new.link) (g.K.Link.standing c.args.link.now) (g.K.Link.standing c.read_request.new.link) (g.K.Link.standing c.decline.new.link)
+      c.read_request.ensures.reads.later c.read_request.ensures.reads.goes.writing)
+      (subst (λ (x : Option (List ℕ)). Gave (Some no_memory) c.in-Err-NoMemory.whole later c.decline.result x (g.K.Link.given c.decline.new.link)) c.read_request.ensures.reads.given
+      (subst (λ (w : Bool). Gave (Some no_memory) w later c.decline.result (g.K.Link.given c.read_request.new.link) (g.K.Link.given c.decline.new.link)) c.in-Err-NoMemory.whole-is c.decline.ensures.gave)))
+      c.decline.ensures.open refl hold);
+  over = λ stays. c.requires.over;
+  measured = λ measured stays. measured;
+  run = refl;
+  told = λ told. told;
+  goes = goes_on c.read_request.ensures.reads.goes c.decline.ensures.goes;
+  comes =     comes_open (g.K.Link.faults c.args.link.now) (g.K.Link.faults c.read_request.new.link) (g.K.Link.faults c.decline.new.link) (g.D.Disk.faults c.args.disk.now) (g.D.Disk.faults c.args.disk.now) c.decline.result c.read_request.ensures.reads.later c.decline.ensures.later c.decline.ensures.failed (omega arith) c.decline.ensures.open;
+}
 
-pub returns-in-Ok-Asked-clause-serves : goal.returns-in-Ok-Asked-clause-serves
-returns-in-Ok-Asked-clause-serves g c = λ choose h base k chooser taken hold.
-    let fits : SFits w64 c.args.moment = search rules in
-    let e = entry choose h base k c.args.store.now.run c.args.moment in
-    let read : Found = Ok (was.Asked c.in-Ok-Asked.ask) in
-    let clean = IsClean (g.K.Link.faults c.args.link.now) (g.K.Link.faults c.serve_ask.new.link) (g.K.Link.standing c.args.link.now) (g.K.Link.standing c.serve_ask.new.link) in
-    let later = IsClean (g.K.Link.faults c.read_request.new.link) (g.K.Link.faults c.serve_ask.new.link) (g.K.Link.standing c.read_request.new.link) (g.K.Link.standing c.serve_ask.new.link) in
-    served_so g.D.Disk g.M.Book.Replay.fits g.M.Memory.holds e clean c.serve_ask.result (g.K.Link.left c.args.link.now) (g.K.Link.left c.read_request.new.link) (g.K.Link.left c.serve_ask.new.link)
-    (g.K.Link.given c.args.link.now) (g.K.Link.given c.serve_ask.new.link) c.serve_ask.new.store c.args.disk.now c.serve_ask.new.disk c.read_request.result read (c.in-Ok-Asked.is ∙ ap Ok c.in-Ok-Asked.field-0-is) c.serve_ask.ensures.left c.read_request.ensures.read c.read_request.ensures.within
-    (cleaner g.D.Disk g.M.Book.Replay.fits g.M.Memory.holds e (MayBe e (IsTold g.D.Disk c.serve_ask.new.disk) c.in-Ok-Asked.ask c.serve_ask.result) true later clean c.serve_ask.result
-    (g.K.Link.given c.read_request.new.link) (g.K.Link.given c.serve_ask.new.link) (g.K.Link.given c.args.link.now) c.serve_ask.new.store c.args.disk.now c.serve_ask.new.disk
-    (clean_behind (g.K.Link.faults c.args.link.now) (g.K.Link.faults c.read_request.new.link) (g.K.Link.faults c.serve_ask.new.link) (g.K.Link.standing c.args.link.now) (g.K.Link.standing c.read_request.new.link) (g.K.Link.standing c.serve_ask.new.link)
-    c.read_request.ensures.reads.later c.read_request.ensures.reads.goes.writing) c.read_request.ensures.reads.given
-    (simp to_z-of_z at (c.serve_ask.ensures.answers choose h base k chooser taken hold)))
-
-pub returns-in-Ok-Ended-clause-over : goal.returns-in-Ok-Ended-clause-over
-returns-in-Ok-Ended-clause-over g c = λ stays. c.requires.over
-
-pub returns-in-Ok-Ended-clause-measured : goal.returns-in-Ok-Ended-clause-measured
-returns-in-Ok-Ended-clause-measured g c = λ measured stays. measured
-
-pub returns-in-Ok-Ended-clause-goes : goal.returns-in-Ok-Ended-clause-goes
-returns-in-Ok-Ended-clause-goes g c = c.read_request.ensures.reads.goes
-
-pub returns-in-Ok-Ended-clause-comes : goal.returns-in-Ok-Ended-clause-comes
-returns-in-Ok-Ended-clause-comes g c = comes_open (g.K.Link.faults c.args.link.now) (g.K.Link.faults c.read_request.new.link) (g.K.Link.faults c.read_request.new.link) (g.D.Disk.faults c.args.disk.now) (g.D.Disk.faults c.args.disk.now) (Ok served.Ended) c.read_request.ensures.reads.later (omega arith) (λ is. absurd (ok_err is)) (omega arith) tt
-
-pub returns-in-Err-Failed-clause-over : goal.returns-in-Err-Failed-clause-over
-returns-in-Err-Failed-clause-over g c = λ stays. c.requires.over
-
-pub returns-in-Err-Failed-clause-measured : goal.returns-in-Err-Failed-clause-measured
-returns-in-Err-Failed-clause-measured g c = λ measured stays. measured
-
-pub returns-in-Err-Failed-clause-goes : goal.returns-in-Err-Failed-clause-goes
-returns-in-Err-Failed-clause-goes g c = c.read_request.ensures.reads.goes
-
-pub returns-in-Err-Failed-clause-comes : goal.returns-in-Err-Failed-clause-comes
-returns-in-Err-Failed-clause-comes g c =
-    comes_open (g.K.Link.faults c.args.link.now) (g.K.Link.faults c.args.link.now) (g.K.Link.faults c.read_request.new.link) (g.D.Disk.faults c.args.disk.now) (g.D.Disk.faults c.args.disk.now) (Err fault.Link) (omega arith) c.read_request.ensures.reads.later (λ is. c.read_request.ensures.failed (c.in-Err-Failed.is ∙ ap Err c.in-Err-Failed.field-0-is)) (omega arith) tt
-
-pub returns-in-Err-Cut-clause-over : goal.returns-in-Err-Cut-clause-over
-returns-in-Err-Cut-clause-over g c = λ stays. c.requires.over
-
-pub returns-in-Err-Cut-clause-measured : goal.returns-in-Err-Cut-clause-measured
-returns-in-Err-Cut-clause-measured g c = λ measured stays. measured
-
-pub returns-in-Err-Cut-clause-goes : goal.returns-in-Err-Cut-clause-goes
-returns-in-Err-Cut-clause-goes g c = c.read_request.ensures.reads.goes
-
-pub returns-in-Err-Cut-clause-comes : goal.returns-in-Err-Cut-clause-comes
-returns-in-Err-Cut-clause-comes g c = comes_open (g.K.Link.faults c.args.link.now) (g.K.Link.faults c.read_request.new.link) (g.K.Link.faults c.read_request.new.link) (g.D.Disk.faults c.args.disk.now) (g.D.Disk.faults c.args.disk.now) (Err fault.Cut) c.read_request.ensures.reads.later (omega arith) (λ is. absurd (not_link is)) (omega arith) tt
-
-pub returns-in-Ok-Refused-clause-over : goal.returns-in-Ok-Refused-clause-over
-returns-in-Ok-Refused-clause-over g c = λ stays. c.requires.over
-
-pub returns-in-Ok-Refused-clause-measured : goal.returns-in-Ok-Refused-clause-measured
-returns-in-Ok-Refused-clause-measured g c = λ measured stays. measured
-
-pub returns-in-Ok-Refused-clause-goes : goal.returns-in-Ok-Refused-clause-goes
-returns-in-Ok-Refused-clause-goes g c = goes_on c.read_request.ensures.reads.goes c.give_unread.ensures.goes
-
-pub returns-in-Ok-Refused-clause-comes : goal.returns-in-Ok-Refused-clause-comes
-returns-in-Ok-Refused-clause-comes g c =
-    comes_open (g.K.Link.faults c.args.link.now) (g.K.Link.faults c.read_request.new.link) (g.K.Link.faults c.give_unread.new.link) (g.D.Disk.faults c.args.disk.now) (g.D.Disk.faults c.args.disk.now) c.give_unread.result c.read_request.ensures.reads.later c.give_unread.ensures.later c.give_unread.ensures.failed (omega arith) c.give_unread.ensures.open
-
-pub returns-in-Err-NoMemory-clause-over : goal.returns-in-Err-NoMemory-clause-over
-returns-in-Err-NoMemory-clause-over g c = λ stays. c.requires.over
-
-pub returns-in-Err-NoMemory-clause-measured : goal.returns-in-Err-NoMemory-clause-measured
-returns-in-Err-NoMemory-clause-measured g c = λ measured stays. measured
-
-pub returns-in-Err-NoMemory-clause-goes : goal.returns-in-Err-NoMemory-clause-goes
-returns-in-Err-NoMemory-clause-goes g c = goes_on c.read_request.ensures.reads.goes c.decline.ensures.goes
-
-pub returns-in-Err-NoMemory-clause-comes : goal.returns-in-Err-NoMemory-clause-comes
-returns-in-Err-NoMemory-clause-comes g c =
-    comes_open (g.K.Link.faults c.args.link.now) (g.K.Link.faults c.read_request.new.link) (g.K.Link.faults c.decline.new.link) (g.D.Disk.faults c.args.disk.now) (g.D.Disk.faults c.args.disk.now) c.decline.result c.read_request.ensures.reads.later c.decline.ensures.later c.decline.ensures.failed (omega arith) c.decline.ensures.open
-
-pub returns-in-Ok-Asked-clause-over : goal.returns-in-Ok-Asked-clause-over
-returns-in-Ok-Asked-clause-over g c = c.serve_ask.ensures.over
-
-pub returns-in-Ok-Asked-clause-measured : goal.returns-in-Ok-Asked-clause-measured
-returns-in-Ok-Asked-clause-measured g c = c.serve_ask.ensures.measured
-
-pub returns-in-Ok-Asked-clause-run : goal.returns-in-Ok-Asked-clause-run
-returns-in-Ok-Asked-clause-run g c = c.serve_ask.ensures.run
-
-pub returns-in-Ok-Asked-clause-told : goal.returns-in-Ok-Asked-clause-told
-returns-in-Ok-Asked-clause-told g c = c.serve_ask.ensures.told
-
-pub returns-in-Ok-Asked-clause-goes : goal.returns-in-Ok-Asked-clause-goes
-returns-in-Ok-Asked-clause-goes g c = goes_on c.read_request.ensures.reads.goes c.serve_ask.ensures.goes
-
-pub returns-in-Ok-Asked-clause-comes : goal.returns-in-Ok-Asked-clause-comes
-returns-in-Ok-Asked-clause-comes g c =
-    comes_later (g.K.Link.faults c.args.link.now) (g.K.Link.faults c.read_request.new.link) (g.K.Link.faults c.serve_ask.new.link) (g.D.Disk.faults c.args.disk.now) (g.D.Disk.faults c.serve_ask.new.disk) c.serve_ask.result c.read_request.ensures.reads.later c.serve_ask.ensures.comes
+pub returns-in-Ok-Asked : goal.returns-in-Ok-Asked
+returns-in-Ok-Asked g c = record {
+  serves = λ choose h base k chooser taken hold.
+      let fits : SFits w64 c.args.moment = search rules in
+      let e = entry choose h base k c.args.store.now.run c.args.moment in
+      let read : Found = Ok (was.Asked c.in-Ok-Asked.ask) in
+      let clean = IsClean (g.K.Link.faults c.args.link.now) (g.K.Link.faults c.serve_ask.new.link) (g.K.Link.standing c.args.link.now) (g.K.Link.standing c.serve_ask.new.link) in
+      let later = IsClean (g.K.Link.faults c.read_request.new.link) (g.K.Link.faults c.serve_ask.new.link) (g.K.Link.standing c.read_request.new.link) (g.K.Link.standing c.serve_ask.new.link) in
+      served_so g.D.Disk g.M.Book.Replay.fits g.M.Memory.holds e clean c.serve_ask.result (g.K.Link.left c.args.link.now) (g.K.Link.left c.read_request.new.link) (g.K.Link.left c.serve_ask.new.link)
+      (g.K.Link.given c.args.link.now) (g.K.Link.given c.serve_ask.new.link) c.serve_ask.new.store c.args.disk.now c.serve_ask.new.disk c.read_request.result read (c.in-Ok-Asked.is ∙ ap Ok c.in-Ok-Asked.field-0-is) c.serve_ask.ensures.left c.read_request.ensures.read c.read_request.ensures.within
+      (cleaner g.D.Disk g.M.Book.Replay.fits g.M.Memory.holds e (MayBe e (IsTold g.D.Disk c.serve_ask.new.disk) c.in-Ok-Asked.ask c.serve_ask.result) true later clean c.serve_ask.result
+      (g.K.Link.given c.read_request.new.link) (g.K.Link.given c.serve_ask.new.link) (g.K.Link.given c.args.link.now) c.serve_ask.new.store c.args.disk.now c.serve_ask.new.disk
+      (clean_behind (g.K.Link.faults c.args.link.now) (g.K.Link.faults c.read_request.new.link) (g.K.Link.faults c.serve_ask.new.link) (g.K.Link.standing c.args.link.now) (g.K.Link.standing c.read_request.new.link) (g.K.Link.standing c.serve_ask.new.link)
+      c.read_request.ensures.reads.later c.read_request.ensures.reads.goes.writing) c.read_request.ensures.reads.given
+      (simp to_z-of_z at (c.serve_ask.ensures.answers choose h base k chooser taken hold)));
+  over = c.serve_ask.ensures.over;
+  measured = c.serve_ask.ensures.measured;
+  run = c.serve_ask.ensures.run;
+  told = c.serve_ask.ensures.told;
+  goes = goes_on c.read_request.ensures.reads.goes c.serve_ask.ensures.goes;
+  comes =     comes_later (g.K.Link.faults c.args.link.now) (g.K.Link.faults c.read_request.new.link) (g.K.Link.faults c.serve_ask.new.link) (g.D.Disk.faults c.args.disk.now) (g.D.Disk.faults c.serve_ask.new.disk) c.serve_ask.result c.read_request.ensures.reads.later c.serve_ask.ensures.comes;
+}
 
 pub serve_ask-requires-clause-over : goal.serve_ask-requires-clause-over
 serve_ask-requires-clause-over g c = c.requires.over
@@ -188,33 +154,3 @@ serve_ask-requires-clause-takes g c = c.requires.takes
 
 pub serve_ask-requires-clause-within : goal.serve_ask-requires-clause-within
 serve_ask-requires-clause-within g c = rw c.in-Ok-Asked.field-0-is at c.in-Ok-Asked.ensures.within
-
-pub returns-in-Ok-Ended-clause-run : goal.returns-in-Ok-Ended-clause-run
-returns-in-Ok-Ended-clause-run g c = refl
-
-pub returns-in-Ok-Ended-clause-told : goal.returns-in-Ok-Ended-clause-told
-returns-in-Ok-Ended-clause-told g c = λ told. told
-
-pub returns-in-Err-Failed-clause-run : goal.returns-in-Err-Failed-clause-run
-returns-in-Err-Failed-clause-run g c = refl
-
-pub returns-in-Err-Failed-clause-told : goal.returns-in-Err-Failed-clause-told
-returns-in-Err-Failed-clause-told g c = λ told. told
-
-pub returns-in-Err-Cut-clause-run : goal.returns-in-Err-Cut-clause-run
-returns-in-Err-Cut-clause-run g c = refl
-
-pub returns-in-Err-Cut-clause-told : goal.returns-in-Err-Cut-clause-told
-returns-in-Err-Cut-clause-told g c = λ told. told
-
-pub returns-in-Ok-Refused-clause-run : goal.returns-in-Ok-Refused-clause-run
-returns-in-Ok-Refused-clause-run g c = refl
-
-pub returns-in-Ok-Refused-clause-told : goal.returns-in-Ok-Refused-clause-told
-returns-in-Ok-Refused-clause-told g c = λ told. told
-
-pub returns-in-Err-NoMemory-clause-run : goal.returns-in-Err-NoMemory-clause-run
-returns-in-Err-NoMemory-clause-run g c = refl
-
-pub returns-in-Err-NoMemory-clause-told : goal.returns-in-Err-NoMemory-clause-told
-returns-in-Err-NoMemory-clause-told g c = λ told. told
