@@ -11,53 +11,36 @@ use Rattle.ix_run.proofs.Rested.{measured_same}
 use Rattle.ix_run.proofs.Stored.{gave_one, gave_none}
 use Rattle.ix_run.proofs.input.give_one.Goals as goal
 
-pub returns-in-Ok-clause-given : goal.returns-in-Ok-clause-given
-returns-in-Ok-clause-given g c = λ choose h base k chooser taken hold.
-    let fits : SFits w64 c.args.moment = search rules in
-    gave_one g.D.Disk _ g.M.Memory.holds choose h base k (record { command = c.args.command; moment = c.args.moment }) c.args.store.now c.give.new.store c.args.disk.now c.give.new.disk c.in-Ok.field-0 hold
-    (simp to_z-of_z at (c.in-Ok.ensures.given choose h base k chooser taken hold))
+pub returns-in-Ok : goal.returns-in-Ok
+returns-in-Ok g c = record {
+  given = λ choose h base k chooser taken hold.
+      let fits : SFits w64 c.args.moment = search rules in
+      gave_one g.D.Disk _ g.M.Memory.holds choose h base k (record { command = c.args.command; moment = c.args.moment }) c.args.store.now c.give.new.store c.args.disk.now c.give.new.disk c.in-Ok.field-0 hold
+      (simp to_z-of_z at (c.in-Ok.ensures.given choose h base k chooser taken hold));
+  over = λ uncut. c.in-Ok.ensures.over;
+  measured = λ uncut measured. c.in-Ok.ensures.measured measured;
+  undamaged = λ file at is. absurd (given_ok is);
+  told = c.give.ensures.told;
+  later = c.give.ensures.later;
+  cause = tt;
+}
 
-pub returns-in-Err-clause-given : goal.returns-in-Err-clause-given
-returns-in-Err-clause-given g c = λ choose h base k chooser taken hold.
-    let fits : SFits w64 c.args.moment = search rules in
-    gave_none g.D.Disk _ g.M.Memory.holds choose h base k (record { command = c.args.command; moment = c.args.moment }) c.args.store.now c.give.new.store c.args.disk.now c.give.new.disk c.in-Err.fault hold
-    (simp to_z-of_z at (c.in-Err.ensures.fault choose h base k chooser taken hold))
-
-pub returns-in-Err-clause-undamaged : goal.returns-in-Err-clause-undamaged
-returns-in-Err-clause-undamaged g c = λ file at is.
-    c.in-Err.ensures.undamaged file at (ap (λ (f : GiveFault). Err f) (fault_is c.in-Err.fault (faults.Commit (commits.Damaged file at)) is))
-
-pub returns-in-Ok-clause-over : goal.returns-in-Ok-clause-over
-returns-in-Ok-clause-over g c = λ uncut. c.in-Ok.ensures.over
-
-pub returns-in-Ok-clause-measured : goal.returns-in-Ok-clause-measured
-returns-in-Ok-clause-measured g c = λ uncut measured. c.in-Ok.ensures.measured measured
-
-pub returns-in-Ok-clause-undamaged : goal.returns-in-Ok-clause-undamaged
-returns-in-Ok-clause-undamaged g c = λ file at is. absurd (given_ok is)
-
-pub returns-in-Ok-clause-told : goal.returns-in-Ok-clause-told
-returns-in-Ok-clause-told g c = c.give.ensures.told
-
-pub returns-in-Ok-clause-later : goal.returns-in-Ok-clause-later
-returns-in-Ok-clause-later g c = c.give.ensures.later
-
-pub returns-in-Err-clause-over : goal.returns-in-Err-clause-over
-returns-in-Err-clause-over g c = λ uncut.
-    let refused = uncut_refused c.in-Err.fault uncut in
-    c.in-Err.ensures.still refused.0 refused.1
-
-pub returns-in-Err-clause-measured : goal.returns-in-Err-clause-measured
-returns-in-Err-clause-measured g c = λ uncut measured.
-    let refused = uncut_refused c.in-Err.fault uncut in
-    let same = c.in-Err.ensures.unchanged refused.0 refused.1 in
-    rw same.1 (measured_same g.D.Disk c.args.store.now.keeper c.give.new.store.keeper c.args.disk.now same.0.keeper.logs.log same.0.keeper.bytes measured)
-
-pub returns-in-Err-clause-told : goal.returns-in-Err-clause-told
-returns-in-Err-clause-told g c = c.give.ensures.told
-
-pub returns-in-Err-clause-later : goal.returns-in-Err-clause-later
-returns-in-Err-clause-later g c = c.give.ensures.later
-
-pub returns-in-Err-clause-cause : goal.returns-in-Err-clause-cause
-returns-in-Err-clause-cause g c = c.in-Err.ensures.cause
+pub returns-in-Err : goal.returns-in-Err
+returns-in-Err g c = record {
+  given = λ choose h base k chooser taken hold.
+      let fits : SFits w64 c.args.moment = search rules in
+      gave_none g.D.Disk _ g.M.Memory.holds choose h base k (record { command = c.args.command; moment = c.args.moment }) c.args.store.now c.give.new.store c.args.disk.now c.give.new.disk c.in-Err.fault hold
+      (simp to_z-of_z at (c.in-Err.ensures.fault choose h base k chooser taken hold));
+  over = λ uncut.
+      let refused = uncut_refused c.in-Err.fault uncut in
+      c.in-Err.ensures.still refused.0 refused.1;
+  measured = λ uncut measured.
+      let refused = uncut_refused c.in-Err.fault uncut in
+      let same = c.in-Err.ensures.unchanged refused.0 refused.1 in
+      rw same.1 (measured_same g.D.Disk c.args.store.now.keeper c.give.new.store.keeper c.args.disk.now same.0.keeper.logs.log same.0.keeper.bytes measured);
+  undamaged = λ file at is.
+      c.in-Err.ensures.undamaged file at (ap (λ (f : GiveFault). Err f) (fault_is c.in-Err.fault (faults.Commit (commits.Damaged file at)) is));
+  told = c.give.ensures.told;
+  later = c.give.ensures.later;
+  cause = c.in-Err.ensures.cause;
+}

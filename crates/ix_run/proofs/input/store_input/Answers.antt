@@ -20,123 +20,84 @@ use Rattle.ix_run.proofs.input.store_input.Goals as goal
 cause_back : (a b : CommitFault) → (let result : Result Unit RunFault = Err (stops.Given (faults.Commit a)) in result ≡ Err (stops.Given (faults.Commit b))) → a ≡ b
 cause_back a b is = cc
 
-pub returns-then-is_run_cut-clause-stored : goal.returns-then-is_run_cut-clause-stored
-returns-then-is_run_cut-clause-stored g c =
-    let read = c.run-stored.ensures.read in record {
-      pieces = read.pieces;
-      sizes = read.sizes;
-      took = read.took;
-      read = read.read;
-      done = λ choose h base k chooser taken hold.
-          let fits : SFits w64 c.args.arrival.moment = search rules in
-          cut g.D.Disk g.M.Book.Replay.fits g.M.Memory.holds choose h base k c.run-stored.new.store c.args.disk.now c.run-stored.new.disk c.run-stored.result
-          (filling (is_begun (after choose h) tilde) c.args.arrival.origin c.args.arrival.moment read.pieces) (end_order c.args.arrival.moment ∷ []) (sym c.is_run_cut.ensures ∙ c.if-is_run_cut.true)
-          (simp to_z-of_z at (read.done choose h base k chooser taken hold));
-    }
+pub returns-then-is_run_cut : goal.returns-then-is_run_cut
+returns-then-is_run_cut g c = record {
+  stored =     let read = c.run-stored.ensures.read in record {
+        pieces = read.pieces;
+        sizes = read.sizes;
+        took = read.took;
+        read = read.read;
+        done = λ choose h base k chooser taken hold.
+            let fits : SFits w64 c.args.arrival.moment = search rules in
+            cut g.D.Disk g.M.Book.Replay.fits g.M.Memory.holds choose h base k c.run-stored.new.store c.args.disk.now c.run-stored.new.disk c.run-stored.result
+            (filling (is_begun (after choose h) tilde) c.args.arrival.origin c.args.arrival.moment read.pieces) (end_order c.args.arrival.moment ∷ []) (sym c.is_run_cut.ensures ∙ c.if-is_run_cut.true)
+            (simp to_z-of_z at (read.done choose h base k chooser taken hold));
+      };
+  over = c.run-stored.ensures.over;
+  rest = λ uncut measured. absurd (false≢true (sym uncut ∙ (sym c.is_run_cut.ensures ∙ c.if-is_run_cut.true)));
+  undamaged = c.run-stored.ensures.undamaged;
+  told = c.run-stored.ensures.told;
+  later = c.run-stored.ensures.later;
+  read_later = c.run-stored.ensures.read_later;
+  cause = c.run-stored.ensures.cause;
+}
 
-pub returns-in-Ok-clause-stored : goal.returns-in-Ok-clause-stored
-returns-in-Ok-clause-stored g c =
-    let read = c.run-stored.ensures.read in record {
-      pieces = read.pieces;
-      sizes = read.sizes;
-      took = read.took;
-      read = read.read;
-      done = λ choose h base k chooser taken hold.
-          let fits : SFits w64 c.args.arrival.moment = search rules in
-          settled g.D.Disk g.M.Book.Replay.fits g.M.Memory.holds choose h base k c.run-stored.new.store c.commit_all.new.store c.args.disk.now c.run-stored.new.disk c.commit_all.new.disk
-          (c.commit_all.ensures.stood choose) (c.in-Ok.ensures.done choose) c.run-stored.result
-          (filling (is_begun (after choose h) tilde) c.args.arrival.origin c.args.arrival.moment read.pieces) (end_order c.args.arrival.moment ∷ []) (sym c.is_run_cut.ensures ∙ c.if-is_run_cut.false)
-          (simp to_z-of_z at (read.done choose h base k chooser taken hold));
-    }
+pub returns-in-Ok : goal.returns-in-Ok
+returns-in-Ok g c = record {
+  stored =     let read = c.run-stored.ensures.read in record {
+        pieces = read.pieces;
+        sizes = read.sizes;
+        took = read.took;
+        read = read.read;
+        done = λ choose h base k chooser taken hold.
+            let fits : SFits w64 c.args.arrival.moment = search rules in
+            settled g.D.Disk g.M.Book.Replay.fits g.M.Memory.holds choose h base k c.run-stored.new.store c.commit_all.new.store c.args.disk.now c.run-stored.new.disk c.commit_all.new.disk
+            (c.commit_all.ensures.stood choose) (c.in-Ok.ensures.done choose) c.run-stored.result
+            (filling (is_begun (after choose h) tilde) c.args.arrival.origin c.args.arrival.moment read.pieces) (end_order c.args.arrival.moment ∷ []) (sym c.is_run_cut.ensures ∙ c.if-is_run_cut.false)
+            (simp to_z-of_z at (read.done choose h base k chooser taken hold));
+      };
+  over = λ uncut. c.in-Ok.ensures.over;
+  rest = λ uncut measured. c.in-Ok.ensures.rest (c.run-stored.ensures.measured uncut measured);
+  undamaged = λ file at is choose h base k chooser taken hold.
+      absurd (cut_at c.run-stored.result (commits.Damaged file at) (sym c.is_run_cut.ensures ∙ c.if-is_run_cut.false) is);
+  told = anyhow_through (g.D.Disk.seen c.args.disk.now) (g.D.Disk.seen c.run-stored.new.disk) (g.D.Disk.seen c.commit_all.new.disk) c.run-stored.ensures.told c.commit_all.ensures.told;
+  later = omega (arith, c.run-stored.ensures.later, c.commit_all.ensures.later);
+  read_later = c.run-stored.ensures.read_later;
+  cause = λ is. rose_earlier (g.D.Disk.faults c.args.disk.now) (g.D.Disk.faults c.run-stored.new.disk) (g.D.Disk.faults c.commit_all.new.disk) (c.run-stored.ensures.cause is) c.commit_all.ensures.later;
+}
 
-pub returns-in-Err-clause-stored : goal.returns-in-Err-clause-stored
-returns-in-Err-clause-stored g c =
-    let read = c.run-stored.ensures.read in record {
-      pieces = read.pieces;
-      sizes = read.sizes;
-      took = read.took;
-      read = read_failed c.run-stored.result c.in-Err.fault _ _ _ _ read.read;
-      done = λ choose h base k chooser taken hold.
-          let fits : SFits w64 c.args.arrival.moment = search rules in
-          failed g.D.Disk g.M.Book.Replay.fits g.M.Memory.holds choose h base k c.run-stored.new.store c.commit_all.new.store c.args.disk.now c.run-stored.new.disk c.commit_all.new.disk
-          (c.commit_all.ensures.stood choose) c.run-stored.result c.in-Err.fault
-          (filling (is_begun (after choose h) tilde) c.args.arrival.origin c.args.arrival.moment read.pieces) (end_order c.args.arrival.moment ∷ []) (sym c.is_run_cut.ensures ∙ c.if-is_run_cut.false)
-          (simp to_z-of_z at (read.done choose h base k chooser taken hold));
-    }
-
-pub returns-in-Ok-clause-undamaged : goal.returns-in-Ok-clause-undamaged
-returns-in-Ok-clause-undamaged g c = λ file at is choose h base k chooser taken hold.
-    absurd (cut_at c.run-stored.result (commits.Damaged file at) (sym c.is_run_cut.ensures ∙ c.if-is_run_cut.false) is)
-
-pub returns-in-Err-clause-undamaged : goal.returns-in-Err-clause-undamaged
-returns-in-Err-clause-undamaged g c = λ file at is choose h base k chooser taken hold.
-    let read = c.run-stored.ensures.read in
-    let fits : SFits w64 c.args.arrival.moment = search rules in
-    let fed = fed_holds g.D.Disk g.M.Book.Replay.fits g.M.Memory.holds choose h base k c.run-stored.new.store c.args.disk.now c.run-stored.new.disk c.run-stored.result
-    (filling (is_begun (after choose h) tilde) c.args.arrival.origin c.args.arrival.moment read.pieces) (end_order c.args.arrival.moment ∷ []) (sym c.is_run_cut.ensures ∙ c.if-is_run_cut.false)
-    (simp to_z-of_z at (read.done choose h base k chooser taken hold)) in
-    let was = cause_back c.in-Err.fault (commits.Damaged file at) is in
-    c.in-Err.ensures.undamaged file at (ap (λ (f : CommitFault). Err f) was) choose fed.0 base fed.1 fed.2
+pub returns-in-Err : goal.returns-in-Err
+returns-in-Err g c = record {
+  stored =     let read = c.run-stored.ensures.read in record {
+        pieces = read.pieces;
+        sizes = read.sizes;
+        took = read.took;
+        read = read_failed c.run-stored.result c.in-Err.fault _ _ _ _ read.read;
+        done = λ choose h base k chooser taken hold.
+            let fits : SFits w64 c.args.arrival.moment = search rules in
+            failed g.D.Disk g.M.Book.Replay.fits g.M.Memory.holds choose h base k c.run-stored.new.store c.commit_all.new.store c.args.disk.now c.run-stored.new.disk c.commit_all.new.disk
+            (c.commit_all.ensures.stood choose) c.run-stored.result c.in-Err.fault
+            (filling (is_begun (after choose h) tilde) c.args.arrival.origin c.args.arrival.moment read.pieces) (end_order c.args.arrival.moment ∷ []) (sym c.is_run_cut.ensures ∙ c.if-is_run_cut.false)
+            (simp to_z-of_z at (read.done choose h base k chooser taken hold));
+      };
+  over = λ uncut. absurd (true≢false uncut);
+  rest = λ uncut measured. absurd (true≢false uncut);
+  undamaged = λ file at is choose h base k chooser taken hold.
+      let read = c.run-stored.ensures.read in
+      let fits : SFits w64 c.args.arrival.moment = search rules in
+      let fed = fed_holds g.D.Disk g.M.Book.Replay.fits g.M.Memory.holds choose h base k c.run-stored.new.store c.args.disk.now c.run-stored.new.disk c.run-stored.result
+      (filling (is_begun (after choose h) tilde) c.args.arrival.origin c.args.arrival.moment read.pieces) (end_order c.args.arrival.moment ∷ []) (sym c.is_run_cut.ensures ∙ c.if-is_run_cut.false)
+      (simp to_z-of_z at (read.done choose h base k chooser taken hold)) in
+      let was = cause_back c.in-Err.fault (commits.Damaged file at) is in
+      c.in-Err.ensures.undamaged file at (ap (λ (f : CommitFault). Err f) was) choose fed.0 base fed.1 fed.2;
+  told = anyhow_through (g.D.Disk.seen c.args.disk.now) (g.D.Disk.seen c.run-stored.new.disk) (g.D.Disk.seen c.commit_all.new.disk) c.run-stored.ensures.told c.commit_all.ensures.told;
+  later = omega (arith, c.run-stored.ensures.later, c.commit_all.ensures.later);
+  read_later = c.run-stored.ensures.read_later;
+  cause = λ is. rose_later (g.D.Disk.faults c.args.disk.now) (g.D.Disk.faults c.run-stored.new.disk) (g.D.Disk.faults c.commit_all.new.disk) c.run-stored.ensures.later (c.in-Err.ensures.cause (cause_back c.in-Err.fault commits.Disk is));
+}
 
 pub commit_all-requires : goal.commit_all-requires
 commit_all-requires g c = c.run-stored.ensures.over (sym c.is_run_cut.ensures ∙ c.if-is_run_cut.false)
-
-pub returns-then-is_run_cut-clause-rest : goal.returns-then-is_run_cut-clause-rest
-returns-then-is_run_cut-clause-rest g c = λ uncut measured. absurd (false≢true (sym uncut ∙ (sym c.is_run_cut.ensures ∙ c.if-is_run_cut.true)))
-
-pub returns-then-is_run_cut-clause-over : goal.returns-then-is_run_cut-clause-over
-returns-then-is_run_cut-clause-over g c = c.run-stored.ensures.over
-
-pub returns-then-is_run_cut-clause-undamaged : goal.returns-then-is_run_cut-clause-undamaged
-returns-then-is_run_cut-clause-undamaged g c = c.run-stored.ensures.undamaged
-
-pub returns-then-is_run_cut-clause-told : goal.returns-then-is_run_cut-clause-told
-returns-then-is_run_cut-clause-told g c = c.run-stored.ensures.told
-
-pub returns-then-is_run_cut-clause-later : goal.returns-then-is_run_cut-clause-later
-returns-then-is_run_cut-clause-later g c = c.run-stored.ensures.later
-
-pub returns-then-is_run_cut-clause-read_later : goal.returns-then-is_run_cut-clause-read_later
-returns-then-is_run_cut-clause-read_later g c = c.run-stored.ensures.read_later
-
-pub returns-then-is_run_cut-clause-cause : goal.returns-then-is_run_cut-clause-cause
-returns-then-is_run_cut-clause-cause g c = c.run-stored.ensures.cause
-
-pub returns-in-Ok-clause-over : goal.returns-in-Ok-clause-over
-returns-in-Ok-clause-over g c = λ uncut. c.in-Ok.ensures.over
-
-pub returns-in-Ok-clause-rest : goal.returns-in-Ok-clause-rest
-returns-in-Ok-clause-rest g c = λ uncut measured. c.in-Ok.ensures.rest (c.run-stored.ensures.measured uncut measured)
-
-pub returns-in-Ok-clause-told : goal.returns-in-Ok-clause-told
-returns-in-Ok-clause-told g c = anyhow_through (g.D.Disk.seen c.args.disk.now) (g.D.Disk.seen c.run-stored.new.disk) (g.D.Disk.seen c.commit_all.new.disk) c.run-stored.ensures.told c.commit_all.ensures.told
-
-pub returns-in-Ok-clause-later : goal.returns-in-Ok-clause-later
-returns-in-Ok-clause-later g c = omega (arith, c.run-stored.ensures.later, c.commit_all.ensures.later)
-
-pub returns-in-Ok-clause-read_later : goal.returns-in-Ok-clause-read_later
-returns-in-Ok-clause-read_later g c = c.run-stored.ensures.read_later
-
-pub returns-in-Ok-clause-cause : goal.returns-in-Ok-clause-cause
-returns-in-Ok-clause-cause g c = λ is. rose_earlier (g.D.Disk.faults c.args.disk.now) (g.D.Disk.faults c.run-stored.new.disk) (g.D.Disk.faults c.commit_all.new.disk) (c.run-stored.ensures.cause is) c.commit_all.ensures.later
-
-pub returns-in-Err-clause-over : goal.returns-in-Err-clause-over
-returns-in-Err-clause-over g c = λ uncut. absurd (true≢false uncut)
-
-pub returns-in-Err-clause-rest : goal.returns-in-Err-clause-rest
-returns-in-Err-clause-rest g c = λ uncut measured. absurd (true≢false uncut)
-
-pub returns-in-Err-clause-told : goal.returns-in-Err-clause-told
-returns-in-Err-clause-told g c = anyhow_through (g.D.Disk.seen c.args.disk.now) (g.D.Disk.seen c.run-stored.new.disk) (g.D.Disk.seen c.commit_all.new.disk) c.run-stored.ensures.told c.commit_all.ensures.told
-
-pub returns-in-Err-clause-later : goal.returns-in-Err-clause-later
-returns-in-Err-clause-later g c = omega (arith, c.run-stored.ensures.later, c.commit_all.ensures.later)
-
-pub returns-in-Err-clause-read_later : goal.returns-in-Err-clause-read_later
-returns-in-Err-clause-read_later g c = c.run-stored.ensures.read_later
-
-pub returns-in-Err-clause-cause : goal.returns-in-Err-clause-cause
-returns-in-Err-clause-cause g c = λ is. rose_later (g.D.Disk.faults c.args.disk.now) (g.D.Disk.faults c.run-stored.new.disk) (g.D.Disk.faults c.commit_all.new.disk) c.run-stored.ensures.later (c.in-Err.ensures.cause (cause_back c.in-Err.fault commits.Disk is))
 
 pub run-stored-requires-clause-over : goal.run-stored-requires-clause-over
 run-stored-requires-clause-over g c = c.requires.over

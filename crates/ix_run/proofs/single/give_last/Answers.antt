@@ -11,77 +11,60 @@ use Rattle.ix_run.proofs.Faults.{not_ok, commit_or_refused, cause_is, cause_back
 use Rattle.ix_run.proofs.Given.{kept_last, stood_last}
 use Rattle.ix_run.proofs.single.give_last.Goals as goal
 
-pub returns-in-Ok-commit_all-clause-kept : goal.returns-in-Ok-commit_all-clause-kept
-returns-in-Ok-commit_all-clause-kept g c = λ choose h base k chooser taken hold.
-    let fits : SFits w64 c.args.moment = search rules in
-    let one = simp to_z-of_z at (c.in-Ok.ensures.given choose h base k chooser taken hold) in
-    kept_last g.D.Disk _ g.M.Memory.holds choose h base k _ c.args.store.now c.give.new.store c.commit_all.new.store c.args.disk.now c.give.new.disk c.commit_all.new.disk c.in-Ok.answer hold one
-    (c.in-Ok-commit_all.ensures.done choose _ base one.gone.count one.gone.hold) (c.commit_all.ensures.stood choose _ base one.gone.count one.gone.hold)
+pub returns-in-Ok-commit_all : goal.returns-in-Ok-commit_all
+returns-in-Ok-commit_all g c = record {
+  kept = λ choose h base k chooser taken hold.
+      let fits : SFits w64 c.args.moment = search rules in
+      let one = simp to_z-of_z at (c.in-Ok.ensures.given choose h base k chooser taken hold) in
+      kept_last g.D.Disk _ g.M.Memory.holds choose h base k _ c.args.store.now c.give.new.store c.commit_all.new.store c.args.disk.now c.give.new.disk c.commit_all.new.disk c.in-Ok.answer hold one
+      (c.in-Ok-commit_all.ensures.done choose _ base one.gone.count one.gone.hold) (c.commit_all.ensures.stood choose _ base one.gone.count one.gone.hold);
+  fault = tt;
+  over = c.in-Ok-commit_all.ensures.over;
+  rest = λ measured. c.in-Ok-commit_all.ensures.rest (c.in-Ok.ensures.measured measured);
+  unchanged = tt;
+  undamaged = λ file at is. absurd (not_ok is);
+  told =     anyhow_through (g.D.Disk.seen c.args.disk.now) (g.D.Disk.seen c.give.new.disk) (g.D.Disk.seen c.commit_all.new.disk) c.give.ensures.told c.commit_all.ensures.told;
+  later = omega (arith, c.give.ensures.later, c.commit_all.ensures.later);
+  cause = tt;
+}
 
-pub returns-in-Err-commit_all-clause-fault : goal.returns-in-Err-commit_all-clause-fault
-returns-in-Err-commit_all-clause-fault g c = λ choose h base k chooser taken hold.
-    let fits : SFits w64 c.args.moment = search rules in
-    let one = simp to_z-of_z at (c.in-Ok.ensures.given choose h base k chooser taken hold) in
-    stood_last g.D.Disk _ g.M.Memory.holds choose h base k _ c.args.store.now c.give.new.store c.args.disk.now c.give.new.disk c.commit_all.new.disk c.in-Ok.answer one
-    (c.commit_all.ensures.stood choose _ base one.gone.count one.gone.hold)
-
-pub returns-in-Err-commit_all-clause-undamaged : goal.returns-in-Err-commit_all-clause-undamaged
-returns-in-Err-commit_all-clause-undamaged g c = λ file at is choose h base k chooser taken hold.
-    let fits : SFits w64 c.args.moment = search rules in
-    let one = simp to_z-of_z at (c.in-Ok.ensures.given choose h base k chooser taken hold) in
-    let cause = cause_back c.in-Err-commit_all.fault (commits.Damaged file at) is in
-    c.in-Err-commit_all.ensures.undamaged file at (ap (λ (f : CommitFault). Err f) cause) choose _ base one.gone.count one.gone.hold
+pub returns-in-Err-commit_all : goal.returns-in-Err-commit_all
+returns-in-Err-commit_all g c = record {
+  kept = tt;
+  fault = λ choose h base k chooser taken hold.
+      let fits : SFits w64 c.args.moment = search rules in
+      let one = simp to_z-of_z at (c.in-Ok.ensures.given choose h base k chooser taken hold) in
+      stood_last g.D.Disk _ g.M.Memory.holds choose h base k _ c.args.store.now c.give.new.store c.args.disk.now c.give.new.disk c.commit_all.new.disk c.in-Ok.answer one
+      (c.commit_all.ensures.stood choose _ base one.gone.count one.gone.hold);
+  over = tt;
+  rest = λ measured. tt;
+  unchanged = λ refusal is. absurd (commit_or_refused is);
+  undamaged = λ file at is choose h base k chooser taken hold.
+      let fits : SFits w64 c.args.moment = search rules in
+      let one = simp to_z-of_z at (c.in-Ok.ensures.given choose h base k chooser taken hold) in
+      let cause = cause_back c.in-Err-commit_all.fault (commits.Damaged file at) is in
+      c.in-Err-commit_all.ensures.undamaged file at (ap (λ (f : CommitFault). Err f) cause) choose _ base one.gone.count one.gone.hold;
+  told =     anyhow_through (g.D.Disk.seen c.args.disk.now) (g.D.Disk.seen c.give.new.disk) (g.D.Disk.seen c.commit_all.new.disk) c.give.ensures.told c.commit_all.ensures.told;
+  later = omega (arith, c.give.ensures.later, c.commit_all.ensures.later);
+  cause = λ is.
+      rose_later (g.D.Disk.faults c.args.disk.now) (g.D.Disk.faults c.give.new.disk) (g.D.Disk.faults c.commit_all.new.disk) c.give.ensures.later
+      (c.in-Err-commit_all.ensures.cause (cause_is c.in-Err-commit_all.fault commits.Disk is));
+}
 
 pub commit_all-requires : goal.commit_all-requires
 commit_all-requires g c = c.in-Ok.ensures.over
 
-pub returns-in-Err-clause-fault : goal.returns-in-Err-clause-fault
-returns-in-Err-clause-fault g c = λ choose h base k chooser taken hold.
-    let fits : SFits w64 c.args.moment = search rules in
-    simp to_z-of_z at (c.in-Err.ensures.fault choose h base k chooser taken hold)
-
-pub returns-in-Err-clause-unchanged : goal.returns-in-Err-clause-unchanged
-returns-in-Err-clause-unchanged g c = c.in-Err.ensures.unchanged
-
-pub returns-in-Err-clause-undamaged : goal.returns-in-Err-clause-undamaged
-returns-in-Err-clause-undamaged g c = c.in-Err.ensures.undamaged
-
-pub returns-in-Err-clause-told : goal.returns-in-Err-clause-told
-returns-in-Err-clause-told g c = c.give.ensures.told
-
-pub returns-in-Err-clause-later : goal.returns-in-Err-clause-later
-returns-in-Err-clause-later g c = c.give.ensures.later
-
-pub returns-in-Err-clause-cause : goal.returns-in-Err-clause-cause
-returns-in-Err-clause-cause g c = c.in-Err.ensures.cause
-
-pub returns-in-Ok-commit_all-clause-over : goal.returns-in-Ok-commit_all-clause-over
-returns-in-Ok-commit_all-clause-over g c = c.in-Ok-commit_all.ensures.over
-
-pub returns-in-Ok-commit_all-clause-rest : goal.returns-in-Ok-commit_all-clause-rest
-returns-in-Ok-commit_all-clause-rest g c = λ measured. c.in-Ok-commit_all.ensures.rest (c.in-Ok.ensures.measured measured)
-
-pub returns-in-Ok-commit_all-clause-undamaged : goal.returns-in-Ok-commit_all-clause-undamaged
-returns-in-Ok-commit_all-clause-undamaged g c = λ file at is. absurd (not_ok is)
-
-pub returns-in-Ok-commit_all-clause-told : goal.returns-in-Ok-commit_all-clause-told
-returns-in-Ok-commit_all-clause-told g c =
-    anyhow_through (g.D.Disk.seen c.args.disk.now) (g.D.Disk.seen c.give.new.disk) (g.D.Disk.seen c.commit_all.new.disk) c.give.ensures.told c.commit_all.ensures.told
-
-pub returns-in-Ok-commit_all-clause-later : goal.returns-in-Ok-commit_all-clause-later
-returns-in-Ok-commit_all-clause-later g c = omega (arith, c.give.ensures.later, c.commit_all.ensures.later)
-
-pub returns-in-Err-commit_all-clause-unchanged : goal.returns-in-Err-commit_all-clause-unchanged
-returns-in-Err-commit_all-clause-unchanged g c = λ refusal is. absurd (commit_or_refused is)
-
-pub returns-in-Err-commit_all-clause-told : goal.returns-in-Err-commit_all-clause-told
-returns-in-Err-commit_all-clause-told g c =
-    anyhow_through (g.D.Disk.seen c.args.disk.now) (g.D.Disk.seen c.give.new.disk) (g.D.Disk.seen c.commit_all.new.disk) c.give.ensures.told c.commit_all.ensures.told
-
-pub returns-in-Err-commit_all-clause-later : goal.returns-in-Err-commit_all-clause-later
-returns-in-Err-commit_all-clause-later g c = omega (arith, c.give.ensures.later, c.commit_all.ensures.later)
-
-pub returns-in-Err-commit_all-clause-cause : goal.returns-in-Err-commit_all-clause-cause
-returns-in-Err-commit_all-clause-cause g c = λ is.
-    rose_later (g.D.Disk.faults c.args.disk.now) (g.D.Disk.faults c.give.new.disk) (g.D.Disk.faults c.commit_all.new.disk) c.give.ensures.later
-    (c.in-Err-commit_all.ensures.cause (cause_is c.in-Err-commit_all.fault commits.Disk is))
+pub returns-in-Err : goal.returns-in-Err
+returns-in-Err g c = record {
+  kept = tt;
+  fault = λ choose h base k chooser taken hold.
+      let fits : SFits w64 c.args.moment = search rules in
+      simp to_z-of_z at (c.in-Err.ensures.fault choose h base k chooser taken hold);
+  over = tt;
+  rest = λ measured. tt;
+  unchanged = c.in-Err.ensures.unchanged;
+  undamaged = c.in-Err.ensures.undamaged;
+  told = c.give.ensures.told;
+  later = c.give.ensures.later;
+  cause = c.in-Err.ensures.cause;
+}

@@ -1,4 +1,4 @@
-use Rattle.std.proofs.Common.{◌∙◌, [], refl, sym}
+use Rattle.std.proofs.Common.{◌∙◌, [], refl, sym, arith}
 use Rattle.ix_keep.specs.declared.fault.CommitFault.TheVariants as commits
 use Rattle.ix_keep.proofs.Reading.{anyhow_same}
 use Rattle.ix_machine.specs.declared.answers.Refusal.TheVariants as refusals
@@ -8,43 +8,29 @@ use Rattle.ix_run.proofs.Faults.{refused_or_commit, refused_uncut}
 use Rattle.ix_run.proofs.Stored.{halted_none}
 use Rattle.ix_run.proofs.input.Stream.add.Goals as goal
 
-pub returns-in-Err-clause-given : goal.returns-in-Err-clause-given
-returns-in-Err-clause-given g c = λ choose h base k chooser taken hold.
-    rw c.in-Err.ensures.refused (halted_none g.D.Disk g.M.Book.Replay.fits g.M.Memory.holds choose h base k c.args.store.now c.args.disk.now (block_order c.args.self.moment c.args.bytes.now) [] hold)
+pub returns-in-Err : goal.returns-in-Err
+returns-in-Err g c = record {
+  given = λ choose h base k chooser taken hold.
+      rw c.in-Err.ensures.refused (halted_none g.D.Disk g.M.Book.Replay.fits g.M.Memory.holds choose h base k c.args.store.now c.args.disk.now (block_order c.args.self.moment c.args.bytes.now) [] hold);
+  over = λ uncut. c.requires.over;
+  measured = λ uncut measured. measured;
+  undamaged = λ file at is. absurd (refused_uncut c.in-Err.fault refusals.NoMemory (commits.Damaged file at) c.in-Err.ensures.refused is);
+  told = anyhow_same (g.D.Disk.seen c.args.disk.now) (g.D.Disk.seen c.args.disk.now) refl;
+  later = omega arith;
+  cause = λ is. absurd (refused_or_commit (sym c.in-Err.ensures.refused ∙ is));
+}
 
-pub returns-in-Err-copy_of-clause-given : goal.returns-in-Err-copy_of-clause-given
-returns-in-Err-copy_of-clause-given g c = λ choose h base k chooser taken hold.
-    halted_none g.D.Disk g.M.Book.Replay.fits g.M.Memory.holds choose h base k c.args.store.now c.args.disk.now (block_order c.args.self.moment c.args.bytes.now) [] hold
-
-pub returns-in-Err-clause-over : goal.returns-in-Err-clause-over
-returns-in-Err-clause-over g c = λ uncut. c.requires.over
-
-pub returns-in-Err-clause-measured : goal.returns-in-Err-clause-measured
-returns-in-Err-clause-measured g c = λ uncut measured. measured
-
-pub returns-in-Err-clause-undamaged : goal.returns-in-Err-clause-undamaged
-returns-in-Err-clause-undamaged g c = λ file at is. absurd (refused_uncut c.in-Err.fault refusals.NoMemory (commits.Damaged file at) c.in-Err.ensures.refused is)
-
-pub returns-in-Err-clause-told : goal.returns-in-Err-clause-told
-returns-in-Err-clause-told g c = anyhow_same (g.D.Disk.seen c.args.disk.now) (g.D.Disk.seen c.args.disk.now) refl
-
-pub returns-in-Err-clause-cause : goal.returns-in-Err-clause-cause
-returns-in-Err-clause-cause g c = λ is. absurd (refused_or_commit (sym c.in-Err.ensures.refused ∙ is))
-
-pub returns-in-Err-copy_of-clause-over : goal.returns-in-Err-copy_of-clause-over
-returns-in-Err-copy_of-clause-over g c = λ uncut. c.requires.over
-
-pub returns-in-Err-copy_of-clause-measured : goal.returns-in-Err-copy_of-clause-measured
-returns-in-Err-copy_of-clause-measured g c = λ uncut measured. measured
-
-pub returns-in-Err-copy_of-clause-undamaged : goal.returns-in-Err-copy_of-clause-undamaged
-returns-in-Err-copy_of-clause-undamaged g c = λ file at is. absurd (refused_uncut (faults.Refused refusals.NoMemory) refusals.NoMemory (commits.Damaged file at) refl is)
-
-pub returns-in-Err-copy_of-clause-told : goal.returns-in-Err-copy_of-clause-told
-returns-in-Err-copy_of-clause-told g c = anyhow_same (g.D.Disk.seen c.args.disk.now) (g.D.Disk.seen c.args.disk.now) refl
-
-pub returns-in-Err-copy_of-clause-cause : goal.returns-in-Err-copy_of-clause-cause
-returns-in-Err-copy_of-clause-cause g c = λ is. absurd (refused_or_commit is)
+pub returns-in-Err-copy_of : goal.returns-in-Err-copy_of
+returns-in-Err-copy_of g c = record {
+  given = λ choose h base k chooser taken hold.
+      halted_none g.D.Disk g.M.Book.Replay.fits g.M.Memory.holds choose h base k c.args.store.now c.args.disk.now (block_order c.args.self.moment c.args.bytes.now) [] hold;
+  over = λ uncut. c.requires.over;
+  measured = λ uncut measured. measured;
+  undamaged = λ file at is. absurd (refused_uncut (faults.Refused refusals.NoMemory) refusals.NoMemory (commits.Damaged file at) refl is);
+  told = anyhow_same (g.D.Disk.seen c.args.disk.now) (g.D.Disk.seen c.args.disk.now) refl;
+  later = omega arith;
+  cause = λ is. absurd (refused_or_commit is);
+}
 
 pub returns-clause-over : goal.returns-clause-over
 returns-clause-over g c = c.give_one.ensures.over

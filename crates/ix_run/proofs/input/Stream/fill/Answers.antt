@@ -43,61 +43,88 @@ loop-taken-init g c = record {
   read_later = omega arith;
 }
 
-pub returns-in-Err-clause-read : goal.returns-in-Err-clause-read
-returns-in-Err-clause-read g c = record {
-  pieces = c.loop-taken.invariant.pieces;
-  sizes = c.loop-taken.invariant.sizes;
-  took = subst (λ (x : Option (List ℕ)). Told (Took (joined c.loop-taken.invariant.pieces)) (g.S.Source.left c.args.input.now) x) (sym c.in-Err.ensures.failed) c.loop-taken.invariant.took;
-  read = (omega (arith, c.loop-taken.invariant.count), rose_later (g.S.Source.faults c.args.input.now) (g.S.Source.faults c.loop-taken.input) (g.S.Source.faults c.read.new.self) c.loop-taken.invariant.read_later (c.in-Err.ensures.cause.failed refl));
-  done = c.loop-taken.invariant.given;
+pub returns-in-Err : goal.returns-in-Err
+returns-in-Err g c = record {
+  read = record {
+    pieces = c.loop-taken.invariant.pieces;
+    sizes = c.loop-taken.invariant.sizes;
+    took = subst (λ (x : Option (List ℕ)). Told (Took (joined c.loop-taken.invariant.pieces)) (g.S.Source.left c.args.input.now) x) (sym c.in-Err.ensures.failed) c.loop-taken.invariant.took;
+    read = (omega (arith, c.loop-taken.invariant.count), rose_later (g.S.Source.faults c.args.input.now) (g.S.Source.faults c.loop-taken.input) (g.S.Source.faults c.read.new.self) c.loop-taken.invariant.read_later (c.in-Err.ensures.cause.failed refl));
+    done = c.loop-taken.invariant.given;
+  };
+  over = λ uncut. c.loop-taken.invariant.over;
+  measured = λ uncut measured. c.loop-taken.invariant.measured measured;
+  undamaged = λ file at is. absurd (not_input is);
+  told = c.loop-taken.invariant.told;
+  later = c.loop-taken.invariant.later;
+  read_later = omega (arith, c.loop-taken.invariant.read_later, c.read.ensures.cause.later);
+  cause = λ is. absurd (not_input is);
 }
 
-pub returns-then-n-eq0-clause-read : goal.returns-then-n-eq0-clause-read
-returns-then-n-eq0-clause-read g c = record {
-  pieces = c.loop-taken.invariant.pieces;
-  sizes = c.loop-taken.invariant.sizes;
-  took = took_end (joined c.loop-taken.invariant.pieces) (take c.in-Ok.n c.read.new.buf) (g.S.Source.left c.args.input.now) (g.S.Source.left c.loop-taken.input) (g.S.Source.left c.read.new.self)
-      (omega (arith, length-take c.in-Ok.n c.read.new.buf)) c.loop-taken.invariant.took c.in-Ok.ensures.bytes;
-  read = (
-    omega (arith, c.loop-taken.invariant.count),
-    end_still (take c.in-Ok.n c.read.new.buf) (g.S.Source.left c.loop-taken.input) (g.S.Source.left c.read.new.self)
-        (c.in-Ok.ensures.end c.if-n-eq0.true (omega (arith, c.min-most.ensures, length-take-le c.min-most.result c.loop-taken.room (omega (arith, c.min-most.ensures))))) c.in-Ok.ensures.bytes,
-  );
-  done = λ choose h base k chooser taken hold.
-      feeds_all g.D.Disk g.M.Book.Replay.fits g.M.Memory.holds choose h (map (block_order c.args.self.moment) c.loop-taken.invariant.pieces) base k c.loop-taken.store c.args.disk.now c.loop-taken.disk
-      (c.loop-taken.invariant.given choose h base k chooser taken hold);
+pub returns-then-n-eq0 : goal.returns-then-n-eq0
+returns-then-n-eq0 g c = record {
+  read = record {
+    pieces = c.loop-taken.invariant.pieces;
+    sizes = c.loop-taken.invariant.sizes;
+    took = took_end (joined c.loop-taken.invariant.pieces) (take c.in-Ok.n c.read.new.buf) (g.S.Source.left c.args.input.now) (g.S.Source.left c.loop-taken.input) (g.S.Source.left c.read.new.self)
+        (omega (arith, length-take c.in-Ok.n c.read.new.buf)) c.loop-taken.invariant.took c.in-Ok.ensures.bytes;
+    read = (
+      omega (arith, c.loop-taken.invariant.count),
+      end_still (take c.in-Ok.n c.read.new.buf) (g.S.Source.left c.loop-taken.input) (g.S.Source.left c.read.new.self)
+          (c.in-Ok.ensures.end c.if-n-eq0.true (omega (arith, c.min-most.ensures, length-take-le c.min-most.result c.loop-taken.room (omega (arith, c.min-most.ensures))))) c.in-Ok.ensures.bytes,
+    );
+    done = λ choose h base k chooser taken hold.
+        feeds_all g.D.Disk g.M.Book.Replay.fits g.M.Memory.holds choose h (map (block_order c.args.self.moment) c.loop-taken.invariant.pieces) base k c.loop-taken.store c.args.disk.now c.loop-taken.disk
+        (c.loop-taken.invariant.given choose h base k chooser taken hold);
+  };
+  over = λ uncut. c.loop-taken.invariant.over;
+  measured = λ uncut measured. c.loop-taken.invariant.measured measured;
+  undamaged = λ file at is. absurd (not_ok is);
+  told = c.loop-taken.invariant.told;
+  later = c.loop-taken.invariant.later;
+  read_later = omega (arith, c.loop-taken.invariant.read_later, c.read.ensures.cause.later);
+  cause = λ is. absurd (not_ok is);
 }
 
 pub add-requires-clause-takes : goal.add-requires-clause-takes
 add-requires-clause-takes g c = c.requires.takes (take c.in-Ok.n c.read.new.buf)
     (omega (arith, c.in-Ok.ensures.count, length-take c.in-Ok.n c.read.new.buf, length-take c.min-most.result c.loop-taken.room, c.min-most.ensures))
 
-pub returns-in-Err-add-clause-read : goal.returns-in-Err-add-clause-read
-returns-in-Err-add-clause-read g c =
-    let bytes : List ℕ = take c.in-Ok.n c.read.new.buf in
-    let size : length bytes ≤ 1048576 = omega (arith, c.in-Ok.ensures.count, length-take c.in-Ok.n c.read.new.buf, length-take c.min-most.result c.loop-taken.room, c.min-most.ensures) in
-    let part : c.loop-taken.taken + length bytes ≤ input_limit = omega (arith, c.in-Ok.ensures.count, length-take c.in-Ok.n c.read.new.buf, length-take c.min-most.result c.loop-taken.room, c.min-most.ensures) in record {
-      pieces = c.loop-taken.invariant.pieces ++ bytes ∷ [];
-      sizes = all_more IsBlock c.loop-taken.invariant.pieces (bytes ∷ []) c.loop-taken.invariant.sizes (size, tt);
-      took = took_more c.loop-taken.invariant.pieces bytes (g.S.Source.left c.args.input.now) (g.S.Source.left c.loop-taken.input) (g.S.Source.left c.read.new.self) c.loop-taken.invariant.took c.in-Ok.ensures.bytes;
-      read = omega (arith, joined_length c.loop-taken.invariant.pieces bytes, c.loop-taken.invariant.count, part);
-      done = λ choose h base k chooser taken hold.
-          let one = c.loop-taken.invariant.given choose h base k chooser taken hold in
-          feeds_halt g.D.Disk g.M.Book.Replay.fits g.M.Memory.holds choose h (map (block_order c.args.self.moment) (c.loop-taken.invariant.pieces ++ bytes ∷ [])) base k c.add.new.store c.args.disk.now c.add.new.disk c.in-Err-add.fault
-          (given_block g.D.Disk g.M.Book.Replay.fits g.M.Memory.holds choose h base k c.loop-taken.store c.add.new.store c.args.disk.now c.loop-taken.disk c.add.new.disk c.args.self.moment c.loop-taken.invariant.pieces bytes (Err c.in-Err-add.fault) one
-          (c.in-Err-add.ensures.given choose (given_all choose h (map (block_order c.args.self.moment) c.loop-taken.invariant.pieces)) base one.count chooser
-          (all_taken g.M.Memory.takes g.met.M.Memory.ticks_are_taken choose h (map (block_order c.args.self.moment) c.loop-taken.invariant.pieces) taken
-          (blocks_taken g.M.Memory.takes c.args.self.moment c.requires.takes c.loop-taken.invariant.pieces c.loop-taken.invariant.sizes)) one.hold));
-    }
-
-pub returns-in-Err-add-clause-cause : goal.returns-in-Err-add-clause-cause
-returns-in-Err-add-clause-cause g c = λ is.
-    let e = given_back c.in-Err-add.fault (faults.Commit commits.Disk) is in
-    rose_later (g.D.Disk.faults c.args.disk.now) (g.D.Disk.faults c.loop-taken.disk) (g.D.Disk.faults c.add.new.disk) c.loop-taken.invariant.later (c.in-Err-add.ensures.cause e)
+pub returns-in-Err-add : goal.returns-in-Err-add
+returns-in-Err-add g c = record {
+  read =     let bytes : List ℕ = take c.in-Ok.n c.read.new.buf in
+      let size : length bytes ≤ 1048576 = omega (arith, c.in-Ok.ensures.count, length-take c.in-Ok.n c.read.new.buf, length-take c.min-most.result c.loop-taken.room, c.min-most.ensures) in
+      let part : c.loop-taken.taken + length bytes ≤ input_limit = omega (arith, c.in-Ok.ensures.count, length-take c.in-Ok.n c.read.new.buf, length-take c.min-most.result c.loop-taken.room, c.min-most.ensures) in record {
+        pieces = c.loop-taken.invariant.pieces ++ bytes ∷ [];
+        sizes = all_more IsBlock c.loop-taken.invariant.pieces (bytes ∷ []) c.loop-taken.invariant.sizes (size, tt);
+        took = took_more c.loop-taken.invariant.pieces bytes (g.S.Source.left c.args.input.now) (g.S.Source.left c.loop-taken.input) (g.S.Source.left c.read.new.self) c.loop-taken.invariant.took c.in-Ok.ensures.bytes;
+        read = omega (arith, joined_length c.loop-taken.invariant.pieces bytes, c.loop-taken.invariant.count, part);
+        done = λ choose h base k chooser taken hold.
+            let one = c.loop-taken.invariant.given choose h base k chooser taken hold in
+            feeds_halt g.D.Disk g.M.Book.Replay.fits g.M.Memory.holds choose h (map (block_order c.args.self.moment) (c.loop-taken.invariant.pieces ++ bytes ∷ [])) base k c.add.new.store c.args.disk.now c.add.new.disk c.in-Err-add.fault
+            (given_block g.D.Disk g.M.Book.Replay.fits g.M.Memory.holds choose h base k c.loop-taken.store c.add.new.store c.args.disk.now c.loop-taken.disk c.add.new.disk c.args.self.moment c.loop-taken.invariant.pieces bytes (Err c.in-Err-add.fault) one
+            (c.in-Err-add.ensures.given choose (given_all choose h (map (block_order c.args.self.moment) c.loop-taken.invariant.pieces)) base one.count chooser
+            (all_taken g.M.Memory.takes g.met.M.Memory.ticks_are_taken choose h (map (block_order c.args.self.moment) c.loop-taken.invariant.pieces) taken
+            (blocks_taken g.M.Memory.takes c.args.self.moment c.requires.takes c.loop-taken.invariant.pieces c.loop-taken.invariant.sizes)) one.hold));
+      };
+  over = c.in-Err-add.ensures.over;
+  measured = λ whole before. c.in-Err-add.ensures.measured whole (c.loop-taken.invariant.measured before);
+  undamaged = λ file at is choose h base k chooser taken hold.
+      let one = c.loop-taken.invariant.given choose h base k chooser taken hold in
+      let was : c.in-Err-add.fault ≡ faults.Commit (commits.Damaged file at) = given_back c.in-Err-add.fault (faults.Commit (commits.Damaged file at)) is in
+      c.in-Err-add.ensures.undamaged file at (ap (λ (f : GiveFault). Err f) was) choose (given_all choose h (map (block_order c.args.self.moment) c.loop-taken.invariant.pieces)) base one.count chooser
+      (all_taken g.M.Memory.takes g.met.M.Memory.ticks_are_taken choose h (map (block_order c.args.self.moment) c.loop-taken.invariant.pieces) taken
+      (blocks_taken g.M.Memory.takes c.args.self.moment c.requires.takes c.loop-taken.invariant.pieces c.loop-taken.invariant.sizes)) one.hold;
+  told =     anyhow_through (g.D.Disk.seen c.args.disk.now) (g.D.Disk.seen c.loop-taken.disk) (g.D.Disk.seen c.add.new.disk) c.loop-taken.invariant.told c.add.ensures.told;
+  later = omega (arith, c.loop-taken.invariant.later, c.add.ensures.later);
+  read_later = omega (arith, c.loop-taken.invariant.read_later, c.read.ensures.cause.later);
+  cause = λ is.
+      let e = given_back c.in-Err-add.fault (faults.Commit commits.Disk) is in
+      rose_later (g.D.Disk.faults c.args.disk.now) (g.D.Disk.faults c.loop-taken.disk) (g.D.Disk.faults c.add.new.disk) c.loop-taken.invariant.later (c.in-Err-add.ensures.cause e);
+}
 
 pub loop-taken-preserved : goal.loop-taken-preserved
-loop-taken-preserved g c =
-    let bytes : List ℕ = take c.in-Ok.n c.read.new.buf in
+loop-taken-preserved g c =     let bytes : List ℕ = take c.in-Ok.n c.read.new.buf in
     let fits : c.in-Ok.n ≤ length c.read.new.buf = omega (arith, c.in-Ok.ensures.count, c.read.auto.buf) in
     let size : length bytes ≤ 1048576 = omega (arith, c.in-Ok.ensures.count, length-take c.in-Ok.n c.read.new.buf, length-take c.min-most.result c.loop-taken.room, c.min-most.ensures) in record {
       within = omega (arith, c.in-Ok.ensures.count, length-take c.min-most.result c.loop-taken.room, c.min-most.ensures);
@@ -118,101 +145,23 @@ loop-taken-preserved g c =
       read_later = omega (arith, c.loop-taken.invariant.read_later, c.read.ensures.cause.later);
     }
 
-pub returns-clause-read : goal.returns-clause-read
-returns-clause-read g c = record {
-  pieces = c.loop-taken.invariant.pieces;
-  sizes = c.loop-taken.invariant.sizes;
-  took = c.loop-taken.invariant.took;
-  read = omega (arith, c.loop-taken.invariant.count, c.loop-taken.invariant.within);
-  done = c.loop-taken.invariant.given;
+pub returns : goal.returns
+returns g c = record {
+  read = record {
+    pieces = c.loop-taken.invariant.pieces;
+    sizes = c.loop-taken.invariant.sizes;
+    took = c.loop-taken.invariant.took;
+    read = omega (arith, c.loop-taken.invariant.count, c.loop-taken.invariant.within);
+    done = c.loop-taken.invariant.given;
+  };
+  over = λ uncut. c.loop-taken.invariant.over;
+  measured = λ uncut measured. c.loop-taken.invariant.measured measured;
+  undamaged = λ file at is. absurd (not_endless is);
+  told = c.loop-taken.invariant.told;
+  later = c.loop-taken.invariant.later;
+  read_later = c.loop-taken.invariant.read_later;
+  cause = λ is. absurd (not_endless is);
 }
-
-pub returns-in-Err-add-clause-undamaged : goal.returns-in-Err-add-clause-undamaged
-returns-in-Err-add-clause-undamaged g c = λ file at is choose h base k chooser taken hold.
-    let one = c.loop-taken.invariant.given choose h base k chooser taken hold in
-    let was : c.in-Err-add.fault ≡ faults.Commit (commits.Damaged file at) = given_back c.in-Err-add.fault (faults.Commit (commits.Damaged file at)) is in
-    c.in-Err-add.ensures.undamaged file at (ap (λ (f : GiveFault). Err f) was) choose (given_all choose h (map (block_order c.args.self.moment) c.loop-taken.invariant.pieces)) base one.count chooser
-    (all_taken g.M.Memory.takes g.met.M.Memory.ticks_are_taken choose h (map (block_order c.args.self.moment) c.loop-taken.invariant.pieces) taken
-    (blocks_taken g.M.Memory.takes c.args.self.moment c.requires.takes c.loop-taken.invariant.pieces c.loop-taken.invariant.sizes)) one.hold
-
-pub returns-in-Err-add-clause-measured : goal.returns-in-Err-add-clause-measured
-returns-in-Err-add-clause-measured g c = λ whole before. c.in-Err-add.ensures.measured whole (c.loop-taken.invariant.measured before)
-
-pub returns-in-Err-clause-over : goal.returns-in-Err-clause-over
-returns-in-Err-clause-over g c = λ uncut. c.loop-taken.invariant.over
-
-pub returns-in-Err-clause-measured : goal.returns-in-Err-clause-measured
-returns-in-Err-clause-measured g c = λ uncut measured. c.loop-taken.invariant.measured measured
-
-pub returns-in-Err-clause-undamaged : goal.returns-in-Err-clause-undamaged
-returns-in-Err-clause-undamaged g c = λ file at is. absurd (not_input is)
-
-pub returns-in-Err-clause-told : goal.returns-in-Err-clause-told
-returns-in-Err-clause-told g c = c.loop-taken.invariant.told
-
-pub returns-in-Err-clause-later : goal.returns-in-Err-clause-later
-returns-in-Err-clause-later g c = c.loop-taken.invariant.later
-
-pub returns-in-Err-clause-read_later : goal.returns-in-Err-clause-read_later
-returns-in-Err-clause-read_later g c = omega (arith, c.loop-taken.invariant.read_later, c.read.ensures.cause.later)
-
-pub returns-in-Err-clause-cause : goal.returns-in-Err-clause-cause
-returns-in-Err-clause-cause g c = λ is. absurd (not_input is)
-
-pub returns-then-n-eq0-clause-over : goal.returns-then-n-eq0-clause-over
-returns-then-n-eq0-clause-over g c = λ uncut. c.loop-taken.invariant.over
-
-pub returns-then-n-eq0-clause-measured : goal.returns-then-n-eq0-clause-measured
-returns-then-n-eq0-clause-measured g c = λ uncut measured. c.loop-taken.invariant.measured measured
-
-pub returns-then-n-eq0-clause-undamaged : goal.returns-then-n-eq0-clause-undamaged
-returns-then-n-eq0-clause-undamaged g c = λ file at is. absurd (not_ok is)
-
-pub returns-then-n-eq0-clause-told : goal.returns-then-n-eq0-clause-told
-returns-then-n-eq0-clause-told g c = c.loop-taken.invariant.told
-
-pub returns-then-n-eq0-clause-later : goal.returns-then-n-eq0-clause-later
-returns-then-n-eq0-clause-later g c = c.loop-taken.invariant.later
-
-pub returns-then-n-eq0-clause-read_later : goal.returns-then-n-eq0-clause-read_later
-returns-then-n-eq0-clause-read_later g c = omega (arith, c.loop-taken.invariant.read_later, c.read.ensures.cause.later)
-
-pub returns-then-n-eq0-clause-cause : goal.returns-then-n-eq0-clause-cause
-returns-then-n-eq0-clause-cause g c = λ is. absurd (not_ok is)
-
-pub returns-clause-over : goal.returns-clause-over
-returns-clause-over g c = λ uncut. c.loop-taken.invariant.over
-
-pub returns-clause-measured : goal.returns-clause-measured
-returns-clause-measured g c = λ uncut measured. c.loop-taken.invariant.measured measured
-
-pub returns-clause-undamaged : goal.returns-clause-undamaged
-returns-clause-undamaged g c = λ file at is. absurd (not_endless is)
-
-pub returns-clause-told : goal.returns-clause-told
-returns-clause-told g c = c.loop-taken.invariant.told
-
-pub returns-clause-later : goal.returns-clause-later
-returns-clause-later g c = c.loop-taken.invariant.later
-
-pub returns-clause-read_later : goal.returns-clause-read_later
-returns-clause-read_later g c = c.loop-taken.invariant.read_later
-
-pub returns-clause-cause : goal.returns-clause-cause
-returns-clause-cause g c = λ is. absurd (not_endless is)
-
-pub returns-in-Err-add-clause-over : goal.returns-in-Err-add-clause-over
-returns-in-Err-add-clause-over g c = c.in-Err-add.ensures.over
-
-pub returns-in-Err-add-clause-told : goal.returns-in-Err-add-clause-told
-returns-in-Err-add-clause-told g c =
-    anyhow_through (g.D.Disk.seen c.args.disk.now) (g.D.Disk.seen c.loop-taken.disk) (g.D.Disk.seen c.add.new.disk) c.loop-taken.invariant.told c.add.ensures.told
-
-pub returns-in-Err-add-clause-later : goal.returns-in-Err-add-clause-later
-returns-in-Err-add-clause-later g c = omega (arith, c.loop-taken.invariant.later, c.add.ensures.later)
-
-pub returns-in-Err-add-clause-read_later : goal.returns-in-Err-add-clause-read_later
-returns-in-Err-add-clause-read_later g c = omega (arith, c.loop-taken.invariant.read_later, c.read.ensures.cause.later)
 
 pub add-requires-clause-over : goal.add-requires-clause-over
 add-requires-clause-over g c = c.loop-taken.invariant.over

@@ -28,207 +28,151 @@ not_refused : (cause : CommitFault) → faults.Refused refusals.NoMemory ≡ fau
 not_refused cause is = cc
 
 -- what is refused is no fault of the disk
+
 not_cut : (fault : GiveFault) (cause : CommitFault) → fault ≡ faults.Refused refusals.NoMemory →
     (let result : Result Unit RunFault = Err (stops.Given fault) in result ≡ Err (stops.Given (faults.Commit cause))) → ⊥
 not_cut fault cause refused is = not_refused cause (sym refused ∙ given_back fault (faults.Commit cause) is)
 
-pub returns-in-Err-clause-read : goal.returns-in-Err-clause-read
-returns-in-Err-clause-read g c = rw c.in-Err.ensures.refused record {
-  pieces = [];
-  sizes = tt;
-  took = took_none (g.S.Source.left c.args.input.now);
-  read = omega arith;
-  done = λ choose h base k chooser taken hold.
-      halted_first g.D.Disk g.M.Book.Replay.fits g.M.Memory.holds choose h base k c.args.store.now c.args.disk.now (is_begun (after choose h) tilde) c.args.origin c.args.self.moment hold;
+pub returns-in-Err : goal.returns-in-Err
+returns-in-Err g c = record {
+  read = rw c.in-Err.ensures.refused record {
+    pieces = [];
+    sizes = tt;
+    took = took_none (g.S.Source.left c.args.input.now);
+    read = omega arith;
+    done = λ choose h base k chooser taken hold.
+        halted_first g.D.Disk g.M.Book.Replay.fits g.M.Memory.holds choose h base k c.args.store.now c.args.disk.now (is_begun (after choose h) tilde) c.args.origin c.args.self.moment hold;
+  };
+  over = λ uncut. c.requires.over;
+  measured = λ uncut measured. measured;
+  undamaged = λ file at is. absurd (not_cut c.in-Err.fault (commits.Damaged file at) c.in-Err.ensures.refused is);
+  told = anyhow_same (g.D.Disk.seen c.args.disk.now) (g.D.Disk.seen c.args.disk.now) refl;
+  later = omega arith;
+  read_later = omega arith;
+  cause = λ is. absurd (not_cut c.in-Err.fault commits.Disk c.in-Err.ensures.refused is);
 }
 
-pub returns-in-Err-open-clause-read : goal.returns-in-Err-open-clause-read
-returns-in-Err-open-clause-read g c = record {
-  pieces = [];
-  sizes = tt;
-  took = took_none (g.S.Source.left c.args.input.now);
-  read = omega arith;
-  done = λ choose h base k chooser taken hold.
-      opened g.D.Disk g.M.Book.Replay.fits g.M.Memory.holds choose h (opening (is_begun (after choose h) tilde) c.args.origin c.args.self.moment) base k c.open.new.store c.args.disk.now c.open.new.disk c.in-Err-open.fault
-      [] (end_order c.args.self.moment ∷ []) (c.in-Err-open.ensures.given choose h base k chooser taken hold);
+pub returns-in-Err-open : goal.returns-in-Err-open
+returns-in-Err-open g c = record {
+  read = record {
+    pieces = [];
+    sizes = tt;
+    took = took_none (g.S.Source.left c.args.input.now);
+    read = omega arith;
+    done = λ choose h base k chooser taken hold.
+        opened g.D.Disk g.M.Book.Replay.fits g.M.Memory.holds choose h (opening (is_begun (after choose h) tilde) c.args.origin c.args.self.moment) base k c.open.new.store c.args.disk.now c.open.new.disk c.in-Err-open.fault
+        [] (end_order c.args.self.moment ∷ []) (c.in-Err-open.ensures.given choose h base k chooser taken hold);
+  };
+  over = c.in-Err-open.ensures.over;
+  measured = c.in-Err-open.ensures.measured;
+  undamaged = λ file at is.
+      let was : c.in-Err-open.fault ≡ faults.Commit (commits.Damaged file at) = given_back c.in-Err-open.fault (faults.Commit (commits.Damaged file at)) is in
+      c.in-Err-open.ensures.undamaged file at (ap (λ (f : GiveFault). Err f) was);
+  told = c.open.ensures.told;
+  later = c.open.ensures.later;
+  read_later = omega arith;
+  cause = λ is. c.in-Err-open.ensures.cause (given_back c.in-Err-open.fault (faults.Commit commits.Disk) is);
 }
 
-pub returns-in-Err-fill-clause-read : goal.returns-in-Err-fill-clause-read
-returns-in-Err-fill-clause-read g c =
-    let read = c.in-Err-fill.ensures.read in record {
-      pieces = read.pieces;
-      sizes = read.sizes;
-      took = read.took;
-      read = read.read;
-      done = λ choose h base k chooser taken hold.
-          let a = opening (is_begun (after choose h) tilde) c.args.origin c.args.self.moment in
-          let one = c.in-Ok-open.ensures.given choose h base k chooser taken hold in
-          let all = all_taken g.M.Memory.takes g.met.M.Memory.ticks_are_taken choose h a taken (opening_taken g.M.Memory.takes c.args.origin c.args.self.moment c.requires.ends c.requires.begins (is_begun (after choose h) tilde)) in
-          feeds_more g.D.Disk g.M.Book.Replay.fits g.M.Memory.holds choose h (a ++ map (block_order c.args.self.moment) read.pieces) (end_order c.args.self.moment ∷ []) base k c.fill.new.store c.args.disk.now c.fill.new.disk c.in-Err-fill.fault
-          (feeds_on g.D.Disk g.M.Book.Replay.fits g.M.Memory.holds choose h a (map (block_order c.args.self.moment) read.pieces) [] base k c.open.new.store c.fill.new.store c.args.disk.now c.open.new.disk c.fill.new.disk one (Err c.in-Err-fill.fault)
-          (read.done choose (given_all choose h a) base one.count chooser all one.hold));
-    }
+pub returns-in-Err-fill : goal.returns-in-Err-fill
+returns-in-Err-fill g c = record {
+  read =     let read = c.in-Err-fill.ensures.read in record {
+        pieces = read.pieces;
+        sizes = read.sizes;
+        took = read.took;
+        read = read.read;
+        done = λ choose h base k chooser taken hold.
+            let a = opening (is_begun (after choose h) tilde) c.args.origin c.args.self.moment in
+            let one = c.in-Ok-open.ensures.given choose h base k chooser taken hold in
+            let all = all_taken g.M.Memory.takes g.met.M.Memory.ticks_are_taken choose h a taken (opening_taken g.M.Memory.takes c.args.origin c.args.self.moment c.requires.ends c.requires.begins (is_begun (after choose h) tilde)) in
+            feeds_more g.D.Disk g.M.Book.Replay.fits g.M.Memory.holds choose h (a ++ map (block_order c.args.self.moment) read.pieces) (end_order c.args.self.moment ∷ []) base k c.fill.new.store c.args.disk.now c.fill.new.disk c.in-Err-fill.fault
+            (feeds_on g.D.Disk g.M.Book.Replay.fits g.M.Memory.holds choose h a (map (block_order c.args.self.moment) read.pieces) [] base k c.open.new.store c.fill.new.store c.args.disk.now c.open.new.disk c.fill.new.disk one (Err c.in-Err-fill.fault)
+            (read.done choose (given_all choose h a) base one.count chooser all one.hold));
+      };
+  over = c.in-Err-fill.ensures.over;
+  measured = λ uncut measured. c.in-Err-fill.ensures.measured uncut (c.in-Ok-open.ensures.measured refl measured);
+  undamaged = λ file at is choose h base k chooser taken hold.
+      let a = opening (is_begun (after choose h) tilde) c.args.origin c.args.self.moment in
+      let one = c.in-Ok-open.ensures.given choose h base k chooser taken hold in
+      let all = all_taken g.M.Memory.takes g.met.M.Memory.ticks_are_taken choose h a taken (opening_taken g.M.Memory.takes c.args.origin c.args.self.moment c.requires.ends c.requires.begins (is_begun (after choose h) tilde)) in
+      c.in-Err-fill.ensures.undamaged file at is choose (given_all choose h a) base one.count chooser all one.hold;
+  told =     anyhow_through (g.D.Disk.seen c.args.disk.now) (g.D.Disk.seen c.open.new.disk) (g.D.Disk.seen c.fill.new.disk) c.open.ensures.told c.fill.ensures.told;
+  later = omega (arith, c.open.ensures.later, c.fill.ensures.later);
+  read_later = c.fill.ensures.read_later;
+  cause = λ is.
+      rose_later (g.D.Disk.faults c.args.disk.now) (g.D.Disk.faults c.open.new.disk) (g.D.Disk.faults c.fill.new.disk) c.open.ensures.later (c.in-Err-fill.ensures.cause is);
+}
 
-pub returns-in-Ok-end-clause-read : goal.returns-in-Ok-end-clause-read
-returns-in-Ok-end-clause-read g c =
-    let read = c.in-Ok-fill.ensures.read in record {
-      pieces = read.pieces;
-      sizes = read.sizes;
-      took = read.took;
-      read = read.read;
-      done = λ choose h base k chooser taken hold.
-          let a = opening (is_begun (after choose h) tilde) c.args.origin c.args.self.moment in
-          let b = map (block_order c.args.self.moment) read.pieces in
-          let open_taken = opening_taken g.M.Memory.takes c.args.origin c.args.self.moment c.requires.ends c.requires.begins (is_begun (after choose h) tilde) in
-          let one = c.in-Ok-open.ensures.given choose h base k chooser taken hold in
-          let all = all_taken g.M.Memory.takes g.met.M.Memory.ticks_are_taken choose h a taken open_taken in
-          let both = filled_on g.D.Disk g.M.Book.Replay.fits g.M.Memory.holds choose h a b base k c.open.new.store c.fill.new.store c.args.disk.now c.open.new.disk c.fill.new.disk one
-          (read.done choose (given_all choose h a) base one.count chooser all one.hold) in
-          let more = all_taken g.M.Memory.takes g.met.M.Memory.ticks_are_taken choose h (a ++ b) taken
-          (all_more g.M.Memory.takes a b open_taken (blocks_taken g.M.Memory.takes c.args.self.moment c.requires.adds read.pieces read.sizes)) in
-          gives_on g.D.Disk g.M.Book.Replay.fits g.M.Memory.holds choose h (a ++ b) (end_order c.args.self.moment ∷ []) base k c.fill.new.store c.end.new.store c.args.disk.now c.fill.new.disk c.end.new.disk both (Ok tt)
-          (c.in-Ok-end.ensures.given choose (given_all choose h (a ++ b)) base both.count chooser more both.hold);
-    }
+pub returns-in-Ok-end : goal.returns-in-Ok-end
+returns-in-Ok-end g c = record {
+  read =     let read = c.in-Ok-fill.ensures.read in record {
+        pieces = read.pieces;
+        sizes = read.sizes;
+        took = read.took;
+        read = read.read;
+        done = λ choose h base k chooser taken hold.
+            let a = opening (is_begun (after choose h) tilde) c.args.origin c.args.self.moment in
+            let b = map (block_order c.args.self.moment) read.pieces in
+            let open_taken = opening_taken g.M.Memory.takes c.args.origin c.args.self.moment c.requires.ends c.requires.begins (is_begun (after choose h) tilde) in
+            let one = c.in-Ok-open.ensures.given choose h base k chooser taken hold in
+            let all = all_taken g.M.Memory.takes g.met.M.Memory.ticks_are_taken choose h a taken open_taken in
+            let both = filled_on g.D.Disk g.M.Book.Replay.fits g.M.Memory.holds choose h a b base k c.open.new.store c.fill.new.store c.args.disk.now c.open.new.disk c.fill.new.disk one
+            (read.done choose (given_all choose h a) base one.count chooser all one.hold) in
+            let more = all_taken g.M.Memory.takes g.met.M.Memory.ticks_are_taken choose h (a ++ b) taken
+            (all_more g.M.Memory.takes a b open_taken (blocks_taken g.M.Memory.takes c.args.self.moment c.requires.adds read.pieces read.sizes)) in
+            gives_on g.D.Disk g.M.Book.Replay.fits g.M.Memory.holds choose h (a ++ b) (end_order c.args.self.moment ∷ []) base k c.fill.new.store c.end.new.store c.args.disk.now c.fill.new.disk c.end.new.disk both (Ok tt)
+            (c.in-Ok-end.ensures.given choose (given_all choose h (a ++ b)) base both.count chooser more both.hold);
+      };
+  over = λ uncut. c.in-Ok-end.ensures.over refl;
+  measured = λ uncut measured. c.in-Ok-end.ensures.measured refl (c.in-Ok-fill.ensures.measured refl (c.in-Ok-open.ensures.measured refl measured));
+  undamaged = λ file at is. absurd (not_ok is);
+  told =     anyhow_through (g.D.Disk.seen c.args.disk.now) (g.D.Disk.seen c.fill.new.disk) (g.D.Disk.seen c.end.new.disk) (anyhow_through (g.D.Disk.seen c.args.disk.now) (g.D.Disk.seen c.open.new.disk) (g.D.Disk.seen c.fill.new.disk) c.open.ensures.told c.fill.ensures.told) c.end.ensures.told;
+  later = omega (arith, c.open.ensures.later, c.fill.ensures.later, c.end.ensures.later);
+  read_later = c.fill.ensures.read_later;
+  cause = λ is. absurd (not_ok is);
+}
 
-pub returns-clause-read : goal.returns-clause-read
-returns-clause-read g c =
-    let read = c.in-Ok-fill.ensures.read in record {
-      pieces = read.pieces;
-      sizes = read.sizes;
-      took = read.took;
-      read = omega (arith, read.read.0);
-      done = λ choose h base k chooser taken hold.
-          let a = opening (is_begun (after choose h) tilde) c.args.origin c.args.self.moment in
-          let b = map (block_order c.args.self.moment) read.pieces in
-          let open_taken = opening_taken g.M.Memory.takes c.args.origin c.args.self.moment c.requires.ends c.requires.begins (is_begun (after choose h) tilde) in
-          let one = c.in-Ok-open.ensures.given choose h base k chooser taken hold in
-          let all = all_taken g.M.Memory.takes g.met.M.Memory.ticks_are_taken choose h a taken open_taken in
-          let both = filled_on g.D.Disk g.M.Book.Replay.fits g.M.Memory.holds choose h a b base k c.open.new.store c.fill.new.store c.args.disk.now c.open.new.disk c.fill.new.disk one
-          (read.done choose (given_all choose h a) base one.count chooser all one.hold) in
-          let more = all_taken g.M.Memory.takes g.met.M.Memory.ticks_are_taken choose h (a ++ b) taken
-          (all_more g.M.Memory.takes a b open_taken (blocks_taken g.M.Memory.takes c.args.self.moment c.requires.adds read.pieces read.sizes)) in
-          gives_on g.D.Disk g.M.Book.Replay.fits g.M.Memory.holds choose h (a ++ b) (end_order c.args.self.moment ∷ []) base k c.fill.new.store c.end.new.store c.args.disk.now c.fill.new.disk c.end.new.disk both (Err c.in-Err-end.fault)
-          (c.in-Err-end.ensures.given choose (given_all choose h (a ++ b)) base both.count chooser more both.hold);
-    }
-
-pub returns-in-Err-fill-clause-undamaged : goal.returns-in-Err-fill-clause-undamaged
-returns-in-Err-fill-clause-undamaged g c = λ file at is choose h base k chooser taken hold.
-    let a = opening (is_begun (after choose h) tilde) c.args.origin c.args.self.moment in
-    let one = c.in-Ok-open.ensures.given choose h base k chooser taken hold in
-    let all = all_taken g.M.Memory.takes g.met.M.Memory.ticks_are_taken choose h a taken (opening_taken g.M.Memory.takes c.args.origin c.args.self.moment c.requires.ends c.requires.begins (is_begun (after choose h) tilde)) in
-    c.in-Err-fill.ensures.undamaged file at is choose (given_all choose h a) base one.count chooser all one.hold
-
-pub returns-clause-undamaged : goal.returns-clause-undamaged
-returns-clause-undamaged g c = λ file at is choose h base k chooser taken hold.
-    let read = c.in-Ok-fill.ensures.read in
-    let a = opening (is_begun (after choose h) tilde) c.args.origin c.args.self.moment in
-    let b = map (block_order c.args.self.moment) read.pieces in
-    let open_taken = opening_taken g.M.Memory.takes c.args.origin c.args.self.moment c.requires.ends c.requires.begins (is_begun (after choose h) tilde) in
-    let one = c.in-Ok-open.ensures.given choose h base k chooser taken hold in
-    let all = all_taken g.M.Memory.takes g.met.M.Memory.ticks_are_taken choose h a taken open_taken in
-    let both = filled_on g.D.Disk g.M.Book.Replay.fits g.M.Memory.holds choose h a b base k c.open.new.store c.fill.new.store c.args.disk.now c.open.new.disk c.fill.new.disk one
-    (read.done choose (given_all choose h a) base one.count chooser all one.hold) in
-    let more = all_taken g.M.Memory.takes g.met.M.Memory.ticks_are_taken choose h (a ++ b) taken
-    (all_more g.M.Memory.takes a b open_taken (blocks_taken g.M.Memory.takes c.args.self.moment c.requires.adds read.pieces read.sizes)) in
-    let was : c.in-Err-end.fault ≡ faults.Commit (commits.Damaged file at) = given_back c.in-Err-end.fault (faults.Commit (commits.Damaged file at)) is in
-    c.in-Err-end.ensures.undamaged file at (ap (λ (f : GiveFault). Err f) was) choose (given_all choose h (a ++ b)) base both.count chooser more both.hold
-
-pub returns-in-Err-open-clause-undamaged : goal.returns-in-Err-open-clause-undamaged
-returns-in-Err-open-clause-undamaged g c = λ file at is.
-    let was : c.in-Err-open.fault ≡ faults.Commit (commits.Damaged file at) = given_back c.in-Err-open.fault (faults.Commit (commits.Damaged file at)) is in
-    c.in-Err-open.ensures.undamaged file at (ap (λ (f : GiveFault). Err f) was)
-
-pub returns-in-Ok-end-clause-measured : goal.returns-in-Ok-end-clause-measured
-returns-in-Ok-end-clause-measured g c = λ uncut measured. c.in-Ok-end.ensures.measured refl (c.in-Ok-fill.ensures.measured refl (c.in-Ok-open.ensures.measured refl measured))
-
-pub returns-clause-measured : goal.returns-clause-measured
-returns-clause-measured g c = λ uncut measured. c.in-Err-end.ensures.measured uncut (c.in-Ok-fill.ensures.measured refl (c.in-Ok-open.ensures.measured refl measured))
-
-pub returns-in-Err-clause-over : goal.returns-in-Err-clause-over
-returns-in-Err-clause-over g c = λ uncut. c.requires.over
-
-pub returns-in-Err-clause-measured : goal.returns-in-Err-clause-measured
-returns-in-Err-clause-measured g c = λ uncut measured. measured
-
-pub returns-in-Err-clause-undamaged : goal.returns-in-Err-clause-undamaged
-returns-in-Err-clause-undamaged g c = λ file at is. absurd (not_cut c.in-Err.fault (commits.Damaged file at) c.in-Err.ensures.refused is)
-
-pub returns-in-Err-clause-told : goal.returns-in-Err-clause-told
-returns-in-Err-clause-told g c = anyhow_same (g.D.Disk.seen c.args.disk.now) (g.D.Disk.seen c.args.disk.now) refl
-
-pub returns-in-Err-clause-cause : goal.returns-in-Err-clause-cause
-returns-in-Err-clause-cause g c = λ is. absurd (not_cut c.in-Err.fault commits.Disk c.in-Err.ensures.refused is)
-
-pub returns-in-Err-open-clause-over : goal.returns-in-Err-open-clause-over
-returns-in-Err-open-clause-over g c = c.in-Err-open.ensures.over
-
-pub returns-in-Err-open-clause-measured : goal.returns-in-Err-open-clause-measured
-returns-in-Err-open-clause-measured g c = c.in-Err-open.ensures.measured
-
-pub returns-in-Err-open-clause-told : goal.returns-in-Err-open-clause-told
-returns-in-Err-open-clause-told g c = c.open.ensures.told
-
-pub returns-in-Err-open-clause-later : goal.returns-in-Err-open-clause-later
-returns-in-Err-open-clause-later g c = c.open.ensures.later
-
-pub returns-in-Err-open-clause-cause : goal.returns-in-Err-open-clause-cause
-returns-in-Err-open-clause-cause g c = λ is. c.in-Err-open.ensures.cause (given_back c.in-Err-open.fault (faults.Commit commits.Disk) is)
-
-pub returns-in-Err-fill-clause-over : goal.returns-in-Err-fill-clause-over
-returns-in-Err-fill-clause-over g c = c.in-Err-fill.ensures.over
-
-pub returns-in-Err-fill-clause-measured : goal.returns-in-Err-fill-clause-measured
-returns-in-Err-fill-clause-measured g c = λ uncut measured. c.in-Err-fill.ensures.measured uncut (c.in-Ok-open.ensures.measured refl measured)
-
-pub returns-in-Err-fill-clause-told : goal.returns-in-Err-fill-clause-told
-returns-in-Err-fill-clause-told g c =
-    anyhow_through (g.D.Disk.seen c.args.disk.now) (g.D.Disk.seen c.open.new.disk) (g.D.Disk.seen c.fill.new.disk) c.open.ensures.told c.fill.ensures.told
-
-pub returns-in-Err-fill-clause-later : goal.returns-in-Err-fill-clause-later
-returns-in-Err-fill-clause-later g c = omega (arith, c.open.ensures.later, c.fill.ensures.later)
-
-pub returns-in-Err-fill-clause-read_later : goal.returns-in-Err-fill-clause-read_later
-returns-in-Err-fill-clause-read_later g c = c.fill.ensures.read_later
-
-pub returns-in-Err-fill-clause-cause : goal.returns-in-Err-fill-clause-cause
-returns-in-Err-fill-clause-cause g c = λ is.
-    rose_later (g.D.Disk.faults c.args.disk.now) (g.D.Disk.faults c.open.new.disk) (g.D.Disk.faults c.fill.new.disk) c.open.ensures.later (c.in-Err-fill.ensures.cause is)
-
-pub returns-in-Ok-end-clause-over : goal.returns-in-Ok-end-clause-over
-returns-in-Ok-end-clause-over g c = λ uncut. c.in-Ok-end.ensures.over refl
-
-pub returns-in-Ok-end-clause-undamaged : goal.returns-in-Ok-end-clause-undamaged
-returns-in-Ok-end-clause-undamaged g c = λ file at is. absurd (not_ok is)
-
-pub returns-in-Ok-end-clause-told : goal.returns-in-Ok-end-clause-told
-returns-in-Ok-end-clause-told g c =
-    anyhow_through (g.D.Disk.seen c.args.disk.now) (g.D.Disk.seen c.fill.new.disk) (g.D.Disk.seen c.end.new.disk) (anyhow_through (g.D.Disk.seen c.args.disk.now) (g.D.Disk.seen c.open.new.disk) (g.D.Disk.seen c.fill.new.disk) c.open.ensures.told c.fill.ensures.told) c.end.ensures.told
-
-pub returns-in-Ok-end-clause-later : goal.returns-in-Ok-end-clause-later
-returns-in-Ok-end-clause-later g c = omega (arith, c.open.ensures.later, c.fill.ensures.later, c.end.ensures.later)
-
-pub returns-in-Ok-end-clause-read_later : goal.returns-in-Ok-end-clause-read_later
-returns-in-Ok-end-clause-read_later g c = c.fill.ensures.read_later
-
-pub returns-in-Ok-end-clause-cause : goal.returns-in-Ok-end-clause-cause
-returns-in-Ok-end-clause-cause g c = λ is. absurd (not_ok is)
-
-pub returns-clause-over : goal.returns-clause-over
-returns-clause-over g c = c.in-Err-end.ensures.over
-
-pub returns-clause-told : goal.returns-clause-told
-returns-clause-told g c =
-    anyhow_through (g.D.Disk.seen c.args.disk.now) (g.D.Disk.seen c.fill.new.disk) (g.D.Disk.seen c.end.new.disk) (anyhow_through (g.D.Disk.seen c.args.disk.now) (g.D.Disk.seen c.open.new.disk) (g.D.Disk.seen c.fill.new.disk) c.open.ensures.told c.fill.ensures.told) c.end.ensures.told
-
-pub returns-clause-later : goal.returns-clause-later
-returns-clause-later g c = omega (arith, c.open.ensures.later, c.fill.ensures.later, c.end.ensures.later)
-
-pub returns-clause-read_later : goal.returns-clause-read_later
-returns-clause-read_later g c = c.fill.ensures.read_later
-
-pub returns-clause-cause : goal.returns-clause-cause
-returns-clause-cause g c = λ is.
-    rose_later (g.D.Disk.faults c.args.disk.now) (g.D.Disk.faults c.fill.new.disk) (g.D.Disk.faults c.end.new.disk) (omega (arith, c.open.ensures.later, c.fill.ensures.later)) (c.in-Err-end.ensures.cause (given_back c.in-Err-end.fault (faults.Commit commits.Disk) is))
+pub returns : goal.returns
+returns g c = record {
+  read =     let read = c.in-Ok-fill.ensures.read in record {
+        pieces = read.pieces;
+        sizes = read.sizes;
+        took = read.took;
+        read = omega (arith, read.read.0);
+        done = λ choose h base k chooser taken hold.
+            let a = opening (is_begun (after choose h) tilde) c.args.origin c.args.self.moment in
+            let b = map (block_order c.args.self.moment) read.pieces in
+            let open_taken = opening_taken g.M.Memory.takes c.args.origin c.args.self.moment c.requires.ends c.requires.begins (is_begun (after choose h) tilde) in
+            let one = c.in-Ok-open.ensures.given choose h base k chooser taken hold in
+            let all = all_taken g.M.Memory.takes g.met.M.Memory.ticks_are_taken choose h a taken open_taken in
+            let both = filled_on g.D.Disk g.M.Book.Replay.fits g.M.Memory.holds choose h a b base k c.open.new.store c.fill.new.store c.args.disk.now c.open.new.disk c.fill.new.disk one
+            (read.done choose (given_all choose h a) base one.count chooser all one.hold) in
+            let more = all_taken g.M.Memory.takes g.met.M.Memory.ticks_are_taken choose h (a ++ b) taken
+            (all_more g.M.Memory.takes a b open_taken (blocks_taken g.M.Memory.takes c.args.self.moment c.requires.adds read.pieces read.sizes)) in
+            gives_on g.D.Disk g.M.Book.Replay.fits g.M.Memory.holds choose h (a ++ b) (end_order c.args.self.moment ∷ []) base k c.fill.new.store c.end.new.store c.args.disk.now c.fill.new.disk c.end.new.disk both (Err c.in-Err-end.fault)
+            (c.in-Err-end.ensures.given choose (given_all choose h (a ++ b)) base both.count chooser more both.hold);
+      };
+  over = c.in-Err-end.ensures.over;
+  measured = λ uncut measured. c.in-Err-end.ensures.measured uncut (c.in-Ok-fill.ensures.measured refl (c.in-Ok-open.ensures.measured refl measured));
+  undamaged = λ file at is choose h base k chooser taken hold.
+      let read = c.in-Ok-fill.ensures.read in
+      let a = opening (is_begun (after choose h) tilde) c.args.origin c.args.self.moment in
+      let b = map (block_order c.args.self.moment) read.pieces in
+      let open_taken = opening_taken g.M.Memory.takes c.args.origin c.args.self.moment c.requires.ends c.requires.begins (is_begun (after choose h) tilde) in
+      let one = c.in-Ok-open.ensures.given choose h base k chooser taken hold in
+      let all = all_taken g.M.Memory.takes g.met.M.Memory.ticks_are_taken choose h a taken open_taken in
+      let both = filled_on g.D.Disk g.M.Book.Replay.fits g.M.Memory.holds choose h a b base k c.open.new.store c.fill.new.store c.args.disk.now c.open.new.disk c.fill.new.disk one
+      (read.done choose (given_all choose h a) base one.count chooser all one.hold) in
+      let more = all_taken g.M.Memory.takes g.met.M.Memory.ticks_are_taken choose h (a ++ b) taken
+      (all_more g.M.Memory.takes a b open_taken (blocks_taken g.M.Memory.takes c.args.self.moment c.requires.adds read.pieces read.sizes)) in
+      let was : c.in-Err-end.fault ≡ faults.Commit (commits.Damaged file at) = given_back c.in-Err-end.fault (faults.Commit (commits.Damaged file at)) is in
+      c.in-Err-end.ensures.undamaged file at (ap (λ (f : GiveFault). Err f) was) choose (given_all choose h (a ++ b)) base both.count chooser more both.hold;
+  told =     anyhow_through (g.D.Disk.seen c.args.disk.now) (g.D.Disk.seen c.fill.new.disk) (g.D.Disk.seen c.end.new.disk) (anyhow_through (g.D.Disk.seen c.args.disk.now) (g.D.Disk.seen c.open.new.disk) (g.D.Disk.seen c.fill.new.disk) c.open.ensures.told c.fill.ensures.told) c.end.ensures.told;
+  later = omega (arith, c.open.ensures.later, c.fill.ensures.later, c.end.ensures.later);
+  read_later = c.fill.ensures.read_later;
+  cause = λ is.
+      rose_later (g.D.Disk.faults c.args.disk.now) (g.D.Disk.faults c.fill.new.disk) (g.D.Disk.faults c.end.new.disk) (omega (arith, c.open.ensures.later, c.fill.ensures.later)) (c.in-Err-end.ensures.cause (given_back c.in-Err-end.fault (faults.Commit commits.Disk) is));
+}
 
 pub open-requires-clause-over : goal.open-requires-clause-over
 open-requires-clause-over g c = c.requires.over
