@@ -4,6 +4,7 @@ use Rattle.std.specs.Prelude.{nat_eq, if◌then◌else◌}
 use Rattle.std.specs.List.{AllByRecursion}
 use Rattle.std.proofs.lemmas.Bool.{false≢true}
 use Rattle.ix_base.specs.Clocks.{Moments, Answered}
+use Rattle.ix_base.specs.Faults.{Rose}
 use Rattle.ix_base.specs.Told.{Told, HasWritten, HasBegun}
 use Rattle.ix_base.specs.declared.files.File.{File}
 use Rattle.ix_base.proofs.ToldLemmas.{written_is_begun, then_written, then_begun, nothing_written, nothing_begun}
@@ -11,7 +12,7 @@ use Rattle.ix_book.specs.Book.{Book}
 use Rattle.ix_disk.specs.Image.{Image}
 use Rattle.ix_disk.specs.Moments.{Always}
 use Rattle.ix_disk.specs.declared.disk.Disk.{Ghosts}
-use Rattle.ix_disk.proofs.Runs.{always_on, always_weaker}
+use Rattle.ix_disk.proofs.Runs.{always_on, always_weaker, rose_earlier, rose_later}
 use Rattle.ix_keep.specs.declared.fault.CommitFault.{CommitFault}
 use Rattle.ix_keep.specs.declared.fault.CommitFault.TheVariants as commits
 use Rattle.ix_machine.specs.Given.{Chooser}
@@ -23,7 +24,7 @@ use Rattle.ix_store.proofs.Counted.{take_whole}
 use Rattle.ix_store.proofs.Lawful.{held_stands}
 use Rattle.ix_serve.specs.Answer.{Says}
 use Rattle.ix_serve.specs.Entries.{entry}
-use Rattle.ix_feed.specs.Feeding.{Turn, history_after, reply_text, known, AreTurns, EndsAs, AreTold, IsUndamagedEnd, Reaches, Feeds, Runs, IsWholeEnd, is_open_end, end_of, most_requests}
+use Rattle.ix_feed.specs.Feeding.{Comes, Turn, history_after, reply_text, known, AreTurns, EndsAs, AreTold, IsUndamagedEnd, Reaches, Feeds, Runs, IsWholeEnd, is_open_end, end_of, most_requests}
 use Rattle.ix_serve.specs.Prefixes.{StandsIn}
 use Rattle.ix_serve.specs.Replies.{Reply, text_of}
 use Rattle.ix_serve.specs.Serving.{Wrote, Gave, IsOpen, IsTold, Serves}
@@ -306,3 +307,59 @@ module _ {D : Type 0} (g : Ghosts D) {M : Type 0} (takes : Order → Type 0) (fi
     runs_broken cause undamaged = runs_on (fed.Broken cause) (inr (cause, refl, end, up, feeds.ends)) (λ is. absurd is)
         (λ file at is image seen. undamaged kept (feeds.held up).3 file at (broken_is _ _ is) image seen)
         (λ is. absurd (false≢true is)) (λ is. absurd (false≢true is))
+
+-- ---- the counts of faults
+
+unread_link : (b : Bool) (n : ℕ) → (if b then fed.NoMemory else fed.Unreadable n) ≡ fed.Link → ⊥
+unread_link true n is = cc
+unread_link false n is = cc
+
+-- a run that ends by a fault of the link or the disk does so in its last turn
+link_turn : (n : ℕ) (result : Result Served ServeFault) → end_of n result ≡ Some fed.Link → result ≡ Err fault.Link
+link_turn n (Ok served.Ended) is = absurd (cc)
+link_turn n (Ok (served.Reply status true unshortened)) is = absurd (cc)
+link_turn n (Ok (served.Reply status false unshortened)) is = absurd (unread_link (nat_eq status 503) n (some_is _ _ is))
+link_turn n (Err fault.Disk) is = absurd (cc)
+link_turn n (Err (fault.Damaged file at)) is = absurd (cc)
+link_turn n (Err fault.Link) is = refl
+link_turn n (Err fault.Cut) is = absurd (cc)
+
+disk_turn : (n : ℕ) (result : Result Served ServeFault) → end_of n result ≡ Some (fed.Broken commits.Disk) → result ≡ Err fault.Disk
+disk_turn n (Ok served.Ended) is = absurd (cc)
+disk_turn n (Ok (served.Reply status true unshortened)) is = absurd (cc)
+disk_turn n (Ok (served.Reply status false unshortened)) is = absurd (unread_end (nat_eq status 503) n commits.Disk (some_is _ _ is))
+disk_turn n (Err fault.Disk) is = refl
+disk_turn n (Err (fault.Damaged file at)) is = absurd (cc)
+disk_turn n (Err fault.Link) is = absurd (cc)
+disk_turn n (Err fault.Cut) is = absurd (cc)
+
+pub comes_ended : (n link link' link'' disk disk' disk'' : ℕ) (result : Result Served ServeFault) (end : Fed) → end_of n result ≡ Some end → link ≤ link' → link' ≤ link'' → disk ≤ disk' → disk' ≤ disk'' →
+    (result ≡ Err fault.Link → Rose link' link'') → (result ≡ Err fault.Disk → Rose disk' disk'') → Comes link link'' disk disk'' end
+comes_ended n link link' link'' disk disk' disk'' result end came first later on after by_link by_disk = record {
+  link_later = omega (arith, first, later);
+  disk_later = omega (arith, on, after);
+  by_link = λ is. rose_later link link' link'' first (by_link (link_turn n result (came ∙ ap (λ (e : Fed). Some e) is)));
+  by_disk = λ is. rose_later disk disk' disk'' on (by_disk (disk_turn n result (came ∙ ap (λ (e : Fed). Some e) is)));
+}
+
+pub comes_endless : (link link' disk disk' : ℕ) → link ≤ link' → disk ≤ disk' → Comes link link' disk disk' fed.Endless
+comes_endless link link' disk disk' later on = record { link_later = later; disk_later = on; by_link = λ is. absurd (cc is); by_disk = λ is. absurd (cc is) }
+
+-- behind the commit at the end
+
+module _ (link link' disk disk' disk'' : ℕ) (end : Fed) (first : Comes link link' disk disk' end) (later : disk' ≤ disk'') where
+  pub comes_committed : Comes link link' disk disk'' end
+  comes_committed = record {
+    link_later = first.link_later;
+    disk_later = omega (arith, first.disk_later, later);
+    by_link = first.by_link;
+    by_disk = λ is. rose_earlier disk disk' disk'' (first.by_disk is) later;
+  }
+
+  pub comes_broken : (cause : CommitFault) → (cause ≡ commits.Disk → Rose disk' disk'') → Comes link link' disk disk'' (fed.Broken cause)
+  comes_broken cause rose = record {
+    link_later = first.link_later;
+    disk_later = omega (arith, first.disk_later, later);
+    by_link = λ is. absurd (cc is);
+    by_disk = λ is. rose_later disk disk' disk'' first.disk_later (rose (broken_is cause commits.Disk is));
+  }

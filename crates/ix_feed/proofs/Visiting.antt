@@ -12,7 +12,7 @@ use Rattle.ix_book.specs.Book.{Book}
 use Rattle.ix_disk.specs.Image.{Image}
 use Rattle.ix_disk.specs.Moments.{Always}
 use Rattle.ix_disk.specs.declared.disk.Disk.{Ghosts}
-use Rattle.ix_disk.proofs.Runs.{always_on, always_weaker}
+use Rattle.ix_disk.proofs.Runs.{always_on, always_weaker, rose_earlier, rose_later}
 use Rattle.ix_http.specs.Asked.{Fits}
 use Rattle.ix_keep.specs.Snapshot.{IsMeasured, IsOver}
 use Rattle.ix_keep.specs.declared.fault.CommitFault.{CommitFault}
@@ -35,7 +35,7 @@ use Rattle.ix_serve.specs.declared.served.Served.{Served}
 use Rattle.ix_serve.specs.declared.served.ServeFault.{ServeFault}
 use Rattle.ix_serve.specs.declared.served.ServeFault.TheVariants as fault
 use Rattle.ix_serve.proofs.Standing.{of_all}
-use Rattle.ix_feed.specs.Connections.{Visit, turns_of, backs_of, held_by, IsVisit, AreVisits, EndsAt, EndsIn, IsUndamagedEnd, Taken, HandedBack, Attends, Visits, Hears, Listens, break_of, is_open_end}
+use Rattle.ix_feed.specs.Connections.{Comes, Visit, turns_of, backs_of, held_by, IsVisit, AreVisits, EndsAt, EndsIn, IsUndamagedEnd, Taken, HandedBack, Attends, Visits, Hears, Listens, break_of, is_open_end}
 use Rattle.ix_feed.specs.Feeding.{AreTold, history_after, known, reply_text}
 use Rattle.ix_feed.specs.declared.serve.Heard.{Heard}
 use Rattle.ix_feed.specs.declared.serve.Heard.TheVariants as heard
@@ -373,3 +373,44 @@ module _ {D : Type 0} (g : Ghosts D) {M : Type 0} (takes : Order → Type 0) (fi
     listens_broken cause undamaged = listens_on (heard.Broken cause) (inr (cause, refl, end, up, heard_all.ends))
         (λ file at is image seen. undamaged kept (heard_all.held up).3 file at (broken_is _ _ is) image seen)
         (λ is. absurd (false≢true is)) (λ is. absurd (false≢true is))
+
+-- ---- the counts of faults
+
+pub comes_visited : (listener listener' disk disk' disk'' : ℕ) (came : Result Served ServeFault) (cause : CommitFault) → break_of came ≡ Some cause → listener ≤ listener' → disk ≤ disk' → disk' ≤ disk'' →
+    (came ≡ Err fault.Disk → Rose disk' disk'') → Comes listener listener' disk disk'' (heard.Broken cause)
+comes_visited listener listener' disk disk' disk'' came cause broke later on after by_disk = record {
+  listener_later = later;
+  disk_later = omega (arith, on, after);
+  by_listener = λ is. absurd (cc is);
+  by_disk = λ is. rose_later disk disk' disk'' on (by_disk (disk_visit came cause broke (broken_is cause commits.Disk is)));
+}
+
+pub comes_stopped : (listener listener' listener'' disk disk' : ℕ) → listener ≤ listener' → listener' ≤ listener'' → Rose listener' listener'' → disk ≤ disk' → Comes listener listener'' disk disk' heard.Listener
+comes_stopped listener listener' listener'' disk disk' first later rose on = record {
+  listener_later = omega (arith, first, later);
+  disk_later = on;
+  by_listener = λ is. rose_later listener listener' listener'' first rose;
+  by_disk = λ is. absurd (cc is);
+}
+
+pub comes_done : (listener listener' disk disk' : ℕ) → listener ≤ listener' → disk ≤ disk' → Comes listener listener' disk disk' heard.Done
+comes_done listener listener' disk disk' later on = record { listener_later = later; disk_later = on; by_listener = λ is. absurd (cc is); by_disk = λ is. absurd (cc is) }
+
+-- behind the commit at the end
+
+module _ (listener listener' disk disk' disk'' : ℕ) (end : Heard) (first : Comes listener listener' disk disk' end) (later : disk' ≤ disk'') where
+  pub comes_committed : Comes listener listener' disk disk'' end
+  comes_committed = record {
+    listener_later = first.listener_later;
+    disk_later = omega (arith, first.disk_later, later);
+    by_listener = first.by_listener;
+    by_disk = λ is. rose_earlier disk disk' disk'' (first.by_disk is) later;
+  }
+
+  pub comes_broken : (cause : CommitFault) → (cause ≡ commits.Disk → Rose disk' disk'') → Comes listener listener' disk disk'' (heard.Broken cause)
+  comes_broken cause rose = record {
+    listener_later = first.listener_later;
+    disk_later = omega (arith, first.disk_later, later);
+    by_listener = λ is. absurd (cc is);
+    by_disk = λ is. rose_later disk disk' disk'' first.disk_later (rose (broken_is cause commits.Disk is));
+  }

@@ -10,7 +10,7 @@ use Rattle.ix_serve.proofs.Answering.{clean_behind}
 use Rattle.ix_serve.proofs.Standing.{standing}
 use Rattle.ix_feed.specs.Feeding.{history_after}
 use Rattle.ix_serve.proofs.Taking.{says_taken}
-use Rattle.ix_feed.proofs.Turning.{reach_on, feeds_on, feeds_all, stays_open, open_end}
+use Rattle.ix_feed.proofs.Turning.{comes_ended, comes_endless, reach_on, feeds_on, feeds_all, stays_open, open_end}
 use Rattle.ix_feed.proofs.feed.feed_all.Goals as goal
 
 pub loop-served-init : goal.loop-served-init
@@ -38,43 +38,40 @@ loop-served-init g c = record {
   };
 }
 
-pub returns-in-Some-clause-feeds : goal.returns-in-Some-clause-feeds
-returns-in-Some-clause-feeds g c = λ choose h base k chooser taken hold.
-    let l = c.loop-served in
-    let moment : ℤ = c.now-moment.result in
-    let reached = l.invariant.reaches choose h base k chooser taken hold in
-    let fits : SFits w64 moment = search rules in
-    let serves = simp to_z-of_z at (c.serve_one-came.ensures.serves choose (history_after h reached.turns) base reached.kept chooser reached.taken reached.hold) in
-    let e = entry choose (history_after h reached.turns) base reached.kept l.store.run moment in
-    feeds_on g.D.Disk g.M.Memory.takes g.M.Book.Replay.fits g.M.Memory.holds choose h base k c.args.store.now.run l.served
-    (g.K.Link.left c.args.link.now) (g.K.Link.left l.link) (g.K.Link.left c.serve_one-came.new.link)
-    (g.C.Clock.ahead c.args.clock.now) (g.C.Clock.ahead l.clock) (g.C.Clock.ahead c.now-moment.new.self)
-    (g.K.Link.given c.args.link.now) (g.K.Link.given l.link) (g.K.Link.given c.serve_one-came.new.link)
-    l.store c.serve_one-came.new.store c.args.disk.now l.disk c.serve_one-came.new.disk moment
-    (IsClean (g.K.Link.faults l.link) (g.K.Link.faults c.serve_one-came.new.link) (g.K.Link.standing l.link) (g.K.Link.standing c.serve_one-came.new.link))
-    (IsClean (g.K.Link.faults c.args.link.now) (g.K.Link.faults c.serve_one-came.new.link) (g.K.Link.standing c.args.link.now) (g.K.Link.standing c.serve_one-came.new.link))
-    c.serve_one-came.result l.invariant.run c.now-moment.ensures reached serves c.serve_one-came.ensures.told
-    (says_taken g.M.Memory.takes g.met.M.Memory.ticks_are_taken c.requires.takes e reached.taken (IsTold g.D.Disk c.serve_one-came.new.disk) serves.read c.serve_one-came.result serves.answers.answer serves.within serves.answers.may_be)
-    (clean_behind (g.K.Link.faults c.args.link.now) (g.K.Link.faults l.link) (g.K.Link.faults c.serve_one-came.new.link)
-    (g.K.Link.standing c.args.link.now) (g.K.Link.standing l.link) (g.K.Link.standing c.serve_one-came.new.link) l.invariant.link_later l.invariant.goes.writing)
-    c.in-Some.end (sym c.end_of.ensures ∙ c.in-Some.is)
-
-pub returns-in-Some-clause-over : goal.returns-in-Some-clause-over
-returns-in-Some-clause-over g c = λ up. c.serve_one-came.ensures.over (open_end _ c.serve_one-came.result c.in-Some.end (sym c.end_of.ensures ∙ c.in-Some.is) up)
-
-pub returns-in-Some-clause-goes : goal.returns-in-Some-clause-goes
-returns-in-Some-clause-goes g c = goes_on c.loop-served.invariant.goes c.serve_one-came.ensures.goes
-
-pub returns-in-Some-clause-told : goal.returns-in-Some-clause-told
-returns-in-Some-clause-told g c = λ is. c.serve_one-came.ensures.told (c.loop-served.invariant.told is)
-
-pub returns-in-Some-clause-measured : goal.returns-in-Some-clause-measured
-returns-in-Some-clause-measured g c = λ is up.
-    c.serve_one-came.ensures.measured (c.loop-served.invariant.measured is) (open_end _ c.serve_one-came.result c.in-Some.end (sym c.end_of.ensures ∙ c.in-Some.is) up)
+pub returns-in-Some : goal.returns-in-Some
+returns-in-Some g c = record {
+  feeds = λ choose h base k chooser taken hold.
+      let l = c.loop-served in
+      let moment : ℤ = c.now-moment.result in
+      let reached = l.invariant.reaches choose h base k chooser taken hold in
+      let fits : SFits w64 moment = search rules in
+      let serves = simp to_z-of_z at (c.serve_one-came.ensures.serves choose (history_after h reached.turns) base reached.kept chooser reached.taken reached.hold) in
+      let e = entry choose (history_after h reached.turns) base reached.kept l.store.run moment in
+      feeds_on g.D.Disk g.M.Memory.takes g.M.Book.Replay.fits g.M.Memory.holds choose h base k c.args.store.now.run l.served
+      (g.K.Link.left c.args.link.now) (g.K.Link.left l.link) (g.K.Link.left c.serve_one-came.new.link)
+      (g.C.Clock.ahead c.args.clock.now) (g.C.Clock.ahead l.clock) (g.C.Clock.ahead c.now-moment.new.self)
+      (g.K.Link.given c.args.link.now) (g.K.Link.given l.link) (g.K.Link.given c.serve_one-came.new.link)
+      l.store c.serve_one-came.new.store c.args.disk.now l.disk c.serve_one-came.new.disk moment
+      (IsClean (g.K.Link.faults l.link) (g.K.Link.faults c.serve_one-came.new.link) (g.K.Link.standing l.link) (g.K.Link.standing c.serve_one-came.new.link))
+      (IsClean (g.K.Link.faults c.args.link.now) (g.K.Link.faults c.serve_one-came.new.link) (g.K.Link.standing c.args.link.now) (g.K.Link.standing c.serve_one-came.new.link))
+      c.serve_one-came.result l.invariant.run c.now-moment.ensures reached serves c.serve_one-came.ensures.told
+      (says_taken g.M.Memory.takes g.met.M.Memory.ticks_are_taken c.requires.takes e reached.taken (IsTold g.D.Disk c.serve_one-came.new.disk) serves.read c.serve_one-came.result serves.answers.answer serves.within serves.answers.may_be)
+      (clean_behind (g.K.Link.faults c.args.link.now) (g.K.Link.faults l.link) (g.K.Link.faults c.serve_one-came.new.link)
+      (g.K.Link.standing c.args.link.now) (g.K.Link.standing l.link) (g.K.Link.standing c.serve_one-came.new.link) l.invariant.link_later l.invariant.goes.writing)
+      c.in-Some.end (sym c.end_of.ensures ∙ c.in-Some.is);
+  run = c.serve_one-came.ensures.run ∙ c.loop-served.invariant.run;
+  over = λ up. c.serve_one-came.ensures.over (open_end _ c.serve_one-came.result c.in-Some.end (sym c.end_of.ensures ∙ c.in-Some.is) up);
+  measured = λ is up.
+      c.serve_one-came.ensures.measured (c.loop-served.invariant.measured is) (open_end _ c.serve_one-came.result c.in-Some.end (sym c.end_of.ensures ∙ c.in-Some.is) up);
+  told = λ is. c.serve_one-came.ensures.told (c.loop-served.invariant.told is);
+  goes = goes_on c.loop-served.invariant.goes c.serve_one-came.ensures.goes;
+  comes =
+      comes_ended _ (g.K.Link.faults c.args.link.now) (g.K.Link.faults c.loop-served.link) (g.K.Link.faults c.serve_one-came.new.link) (g.D.Disk.faults c.args.disk.now) (g.D.Disk.faults c.loop-served.disk) (g.D.Disk.faults c.serve_one-came.new.disk) c.serve_one-came.result c.in-Some.end
+      (sym c.end_of.ensures ∙ c.in-Some.is) c.loop-served.invariant.link_later c.serve_one-came.ensures.comes.link_later c.loop-served.invariant.disk_later c.serve_one-came.ensures.comes.disk_later c.serve_one-came.ensures.comes.by_link c.serve_one-came.ensures.comes.by_disk;
+}
 
 pub loop-served-preserved : goal.loop-served-preserved
-loop-served-preserved g c =
-    let l = c.loop-served in
+loop-served-preserved g c = let l = c.loop-served in
     let none = sym c.end_of.ensures ∙ c.in_default.is in
     record {
       over = c.serve_one-came.ensures.over (stays_open _ c.serve_one-came.result none).0;
@@ -101,13 +98,24 @@ loop-served-preserved g c =
           (says_taken g.M.Memory.takes g.met.M.Memory.ticks_are_taken c.requires.takes e reached.taken (IsTold g.D.Disk c.serve_one-came.new.disk) serves.read c.serve_one-came.result serves.answers.answer serves.within serves.answers.may_be) none;
     }
 
-pub returns-clause-measured : goal.returns-clause-measured
-returns-clause-measured g c = λ is up. c.loop-served.invariant.measured is
+pub returns : goal.returns
+returns g c = record {
+  feeds = λ choose h base k chooser taken hold.
+      let l = c.loop-served in
+      feeds_all g.D.Disk g.M.Memory.takes g.M.Book.Replay.fits g.M.Memory.holds choose h base k c.args.store.now.run
+      (IsClean (g.K.Link.faults c.args.link.now) (g.K.Link.faults l.link) (g.K.Link.standing c.args.link.now) (g.K.Link.standing l.link))
+      (g.K.Link.left c.args.link.now) (g.K.Link.left l.link) (g.C.Clock.ahead c.args.clock.now) (g.C.Clock.ahead l.clock)
+      (g.K.Link.given c.args.link.now) (g.K.Link.given l.link) l.store c.args.disk.now l.disk l.served (omega arith) l.invariant.run (l.invariant.reaches choose h base k chooser taken hold);
+  run = c.loop-served.invariant.run;
+  over = λ up. c.loop-served.invariant.over;
+  measured = λ is up. c.loop-served.invariant.measured is;
+  told = c.loop-served.invariant.told;
+  goes = c.loop-served.invariant.goes;
+  comes = comes_endless (g.K.Link.faults c.args.link.now) (g.K.Link.faults c.loop-served.link) (g.D.Disk.faults c.args.disk.now) (g.D.Disk.faults c.loop-served.disk) c.loop-served.invariant.link_later c.loop-served.invariant.disk_later;
+}
 
-pub returns-clause-feeds : goal.returns-clause-feeds
-returns-clause-feeds g c = λ choose h base k chooser taken hold.
-    let l = c.loop-served in
-    feeds_all g.D.Disk g.M.Memory.takes g.M.Book.Replay.fits g.M.Memory.holds choose h base k c.args.store.now.run
-    (IsClean (g.K.Link.faults c.args.link.now) (g.K.Link.faults l.link) (g.K.Link.standing c.args.link.now) (g.K.Link.standing l.link))
-    (g.K.Link.left c.args.link.now) (g.K.Link.left l.link) (g.C.Clock.ahead c.args.clock.now) (g.C.Clock.ahead l.clock)
-    (g.K.Link.given c.args.link.now) (g.K.Link.given l.link) l.store c.args.disk.now l.disk l.served (omega arith) l.invariant.run (l.invariant.reaches choose h base k chooser taken hold)
+pub serve_one-came-requires-clause-over : goal.serve_one-came-requires-clause-over
+serve_one-came-requires-clause-over g c = c.loop-served.invariant.over
+
+pub serve_one-came-requires-clause-takes : goal.serve_one-came-requires-clause-takes
+serve_one-came-requires-clause-takes g c = c.requires.takes

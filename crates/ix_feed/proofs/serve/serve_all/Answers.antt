@@ -1,7 +1,8 @@
 use Rattle.std.proofs.Common.{[], refl, sym, ap, ◌∙◌, arith}
+use Rattle.std.proofs.lemmas.Bool.{false≢true}
 use Rattle.ix_feed.specs.Connections.{turns_of}
 use Rattle.ix_feed.specs.Feeding.{history_after}
-use Rattle.ix_feed.proofs.Visiting.{visits_on, hears_broken, hears_all, hears_stopped, stays_open, none_taken, none_handed, over_still, measured_still}
+use Rattle.ix_feed.proofs.Visiting.{comes_done, comes_stopped, comes_visited, visits_on, hears_broken, hears_all, hears_stopped, stays_open, none_taken, none_handed, over_still, measured_still}
 use Rattle.ix_serve.proofs.Standing.{standing}
 use Rattle.ix_feed.proofs.serve.serve_all.Goals as goal
 
@@ -31,56 +32,51 @@ loop-served-init g c = record {
   };
 }
 
-pub returns-in-Some-clause-hears : goal.returns-in-Some-clause-hears
-returns-in-Some-clause-hears g c = λ choose h base k chooser taken hold.
-    let l = c.loop-served in
-    let visited = l.invariant.visits choose h base k chooser taken hold in
-    hears_broken g.D.Disk g.M.Memory.takes g.M.Book.Replay.fits g.M.Memory.holds choose h base k c.args.store.now.run l._served
-    (g.L.Listener.waiting c.args.listener.now) (g.L.Listener.waiting l.listener) (g.L.Listener.waiting c.serve_next.new.listener)
-    (g.L.Listener.handed c.args.listener.now) (g.L.Listener.handed l.listener) (g.L.Listener.handed c.serve_next.new.listener)
-    (g.C.Clock.ahead c.args.clock.now) (g.C.Clock.ahead l.clock) (g.C.Clock.ahead c.serve_next.new.clock)
-    l.store c.serve_next.new.store c.args.disk.now l.disk c.serve_next.new.disk c.in-Ok.came l.invariant.run visited
-    (c.in-Ok.ensures.attends choose (history_after h (turns_of visited.visits)) base visited.kept chooser visited.taken visited.hold) c.serve_next.ensures.told
-    c.args.requests c.in-Some.cause (omega arith) (sym c.break_of.ensures ∙ c.in-Some.is)
+pub returns-in-Some : goal.returns-in-Some
+returns-in-Some g c = record {
+  hears = λ choose h base k chooser taken hold.
+      let l = c.loop-served in
+      let visited = l.invariant.visits choose h base k chooser taken hold in
+      hears_broken g.D.Disk g.M.Memory.takes g.M.Book.Replay.fits g.M.Memory.holds choose h base k c.args.store.now.run l._served
+      (g.L.Listener.waiting c.args.listener.now) (g.L.Listener.waiting l.listener) (g.L.Listener.waiting c.serve_next.new.listener)
+      (g.L.Listener.handed c.args.listener.now) (g.L.Listener.handed l.listener) (g.L.Listener.handed c.serve_next.new.listener)
+      (g.C.Clock.ahead c.args.clock.now) (g.C.Clock.ahead l.clock) (g.C.Clock.ahead c.serve_next.new.clock)
+      l.store c.serve_next.new.store c.args.disk.now l.disk c.serve_next.new.disk c.in-Ok.came l.invariant.run visited
+      (c.in-Ok.ensures.attends choose (history_after h (turns_of visited.visits)) base visited.kept chooser visited.taken visited.hold) c.serve_next.ensures.told
+      c.args.requests c.in-Some.cause (omega arith) (sym c.break_of.ensures ∙ c.in-Some.is);
+  over = λ up. absurd (false≢true up);
+  measured = λ is up. absurd (false≢true up);
+  run = c.serve_next.ensures.run ∙ c.loop-served.invariant.run;
+  told = λ is. c.serve_next.ensures.told (c.loop-served.invariant.told is);
+  out = c.serve_next.ensures.out ∙ c.loop-served.invariant.out;
+  comes =
+      comes_visited (g.L.Listener.faults c.args.listener.now) (g.L.Listener.faults c.serve_next.new.listener) (g.D.Disk.faults c.args.disk.now) (g.D.Disk.faults c.loop-served.disk) (g.D.Disk.faults c.serve_next.new.disk) c.in-Ok.came c.in-Some.cause (sym c.break_of.ensures ∙ c.in-Some.is)
+      (omega (arith, c.loop-served.invariant.listener_later, c.serve_next.ensures.cause.later)) c.loop-served.invariant.disk_later c.serve_next.ensures.later c.in-Ok.ensures.failed;
+}
 
-pub returns-in-Some-clause-run : goal.returns-in-Some-clause-run
-returns-in-Some-clause-run g c = c.serve_next.ensures.run ∙ c.loop-served.invariant.run
-
-pub returns-in-Some-clause-told : goal.returns-in-Some-clause-told
-returns-in-Some-clause-told g c = λ is. c.serve_next.ensures.told (c.loop-served.invariant.told is)
-
-pub returns-in-Some-clause-out : goal.returns-in-Some-clause-out
-returns-in-Some-clause-out g c = c.serve_next.ensures.out ∙ c.loop-served.invariant.out
-
-pub returns-in-Err-clause-hears : goal.returns-in-Err-clause-hears
-returns-in-Err-clause-hears g c = λ choose h base k chooser taken hold.
-    let l = c.loop-served in
-    hears_stopped g.D.Disk g.M.Memory.takes g.M.Book.Replay.fits g.M.Memory.holds choose h base k c.args.store.now.run l._served
-    (g.L.Listener.waiting c.args.listener.now) (g.L.Listener.waiting l.listener) (g.L.Listener.handed c.args.listener.now) (g.L.Listener.handed l.listener)
-    (g.C.Clock.ahead c.args.clock.now) (g.C.Clock.ahead l.clock) l.store c.args.disk.now l.disk l.invariant.run (l.invariant.visits choose h base k chooser taken hold)
-    c.args.requests (omega arith) (g.L.Listener.waiting c.serve_next.new.listener) (g.L.Listener.handed c.serve_next.new.listener) (g.C.Clock.ahead c.serve_next.new.clock)
-    c.serve_next.new.store c.serve_next.new.disk c.in-Err.ensures.waiting c.in-Err.ensures.handed (ap g.C.Clock.ahead c.in-Err.ensures.unasked) c.in-Err.ensures.store c.in-Err.ensures.left
-
-pub returns-in-Err-clause-over : goal.returns-in-Err-clause-over
-returns-in-Err-clause-over g c = λ up.
-    over_still g.D.Disk c.loop-served.store c.serve_next.new.store c.loop-served.disk c.serve_next.new.disk c.in-Err.ensures.store c.in-Err.ensures.left c.loop-served.invariant.over
-
-pub returns-in-Err-clause-measured : goal.returns-in-Err-clause-measured
-returns-in-Err-clause-measured g c = λ is up.
-    measured_still g.D.Disk c.loop-served.store c.serve_next.new.store c.loop-served.disk c.serve_next.new.disk c.in-Err.ensures.store c.in-Err.ensures.left (c.loop-served.invariant.measured is)
-
-pub returns-in-Err-clause-run : goal.returns-in-Err-clause-run
-returns-in-Err-clause-run g c = c.serve_next.ensures.run ∙ c.loop-served.invariant.run
-
-pub returns-in-Err-clause-told : goal.returns-in-Err-clause-told
-returns-in-Err-clause-told g c = λ is. c.serve_next.ensures.told (c.loop-served.invariant.told is)
-
-pub returns-in-Err-clause-out : goal.returns-in-Err-clause-out
-returns-in-Err-clause-out g c = c.serve_next.ensures.out ∙ c.loop-served.invariant.out
+pub returns-in-Err : goal.returns-in-Err
+returns-in-Err g c = record {
+  hears = λ choose h base k chooser taken hold.
+      let l = c.loop-served in
+      hears_stopped g.D.Disk g.M.Memory.takes g.M.Book.Replay.fits g.M.Memory.holds choose h base k c.args.store.now.run l._served
+      (g.L.Listener.waiting c.args.listener.now) (g.L.Listener.waiting l.listener) (g.L.Listener.handed c.args.listener.now) (g.L.Listener.handed l.listener)
+      (g.C.Clock.ahead c.args.clock.now) (g.C.Clock.ahead l.clock) l.store c.args.disk.now l.disk l.invariant.run (l.invariant.visits choose h base k chooser taken hold)
+      c.args.requests (omega arith) (g.L.Listener.waiting c.serve_next.new.listener) (g.L.Listener.handed c.serve_next.new.listener) (g.C.Clock.ahead c.serve_next.new.clock)
+      c.serve_next.new.store c.serve_next.new.disk c.in-Err.ensures.waiting c.in-Err.ensures.handed (ap g.C.Clock.ahead c.in-Err.ensures.unasked) c.in-Err.ensures.store c.in-Err.ensures.left;
+  over = λ up.
+      over_still g.D.Disk c.loop-served.store c.serve_next.new.store c.loop-served.disk c.serve_next.new.disk c.in-Err.ensures.store c.in-Err.ensures.left c.loop-served.invariant.over;
+  measured = λ is up.
+      measured_still g.D.Disk c.loop-served.store c.serve_next.new.store c.loop-served.disk c.serve_next.new.disk c.in-Err.ensures.store c.in-Err.ensures.left (c.loop-served.invariant.measured is);
+  run = c.serve_next.ensures.run ∙ c.loop-served.invariant.run;
+  told = λ is. c.serve_next.ensures.told (c.loop-served.invariant.told is);
+  out = c.serve_next.ensures.out ∙ c.loop-served.invariant.out;
+  comes =
+      comes_stopped (g.L.Listener.faults c.args.listener.now) (g.L.Listener.faults c.loop-served.listener) (g.L.Listener.faults c.serve_next.new.listener) (g.D.Disk.faults c.args.disk.now) (g.D.Disk.faults c.serve_next.new.disk) c.loop-served.invariant.listener_later c.serve_next.ensures.cause.later (c.in-Err.ensures.cause.failed refl)
+      (omega (arith, c.loop-served.invariant.disk_later, c.serve_next.ensures.later));
+}
 
 pub loop-served-preserved : goal.loop-served-preserved
-loop-served-preserved g c =
-    let l = c.loop-served in
+loop-served-preserved g c = let l = c.loop-served in
     let none = sym c.break_of.ensures ∙ c.in_default.is in
     record {
       over = c.in-Ok.ensures.over (stays_open c.in-Ok.came none);
@@ -100,9 +96,23 @@ loop-served-preserved g c =
           (c.in-Ok.ensures.attends choose (history_after h (turns_of visited.visits)) base visited.kept chooser visited.taken visited.hold) c.serve_next.ensures.told none;
     }
 
-pub returns-clause-hears : goal.returns-clause-hears
-returns-clause-hears g c = λ choose h base k chooser taken hold.
-    let l = c.loop-served in
-    hears_all g.D.Disk g.M.Memory.takes g.M.Book.Replay.fits g.M.Memory.holds choose h base k c.args.store.now.run l._served
-    (g.L.Listener.waiting c.args.listener.now) (g.L.Listener.waiting l.listener) (g.L.Listener.handed c.args.listener.now) (g.L.Listener.handed l.listener)
-    (g.C.Clock.ahead c.args.clock.now) (g.C.Clock.ahead l.clock) l.store c.args.disk.now l.disk l.invariant.run (l.invariant.visits choose h base k chooser taken hold) c.args.requests (omega arith)
+pub returns : goal.returns
+returns g c = record {
+  hears = λ choose h base k chooser taken hold.
+      let l = c.loop-served in
+      hears_all g.D.Disk g.M.Memory.takes g.M.Book.Replay.fits g.M.Memory.holds choose h base k c.args.store.now.run l._served
+      (g.L.Listener.waiting c.args.listener.now) (g.L.Listener.waiting l.listener) (g.L.Listener.handed c.args.listener.now) (g.L.Listener.handed l.listener)
+      (g.C.Clock.ahead c.args.clock.now) (g.C.Clock.ahead l.clock) l.store c.args.disk.now l.disk l.invariant.run (l.invariant.visits choose h base k chooser taken hold) c.args.requests (omega arith);
+  over = λ up. c.loop-served.invariant.over;
+  measured = λ is up. c.loop-served.invariant.measured is;
+  run = c.loop-served.invariant.run;
+  told = c.loop-served.invariant.told;
+  out = c.loop-served.invariant.out;
+  comes = comes_done (g.L.Listener.faults c.args.listener.now) (g.L.Listener.faults c.loop-served.listener) (g.D.Disk.faults c.args.disk.now) (g.D.Disk.faults c.loop-served.disk) c.loop-served.invariant.listener_later c.loop-served.invariant.disk_later;
+}
+
+pub serve_next-requires-clause-over : goal.serve_next-requires-clause-over
+serve_next-requires-clause-over g c = c.loop-served.invariant.over
+
+pub serve_next-requires-clause-takes : goal.serve_next-requires-clause-takes
+serve_next-requires-clause-takes g c = c.requires.takes

@@ -57,7 +57,7 @@ returns-in-Ok-shorten g c = record {
   measured = λ measured. (c.in-Ok-shorten.ensures.rest refl (record { over = c.in-Ok.ensures.over; idle = c.in-Ok.ensures.idle; measured = c.in-Ok.ensures.measured (λ idle. measured) })).measured;
   closed = tt;
   undamaged = λ file at is. absurd (not_ok is);
-  told =     anyhow_through (g.D.Disk.seen c.args.disk.now) (g.D.Disk.seen c.commit.new.disk) (g.D.Disk.seen c.shorten.new.disk) c.commit.ensures.told c.shorten.ensures.told;
+  told = anyhow_through (g.D.Disk.seen c.args.disk.now) (g.D.Disk.seen c.commit.new.disk) (g.D.Disk.seen c.shorten.new.disk) c.commit.ensures.told c.shorten.ensures.told;
   later = omega (arith, c.commit.ensures.later, c.shorten.ensures.later);
   cause = tt;
 }
@@ -77,7 +77,7 @@ returns-in-Err-NoMemory g c = record {
       (c.in-Err-NoMemory.ensures.rest (ap (λ (f : CheckpointFault). is_failed (Err f)) c.in-Err-NoMemory.field-0-is) (record { over = c.in-Ok.ensures.over; idle = c.in-Ok.ensures.idle; measured = c.in-Ok.ensures.measured (λ idle. measured) })).measured;
   closed = tt;
   undamaged = λ file at is. absurd (not_ok is);
-  told =     anyhow_through (g.D.Disk.seen c.args.disk.now) (g.D.Disk.seen c.commit.new.disk) (g.D.Disk.seen c.shorten.new.disk) c.commit.ensures.told c.shorten.ensures.told;
+  told = anyhow_through (g.D.Disk.seen c.args.disk.now) (g.D.Disk.seen c.commit.new.disk) (g.D.Disk.seen c.shorten.new.disk) c.commit.ensures.told c.shorten.ensures.told;
   later = omega (arith, c.commit.ensures.later, c.shorten.ensures.later);
   cause = tt;
 }
@@ -92,7 +92,7 @@ returns-in-Err-Disk g c = record {
   measured = λ measured. tt;
   closed = c.shorten.ensures.closed (c.in-Err-Disk.is ∙ ap (λ (f : CheckpointFault). Err f) c.in-Err-Disk.field-0-is);
   undamaged = λ file at is. absurd (not_damaged file at is);
-  told =     anyhow_through (g.D.Disk.seen c.args.disk.now) (g.D.Disk.seen c.commit.new.disk) (g.D.Disk.seen c.shorten.new.disk) c.commit.ensures.told c.shorten.ensures.told;
+  told = anyhow_through (g.D.Disk.seen c.args.disk.now) (g.D.Disk.seen c.commit.new.disk) (g.D.Disk.seen c.shorten.new.disk) c.commit.ensures.told c.shorten.ensures.told;
   later = omega (arith, c.commit.ensures.later, c.shorten.ensures.later);
   cause = λ is.
       rose_later (g.D.Disk.faults c.args.disk.now) (g.D.Disk.faults c.commit.new.disk) (g.D.Disk.faults c.shorten.new.disk) c.commit.ensures.later (c.shorten.ensures.cause (c.in-Err-Disk.is ∙ ap (λ (f : CheckpointFault). Err f) c.in-Err-Disk.field-0-is));

@@ -22,17 +22,17 @@ cause_back a b is = cc
 
 pub returns-then-is_run_cut : goal.returns-then-is_run_cut
 returns-then-is_run_cut g c = record {
-  stored =     let read = c.run-stored.ensures.read in record {
-        pieces = read.pieces;
-        sizes = read.sizes;
-        took = read.took;
-        read = read.read;
-        done = λ choose h base k chooser taken hold.
-            let fits : SFits w64 c.args.arrival.moment = search rules in
-            cut g.D.Disk g.M.Book.Replay.fits g.M.Memory.holds choose h base k c.run-stored.new.store c.args.disk.now c.run-stored.new.disk c.run-stored.result
-            (filling (is_begun (after choose h) tilde) c.args.arrival.origin c.args.arrival.moment read.pieces) (end_order c.args.arrival.moment ∷ []) (sym c.is_run_cut.ensures ∙ c.if-is_run_cut.true)
-            (simp to_z-of_z at (read.done choose h base k chooser taken hold));
-      };
+  stored = let read = c.run-stored.ensures.read in record {
+    pieces = read.pieces;
+    sizes = read.sizes;
+    took = read.took;
+    read = read.read;
+    done = λ choose h base k chooser taken hold.
+        let fits : SFits w64 c.args.arrival.moment = search rules in
+        cut g.D.Disk g.M.Book.Replay.fits g.M.Memory.holds choose h base k c.run-stored.new.store c.args.disk.now c.run-stored.new.disk c.run-stored.result
+        (filling (is_begun (after choose h) tilde) c.args.arrival.origin c.args.arrival.moment read.pieces) (end_order c.args.arrival.moment ∷ []) (sym c.is_run_cut.ensures ∙ c.if-is_run_cut.true)
+        (simp to_z-of_z at (read.done choose h base k chooser taken hold));
+  };
   over = c.run-stored.ensures.over;
   rest = λ uncut measured. absurd (false≢true (sym uncut ∙ (sym c.is_run_cut.ensures ∙ c.if-is_run_cut.true)));
   undamaged = c.run-stored.ensures.undamaged;
@@ -44,18 +44,18 @@ returns-then-is_run_cut g c = record {
 
 pub returns-in-Ok : goal.returns-in-Ok
 returns-in-Ok g c = record {
-  stored =     let read = c.run-stored.ensures.read in record {
-        pieces = read.pieces;
-        sizes = read.sizes;
-        took = read.took;
-        read = read.read;
-        done = λ choose h base k chooser taken hold.
-            let fits : SFits w64 c.args.arrival.moment = search rules in
-            settled g.D.Disk g.M.Book.Replay.fits g.M.Memory.holds choose h base k c.run-stored.new.store c.commit_all.new.store c.args.disk.now c.run-stored.new.disk c.commit_all.new.disk
-            (c.commit_all.ensures.stood choose) (c.in-Ok.ensures.done choose) c.run-stored.result
-            (filling (is_begun (after choose h) tilde) c.args.arrival.origin c.args.arrival.moment read.pieces) (end_order c.args.arrival.moment ∷ []) (sym c.is_run_cut.ensures ∙ c.if-is_run_cut.false)
-            (simp to_z-of_z at (read.done choose h base k chooser taken hold));
-      };
+  stored = let read = c.run-stored.ensures.read in record {
+    pieces = read.pieces;
+    sizes = read.sizes;
+    took = read.took;
+    read = read.read;
+    done = λ choose h base k chooser taken hold.
+        let fits : SFits w64 c.args.arrival.moment = search rules in
+        settled g.D.Disk g.M.Book.Replay.fits g.M.Memory.holds choose h base k c.run-stored.new.store c.commit_all.new.store c.args.disk.now c.run-stored.new.disk c.commit_all.new.disk
+        (c.commit_all.ensures.stood choose) (c.in-Ok.ensures.done choose) c.run-stored.result
+        (filling (is_begun (after choose h) tilde) c.args.arrival.origin c.args.arrival.moment read.pieces) (end_order c.args.arrival.moment ∷ []) (sym c.is_run_cut.ensures ∙ c.if-is_run_cut.false)
+        (simp to_z-of_z at (read.done choose h base k chooser taken hold));
+  };
   over = λ uncut. c.in-Ok.ensures.over;
   rest = λ uncut measured. c.in-Ok.ensures.rest (c.run-stored.ensures.measured uncut measured);
   undamaged = λ file at is choose h base k chooser taken hold.
@@ -68,18 +68,18 @@ returns-in-Ok g c = record {
 
 pub returns-in-Err : goal.returns-in-Err
 returns-in-Err g c = record {
-  stored =     let read = c.run-stored.ensures.read in record {
-        pieces = read.pieces;
-        sizes = read.sizes;
-        took = read.took;
-        read = read_failed c.run-stored.result c.in-Err.fault _ _ _ _ read.read;
-        done = λ choose h base k chooser taken hold.
-            let fits : SFits w64 c.args.arrival.moment = search rules in
-            failed g.D.Disk g.M.Book.Replay.fits g.M.Memory.holds choose h base k c.run-stored.new.store c.commit_all.new.store c.args.disk.now c.run-stored.new.disk c.commit_all.new.disk
-            (c.commit_all.ensures.stood choose) c.run-stored.result c.in-Err.fault
-            (filling (is_begun (after choose h) tilde) c.args.arrival.origin c.args.arrival.moment read.pieces) (end_order c.args.arrival.moment ∷ []) (sym c.is_run_cut.ensures ∙ c.if-is_run_cut.false)
-            (simp to_z-of_z at (read.done choose h base k chooser taken hold));
-      };
+  stored = let read = c.run-stored.ensures.read in record {
+    pieces = read.pieces;
+    sizes = read.sizes;
+    took = read.took;
+    read = read_failed c.run-stored.result c.in-Err.fault _ _ _ _ read.read;
+    done = λ choose h base k chooser taken hold.
+        let fits : SFits w64 c.args.arrival.moment = search rules in
+        failed g.D.Disk g.M.Book.Replay.fits g.M.Memory.holds choose h base k c.run-stored.new.store c.commit_all.new.store c.args.disk.now c.run-stored.new.disk c.commit_all.new.disk
+        (c.commit_all.ensures.stood choose) c.run-stored.result c.in-Err.fault
+        (filling (is_begun (after choose h) tilde) c.args.arrival.origin c.args.arrival.moment read.pieces) (end_order c.args.arrival.moment ∷ []) (sym c.is_run_cut.ensures ∙ c.if-is_run_cut.false)
+        (simp to_z-of_z at (read.done choose h base k chooser taken hold));
+  };
   over = λ uncut. absurd (true≢false uncut);
   rest = λ uncut measured. absurd (true≢false uncut);
   undamaged = λ file at is choose h base k chooser taken hold.

@@ -23,7 +23,7 @@ returns-in-Ok-commit_all g c = record {
   rest = λ measured. c.in-Ok-commit_all.ensures.rest (c.in-Ok.ensures.measured measured);
   unchanged = tt;
   undamaged = λ file at is. absurd (not_ok is);
-  told =     anyhow_through (g.D.Disk.seen c.args.disk.now) (g.D.Disk.seen c.give.new.disk) (g.D.Disk.seen c.commit_all.new.disk) c.give.ensures.told c.commit_all.ensures.told;
+  told = anyhow_through (g.D.Disk.seen c.args.disk.now) (g.D.Disk.seen c.give.new.disk) (g.D.Disk.seen c.commit_all.new.disk) c.give.ensures.told c.commit_all.ensures.told;
   later = omega (arith, c.give.ensures.later, c.commit_all.ensures.later);
   cause = tt;
 }
@@ -44,7 +44,7 @@ returns-in-Err-commit_all g c = record {
       let one = simp to_z-of_z at (c.in-Ok.ensures.given choose h base k chooser taken hold) in
       let cause = cause_back c.in-Err-commit_all.fault (commits.Damaged file at) is in
       c.in-Err-commit_all.ensures.undamaged file at (ap (λ (f : CommitFault). Err f) cause) choose _ base one.gone.count one.gone.hold;
-  told =     anyhow_through (g.D.Disk.seen c.args.disk.now) (g.D.Disk.seen c.give.new.disk) (g.D.Disk.seen c.commit_all.new.disk) c.give.ensures.told c.commit_all.ensures.told;
+  told = anyhow_through (g.D.Disk.seen c.args.disk.now) (g.D.Disk.seen c.give.new.disk) (g.D.Disk.seen c.commit_all.new.disk) c.give.ensures.told c.commit_all.ensures.told;
   later = omega (arith, c.give.ensures.later, c.commit_all.ensures.later);
   cause = λ is.
       rose_later (g.D.Disk.faults c.args.disk.now) (g.D.Disk.faults c.give.new.disk) (g.D.Disk.faults c.commit_all.new.disk) c.give.ensures.later

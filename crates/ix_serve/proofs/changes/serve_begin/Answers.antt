@@ -26,7 +26,7 @@ returns-in_default g c = record {
   run = refl;
   told = λ told. told;
   goes = c.decline.ensures.goes;
-  comes =     comes_open (g.K.Link.faults c.args.link.now) (g.K.Link.faults c.args.link.now) (g.K.Link.faults c.decline.new.link) (g.D.Disk.faults c.args.disk.now) (g.D.Disk.faults c.args.disk.now) c.decline.result (omega arith) c.decline.ensures.later c.decline.ensures.failed (omega arith) c.decline.ensures.open;
+  comes = comes_open (g.K.Link.faults c.args.link.now) (g.K.Link.faults c.args.link.now) (g.K.Link.faults c.decline.new.link) (g.D.Disk.faults c.args.disk.now) (g.D.Disk.faults c.args.disk.now) c.decline.result (omega arith) c.decline.ensures.later c.decline.ensures.failed (omega arith) c.decline.ensures.open;
 }
 
 pub returns : goal.returns

@@ -37,7 +37,7 @@ returns-then-due g c = record {
   run = c.settle.ensures.run ∙ c.accept.ensures.run;
   told = c.settle.ensures.told;
   goes = c.give-came.ensures.goes;
-  comes =     comes_settled (g.K.Link.faults c.args.link.now) (g.K.Link.faults c.give-came.new.link) (g.D.Disk.faults c.args.disk.now) (g.D.Disk.faults c.settle.new.disk) c.give-came.result c.settle.result
+  comes = comes_settled (g.K.Link.faults c.args.link.now) (g.K.Link.faults c.give-came.new.link) (g.D.Disk.faults c.args.disk.now) (g.D.Disk.faults c.settle.new.disk) c.give-came.result c.settle.result
       c.give-came.ensures.later c.give-came.ensures.failed c.settle.ensures.came c.settle.ensures.later c.settle.ensures.failed;
 }
 
@@ -63,7 +63,7 @@ returns-else-due g c = record {
   run = c.accept.ensures.run;
   told = λ told. told;
   goes = c.give-came.ensures.goes;
-  comes =     comes_open (g.K.Link.faults c.args.link.now) (g.K.Link.faults c.args.link.now) (g.K.Link.faults c.give-came.new.link) (g.D.Disk.faults c.args.disk.now) (g.D.Disk.faults c.args.disk.now) c.give-came.result (omega arith) c.give-came.ensures.later c.give-came.ensures.failed (omega arith) c.give-came.ensures.open;
+  comes = comes_open (g.K.Link.faults c.args.link.now) (g.K.Link.faults c.args.link.now) (g.K.Link.faults c.give-came.new.link) (g.D.Disk.faults c.args.disk.now) (g.D.Disk.faults c.args.disk.now) c.give-came.result (omega arith) c.give-came.ensures.later c.give-came.ensures.failed (omega arith) c.give-came.ensures.open;
 }
 
 pub returns-in-Err : goal.returns-in-Err
@@ -81,7 +81,7 @@ returns-in-Err g c = record {
   run = c.accept.ensures.run;
   told = λ told. told;
   goes = c.give_refusal.ensures.goes;
-  comes =     comes_open (g.K.Link.faults c.args.link.now) (g.K.Link.faults c.args.link.now) (g.K.Link.faults c.give_refusal.new.link) (g.D.Disk.faults c.args.disk.now) (g.D.Disk.faults c.args.disk.now) c.give_refusal.result (omega arith) c.give_refusal.ensures.later c.give_refusal.ensures.failed (omega arith) c.give_refusal.ensures.open;
+  comes = comes_open (g.K.Link.faults c.args.link.now) (g.K.Link.faults c.args.link.now) (g.K.Link.faults c.give_refusal.new.link) (g.D.Disk.faults c.args.disk.now) (g.D.Disk.faults c.args.disk.now) c.give_refusal.result (omega arith) c.give_refusal.ensures.later c.give_refusal.ensures.failed (omega arith) c.give_refusal.ensures.open;
 }
 
 pub settle-requires-clause-over : goal.settle-requires-clause-over

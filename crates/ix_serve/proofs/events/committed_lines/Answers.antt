@@ -8,9 +8,9 @@ use Rattle.ix_serve.proofs.events.committed_lines.Goals as goal
 
 pub returns-in-Ok : goal.returns-in-Ok
 returns-in-Ok g c = record {
-  reply =     if_ok c.export_lines.result (λ exported says e chooser taken hold. says e chooser taken (c.in-Ok.ensures.done e.choose e.history e.base e.kept hold)) c.export_lines.ensures.reply;
+  reply = if_ok c.export_lines.result (λ exported says e chooser taken hold. says e chooser taken (c.in-Ok.ensures.done e.choose e.history e.base e.kept hold)) c.export_lines.ensures.reply;
   held = λ choose h base k hold. c.export_lines.ensures.held choose h base (length h) (c.in-Ok.ensures.done choose h base k hold);
-  undamaged =     if_err c.export_lines.result (λ cause says choose h base k chooser taken hold. says choose h base chooser taken (c.in-Ok.ensures.done choose h base k hold)) c.export_lines.ensures.undamaged;
+  undamaged = if_err c.export_lines.result (λ cause says choose h base k chooser taken hold. says choose h base chooser taken (c.in-Ok.ensures.done choose h base k hold)) c.export_lines.ensures.undamaged;
   measured = λ measured. on_ok_always c.export_lines.result (c.export_lines.ensures.measured (c.in-Ok.ensures.measured (λ idle. measured)));
   run = c.export_lines.ensures.run ∙ c.commit.ensures.run;
   told = λ told. let mid = tells_on g.D.Disk _ c.args.disk.now c.commit.new.disk c.commit.ensures.told told in (mid.0, c.export_lines.ensures.same ∙ mid.1);

@@ -36,7 +36,7 @@ returns-in-Ok g c = record {
   run = c.committed_lines.ensures.run;
   told = c.committed_lines.ensures.told;
   goes = c.give_exported.ensures.goes;
-  comes =     comes_open (g.K.Link.faults c.args.link.now) (g.K.Link.faults c.args.link.now) (g.K.Link.faults c.give_exported.new.link) (g.D.Disk.faults c.args.disk.now) (g.D.Disk.faults c.committed_lines.new.disk) c.give_exported.result (omega arith) c.give_exported.ensures.later c.give_exported.ensures.failed c.committed_lines.ensures.later
+  comes = comes_open (g.K.Link.faults c.args.link.now) (g.K.Link.faults c.args.link.now) (g.K.Link.faults c.give_exported.new.link) (g.D.Disk.faults c.args.disk.now) (g.D.Disk.faults c.committed_lines.new.disk) c.give_exported.result (omega arith) c.give_exported.ensures.later c.give_exported.ensures.failed c.committed_lines.ensures.later
       c.give_exported.ensures.open;
 }
 
@@ -60,7 +60,7 @@ returns-in-Err g c = record {
   run = c.committed_lines.ensures.run;
   told = c.committed_lines.ensures.told;
   goes = c.give_up.ensures.goes;
-  comes =     comes_closed (g.K.Link.faults c.args.link.now) (g.K.Link.faults c.give_up.new.link) (g.D.Disk.faults c.args.disk.now) (g.D.Disk.faults c.committed_lines.new.disk) c.give_up.result c.in-Err.cause c.give_up.ensures.result c.give_up.ensures.later c.committed_lines.ensures.later c.in-Err.ensures.failed;
+  comes = comes_closed (g.K.Link.faults c.args.link.now) (g.K.Link.faults c.give_up.new.link) (g.D.Disk.faults c.args.disk.now) (g.D.Disk.faults c.committed_lines.new.disk) c.give_up.result c.in-Err.cause c.give_up.ensures.result c.give_up.ensures.later c.committed_lines.ensures.later c.in-Err.ensures.failed;
 }
 
 pub committed_lines-requires : goal.committed_lines-requires

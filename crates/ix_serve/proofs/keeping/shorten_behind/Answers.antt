@@ -86,7 +86,7 @@ returns-in-Ok-checkpoint g c = record {
   over = c.in-Ok-checkpoint.ensures.over;
   measured = λ measured. c.in-Ok-checkpoint.ensures.measured;
   run = c.checkpoint.ensures.run ∙ c.commit.ensures.run;
-  told =     anyhow_through (g.D.Disk.seen c.args.disk.now) (g.D.Disk.seen c.commit.new.disk) (g.D.Disk.seen c.checkpoint.new.disk) c.commit.ensures.told c.checkpoint.ensures.told;
+  told = anyhow_through (g.D.Disk.seen c.args.disk.now) (g.D.Disk.seen c.commit.new.disk) (g.D.Disk.seen c.checkpoint.new.disk) c.commit.ensures.told c.checkpoint.ensures.told;
   later = omega (arith, c.commit.ensures.later, c.checkpoint.ensures.later);
   failed = tt;
 }
@@ -111,7 +111,7 @@ returns-in-Err-NoMemory g c = record {
   measured = λ measured.
       c.checkpoint.ensures.measured_still (c.in-Err-NoMemory.is ∙ ap Err c.in-Err-NoMemory.field-0-is) (c.in-Ok.ensures.measured (λ idle. measured));
   run = c.checkpoint.ensures.run ∙ c.commit.ensures.run;
-  told =     anyhow_through (g.D.Disk.seen c.args.disk.now) (g.D.Disk.seen c.commit.new.disk) (g.D.Disk.seen c.checkpoint.new.disk) c.commit.ensures.told c.checkpoint.ensures.told;
+  told = anyhow_through (g.D.Disk.seen c.args.disk.now) (g.D.Disk.seen c.commit.new.disk) (g.D.Disk.seen c.checkpoint.new.disk) c.commit.ensures.told c.checkpoint.ensures.told;
   later = omega (arith, c.commit.ensures.later, c.checkpoint.ensures.later);
   failed = tt;
 }
@@ -131,7 +131,7 @@ returns-in-Err-Disk g c = record {
   over = tt;
   measured = λ measured. tt;
   run = c.checkpoint.ensures.run ∙ c.commit.ensures.run;
-  told =     anyhow_through (g.D.Disk.seen c.args.disk.now) (g.D.Disk.seen c.commit.new.disk) (g.D.Disk.seen c.checkpoint.new.disk) c.commit.ensures.told c.checkpoint.ensures.told;
+  told = anyhow_through (g.D.Disk.seen c.args.disk.now) (g.D.Disk.seen c.commit.new.disk) (g.D.Disk.seen c.checkpoint.new.disk) c.commit.ensures.told c.checkpoint.ensures.told;
   later = omega (arith, c.commit.ensures.later, c.checkpoint.ensures.later);
   failed = λ is.
       rose_later (g.D.Disk.faults c.args.disk.now) (g.D.Disk.faults c.commit.new.disk) (g.D.Disk.faults c.checkpoint.new.disk) c.commit.ensures.later

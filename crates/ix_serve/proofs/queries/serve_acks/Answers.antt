@@ -23,7 +23,7 @@ returns-in_default g c = record {
   run = refl;
   told = λ told. told;
   goes = c.decline.ensures.goes;
-  comes =     comes_open (g.K.Link.faults c.args.link.now) (g.K.Link.faults c.args.link.now) (g.K.Link.faults c.decline.new.link) (g.D.Disk.faults c.args.disk.now) (g.D.Disk.faults c.args.disk.now) c.decline.result (omega arith) c.decline.ensures.later c.decline.ensures.failed (omega arith) c.decline.ensures.open;
+  comes = comes_open (g.K.Link.faults c.args.link.now) (g.K.Link.faults c.args.link.now) (g.K.Link.faults c.decline.new.link) (g.D.Disk.faults c.args.disk.now) (g.D.Disk.faults c.args.disk.now) c.decline.result (omega arith) c.decline.ensures.later c.decline.ensures.failed (omega arith) c.decline.ensures.open;
 }
 
 pub returns-then-pending : goal.returns-then-pending
@@ -49,7 +49,7 @@ returns-then-pending g c = record {
   run = c.settle.ensures.run;
   told = c.settle.ensures.told;
   goes = c.give-came.ensures.goes;
-  comes =     comes_settled (g.K.Link.faults c.args.link.now) (g.K.Link.faults c.give-came.new.link) (g.D.Disk.faults c.args.disk.now) (g.D.Disk.faults c.settle.new.disk) c.give-came.result c.settle.result
+  comes = comes_settled (g.K.Link.faults c.args.link.now) (g.K.Link.faults c.give-came.new.link) (g.D.Disk.faults c.args.disk.now) (g.D.Disk.faults c.settle.new.disk) c.give-came.result c.settle.result
       c.give-came.ensures.later c.give-came.ensures.failed c.settle.ensures.came c.settle.ensures.later c.settle.ensures.failed;
 }
 
@@ -71,7 +71,7 @@ returns g c = record {
   run = refl;
   told = λ told. told;
   goes = c.give-came.ensures.goes;
-  comes =     comes_open (g.K.Link.faults c.args.link.now) (g.K.Link.faults c.args.link.now) (g.K.Link.faults c.give-came.new.link) (g.D.Disk.faults c.args.disk.now) (g.D.Disk.faults c.args.disk.now) c.give-came.result (omega arith) c.give-came.ensures.later c.give-came.ensures.failed (omega arith) c.give-came.ensures.open;
+  comes = comes_open (g.K.Link.faults c.args.link.now) (g.K.Link.faults c.args.link.now) (g.K.Link.faults c.give-came.new.link) (g.D.Disk.faults c.args.disk.now) (g.D.Disk.faults c.args.disk.now) c.give-came.result (omega arith) c.give-came.ensures.later c.give-came.ensures.failed (omega arith) c.give-came.ensures.open;
 }
 
 pub settle-requires-clause-over : goal.settle-requires-clause-over

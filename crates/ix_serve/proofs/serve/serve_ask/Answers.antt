@@ -110,7 +110,7 @@ returns-in-Buckets g c = record {
   run = refl;
   told = λ told. told;
   goes = c.serve_buckets.ensures.goes;
-  comes =     comes_open (g.K.Link.faults c.args.link.now) (g.K.Link.faults c.args.link.now) (g.K.Link.faults c.serve_buckets.new.link) (g.D.Disk.faults c.args.disk.now) (g.D.Disk.faults c.args.disk.now) c.serve_buckets.result (omega arith) c.serve_buckets.ensures.later c.serve_buckets.ensures.failed (omega arith) c.serve_buckets.ensures.open;
+  comes = comes_open (g.K.Link.faults c.args.link.now) (g.K.Link.faults c.args.link.now) (g.K.Link.faults c.serve_buckets.new.link) (g.D.Disk.faults c.args.disk.now) (g.D.Disk.faults c.args.disk.now) c.serve_buckets.result (omega arith) c.serve_buckets.ensures.later c.serve_buckets.ensures.failed (omega arith) c.serve_buckets.ensures.open;
 }
 
 pub serve_begin-requires-clause-over : goal.serve_begin-requires-clause-over

@@ -38,7 +38,7 @@ returns-in-Ok g c = record {
   run = c.shorten_behind.ensures.run ∙ c.serve_request.ensures.run;
   told = λ told. tells_on g.D.Disk _ c.serve_request.new.disk c.shorten_behind.new.disk c.shorten_behind.ensures.told (c.serve_request.ensures.told told);
   goes = c.serve_request.ensures.goes;
-  comes =     comes_reply (g.K.Link.faults c.args.link.now) (g.K.Link.faults c.serve_request.new.link) (g.D.Disk.faults c.args.disk.now) (g.D.Disk.faults c.serve_request.new.disk)
+  comes = comes_reply (g.K.Link.faults c.args.link.now) (g.K.Link.faults c.serve_request.new.link) (g.D.Disk.faults c.args.disk.now) (g.D.Disk.faults c.serve_request.new.disk)
       (g.D.Disk.faults c.shorten_behind.new.disk) c.serve_request.result c.serve_request.ensures.comes c.shorten_behind.ensures.later (served.Reply c.in-Ok-Reply.status c.in-Ok-Reply.delimited c.in-Ok.unshortened);
 }
 
@@ -64,7 +64,7 @@ returns-in-Err-shorten_behind g c = record {
   run = c.shorten_behind.ensures.run ∙ c.serve_request.ensures.run;
   told = λ told. tells_on g.D.Disk _ c.serve_request.new.disk c.shorten_behind.new.disk c.shorten_behind.ensures.told (c.serve_request.ensures.told told);
   goes = c.serve_request.ensures.goes;
-  comes =     comes_fault (g.K.Link.faults c.args.link.now) (g.K.Link.faults c.serve_request.new.link) (g.D.Disk.faults c.args.disk.now) (g.D.Disk.faults c.serve_request.new.disk)
+  comes = comes_fault (g.K.Link.faults c.args.link.now) (g.K.Link.faults c.serve_request.new.link) (g.D.Disk.faults c.args.disk.now) (g.D.Disk.faults c.serve_request.new.disk)
       (g.D.Disk.faults c.shorten_behind.new.disk) c.serve_request.result c.serve_request.ensures.comes c.shorten_behind.ensures.later c.in-Err-shorten_behind.fault
       c.in-Err-shorten_behind.ensures.cause.0 c.in-Err-shorten_behind.ensures.cause.1 c.in-Err-shorten_behind.ensures.failed;
 }
@@ -85,7 +85,7 @@ returns-in-Ok-Ended g c = record {
   run = c.serve_request.ensures.run;
   told = c.serve_request.ensures.told;
   goes = c.serve_request.ensures.goes;
-  comes =     comes_reply (g.K.Link.faults c.args.link.now) (g.K.Link.faults c.serve_request.new.link) (g.D.Disk.faults c.args.disk.now) (g.D.Disk.faults c.serve_request.new.disk)
+  comes = comes_reply (g.K.Link.faults c.args.link.now) (g.K.Link.faults c.serve_request.new.link) (g.D.Disk.faults c.args.disk.now) (g.D.Disk.faults c.serve_request.new.disk)
       (g.D.Disk.faults c.serve_request.new.disk) c.serve_request.result c.serve_request.ensures.comes (omega arith) served.Ended;
 }
 

@@ -53,7 +53,7 @@ returns-in-Err-Failed g c = record {
   run = refl;
   told = λ told. told;
   goes = c.read_request.ensures.reads.goes;
-  comes =     comes_open (g.K.Link.faults c.args.link.now) (g.K.Link.faults c.args.link.now) (g.K.Link.faults c.read_request.new.link) (g.D.Disk.faults c.args.disk.now) (g.D.Disk.faults c.args.disk.now) (Err fault.Link) (omega arith) c.read_request.ensures.reads.later (λ is. c.read_request.ensures.failed (c.in-Err-Failed.is ∙ ap Err c.in-Err-Failed.field-0-is)) (omega arith) tt;
+  comes = comes_open (g.K.Link.faults c.args.link.now) (g.K.Link.faults c.args.link.now) (g.K.Link.faults c.read_request.new.link) (g.D.Disk.faults c.args.disk.now) (g.D.Disk.faults c.args.disk.now) (Err fault.Link) (omega arith) c.read_request.ensures.reads.later (λ is. c.read_request.ensures.failed (c.in-Err-Failed.is ∙ ap Err c.in-Err-Failed.field-0-is)) (omega arith) tt;
 }
 
 pub returns-in-Err-Cut : goal.returns-in-Err-Cut
@@ -95,7 +95,7 @@ returns-in-Ok-Refused g c = record {
   run = refl;
   told = λ told. told;
   goes = goes_on c.read_request.ensures.reads.goes c.give_unread.ensures.goes;
-  comes =     comes_open (g.K.Link.faults c.args.link.now) (g.K.Link.faults c.read_request.new.link) (g.K.Link.faults c.give_unread.new.link) (g.D.Disk.faults c.args.disk.now) (g.D.Disk.faults c.args.disk.now) c.give_unread.result c.read_request.ensures.reads.later c.give_unread.ensures.later c.give_unread.ensures.failed (omega arith) c.give_unread.ensures.open;
+  comes = comes_open (g.K.Link.faults c.args.link.now) (g.K.Link.faults c.read_request.new.link) (g.K.Link.faults c.give_unread.new.link) (g.D.Disk.faults c.args.disk.now) (g.D.Disk.faults c.args.disk.now) c.give_unread.result c.read_request.ensures.reads.later c.give_unread.ensures.later c.give_unread.ensures.failed (omega arith) c.give_unread.ensures.open;
 }
 
 pub returns-in-Err-NoMemory : goal.returns-in-Err-NoMemory
@@ -120,7 +120,7 @@ returns-in-Err-NoMemory g c = record {
   run = refl;
   told = λ told. told;
   goes = goes_on c.read_request.ensures.reads.goes c.decline.ensures.goes;
-  comes =     comes_open (g.K.Link.faults c.args.link.now) (g.K.Link.faults c.read_request.new.link) (g.K.Link.faults c.decline.new.link) (g.D.Disk.faults c.args.disk.now) (g.D.Disk.faults c.args.disk.now) c.decline.result c.read_request.ensures.reads.later c.decline.ensures.later c.decline.ensures.failed (omega arith) c.decline.ensures.open;
+  comes = comes_open (g.K.Link.faults c.args.link.now) (g.K.Link.faults c.read_request.new.link) (g.K.Link.faults c.decline.new.link) (g.D.Disk.faults c.args.disk.now) (g.D.Disk.faults c.args.disk.now) c.decline.result c.read_request.ensures.reads.later c.decline.ensures.later c.decline.ensures.failed (omega arith) c.decline.ensures.open;
 }
 
 pub returns-in-Ok-Asked : goal.returns-in-Ok-Asked
@@ -143,7 +143,7 @@ returns-in-Ok-Asked g c = record {
   run = c.serve_ask.ensures.run;
   told = c.serve_ask.ensures.told;
   goes = goes_on c.read_request.ensures.reads.goes c.serve_ask.ensures.goes;
-  comes =     comes_later (g.K.Link.faults c.args.link.now) (g.K.Link.faults c.read_request.new.link) (g.K.Link.faults c.serve_ask.new.link) (g.D.Disk.faults c.args.disk.now) (g.D.Disk.faults c.serve_ask.new.disk) c.serve_ask.result c.read_request.ensures.reads.later c.serve_ask.ensures.comes;
+  comes = comes_later (g.K.Link.faults c.args.link.now) (g.K.Link.faults c.read_request.new.link) (g.K.Link.faults c.serve_ask.new.link) (g.D.Disk.faults c.args.disk.now) (g.D.Disk.faults c.serve_ask.new.disk) c.serve_ask.result c.read_request.ensures.reads.later c.serve_ask.ensures.comes;
 }
 
 pub serve_ask-requires-clause-over : goal.serve_ask-requires-clause-over

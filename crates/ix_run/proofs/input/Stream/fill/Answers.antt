@@ -92,7 +92,7 @@ add-requires-clause-takes g c = c.requires.takes (take c.in-Ok.n c.read.new.buf)
 
 pub returns-in-Err-add : goal.returns-in-Err-add
 returns-in-Err-add g c = record {
-  read =     let bytes : List ℕ = take c.in-Ok.n c.read.new.buf in
+  read = let bytes : List ℕ = take c.in-Ok.n c.read.new.buf in
       let size : length bytes ≤ 1048576 = omega (arith, c.in-Ok.ensures.count, length-take c.in-Ok.n c.read.new.buf, length-take c.min-most.result c.loop-taken.room, c.min-most.ensures) in
       let part : c.loop-taken.taken + length bytes ≤ input_limit = omega (arith, c.in-Ok.ensures.count, length-take c.in-Ok.n c.read.new.buf, length-take c.min-most.result c.loop-taken.room, c.min-most.ensures) in record {
         pieces = c.loop-taken.invariant.pieces ++ bytes ∷ [];
@@ -115,7 +115,7 @@ returns-in-Err-add g c = record {
       c.in-Err-add.ensures.undamaged file at (ap (λ (f : GiveFault). Err f) was) choose (given_all choose h (map (block_order c.args.self.moment) c.loop-taken.invariant.pieces)) base one.count chooser
       (all_taken g.M.Memory.takes g.met.M.Memory.ticks_are_taken choose h (map (block_order c.args.self.moment) c.loop-taken.invariant.pieces) taken
       (blocks_taken g.M.Memory.takes c.args.self.moment c.requires.takes c.loop-taken.invariant.pieces c.loop-taken.invariant.sizes)) one.hold;
-  told =     anyhow_through (g.D.Disk.seen c.args.disk.now) (g.D.Disk.seen c.loop-taken.disk) (g.D.Disk.seen c.add.new.disk) c.loop-taken.invariant.told c.add.ensures.told;
+  told = anyhow_through (g.D.Disk.seen c.args.disk.now) (g.D.Disk.seen c.loop-taken.disk) (g.D.Disk.seen c.add.new.disk) c.loop-taken.invariant.told c.add.ensures.told;
   later = omega (arith, c.loop-taken.invariant.later, c.add.ensures.later);
   read_later = omega (arith, c.loop-taken.invariant.read_later, c.read.ensures.cause.later);
   cause = λ is.
@@ -124,7 +124,7 @@ returns-in-Err-add g c = record {
 }
 
 pub loop-taken-preserved : goal.loop-taken-preserved
-loop-taken-preserved g c =     let bytes : List ℕ = take c.in-Ok.n c.read.new.buf in
+loop-taken-preserved g c = let bytes : List ℕ = take c.in-Ok.n c.read.new.buf in
     let fits : c.in-Ok.n ≤ length c.read.new.buf = omega (arith, c.in-Ok.ensures.count, c.read.auto.buf) in
     let size : length bytes ≤ 1048576 = omega (arith, c.in-Ok.ensures.count, length-take c.in-Ok.n c.read.new.buf, length-take c.min-most.result c.loop-taken.room, c.min-most.ensures) in record {
       within = omega (arith, c.in-Ok.ensures.count, length-take c.min-most.result c.loop-taken.room, c.min-most.ensures);

@@ -37,9 +37,9 @@ returns-in-Ok g c = record {
       let one = c.in-Ok.ensures.given choose h base k chooser taken hold in
       c.begin-in-Ok.ensures.undamaged file at is choose (given_all choose h (end_order c.args.self.moment ∷ [])) base one.count chooser
       (all_taken g.M.Memory.takes g.met.M.Memory.ticks_are_taken choose h (end_order c.args.self.moment ∷ []) taken (c.requires.ends, tt)) one.hold;
-  told =     anyhow_through (g.D.Disk.seen c.args.disk.now) (g.D.Disk.seen c.end.new.disk) (g.D.Disk.seen c.begin-in-Ok.new.disk) c.end.ensures.told c.begin-in-Ok.ensures.told;
+  told = anyhow_through (g.D.Disk.seen c.args.disk.now) (g.D.Disk.seen c.end.new.disk) (g.D.Disk.seen c.begin-in-Ok.new.disk) c.end.ensures.told c.begin-in-Ok.ensures.told;
   later = omega (arith, c.end.ensures.later, c.begin-in-Ok.ensures.later);
-  cause =     if_err c.begin-in-Ok.result (λ fault so is. rose_later (g.D.Disk.faults c.args.disk.now) (g.D.Disk.faults c.end.new.disk) (g.D.Disk.faults c.begin-in-Ok.new.disk) c.end.ensures.later (so is))
+  cause = if_err c.begin-in-Ok.result (λ fault so is. rose_later (g.D.Disk.faults c.args.disk.now) (g.D.Disk.faults c.end.new.disk) (g.D.Disk.faults c.begin-in-Ok.new.disk) c.end.ensures.later (so is))
       c.begin-in-Ok.ensures.cause;
 }
 

@@ -76,19 +76,19 @@ returns-in-Err-open g c = record {
 
 pub returns-in-Err-fill : goal.returns-in-Err-fill
 returns-in-Err-fill g c = record {
-  read =     let read = c.in-Err-fill.ensures.read in record {
-        pieces = read.pieces;
-        sizes = read.sizes;
-        took = read.took;
-        read = read.read;
-        done = λ choose h base k chooser taken hold.
-            let a = opening (is_begun (after choose h) tilde) c.args.origin c.args.self.moment in
-            let one = c.in-Ok-open.ensures.given choose h base k chooser taken hold in
-            let all = all_taken g.M.Memory.takes g.met.M.Memory.ticks_are_taken choose h a taken (opening_taken g.M.Memory.takes c.args.origin c.args.self.moment c.requires.ends c.requires.begins (is_begun (after choose h) tilde)) in
-            feeds_more g.D.Disk g.M.Book.Replay.fits g.M.Memory.holds choose h (a ++ map (block_order c.args.self.moment) read.pieces) (end_order c.args.self.moment ∷ []) base k c.fill.new.store c.args.disk.now c.fill.new.disk c.in-Err-fill.fault
-            (feeds_on g.D.Disk g.M.Book.Replay.fits g.M.Memory.holds choose h a (map (block_order c.args.self.moment) read.pieces) [] base k c.open.new.store c.fill.new.store c.args.disk.now c.open.new.disk c.fill.new.disk one (Err c.in-Err-fill.fault)
-            (read.done choose (given_all choose h a) base one.count chooser all one.hold));
-      };
+  read = let read = c.in-Err-fill.ensures.read in record {
+    pieces = read.pieces;
+    sizes = read.sizes;
+    took = read.took;
+    read = read.read;
+    done = λ choose h base k chooser taken hold.
+        let a = opening (is_begun (after choose h) tilde) c.args.origin c.args.self.moment in
+        let one = c.in-Ok-open.ensures.given choose h base k chooser taken hold in
+        let all = all_taken g.M.Memory.takes g.met.M.Memory.ticks_are_taken choose h a taken (opening_taken g.M.Memory.takes c.args.origin c.args.self.moment c.requires.ends c.requires.begins (is_begun (after choose h) tilde)) in
+        feeds_more g.D.Disk g.M.Book.Replay.fits g.M.Memory.holds choose h (a ++ map (block_order c.args.self.moment) read.pieces) (end_order c.args.self.moment ∷ []) base k c.fill.new.store c.args.disk.now c.fill.new.disk c.in-Err-fill.fault
+        (feeds_on g.D.Disk g.M.Book.Replay.fits g.M.Memory.holds choose h a (map (block_order c.args.self.moment) read.pieces) [] base k c.open.new.store c.fill.new.store c.args.disk.now c.open.new.disk c.fill.new.disk one (Err c.in-Err-fill.fault)
+        (read.done choose (given_all choose h a) base one.count chooser all one.hold));
+  };
   over = c.in-Err-fill.ensures.over;
   measured = λ uncut measured. c.in-Err-fill.ensures.measured uncut (c.in-Ok-open.ensures.measured refl measured);
   undamaged = λ file at is choose h base k chooser taken hold.
@@ -96,7 +96,7 @@ returns-in-Err-fill g c = record {
       let one = c.in-Ok-open.ensures.given choose h base k chooser taken hold in
       let all = all_taken g.M.Memory.takes g.met.M.Memory.ticks_are_taken choose h a taken (opening_taken g.M.Memory.takes c.args.origin c.args.self.moment c.requires.ends c.requires.begins (is_begun (after choose h) tilde)) in
       c.in-Err-fill.ensures.undamaged file at is choose (given_all choose h a) base one.count chooser all one.hold;
-  told =     anyhow_through (g.D.Disk.seen c.args.disk.now) (g.D.Disk.seen c.open.new.disk) (g.D.Disk.seen c.fill.new.disk) c.open.ensures.told c.fill.ensures.told;
+  told = anyhow_through (g.D.Disk.seen c.args.disk.now) (g.D.Disk.seen c.open.new.disk) (g.D.Disk.seen c.fill.new.disk) c.open.ensures.told c.fill.ensures.told;
   later = omega (arith, c.open.ensures.later, c.fill.ensures.later);
   read_later = c.fill.ensures.read_later;
   cause = λ is.
@@ -105,28 +105,28 @@ returns-in-Err-fill g c = record {
 
 pub returns-in-Ok-end : goal.returns-in-Ok-end
 returns-in-Ok-end g c = record {
-  read =     let read = c.in-Ok-fill.ensures.read in record {
-        pieces = read.pieces;
-        sizes = read.sizes;
-        took = read.took;
-        read = read.read;
-        done = λ choose h base k chooser taken hold.
-            let a = opening (is_begun (after choose h) tilde) c.args.origin c.args.self.moment in
-            let b = map (block_order c.args.self.moment) read.pieces in
-            let open_taken = opening_taken g.M.Memory.takes c.args.origin c.args.self.moment c.requires.ends c.requires.begins (is_begun (after choose h) tilde) in
-            let one = c.in-Ok-open.ensures.given choose h base k chooser taken hold in
-            let all = all_taken g.M.Memory.takes g.met.M.Memory.ticks_are_taken choose h a taken open_taken in
-            let both = filled_on g.D.Disk g.M.Book.Replay.fits g.M.Memory.holds choose h a b base k c.open.new.store c.fill.new.store c.args.disk.now c.open.new.disk c.fill.new.disk one
-            (read.done choose (given_all choose h a) base one.count chooser all one.hold) in
-            let more = all_taken g.M.Memory.takes g.met.M.Memory.ticks_are_taken choose h (a ++ b) taken
-            (all_more g.M.Memory.takes a b open_taken (blocks_taken g.M.Memory.takes c.args.self.moment c.requires.adds read.pieces read.sizes)) in
-            gives_on g.D.Disk g.M.Book.Replay.fits g.M.Memory.holds choose h (a ++ b) (end_order c.args.self.moment ∷ []) base k c.fill.new.store c.end.new.store c.args.disk.now c.fill.new.disk c.end.new.disk both (Ok tt)
-            (c.in-Ok-end.ensures.given choose (given_all choose h (a ++ b)) base both.count chooser more both.hold);
-      };
+  read = let read = c.in-Ok-fill.ensures.read in record {
+    pieces = read.pieces;
+    sizes = read.sizes;
+    took = read.took;
+    read = read.read;
+    done = λ choose h base k chooser taken hold.
+        let a = opening (is_begun (after choose h) tilde) c.args.origin c.args.self.moment in
+        let b = map (block_order c.args.self.moment) read.pieces in
+        let open_taken = opening_taken g.M.Memory.takes c.args.origin c.args.self.moment c.requires.ends c.requires.begins (is_begun (after choose h) tilde) in
+        let one = c.in-Ok-open.ensures.given choose h base k chooser taken hold in
+        let all = all_taken g.M.Memory.takes g.met.M.Memory.ticks_are_taken choose h a taken open_taken in
+        let both = filled_on g.D.Disk g.M.Book.Replay.fits g.M.Memory.holds choose h a b base k c.open.new.store c.fill.new.store c.args.disk.now c.open.new.disk c.fill.new.disk one
+        (read.done choose (given_all choose h a) base one.count chooser all one.hold) in
+        let more = all_taken g.M.Memory.takes g.met.M.Memory.ticks_are_taken choose h (a ++ b) taken
+        (all_more g.M.Memory.takes a b open_taken (blocks_taken g.M.Memory.takes c.args.self.moment c.requires.adds read.pieces read.sizes)) in
+        gives_on g.D.Disk g.M.Book.Replay.fits g.M.Memory.holds choose h (a ++ b) (end_order c.args.self.moment ∷ []) base k c.fill.new.store c.end.new.store c.args.disk.now c.fill.new.disk c.end.new.disk both (Ok tt)
+        (c.in-Ok-end.ensures.given choose (given_all choose h (a ++ b)) base both.count chooser more both.hold);
+  };
   over = λ uncut. c.in-Ok-end.ensures.over refl;
   measured = λ uncut measured. c.in-Ok-end.ensures.measured refl (c.in-Ok-fill.ensures.measured refl (c.in-Ok-open.ensures.measured refl measured));
   undamaged = λ file at is. absurd (not_ok is);
-  told =     anyhow_through (g.D.Disk.seen c.args.disk.now) (g.D.Disk.seen c.fill.new.disk) (g.D.Disk.seen c.end.new.disk) (anyhow_through (g.D.Disk.seen c.args.disk.now) (g.D.Disk.seen c.open.new.disk) (g.D.Disk.seen c.fill.new.disk) c.open.ensures.told c.fill.ensures.told) c.end.ensures.told;
+  told = anyhow_through (g.D.Disk.seen c.args.disk.now) (g.D.Disk.seen c.fill.new.disk) (g.D.Disk.seen c.end.new.disk) (anyhow_through (g.D.Disk.seen c.args.disk.now) (g.D.Disk.seen c.open.new.disk) (g.D.Disk.seen c.fill.new.disk) c.open.ensures.told c.fill.ensures.told) c.end.ensures.told;
   later = omega (arith, c.open.ensures.later, c.fill.ensures.later, c.end.ensures.later);
   read_later = c.fill.ensures.read_later;
   cause = λ is. absurd (not_ok is);
@@ -134,24 +134,24 @@ returns-in-Ok-end g c = record {
 
 pub returns : goal.returns
 returns g c = record {
-  read =     let read = c.in-Ok-fill.ensures.read in record {
-        pieces = read.pieces;
-        sizes = read.sizes;
-        took = read.took;
-        read = omega (arith, read.read.0);
-        done = λ choose h base k chooser taken hold.
-            let a = opening (is_begun (after choose h) tilde) c.args.origin c.args.self.moment in
-            let b = map (block_order c.args.self.moment) read.pieces in
-            let open_taken = opening_taken g.M.Memory.takes c.args.origin c.args.self.moment c.requires.ends c.requires.begins (is_begun (after choose h) tilde) in
-            let one = c.in-Ok-open.ensures.given choose h base k chooser taken hold in
-            let all = all_taken g.M.Memory.takes g.met.M.Memory.ticks_are_taken choose h a taken open_taken in
-            let both = filled_on g.D.Disk g.M.Book.Replay.fits g.M.Memory.holds choose h a b base k c.open.new.store c.fill.new.store c.args.disk.now c.open.new.disk c.fill.new.disk one
-            (read.done choose (given_all choose h a) base one.count chooser all one.hold) in
-            let more = all_taken g.M.Memory.takes g.met.M.Memory.ticks_are_taken choose h (a ++ b) taken
-            (all_more g.M.Memory.takes a b open_taken (blocks_taken g.M.Memory.takes c.args.self.moment c.requires.adds read.pieces read.sizes)) in
-            gives_on g.D.Disk g.M.Book.Replay.fits g.M.Memory.holds choose h (a ++ b) (end_order c.args.self.moment ∷ []) base k c.fill.new.store c.end.new.store c.args.disk.now c.fill.new.disk c.end.new.disk both (Err c.in-Err-end.fault)
-            (c.in-Err-end.ensures.given choose (given_all choose h (a ++ b)) base both.count chooser more both.hold);
-      };
+  read = let read = c.in-Ok-fill.ensures.read in record {
+    pieces = read.pieces;
+    sizes = read.sizes;
+    took = read.took;
+    read = omega (arith, read.read.0);
+    done = λ choose h base k chooser taken hold.
+        let a = opening (is_begun (after choose h) tilde) c.args.origin c.args.self.moment in
+        let b = map (block_order c.args.self.moment) read.pieces in
+        let open_taken = opening_taken g.M.Memory.takes c.args.origin c.args.self.moment c.requires.ends c.requires.begins (is_begun (after choose h) tilde) in
+        let one = c.in-Ok-open.ensures.given choose h base k chooser taken hold in
+        let all = all_taken g.M.Memory.takes g.met.M.Memory.ticks_are_taken choose h a taken open_taken in
+        let both = filled_on g.D.Disk g.M.Book.Replay.fits g.M.Memory.holds choose h a b base k c.open.new.store c.fill.new.store c.args.disk.now c.open.new.disk c.fill.new.disk one
+        (read.done choose (given_all choose h a) base one.count chooser all one.hold) in
+        let more = all_taken g.M.Memory.takes g.met.M.Memory.ticks_are_taken choose h (a ++ b) taken
+        (all_more g.M.Memory.takes a b open_taken (blocks_taken g.M.Memory.takes c.args.self.moment c.requires.adds read.pieces read.sizes)) in
+        gives_on g.D.Disk g.M.Book.Replay.fits g.M.Memory.holds choose h (a ++ b) (end_order c.args.self.moment ∷ []) base k c.fill.new.store c.end.new.store c.args.disk.now c.fill.new.disk c.end.new.disk both (Err c.in-Err-end.fault)
+        (c.in-Err-end.ensures.given choose (given_all choose h (a ++ b)) base both.count chooser more both.hold);
+  };
   over = c.in-Err-end.ensures.over;
   measured = λ uncut measured. c.in-Err-end.ensures.measured uncut (c.in-Ok-fill.ensures.measured refl (c.in-Ok-open.ensures.measured refl measured));
   undamaged = λ file at is choose h base k chooser taken hold.
@@ -167,7 +167,7 @@ returns g c = record {
       (all_more g.M.Memory.takes a b open_taken (blocks_taken g.M.Memory.takes c.args.self.moment c.requires.adds read.pieces read.sizes)) in
       let was : c.in-Err-end.fault ≡ faults.Commit (commits.Damaged file at) = given_back c.in-Err-end.fault (faults.Commit (commits.Damaged file at)) is in
       c.in-Err-end.ensures.undamaged file at (ap (λ (f : GiveFault). Err f) was) choose (given_all choose h (a ++ b)) base both.count chooser more both.hold;
-  told =     anyhow_through (g.D.Disk.seen c.args.disk.now) (g.D.Disk.seen c.fill.new.disk) (g.D.Disk.seen c.end.new.disk) (anyhow_through (g.D.Disk.seen c.args.disk.now) (g.D.Disk.seen c.open.new.disk) (g.D.Disk.seen c.fill.new.disk) c.open.ensures.told c.fill.ensures.told) c.end.ensures.told;
+  told = anyhow_through (g.D.Disk.seen c.args.disk.now) (g.D.Disk.seen c.fill.new.disk) (g.D.Disk.seen c.end.new.disk) (anyhow_through (g.D.Disk.seen c.args.disk.now) (g.D.Disk.seen c.open.new.disk) (g.D.Disk.seen c.fill.new.disk) c.open.ensures.told c.fill.ensures.told) c.end.ensures.told;
   later = omega (arith, c.open.ensures.later, c.fill.ensures.later, c.end.ensures.later);
   read_later = c.fill.ensures.read_later;
   cause = λ is.
