@@ -57,7 +57,10 @@ impl<M: Memory + Drop> Store<M> {
         ensures later { D.Disk.faults disk.old ≤ D.Disk.faults disk.new }
         ensures cause { IsErrOf result CommitFault.Disk → Rose (D.Disk.faults disk.old) (D.Disk.faults disk.new) }
     {
-        commit::<D, M::Book>(&mut self.keeper, disk)?;
+        match commit::<D, M::Book>(&mut self.keeper, disk) {
+            Ok(()) => {}
+            Err(fault) => return Err(fault),
+        }
         self.committed = self.drawn;
         self.group = Group::none(self.alloc);
         Ok(())

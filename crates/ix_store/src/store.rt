@@ -116,6 +116,31 @@ fn stage_drafts(
     }
 }
 
+/// Stages a draft with one item more, and one before it where there is one, or nothing.
+fn stage_last(
+    keeper: &mut Keeper,
+    alloc: Global,
+    first: Option<Draft>,
+    second: Draft,
+    last: Item,
+) -> Result<(), NoMemory>
+    requires drafts { AreProper first second }
+    requires item { HasSpelling last }
+    ensures staged { (old new mid to : Snapshot) → Stages keeper.old old new → LeadsThrough first (with_last last second) old new mid to → OnOk result (Stages keeper.new old to) }
+    ensures err { OnErr result (IsSame keeper.old keeper.new) }
+    ensures logs { HasSameLogs keeper.old keeper.new }
+    ensures bytes { keeper.new.bytes ≡ keeper.old.bytes }
+{
+    let second = match with_last(second, last) {
+        Ok(second) => second,
+        Err(fault) => return Err(fault),
+    };
+    match stage_drafts(keeper, alloc, first, second) {
+        Ok(()) => Ok(()),
+        Err(_) => Err(NoMemory),
+    }
+}
+
 impl<M: Memory + Drop> Store<M> {
     ghost use Rattle.ix_store.specs.Holding.{Staged, IsAccepted, IsUnchanged, HasSameRun, is_closed};
 
@@ -139,10 +164,27 @@ impl<M: Memory + Drop> Store<M> {
         let files = made.done_with.as_slice();
         let group = self.group.with(self.alloc, files, made.weight, turned)?;
         let last = group.removals(self.alloc)?;
-        let second = with_last(made.second, last)?;
-        match stage_drafts(&mut self.keeper, self.alloc, made.first, second) {
+        match self.take_with(made, group, last) {
+            Ok(()) => Ok(()),
+            Err(fault) => Err(fault),
+        }
+    }
+
+    /// Stages what was worked out with one item more, and takes it with the group, or does nothing.
+    fn take_with(&mut self, made: Made<M::Next>, group: Group, last: Item) -> Result<(), NoMemory>
+        requires proper { AreProper made.first made.second }
+        requires item { HasSpelling last }
+        requires room { M.has_room self.old.memory made.next }
+        ensures memory { OnOk result ((choose : Chooser) (history : List Order) → M.ready choose history self.old.memory made.next → M.holds choose history self.new.memory) }
+        ensures staged { (old new mid to : Snapshot) → Stages self.old.keeper old new → LeadsThrough made.first (with_last last made.second) old new mid to → OnOk result (Stages self.new.keeper old to) }
+        ensures group { OnOk result (self.new.group ≡ group) }
+        ensures same { HasSameRun self.old self.new }
+        ensures bytes { self.new.keeper.bytes ≡ self.old.keeper.bytes }
+        ensures err { OnErr result (IsUnchanged self.old self.new) }
+    {
+        match stage_last(&mut self.keeper, self.alloc, made.first, made.second, last) {
             Ok(()) => {}
-            Err(_) => return Err(NoMemory),
+            Err(fault) => return Err(fault),
         }
         self.memory.install(made.next);
         self.group = group;

@@ -2,14 +2,23 @@ use Rattle.std.proofs.Common.{sym, ap, subst, ◌∙◌, ◌++◌, List}
 use Rattle.ix_base.specs.declared.files.File.{File}
 use Rattle.ix_items.specs.declared.items.Item.{Item}
 use Rattle.ix_items.specs.declared.items.Item.TheVariants as items
-use Rattle.ix_keep.specs.declared.piece.Draft.{Draft}
 use Rattle.ix_store.specs.Making.{LeadsThrough, with_last}
+use Rattle.ix_store.specs.declared.group.Group.{Group}
 use Rattle.ix_store.proofs.store.Store.take.Goals as goal
 
-pub returns-clause-staged : goal.returns-clause-staged
-returns-clause-staged g c = λ old new mid to stages leads.
+pub returns-in-Ok-clause-staged : goal.returns-in-Ok-clause-staged
+returns-in-Ok-clause-staged g c = λ old new mid to stages leads.
     let made = c.args.made in
     let done = c.in_ok-group.ensures.done ∙ ap (λ (l : List File). c.args.self.now.group.done_with ++ l) c.as_slice-files.ensures in
     let item = c.in_ok-last.ensures.item ∙ ap (λ (l : List File). items.Removals l) done in
-    let second = c.in_ok-second.ensures.made ∙ ap (λ (i : Item). with_last i made.second) item in
-    c.in-Ok.ensures.staged old new mid to stages (subst (λ (d : Draft). LeadsThrough made.first d old new mid to) (sym second) leads)
+    c.in-Ok.ensures.staged old new mid to stages (subst (λ (i : Item). LeadsThrough made.first (with_last i made.second) old new mid to) (sym item) leads)
+
+pub returns-in-Ok-clause-done : goal.returns-in-Ok-clause-done
+returns-in-Ok-clause-done g c =
+    ap (λ (x : Group). x.done_with) c.in-Ok.ensures.group ∙ c.in_ok-group.ensures.done ∙ ap (λ (l : List File). c.args.self.now.group.done_with ++ l) c.as_slice-files.ensures
+
+pub returns-in-Ok-clause-weight : goal.returns-in-Ok-clause-weight
+returns-in-Ok-clause-weight g c = ap (λ (x : Group). x.weight) c.in-Ok.ensures.group ∙ c.in_ok-group.ensures.weight
+
+pub returns-in-Ok-clause-waiting : goal.returns-in-Ok-clause-waiting
+returns-in-Ok-clause-waiting g c = ap (λ (x : Group). x.waiting) c.in-Ok.ensures.group ∙ c.in_ok-group.ensures.waiting
