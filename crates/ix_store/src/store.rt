@@ -162,8 +162,21 @@ impl<M: Memory + Drop> Store<M> {
     {
         let turned = turned || made.first.is_some();
         let files = made.done_with.as_slice();
-        let group = self.group.with(self.alloc, files, made.weight, turned)?;
-        let last = group.removals(self.alloc)?;
+        // `made` is let go by a call: where a function ends early with it, each of its fields is let go there.
+        let group = match self.group.with(self.alloc, files, made.weight, turned) {
+            Ok(group) => group,
+            Err(fault) => {
+                drop(made);
+                return Err(fault);
+            }
+        };
+        let last = match group.removals(self.alloc) {
+            Ok(last) => last,
+            Err(fault) => {
+                drop(made);
+                return Err(fault);
+            }
+        };
         match self.take_with(made, group, last) {
             Ok(()) => Ok(()),
             Err(fault) => Err(fault),
