@@ -251,6 +251,7 @@ impl<M: Memory + Drop> Store<M> {
         ensures run { self.new.run ≡ self.old.run }
     {
         if self.is_closed() {
+            drop(command);
             return Err(Refusal::Closed);
         }
         let draws = draws(&command);
