@@ -161,7 +161,8 @@ pub fn run_feed<K: Link, M: Listing + Drop, C: Clock, D: Disk>(
     ensures comes { defs.Comes (K.faults link.old) (K.faults link.new) (D.Disk.faults disk.old) (D.Disk.faults disk.new) result }
 {
     let end = feed_all(alloc, store, link, clock, disk);
-    if !end.is_open() {
+    let open = end.is_open();
+    if !open {
         return end;
     }
     match store.commit(disk) {

@@ -48,7 +48,8 @@ pub fn shorten<M: Listing + Drop, D: Disk>(
     ensures later { D.Disk.faults disk.old ≤ D.Disk.faults disk.new }
     ensures cause { IsErrOf result CheckpointFault.Disk → Rose (D.Disk.faults disk.old) (D.Disk.faults disk.new) }
 {
-    if !store.wants_checkpoint() {
+    let long = store.wants_checkpoint();
+    if !long {
         return Ok(());
     }
     match store.checkpoint(disk) {

@@ -7,17 +7,17 @@ use Rattle.ix_serve.proofs.Standing.{tells_on}
 use Rattle.ix_feed.proofs.Turning.{comes_committed, comes_broken, runs_closed, runs_committed, runs_broken}
 use Rattle.ix_feed.proofs.feed.run_feed.Goals as goal
 
-pub returns-then-not-is_open : goal.returns-then-not-is_open
-returns-then-not-is_open g c = record {
+pub returns-then-not-open : goal.returns-then-not-open
+returns-then-not-open g c = record {
   runs = λ choose h base k chooser taken hold.
       let fed_all = c.feed_all-end in
       let clean = IsClean (g.K.Link.faults c.args.link.now) (g.K.Link.faults fed_all.new.link) (g.K.Link.standing c.args.link.now) (g.K.Link.standing fed_all.new.link) in
       runs_closed g.D.Disk g.M.Memory.takes g.M.Book.Replay.fits g.M.Memory.holds choose h base k c.args.store.now.run fed_all.result clean
       (g.K.Link.left c.args.link.now) (g.K.Link.left fed_all.new.link) (g.C.Clock.ahead c.args.clock.now) (g.C.Clock.ahead fed_all.new.clock)
       (g.K.Link.given c.args.link.now) (g.K.Link.given fed_all.new.link) fed_all.new.store c.args.disk.now fed_all.new.disk
-      (fed_all.ensures.feeds choose h base k chooser taken hold) (sym c.is_open.ensures ∙ c.if-not-is_open.true);
+      (fed_all.ensures.feeds choose h base k chooser taken hold) (sym c.is_open-open.ensures ∙ c.if-not-open.true);
   over = c.feed_all-end.ensures.over;
-  idle = λ up. absurd (false≢true (sym (sym c.is_open.ensures ∙ c.if-not-is_open.true) ∙ up));
+  idle = λ up. absurd (false≢true (sym (sym c.is_open-open.ensures ∙ c.if-not-open.true) ∙ up));
   measured = c.feed_all-end.ensures.measured;
   run = c.feed_all-end.ensures.run;
   told = c.feed_all-end.ensures.told;
@@ -34,7 +34,7 @@ returns-in-Ok g c = record {
       runs_committed g.D.Disk g.M.Memory.takes g.M.Book.Replay.fits g.M.Memory.holds choose h base k c.args.store.now.run fed_all.result clean
       (g.K.Link.left c.args.link.now) (g.K.Link.left fed_all.new.link) (g.C.Clock.ahead c.args.clock.now) (g.C.Clock.ahead fed_all.new.clock)
       (g.K.Link.given c.args.link.now) (g.K.Link.given fed_all.new.link) fed_all.new.store c.args.disk.now fed_all.new.disk feeds
-      (sym c.is_open.ensures ∙ c.if-not-is_open.false) fed_all.ensures.run c.commit.new.self c.commit.new.disk
+      (sym c.is_open-open.ensures ∙ c.if-not-open.false) fed_all.ensures.run c.commit.new.self c.commit.new.disk
       (λ kept held. c.commit.ensures.images choose (history_after h feeds.turns) base kept held)
       (c.commit.ensures.run ∙ fed_all.ensures.run)
       (λ kept held. c.in-Ok.ensures.done choose (history_after h feeds.turns) base kept held);
@@ -56,7 +56,7 @@ returns-in-Err g c = record {
       runs_broken g.D.Disk g.M.Memory.takes g.M.Book.Replay.fits g.M.Memory.holds choose h base k c.args.store.now.run fed_all.result clean
       (g.K.Link.left c.args.link.now) (g.K.Link.left fed_all.new.link) (g.C.Clock.ahead c.args.clock.now) (g.C.Clock.ahead fed_all.new.clock)
       (g.K.Link.given c.args.link.now) (g.K.Link.given fed_all.new.link) fed_all.new.store c.args.disk.now fed_all.new.disk feeds
-      (sym c.is_open.ensures ∙ c.if-not-is_open.false) fed_all.ensures.run c.commit.new.self c.commit.new.disk
+      (sym c.is_open-open.ensures ∙ c.if-not-open.false) fed_all.ensures.run c.commit.new.self c.commit.new.disk
       (λ kept held. c.commit.ensures.images choose (history_after h feeds.turns) base kept held)
       c.in-Err.cause
       (λ kept held file at is image seen. c.in-Err.ensures.undamaged file at (ap (λ (f : CommitFault). Err f) is) choose (history_after h feeds.turns) base kept held image seen);
@@ -71,4 +71,4 @@ returns-in-Err g c = record {
 }
 
 pub commit-requires : goal.commit-requires
-commit-requires g c = c.feed_all-end.ensures.over (sym c.is_open.ensures ∙ c.if-not-is_open.false)
+commit-requires g c = c.feed_all-end.ensures.over (sym c.is_open-open.ensures ∙ c.if-not-open.false)

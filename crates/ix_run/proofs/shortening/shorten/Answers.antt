@@ -26,8 +26,8 @@ no_room : (fault : CheckpointFault) → (let result : Result Unit CheckpointFaul
 no_room faults.Disk fine = absurd (true≢false fine)
 no_room faults.NoMemory fine = refl
 
-pub returns-then-not-wants_checkpoint : goal.returns-then-not-wants_checkpoint
-returns-then-not-wants_checkpoint g c = record {
+pub returns-then-not-long : goal.returns-then-not-long
+returns-then-not-long g c = record {
   images = λ choose h base chooser taken hold.
       stands_still g.D.Disk _ g.M.Memory.holds choose h base c.args.store.now c.args.disk.now hold c.requires.idle;
   held = λ fine choose h base chooser taken hold. hold;
@@ -36,7 +36,7 @@ returns-then-not-wants_checkpoint g c = record {
   rest = λ fine rest. rest;
   short = λ measured.
       short_known g.D.Disk (λ image disk told. g.met.D.Disk.seen_may_stay disk image told) c.args.store.now.keeper c.args.disk.now c.requires.over measured
-      (λ long. both (c.wants_checkpoint.ensures.1 long) c.if-not-wants_checkpoint.true);
+      (λ long. both (c.wants_checkpoint-long.ensures.1 long) c.if-not-long.true);
   none = λ short. (refl, (refl, refl));
   memory = λ is. refl;
   run = refl;
@@ -55,7 +55,7 @@ returns-in-Ok g c = record {
   rest = λ fine rest. record { over = c.in-Ok.ensures.over; idle = c.in-Ok.ensures.idle; measured = c.in-Ok.ensures.measured };
   short = λ measured.
       short_made g.D.Disk (λ image disk told. g.met.D.Disk.seen_may_stay disk image told) c.checkpoint.new.self.keeper c.checkpoint.new.disk c.in-Ok.ensures.over c.in-Ok.ensures.shortest;
-  none = λ short. absurd (short (c.wants_checkpoint.ensures.0 c.if-not-wants_checkpoint.false));
+  none = λ short. absurd (short (c.wants_checkpoint-long.ensures.0 c.if-not-long.false));
   memory = λ is. absurd (not_err is);
   run = c.checkpoint.ensures.run;
   closed = λ is. absurd (not_err is);
@@ -82,7 +82,7 @@ returns-in-Err g c = record {
     measured = c.checkpoint.ensures.measured_still (c.in-Err.is ∙ ap (λ (f : CheckpointFault). Err f) (no_room c.in-Err.fault fine)) rest.measured;
   };
   short = tt;
-  none = λ short. absurd (short (c.wants_checkpoint.ensures.0 c.if-not-wants_checkpoint.false));
+  none = λ short. absurd (short (c.wants_checkpoint-long.ensures.0 c.if-not-long.false));
   memory = c.in-Err.ensures.memory;
   run = c.checkpoint.ensures.run;
   closed = c.in-Err.ensures.closed;
