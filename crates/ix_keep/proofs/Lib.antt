@@ -10,3 +10,4 @@ pub mod Beginning
 pub mod Resting
 pub mod Shorter
 pub mod Reading
+pub mod Failing

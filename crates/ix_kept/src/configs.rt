@@ -66,8 +66,8 @@ pub fn config_of(alloc: Global, kept: KeptList) -> Result<Config, ConfigFault>
     ensures empty { kept ≡ [] → result ≡ Err ConfigFault.Unsound → ⊥ }
 {
     let files = Files::read(alloc, kept.as_slice())?;
-    let props = read_props(alloc, &files)?;
     let limits = read_limits(alloc, &files.indexes)?;
+    let props = read_props(alloc, &files)?;
     Ok(Config {
         props,
         limits,

@@ -14,12 +14,23 @@ use ix_items::{Kept, KeptList};
 use std::alloc::Global;
 
 /// The four files of settings that are kept, merged; zones with those that are built in.
-#[derive(Drop)]
 pub struct Files {
     pub props: Merged,
     pub transforms: Merged,
     pub indexes: Merged,
     pub zones: Merged,
+}
+
+/// It is written out, so that each place where one is let go is a call of it, which is proved once.
+impl Drop for Files {
+    fn drop(self) {
+        let Files {
+            props: _,
+            transforms: _,
+            indexes: _,
+            zones: _,
+        } = self;
+    }
 }
 
 fn copy_of(kept: &Kept) -> Result<Kept, NoMemory>

@@ -1,16 +1,19 @@
-use Rattle.std.proofs.lemmas.Result.{err_from_is_err_and}
-use Rattle.std.proofs.Common.{◌≡◌, ◌≢◌, Option, Err, ap, ℕ, ◌<◌, List, [], ◌∷◌, ◌++◌, length, refl, subst, sym, ◌∙◌, inl}
+use Rattle.std.proofs.lemmas.Result.{err_from_is_err_and, IfOk-from_err}
+use Rattle.std.proofs.Common.{◌≡◌, ◌≢◌, Option, Err, ap, ℕ, ◌<◌, List, [], ◌∷◌, ◌++◌, length, refl, subst, sym, ◌∙◌, inl, le_trans, lit<}
 use Rattle.std.specs.Prelude.{All}
+use Rattle.std.specs.Result.{is_err}
 use Rattle.ix_base.specs.declared.files.File.{File}
 use Rattle.ix_base.specs.Told.{Told}
 use Rattle.ix_disk.specs.Image.{Image, Apart}
 use Rattle.ix_disk.specs.Moments.{Goes, InFile}
+use Rattle.ix_disk.proofs.Runs.{rose_later}
 use Rattle.ix_log.specs.Log.{IsAtEnd, file_of}
 use Rattle.ix_book.specs.Root.{log_file}
 use Rattle.ix_book.specs.Book.{empty, replay, removals_in}
 use Rattle.ix_book.specs.Slots.{bytes_of, items_of, WithBody, AreRemovals}
 use Rattle.ix_book.specs.declared.slot.Slot.{Slot}
 use Rattle.ix_keep.specs.Contents.{Spares, Keeping, KeepsLogs, IsFree, HoldsFilling, filling}
+use Rattle.ix_keep.specs.Committing.{IsShort}
 use Rattle.ix_keep.specs.Parts.{AreParts}
 use Rattle.ix_keep.specs.Snapshot.{AreOver}
 use Rattle.ix_keep.specs.Copies.{AreCopies, after_copies}
@@ -18,6 +21,7 @@ use Rattle.ix_keep.specs.Reads.{OrGone, IsElsewhere, IsGone, Removing}
 use Rattle.ix_keep.specs.declared.fault.CommitFault.TheVariants as faults
 use Rattle.ix_keep.specs.declared.parts.Part.{Part}
 use Rattle.ix_keep.specs.declared.copied.Copied.{Copied}
+use Rattle.ix_keep.proofs.Failing.{on_failure, no_failure, no_damage, same_fault, room_stays}
 use Rattle.ix_keep.proofs.Reading.{told_through, told_as, told_on, root_elsewhere, gone_behind}
 use Rattle.ix_keep.proofs.Settling.{loosely, loosely_on, anyhow_on}
 use Rattle.ix_log.proofs.Elsewhere.{at_end_stays}
@@ -248,3 +252,166 @@ returns-clause-body g c = λ bodies end some.
     let kept = subst (λ (f : File). Goes g.D.Disk last c.remove_all.new.disk (KeepsLogs f)) c.log_file.ensures c.remove_all.ensures.logs in
     at_end_stays g.D.Disk last c.remove_all.new.disk log (bodies ++ bytes_of keeper.slots ∷ []) (KeepsLogs (log_file keeper.number))
     (λ a b same. subst (λ (f : File). b f ≡ a f) (sym (c.put_body.ensures.file ∙ c.requires.file)) same.log_stays) kept (put some)
+
+pub returns-in_err-fill-clause-done : goal.returns-in_err-fill-clause-done
+returns-in_err-fill-clause-done g c = λ old new held. IfOk-from_err c.from_residual.result _ c.from_residual.ensures.0
+
+pub returns-in_err-fill-clause-over : goal.returns-in_err-fill-clause-over
+returns-in_err-fill-clause-over g c = IfOk-from_err c.from_residual.result _ c.from_residual.ensures.0
+
+pub returns-in_err-fill-clause-idle : goal.returns-in_err-fill-clause-idle
+returns-in_err-fill-clause-idle g c = IfOk-from_err c.from_residual.result _ c.from_residual.ensures.0
+
+pub returns-in_err-fill-clause-body : goal.returns-in_err-fill-clause-body
+returns-in_err-fill-clause-body g c = λ bodies end some. IfOk-from_err c.from_residual.result _ c.from_residual.ensures.0
+
+pub returns-in_err-fill-clause-number : goal.returns-in_err-fill-clause-number
+returns-in_err-fill-clause-number g c = IfOk-from_err c.from_residual.result _ c.from_residual.ensures.0
+
+pub returns-in_err-fill-clause-removed : goal.returns-in_err-fill-clause-removed
+returns-in_err-fill-clause-removed g c = IfOk-from_err c.from_residual.result _ c.from_residual.ensures.0
+
+pub returns-in_err-fill-clause-closed : goal.returns-in_err-fill-clause-closed
+returns-in_err-fill-clause-closed g c = on_failure c.from_residual.result refl
+
+pub returns-in_err-fill-clause-file : goal.returns-in_err-fill-clause-file
+returns-in_err-fill-clause-file g c = refl
+
+pub returns-in_err-put_body-clause-done : goal.returns-in_err-put_body-clause-done
+returns-in_err-put_body-clause-done g c = λ old new held. IfOk-from_err c.from_residual-in_err-put_body.result _ c.from_residual-in_err-put_body.ensures.0
+
+pub returns-in_err-put_body-clause-over : goal.returns-in_err-put_body-clause-over
+returns-in_err-put_body-clause-over g c = IfOk-from_err c.from_residual-in_err-put_body.result _ c.from_residual-in_err-put_body.ensures.0
+
+pub returns-in_err-put_body-clause-idle : goal.returns-in_err-put_body-clause-idle
+returns-in_err-put_body-clause-idle g c = IfOk-from_err c.from_residual-in_err-put_body.result _ c.from_residual-in_err-put_body.ensures.0
+
+pub returns-in_err-put_body-clause-body : goal.returns-in_err-put_body-clause-body
+returns-in_err-put_body-clause-body g c = λ bodies end some. IfOk-from_err c.from_residual-in_err-put_body.result _ c.from_residual-in_err-put_body.ensures.0
+
+pub returns-in_err-put_body-clause-number : goal.returns-in_err-put_body-clause-number
+returns-in_err-put_body-clause-number g c = IfOk-from_err c.from_residual-in_err-put_body.result _ c.from_residual-in_err-put_body.ensures.0
+
+pub returns-in_err-put_body-clause-removed : goal.returns-in_err-put_body-clause-removed
+returns-in_err-put_body-clause-removed g c = IfOk-from_err c.from_residual-in_err-put_body.result _ c.from_residual-in_err-put_body.ensures.0
+
+pub returns-in_err-put_body-clause-closed : goal.returns-in_err-put_body-clause-closed
+returns-in_err-put_body-clause-closed g c = on_failure c.from_residual-in_err-put_body.result refl
+
+pub returns-in_err-put_body-clause-file : goal.returns-in_err-put_body-clause-file
+returns-in_err-put_body-clause-file g c = c.put_body.ensures.file
+
+pub returns-in_err-remove_all-clause-done : goal.returns-in_err-remove_all-clause-done
+returns-in_err-remove_all-clause-done g c = λ old new held. IfOk-from_err c.from_residual-in_err-remove_all.result _ c.from_residual-in_err-remove_all.ensures.0
+
+pub returns-in_err-remove_all-clause-over : goal.returns-in_err-remove_all-clause-over
+returns-in_err-remove_all-clause-over g c = IfOk-from_err c.from_residual-in_err-remove_all.result _ c.from_residual-in_err-remove_all.ensures.0
+
+pub returns-in_err-remove_all-clause-idle : goal.returns-in_err-remove_all-clause-idle
+returns-in_err-remove_all-clause-idle g c = IfOk-from_err c.from_residual-in_err-remove_all.result _ c.from_residual-in_err-remove_all.ensures.0
+
+pub returns-in_err-remove_all-clause-body : goal.returns-in_err-remove_all-clause-body
+returns-in_err-remove_all-clause-body g c = λ bodies end some. IfOk-from_err c.from_residual-in_err-remove_all.result _ c.from_residual-in_err-remove_all.ensures.0
+
+pub returns-in_err-remove_all-clause-number : goal.returns-in_err-remove_all-clause-number
+returns-in_err-remove_all-clause-number g c = IfOk-from_err c.from_residual-in_err-remove_all.result _ c.from_residual-in_err-remove_all.ensures.0
+
+pub returns-in_err-remove_all-clause-removed : goal.returns-in_err-remove_all-clause-removed
+returns-in_err-remove_all-clause-removed g c = IfOk-from_err c.from_residual-in_err-remove_all.result _ c.from_residual-in_err-remove_all.ensures.0
+
+pub returns-in_err-remove_all-clause-closed : goal.returns-in_err-remove_all-clause-closed
+returns-in_err-remove_all-clause-closed g c = on_failure c.from_residual-in_err-remove_all.result refl
+
+pub returns-in_err-remove_all-clause-file : goal.returns-in_err-remove_all-clause-file
+returns-in_err-remove_all-clause-file g c = c.put_body.ensures.file
+
+pub returns-in_err-fill-clause-damaged : goal.returns-in_err-fill-clause-damaged
+returns-in_err-fill-clause-damaged g c =
+    λ file at is.
+    let told = c.fill.ensures.damaged file at (same_fault c.fill.result c.from_residual.result c.in_err-fill.field-0.0 (faults.Damaged file at) c.in_err-fill.was c.from_residual.ensures.1 is) in (
+      subst (λ (x : List Copied). IsShort c.args.keeper.now.parts x file at) c.as_slice-2.ensures (subst (λ (p : List Part). IsShort p c.as_slice-2.result.now file at) c.as_slice.ensures told.0),
+      told.1,
+    )
+
+pub returns-in_err-fill-clause-later : goal.returns-in_err-fill-clause-later
+returns-in_err-fill-clause-later g c = c.fill.ensures.later
+
+pub returns-in_err-fill-clause-cause : goal.returns-in_err-fill-clause-cause
+returns-in_err-fill-clause-cause g c = λ is.
+    c.fill.ensures.cause (same_fault c.fill.result c.from_residual.result c.in_err-fill.field-0.0 faults.Disk c.in_err-fill.was c.from_residual.ensures.1 is)
+
+pub returns-in_err-put_body-clause-sound : goal.returns-in_err-put_body-clause-sound
+returns-in_err-put_body-clause-sound g c = λ old new held image told file at is. no_damage c.from_residual-in_err-put_body.result file at c.from_residual-in_err-put_body.ensures.1 is
+
+pub returns-in_err-put_body-clause-damaged : goal.returns-in_err-put_body-clause-damaged
+returns-in_err-put_body-clause-damaged g c = λ file at is. absurd (no_damage c.from_residual-in_err-put_body.result file at c.from_residual-in_err-put_body.ensures.1 is)
+
+pub returns-in_err-remove_all-clause-sound : goal.returns-in_err-remove_all-clause-sound
+returns-in_err-remove_all-clause-sound g c = λ old new held image told file at is. no_damage c.from_residual-in_err-remove_all.result file at c.from_residual-in_err-remove_all.ensures.1 is
+
+pub returns-in_err-remove_all-clause-damaged : goal.returns-in_err-remove_all-clause-damaged
+returns-in_err-remove_all-clause-damaged g c = λ file at is. absurd (no_damage c.from_residual-in_err-remove_all.result file at c.from_residual-in_err-remove_all.ensures.1 is)
+
+pub returns-in_err-put_body-clause-later : goal.returns-in_err-put_body-clause-later
+returns-in_err-put_body-clause-later g c = le_trans c.fill.ensures.later c.put_body.ensures.cause.later
+
+pub returns-in_err-remove_all-clause-later : goal.returns-in_err-remove_all-clause-later
+returns-in_err-remove_all-clause-later g c = le_trans (le_trans c.fill.ensures.later c.put_body.ensures.cause.later) c.remove_all.ensures.cause.later
+
+pub returns-in_err-put_body-clause-cause : goal.returns-in_err-put_body-clause-cause
+returns-in_err-put_body-clause-cause g c = λ is. rose_later _ _ _ c.fill.ensures.later (c.put_body.ensures.cause.failed (ap is_err c.in_err-put_body.was))
+
+pub returns-in_err-remove_all-clause-cause : goal.returns-in_err-remove_all-clause-cause
+returns-in_err-remove_all-clause-cause g c = λ is. rose_later _ _ _ (le_trans c.fill.ensures.later c.put_body.ensures.cause.later) (c.remove_all.ensures.cause.failed (ap is_err c.in_err-remove_all.was))
+
+pub returns-clause-idle : goal.returns-clause-idle
+returns-clause-idle g c = (c.clear.ensures, (c.clear-2.ensures, c.clear-3.ensures))
+
+pub returns-clause-closed : goal.returns-clause-closed
+returns-clause-closed g c = tt
+
+pub returns-clause-file : goal.returns-clause-file
+returns-clause-file g c = c.put_body.ensures.file
+
+pub returns-clause-number : goal.returns-clause-number
+returns-clause-number g c = refl
+
+pub returns-clause-sound : goal.returns-clause-sound
+returns-clause-sound g c = λ old new held image told file at is. no_failure _ _ is
+
+pub returns-clause-damaged : goal.returns-clause-damaged
+returns-clause-damaged g c = λ file at is. absurd (no_failure _ _ is)
+
+pub returns-clause-later : goal.returns-clause-later
+returns-clause-later g c = le_trans (le_trans c.fill.ensures.later c.put_body.ensures.cause.later) c.remove_all.ensures.cause.later
+
+pub returns-clause-cause : goal.returns-clause-cause
+returns-clause-cause g c = λ is. absurd (no_failure _ _ is)
+
+pub invariant_of-keeper : goal.invariant_of-keeper
+invariant_of-keeper g c = record {
+  sized = c.args.keeper.now.sized;
+  short = c.args.keeper.now.short;
+  room = room_stays c.args.keeper.now.buffer c.fill.new.buf c.args.keeper.now.room;
+}
+
+pub invariant_of-keeper-in-Break-branch-2 : goal.invariant_of-keeper-in-Break-branch-2
+invariant_of-keeper-in-Break-branch-2 g c = record {
+  sized = c.args.keeper.now.sized;
+  short = c.args.keeper.now.short;
+  room = room_stays c.args.keeper.now.buffer c.fill.new.buf c.args.keeper.now.room;
+}
+
+pub invariant_of-keeper-in-Break-branch-3 : goal.invariant_of-keeper-in-Break-branch-3
+invariant_of-keeper-in-Break-branch-3 g c = record {
+  sized = c.args.keeper.now.sized;
+  short = c.args.keeper.now.short;
+  room = room_stays c.args.keeper.now.buffer c.fill.new.buf c.args.keeper.now.room;
+}
+
+pub invariant_of-keeper-2 : goal.invariant_of-keeper-2
+invariant_of-keeper-2 g c = record {
+  sized = sym (ap (λ (s : List Slot). length (bytes_of s)) c.clear-3.ensures);
+  short = lit< tt;
+  room = room_stays c.args.keeper.now.buffer c.fill.new.buf c.args.keeper.now.room;
+}
