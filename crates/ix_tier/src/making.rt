@@ -4,7 +4,8 @@ ghost use Rattle.std.specs.Prelude.{◌≡◌, ◌++◌, true, false, IfOk, OnOk
 ghost use Rattle.std.specs.List.{AllByRecursion};
 ghost use Rattle.ix_items.specs.Spelling.{HasSpelling};
 ghost use Rattle.ix_kept.specs.Taken.{IsTakenCommand};
-ghost use Rattle.ix_tier.specs.Made.{Pairs, PairsWithin, PairsWhere, IsOver, IsOverWhere, IsUsablePair, TickSteps, TickIsOver, done_with_more};
+ghost use Rattle.ix_steps.specs.Steps.{IsOver as IsStepOver, IsUsable};
+ghost use Rattle.ix_tier.specs.Made.{Pairs, PairsWithin, PairsWhere, IsOver, IsOverWhere, IsUsablePair, StepsWith, TickSteps, TickIsOver, done_with_more};
 
 use crate::copying::storage_of;
 use crate::measuring::is_within;
@@ -69,6 +70,18 @@ fn tick<'a>(
     })
 }
 
+/// What a command leads to, done with more files.
+fn work_with(work: &Working<'_>, command: Command, files: &[File]) -> Result<Step, StepFault>
+    requires { IsTakenCommand command }
+    ensures done { IfOk result (λ more. StepsWith command work.now files.now more) }
+    ensures usable { IfOk result (λ more. IsUsable work.now.held.now more) }
+    ensures full { IsErrOf result StepFault.Full → IsStepOver command work.now }
+{
+    let step = work.work(command)?;
+    let more = with_files(step, files)?;
+    Ok(more)
+}
+
 /// A Tick, and a command behind it.
 fn with_tick(
     alloc: Global,
@@ -82,19 +95,33 @@ fn with_tick(
     ensures usable { IfOk result (λ pair. IsUsablePair held.now pair) }
     ensures full { IsErrOf result StepFault.Full → IsOverWhere true command held.now begun.now moment }
 {
-    let first = tick(alloc, held, begun, moment)?;
-    let work = Working {
-        alloc,
-        held,
-        storage: &first.storage,
-        moment,
-    };
-    let second = work.work(command)?;
-    let step = with_files(second, first.done_with.as_slice())?;
-    Ok(Pair {
-        first: Some(first.draft),
-        step,
-    })
+    match tick(alloc, held, begun, moment) {
+        Ok(first) => {
+            let made = {
+                let work = Working {
+                    alloc,
+                    held,
+                    storage: &first.storage,
+                    moment,
+                };
+                work_with(&work, command, first.done_with.as_slice())
+            };
+            match made {
+                Ok(step) => Ok(Pair {
+                    first: Some(first.draft),
+                    step,
+                }),
+                Err(fault) => {
+                    drop(first);
+                    Err(fault)
+                }
+            }
+        }
+        Err(fault) => {
+            drop(command);
+            Err(fault)
+        }
+    }
 }
 
 /// A command alone.

@@ -1,7 +1,11 @@
-use Rattle.std.proofs.Common.{rules, ◌≡◌, ◌≢◌, ◌∙◌, List, Option, Err, [], ◌∷◌, ◌++◌, length, refl, ap, subst, sym, inl, arith}
+use Rattle.std.proofs.Common.{rules, ◌≡◌, ◌≢◌, ◌∙◌, List, Option, Err, [], ◌∷◌, ◌++◌, length, refl, ap, subst, sym, inl, arith, le_trans}
+use Rattle.ix_keep.proofs.Failing.{no_failure, no_damage, same_fault}
+use Rattle.ix_keep.proofs.Settling.{loosely}
+use Rattle.ix_disk.proofs.Runs.{nowhere, rose_later}
+use Rattle.std.specs.Result.{is_err}
 use Rattle.std.specs.Prelude.{All}
 use Rattle.std.proofs.lemmas.List.Elements.{All-nil}
-use Rattle.std.proofs.lemmas.Result.{err_from_is_err_and}
+use Rattle.std.proofs.lemmas.Result.{err_from_is_err_and, IfOk-from_err}
 use Rattle.ix_base.specs.declared.files.File.{File}
 use Rattle.ix_base.specs.Told.{Told}
 use Rattle.ix_disk.specs.Image.{Image, Stays}
@@ -123,3 +127,77 @@ returns-clause-body g c = λ bodies end some.
     let put = c.in_ok-commit_staged.ensures.body bodies end some in
     let stays = at_end_stays g.D.Disk c.commit_staged.new.disk c.measure.new.disk c.commit_staged.new.keeper.log all Stays (λ a b same. ap (λ (image : Image). image (file_of c.commit_staged.new.keeper.log)) same) c.measure.ensures.images put in
     subst (λ (l : Log). IsAtEnd g.D.Disk l c.measure.new.disk all) (sym c.measure.ensures.file) stays
+
+pub returns-then-not-is_staged-clause-measured : goal.returns-then-not-is_staged-clause-measured
+returns-then-not-is_staged-clause-measured g c = λ measured. measured (returns-then-not-is_staged-clause-idle g c)
+
+pub returns-then-not-is_staged-clause-comes : goal.returns-then-not-is_staged-clause-comes
+returns-then-not-is_staged-clause-comes g c = loosely g.D.Disk c.args.disk.now c.args.disk.now _ (nowhere g.D.Disk c.args.disk.now)
+
+pub returns-then-not-is_staged-clause-damaged : goal.returns-then-not-is_staged-clause-damaged
+returns-then-not-is_staged-clause-damaged g c = λ file at is. absurd (no_failure _ _ is)
+
+pub returns-then-not-is_staged-clause-cause : goal.returns-then-not-is_staged-clause-cause
+returns-then-not-is_staged-clause-cause g c = λ is. absurd (no_failure _ _ is)
+
+pub returns-then-not-is_staged-clause-sound : goal.returns-then-not-is_staged-clause-sound
+returns-then-not-is_staged-clause-sound g c = λ old new held image told file at is. no_failure _ _ is
+
+pub returns-in_err-commit_staged-clause-damaged : goal.returns-in_err-commit_staged-clause-damaged
+returns-in_err-commit_staged-clause-damaged g c = λ file at is. c.commit_staged.ensures.damaged file at (same_fault c.commit_staged.result c.from_residual.result c.in_err-commit_staged.field-0.0 (faults.Damaged file at) c.in_err-commit_staged.was c.from_residual.ensures.1 is)
+
+pub returns-in_err-commit_staged-clause-cause : goal.returns-in_err-commit_staged-clause-cause
+returns-in_err-commit_staged-clause-cause g c = λ is. c.commit_staged.ensures.cause (same_fault c.commit_staged.result c.from_residual.result c.in_err-commit_staged.field-0.0 faults.Disk c.in_err-commit_staged.was c.from_residual.ensures.1 is)
+
+pub returns-in_err-measure-clause-cause : goal.returns-in_err-measure-clause-cause
+returns-in_err-measure-clause-cause g c = λ is. rose_later _ _ _ c.commit_staged.ensures.later (c.measure.ensures.cause.failed (ap is_err c.in_err-measure.was))
+
+pub returns-in_err-measure-clause-later : goal.returns-in_err-measure-clause-later
+returns-in_err-measure-clause-later g c = le_trans c.commit_staged.ensures.later c.measure.ensures.cause.later
+
+pub returns-in_err-measure-clause-file : goal.returns-in_err-measure-clause-file
+returns-in_err-measure-clause-file g c = ap file_of c.measure.ensures.file ∙ c.commit_staged.ensures.file
+
+pub returns-in_err-measure-clause-damaged : goal.returns-in_err-measure-clause-damaged
+returns-in_err-measure-clause-damaged g c = λ file at is. absurd (no_damage c.from_residual-in_err-measure.result file at c.from_residual-in_err-measure.ensures.1 is)
+
+pub returns-in_err-measure-clause-sound : goal.returns-in_err-measure-clause-sound
+returns-in_err-measure-clause-sound g c = λ old new held image told file at is. no_damage c.from_residual-in_err-measure.result file at c.from_residual-in_err-measure.ensures.1 is
+
+pub returns-in_err-measure-clause-done : goal.returns-in_err-measure-clause-done
+returns-in_err-measure-clause-done g c = λ old new held. IfOk-from_err c.from_residual-in_err-measure.result _ c.from_residual-in_err-measure.ensures.0
+
+pub returns-in_err-measure-clause-over : goal.returns-in_err-measure-clause-over
+returns-in_err-measure-clause-over g c = IfOk-from_err c.from_residual-in_err-measure.result _ c.from_residual-in_err-measure.ensures.0
+
+pub returns-in_err-measure-clause-idle : goal.returns-in_err-measure-clause-idle
+returns-in_err-measure-clause-idle g c = IfOk-from_err c.from_residual-in_err-measure.result _ c.from_residual-in_err-measure.ensures.0
+
+pub returns-in_err-measure-clause-body : goal.returns-in_err-measure-clause-body
+returns-in_err-measure-clause-body g c = λ bodies end some. IfOk-from_err c.from_residual-in_err-measure.result _ c.from_residual-in_err-measure.ensures.0
+
+pub returns-in_err-measure-clause-removed : goal.returns-in_err-measure-clause-removed
+returns-in_err-measure-clause-removed g c = IfOk-from_err c.from_residual-in_err-measure.result _ c.from_residual-in_err-measure.ensures.0
+
+pub returns-clause-idle : goal.returns-clause-idle
+returns-clause-idle g c =
+    let idle = c.in_ok-commit_staged.ensures.idle in
+    (c.measure.ensures.parts ∙ idle.0, (c.measure.ensures.copies ∙ idle.1.0, c.measure.ensures.slots ∙ idle.1.1))
+
+pub returns-clause-measured : goal.returns-clause-measured
+returns-clause-measured g c = λ measured. c.in_ok-measure.ensures.measured
+
+pub returns-clause-damaged : goal.returns-clause-damaged
+returns-clause-damaged g c = λ file at is. absurd (no_failure _ _ is)
+
+pub returns-clause-cause : goal.returns-clause-cause
+returns-clause-cause g c = λ is. absurd (no_failure _ _ is)
+
+pub returns-clause-sound : goal.returns-clause-sound
+returns-clause-sound g c = λ old new held image told file at is. no_failure _ _ is
+
+pub returns-clause-later : goal.returns-clause-later
+returns-clause-later g c = le_trans c.commit_staged.ensures.later c.measure.ensures.cause.later
+
+pub returns-clause-file : goal.returns-clause-file
+returns-clause-file g c = ap file_of c.measure.ensures.file ∙ c.commit_staged.ensures.file

@@ -1,6 +1,7 @@
-use Rattle.std.proofs.Common.{rules, ◌≡◌, ◌≢◌, ◌+◌, ◌<◌, ◌≤◌, ℕ, List, [], ◌∷◌, ◌++◌, Option, Some, Err, refl, ap, subst, sym, ◌∙◌, inl, inr, arith}
+use Rattle.std.proofs.Common.{rules, ◌≡◌, ◌≢◌, ◌+◌, ◌<◌, ◌≤◌, ℕ, List, [], ◌∷◌, ◌++◌, Option, Some, Err, refl, ap, subst, sym, ◌∙◌, inl, inr, arith, le_trans}
+use Rattle.ix_keep.proofs.Failing.{no_failure, one_fault, full_no_disk, full_no_damage, disk_no_full, disk_no_damage, same_mount}
 use Rattle.std.specs.Prelude.{All, None, not}
-use Rattle.std.proofs.lemmas.Result.{err_from_is_err_and}
+use Rattle.std.proofs.lemmas.Result.{err_from_is_err_and, IfOk-from_err}
 use Rattle.ix_keep.specs.declared.mounting.MountFault.TheVariants as mounts
 use Rattle.ix_base.specs.declared.files.File.{File}
 use Rattle.ix_base.specs.Told.{Told}
@@ -8,7 +9,7 @@ use Rattle.ix_disk.specs.Image.{Image, bytes_in}
 use Rattle.ix_log.specs.Log.{HasBodies, file_of}
 use Rattle.ix_log.proofs.Elsewhere.{at_end_stays}
 use Rattle.ix_disk.specs.Moments.{Goes}
-use Rattle.ix_disk.proofs.Runs.{always_still, always_on, still_all}
+use Rattle.ix_disk.proofs.Runs.{always_still, always_on, still_all, rose_later}
 use Rattle.ix_book.specs.Book.{run_in, removals_in, has_settings, IsBody, empty, Replays}
 use Rattle.ix_book.specs.Root.{Taken, roots, current}
 use Rattle.ix_book.proofs.Bodies.{end_bodies}
@@ -258,3 +259,90 @@ returns-clause-grown g c = λ one two told told_two.
       grown = subst (λ (f : File). HasBodies (read.bodies ++ ends.body ∷ []) (bytes_in two f)) file
           (end_bodies after.log.closed (read.bodies ++ ends.body ∷ []) (bytes_in two (log_of after)) (ends.end.images two (g.met.D.Disk.seen_may_stay last two told_two)));
     }
+
+pub returns-then-run-ge9223372036854775807-clause-full : goal.returns-then-run-ge9223372036854775807-clause-full
+returns-then-run-ge9223372036854775807-clause-full g c = λ is. inl (subst (λ (n : ℕ). 9223372036854775807 ≤ n) c.run-run.ensures c.if-run-ge9223372036854775807.true)
+
+pub returns-then-run-ge9223372036854775807-clause-damaged : goal.returns-then-run-ge9223372036854775807-clause-damaged
+returns-then-run-ge9223372036854775807-clause-damaged g c = λ named at is image told. absurd (full_no_damage named at (one_fault mounts.Full (mounts.Damaged named at) is))
+
+pub returns-then-run-ge9223372036854775807-clause-cause : goal.returns-then-run-ge9223372036854775807-clause-cause
+returns-then-run-ge9223372036854775807-clause-cause g c = λ is. absurd (full_no_disk (one_fault mounts.Full mounts.Disk is))
+
+pub returns-then-run-ge9223372036854775807-clause-later : goal.returns-then-run-ge9223372036854775807-clause-later
+returns-then-run-ge9223372036854775807-clause-later g c = le_trans c.read.ensures.later c.remove_all.ensures.cause.later
+
+pub returns-then-is_err-clause-later : goal.returns-then-is_err-clause-later
+returns-then-is_err-clause-later g c = le_trans c.read.ensures.later c.remove_all.ensures.cause.later
+
+pub returns-then-is_err-clause-cause : goal.returns-then-is_err-clause-cause
+returns-then-is_err-clause-cause g c = λ is. rose_later _ _ _ c.read.ensures.later (c.remove_all.ensures.cause.failed (sym c.is_err.ensures.value ∙ c.if-is_err.true))
+
+pub returns-then-is_err-clause-full : goal.returns-then-is_err-clause-full
+returns-then-is_err-clause-full g c = λ is. absurd (disk_no_full (one_fault mounts.Disk mounts.Full is))
+
+pub returns-then-is_err-clause-full_as_read : goal.returns-then-is_err-clause-full_as_read
+returns-then-is_err-clause-full_as_read g c = λ is image told. absurd (disk_no_full (one_fault mounts.Disk mounts.Full is))
+
+pub returns-then-is_err-clause-damaged : goal.returns-then-is_err-clause-damaged
+returns-then-is_err-clause-damaged g c = λ named at is image told. absurd (disk_no_damage named at (one_fault mounts.Disk (mounts.Damaged named at) is))
+
+pub returns-in_err-begin-clause-damaged : goal.returns-in_err-begin-clause-damaged
+returns-in_err-begin-clause-damaged g c =
+    λ named at is image told.
+    let read = c.in_ok-keeper.ensures.read in
+    absurd (c.begin.ensures.damaged read.no_parts read.no_copies named at (same_mount c.begin.result c.from_residual-in_err-begin.result c.in_err-begin.field-0.0 (mounts.Damaged named at) c.in_err-begin.was c.from_residual-in_err-begin.ensures.1 is))
+
+pub returns-in_err-begin-clause-cause : goal.returns-in_err-begin-clause-cause
+returns-in_err-begin-clause-cause g c = λ is. rose_later _ _ _ (le_trans c.read.ensures.later c.remove_all.ensures.cause.later) (c.begin.ensures.cause (same_mount c.begin.result c.from_residual-in_err-begin.result c.in_err-begin.field-0.0 mounts.Disk c.in_err-begin.was c.from_residual-in_err-begin.ensures.1 is))
+
+pub returns-in_err-begin-clause-later : goal.returns-in_err-begin-clause-later
+returns-in_err-begin-clause-later g c = le_trans (le_trans c.read.ensures.later c.remove_all.ensures.cause.later) c.begin.ensures.later
+
+pub returns-in_err-begin-clause-mounted : goal.returns-in_err-begin-clause-mounted
+returns-in_err-begin-clause-mounted g c = IfOk-from_err c.from_residual-in_err-begin.result _ c.from_residual-in_err-begin.ensures.0
+
+pub returns-in_err-begin-clause-grown : goal.returns-in_err-begin-clause-grown
+returns-in_err-begin-clause-grown g c = IfOk-from_err c.from_residual-in_err-begin.result _ c.from_residual-in_err-begin.ensures.0
+
+pub returns-in_err-begin-clause-removed : goal.returns-in_err-begin-clause-removed
+returns-in_err-begin-clause-removed g c = IfOk-from_err c.from_residual-in_err-begin.result _ c.from_residual-in_err-begin.ensures.0
+
+pub returns-in_err-begin-clause-read : goal.returns-in_err-begin-clause-read
+returns-in_err-begin-clause-read g c = IfOk-from_err c.from_residual-in_err-begin.result _ c.from_residual-in_err-begin.ensures.0
+
+pub returns-in_err-begin-clause-measured : goal.returns-in_err-begin-clause-measured
+returns-in_err-begin-clause-measured g c = IfOk-from_err c.from_residual-in_err-begin.result _ c.from_residual-in_err-begin.ensures.0
+
+pub returns-in_err-begin-clause-over : goal.returns-in_err-begin-clause-over
+returns-in_err-begin-clause-over g c = IfOk-from_err c.from_residual-in_err-begin.result _ c.from_residual-in_err-begin.ensures.0
+
+pub returns-in_err-begin-clause-not_full : goal.returns-in_err-begin-clause-not_full
+returns-in_err-begin-clause-not_full g c = IfOk-from_err c.from_residual-in_err-begin.result _ c.from_residual-in_err-begin.ensures.0
+
+pub returns-in_err-begin-clause-idle : goal.returns-in_err-begin-clause-idle
+returns-in_err-begin-clause-idle g c = IfOk-from_err c.from_residual-in_err-begin.result _ c.from_residual-in_err-begin.ensures.0
+
+pub returns-clause-measured : goal.returns-clause-measured
+returns-clause-measured g c = c.in_ok-begin.ensures.measured
+
+pub returns-clause-over : goal.returns-clause-over
+returns-clause-over g c = c.in_ok-begin.ensures.over
+
+pub returns-clause-idle : goal.returns-clause-idle
+returns-clause-idle g c = c.in_ok-begin.ensures.idle
+
+pub returns-clause-later : goal.returns-clause-later
+returns-clause-later g c = le_trans (le_trans c.read.ensures.later c.remove_all.ensures.cause.later) c.begin.ensures.later
+
+pub returns-clause-full : goal.returns-clause-full
+returns-clause-full g c = λ is. absurd (no_failure _ _ is)
+
+pub returns-clause-full_as_read : goal.returns-clause-full_as_read
+returns-clause-full_as_read g c = λ is image told. absurd (no_failure _ _ is)
+
+pub returns-clause-cause : goal.returns-clause-cause
+returns-clause-cause g c = λ is. absurd (no_failure _ _ is)
+
+pub returns-clause-damaged : goal.returns-clause-damaged
+returns-clause-damaged g c = λ named at is image told. absurd (no_failure _ _ is)

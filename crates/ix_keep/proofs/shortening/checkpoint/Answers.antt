@@ -1,15 +1,20 @@
-use Rattle.std.proofs.Common.{rules, ◌≡◌, ◌≢◌, ◌+◌, ◌<◌, ◌^◌, ℕ, List, [], ◌∷◌, length, refl, ap, subst, sym, ◌∙◌, None, inl, arith}
+use Rattle.std.proofs.Common.{rules, ◌≡◌, ◌≢◌, ◌+◌, ◌-◌, ◌<◌, ◌^◌, ℕ, List, [], ◌∷◌, length, refl, ap, subst, sym, ◌∙◌, None, Err, inl, arith, le_trans}
+use Rattle.std.proofs.lemmas.Result.{IfOk-from_err}
+use Rattle.std.specs.Result.{is_err}
 use Rattle.ix_base.specs.Told.{Told}
 use Rattle.ix_base.specs.declared.files.File.{File}
 use Rattle.ix_disk.specs.Image.{Apart, MayRemove, bytes_in}
 use Rattle.ix_disk.proofs.Others.{apart_removed}
+use Rattle.ix_disk.proofs.Runs.{rose_later}
 use Rattle.ix_disk.specs.Moments.{Goes}
 use Rattle.ix_log.specs.Log.{IsAtEnd, file_of}
 use Rattle.ix_book.specs.Book.{IsBody}
 use Rattle.ix_book.specs.Root.{log_file, roots}
+use Rattle.ix_book.specs.declared.fault.CheckpointFault.TheVariants as faults
 use Rattle.ix_book.specs.Whole.{whole, whole_body}
 use Rattle.ix_keep.specs.Snapshot.{log_of}
 use Rattle.ix_keep.specs.Shortening.{HasOneBody}
+use Rattle.ix_keep.proofs.Failing.{no_failure, no_want, handed_on}
 use Rattle.ix_keep.proofs.Settling.{anyhow_on, loosely}
 use Rattle.ix_keep.proofs.Shorter.{number_room, apart_comes, over_still, over_root, measured_still, end_gone, root_gone, over_new, root_mid, written_images, numbered_images, removed_images, shortened_held, place_one, new_file, new_file_other}
 use Rattle.ix_keep.proofs.Reading.{told_anyhow, anyhow_through, gone_done}
@@ -245,3 +250,135 @@ returns-clause-told g c =
     let last = g.D.Disk.seen c.put_number.new.disk in
     let gone = g.D.Disk.seen c.remove.new.self in
     anyhow_through first last gone (anyhow_through first mid last (told_anyhow _ first mid c.write_log.ensures.seen) (told_anyhow _ mid last c.put_number.ensures.seen)) (told_anyhow _ last gone c.in_ok-remove.ensures.removed)
+
+pub returns-in-Err-clause-comes : goal.returns-in-Err-clause-comes
+returns-in-Err-clause-comes g c = apart_comes g.D.Disk c.args.disk.now c.write_log.new.disk _ c.write_log.ensures.images
+
+pub returns-in-Err-clause-later : goal.returns-in-Err-clause-later
+returns-in-Err-clause-later g c = c.write_log.ensures.later
+
+pub returns-in-Err-clause-cause : goal.returns-in-Err-clause-cause
+returns-in-Err-clause-cause g c = λ is. c.write_log.ensures.cause (c.in-Err.is ∙ ap (λ e. Err e) (handed_on c.give_up.result c.in-Err.fault faults.Disk c.give_up.ensures.fault is))
+
+pub returns-in-Err-clause-memory : goal.returns-in-Err-clause-memory
+returns-in-Err-clause-memory g c = λ is. c.give_up.ensures.same (handed_on c.give_up.result c.in-Err.fault faults.NoMemory c.give_up.ensures.fault is)
+
+pub returns-in-Err-clause-closed : goal.returns-in-Err-clause-closed
+returns-in-Err-clause-closed g c = λ is. c.give_up.ensures.closed (handed_on c.give_up.result c.in-Err.fault faults.Disk c.give_up.ensures.fault is)
+
+pub returns-in_err-put_number-clause-done : goal.returns-in_err-put_number-clause-done
+returns-in_err-put_number-clause-done g c = λ s held tells fit. IfOk-from_err c.from_residual.result _ c.from_residual.ensures.0
+
+pub returns-in_err-put_number-clause-over : goal.returns-in_err-put_number-clause-over
+returns-in_err-put_number-clause-over g c = IfOk-from_err c.from_residual.result _ c.from_residual.ensures.0
+
+pub returns-in_err-put_number-clause-idle : goal.returns-in_err-put_number-clause-idle
+returns-in_err-put_number-clause-idle g c = IfOk-from_err c.from_residual.result _ c.from_residual.ensures.0
+
+pub returns-in_err-put_number-clause-shortest : goal.returns-in_err-put_number-clause-shortest
+returns-in_err-put_number-clause-shortest g c = IfOk-from_err c.from_residual.result _ c.from_residual.ensures.0
+
+pub returns-in_err-put_number-clause-measured : goal.returns-in_err-put_number-clause-measured
+returns-in_err-put_number-clause-measured g c = IfOk-from_err c.from_residual.result _ c.from_residual.ensures.0
+
+pub returns-in_err-put_number-clause-number : goal.returns-in_err-put_number-clause-number
+returns-in_err-put_number-clause-number g c = IfOk-from_err c.from_residual.result _ c.from_residual.ensures.0
+
+pub returns-in_err-put_number-clause-gone : goal.returns-in_err-put_number-clause-gone
+returns-in_err-put_number-clause-gone g c = IfOk-from_err c.from_residual.result _ c.from_residual.ensures.0
+
+pub returns-in_err-put_number-clause-memory : goal.returns-in_err-put_number-clause-memory
+returns-in_err-put_number-clause-memory g c = λ is. absurd (no_want c.from_residual.result c.from_residual.ensures.1 is)
+
+pub returns-in_err-put_number-clause-held_still : goal.returns-in_err-put_number-clause-held_still
+returns-in_err-put_number-clause-held_still g c = λ is s held. absurd (no_want c.from_residual.result c.from_residual.ensures.1 is)
+
+pub returns-in_err-put_number-clause-over_still : goal.returns-in_err-put_number-clause-over_still
+returns-in_err-put_number-clause-over_still g c = λ is. absurd (no_want c.from_residual.result c.from_residual.ensures.1 is)
+
+pub returns-in_err-put_number-clause-measured_still : goal.returns-in_err-put_number-clause-measured_still
+returns-in_err-put_number-clause-measured_still g c = λ is measured. absurd (no_want c.from_residual.result c.from_residual.ensures.1 is)
+
+pub returns-in_err-put_number-clause-closed : goal.returns-in_err-put_number-clause-closed
+returns-in_err-put_number-clause-closed g c = λ is. refl
+
+pub returns-in_err-put_number-clause-later : goal.returns-in_err-put_number-clause-later
+returns-in_err-put_number-clause-later g c = le_trans c.write_log.ensures.later c.put_number.ensures.cause.later
+
+pub returns-in_err-put_number-clause-cause : goal.returns-in_err-put_number-clause-cause
+returns-in_err-put_number-clause-cause g c = λ is. rose_later _ _ _ (c.write_log.ensures.later) (c.put_number.ensures.cause.failed (ap is_err c.in_err-put_number.was))
+
+pub returns-in_err-remove-clause-done : goal.returns-in_err-remove-clause-done
+returns-in_err-remove-clause-done g c = λ s held tells fit. IfOk-from_err c.from_residual-in_err-remove.result _ c.from_residual-in_err-remove.ensures.0
+
+pub returns-in_err-remove-clause-over : goal.returns-in_err-remove-clause-over
+returns-in_err-remove-clause-over g c = IfOk-from_err c.from_residual-in_err-remove.result _ c.from_residual-in_err-remove.ensures.0
+
+pub returns-in_err-remove-clause-idle : goal.returns-in_err-remove-clause-idle
+returns-in_err-remove-clause-idle g c = IfOk-from_err c.from_residual-in_err-remove.result _ c.from_residual-in_err-remove.ensures.0
+
+pub returns-in_err-remove-clause-shortest : goal.returns-in_err-remove-clause-shortest
+returns-in_err-remove-clause-shortest g c = IfOk-from_err c.from_residual-in_err-remove.result _ c.from_residual-in_err-remove.ensures.0
+
+pub returns-in_err-remove-clause-measured : goal.returns-in_err-remove-clause-measured
+returns-in_err-remove-clause-measured g c = IfOk-from_err c.from_residual-in_err-remove.result _ c.from_residual-in_err-remove.ensures.0
+
+pub returns-in_err-remove-clause-number : goal.returns-in_err-remove-clause-number
+returns-in_err-remove-clause-number g c = IfOk-from_err c.from_residual-in_err-remove.result _ c.from_residual-in_err-remove.ensures.0
+
+pub returns-in_err-remove-clause-gone : goal.returns-in_err-remove-clause-gone
+returns-in_err-remove-clause-gone g c = IfOk-from_err c.from_residual-in_err-remove.result _ c.from_residual-in_err-remove.ensures.0
+
+pub returns-in_err-remove-clause-memory : goal.returns-in_err-remove-clause-memory
+returns-in_err-remove-clause-memory g c = λ is. absurd (no_want c.from_residual-in_err-remove.result c.from_residual-in_err-remove.ensures.1 is)
+
+pub returns-in_err-remove-clause-held_still : goal.returns-in_err-remove-clause-held_still
+returns-in_err-remove-clause-held_still g c = λ is s held. absurd (no_want c.from_residual-in_err-remove.result c.from_residual-in_err-remove.ensures.1 is)
+
+pub returns-in_err-remove-clause-over_still : goal.returns-in_err-remove-clause-over_still
+returns-in_err-remove-clause-over_still g c = λ is. absurd (no_want c.from_residual-in_err-remove.result c.from_residual-in_err-remove.ensures.1 is)
+
+pub returns-in_err-remove-clause-measured_still : goal.returns-in_err-remove-clause-measured_still
+returns-in_err-remove-clause-measured_still g c = λ is measured. absurd (no_want c.from_residual-in_err-remove.result c.from_residual-in_err-remove.ensures.1 is)
+
+pub returns-in_err-remove-clause-closed : goal.returns-in_err-remove-clause-closed
+returns-in_err-remove-clause-closed g c = λ is. refl
+
+pub returns-in_err-remove-clause-later : goal.returns-in_err-remove-clause-later
+returns-in_err-remove-clause-later g c = le_trans (le_trans c.write_log.ensures.later c.put_number.ensures.cause.later) c.remove.ensures.cause.later
+
+pub returns-in_err-remove-clause-cause : goal.returns-in_err-remove-clause-cause
+returns-in_err-remove-clause-cause g c = λ is. rose_later _ _ _ (le_trans c.write_log.ensures.later c.put_number.ensures.cause.later) (c.remove.ensures.cause.failed (ap is_err c.in_err-remove.was))
+
+pub returns-clause-memory : goal.returns-clause-memory
+returns-clause-memory g c = λ is. absurd (no_failure _ _ is)
+
+pub returns-clause-held_still : goal.returns-clause-held_still
+returns-clause-held_still g c = λ is s held. absurd (no_failure _ _ is)
+
+pub returns-clause-over_still : goal.returns-clause-over_still
+returns-clause-over_still g c = λ is. absurd (no_failure _ _ is)
+
+pub returns-clause-measured_still : goal.returns-clause-measured_still
+returns-clause-measured_still g c = λ is measured. absurd (no_failure _ _ is)
+
+pub returns-clause-closed : goal.returns-clause-closed
+returns-clause-closed g c = λ is. absurd (no_failure _ _ is)
+
+pub returns-clause-cause : goal.returns-clause-cause
+returns-clause-cause g c = λ is. absurd (no_failure _ _ is)
+
+pub returns-clause-idle : goal.returns-clause-idle
+returns-clause-idle g c = (c.go_over.ensures.parts ∙ c.requires.idle.0, (c.go_over.ensures.copies ∙ c.requires.idle.1.0, c.go_over.ensures.slots ∙ c.requires.idle.1.1))
+
+pub returns-clause-number : goal.returns-clause-number
+returns-clause-number g c = c.go_over.ensures.number
+
+pub returns-clause-later : goal.returns-clause-later
+returns-clause-later g c = le_trans (le_trans c.write_log.ensures.later c.put_number.ensures.cause.later) c.remove.ensures.cause.later
+
+pub put_number-requires : goal.put_number-requires
+put_number-requires g c =
+    let over = c.requires.over in
+    let written = subst (λ (f : File). Goes g.D.Disk c.args.disk.now c.write_log.new.disk (Apart f)) c.log_file.ensures c.write_log.ensures.images in
+    (over.checkpoints, omega (arith, over.counted), over_root g.D.Disk c.args.keeper.now c.args.disk.now c.write_log.new.disk over written)
