@@ -30,6 +30,21 @@ made_first name old [] d first = absurd cc
 made_first name [] (c ∷ cs) d first = refl
 made_first name (b ∷ bs) (c ∷ cs) d first = two_is name b bs c cs false false (grind (arith, nat_tests)) (grind (arith, nat_tests))
 
+-- a bucket that comes first is there
+pub first_some : (bs cs : List Bucket) → comes_first bs cs ≡ true → 0 < length bs
+first_some [] cs first = absurd cc
+first_some (b ∷ bs) cs first = omega arith
+
+pub gone_put : (name : List ℕ) (old new : List Bucket) (d : Bucket) (before after : List Item) → comes_first old new ≡ true
+    → after ≡ before ++ items.Gone name (get_or old 0 d).id ∷ [] → HasSpelling (items.Gone name (get_or old 0 d).id) → HasPut name old new (drop 1 old) new before after
+gone_put name old new d before after first put proper =
+    record { done = items.Gone name (get_or old 0 d).id ∷ []; put = put; proper = (proper, tt); whole = gone_first name old new d first }
+
+pub made_put : (name : List ℕ) (old new : List Bucket) (d : Bucket) (before after : List Item) → comes_first new old ≡ true
+    → after ≡ before ++ items.Bucket name (get_or new 0 d) ∷ [] → HasSpelling (items.Bucket name (get_or new 0 d)) → HasPut name old new old (drop 1 new) before after
+made_put name old new d before after first put proper =
+    record { done = items.Bucket name (get_or new 0 d) ∷ []; put = put; proper = (proper, tt); whole = made_first name old new d first }
+
 -- neither comes first: both lists have a first bucket, of one number
 pub both_long : (old new : List Bucket) → 0 < length old + length new → comes_first old new ≡ false → comes_first new old ≡ false → (0 < length old) × (0 < length new)
 both_long [] [] some f g = absurd (omega (arith, some))

@@ -201,3 +201,12 @@ returns-clause-later g c = le_trans c.commit_staged.ensures.later c.measure.ensu
 
 pub returns-clause-file : goal.returns-clause-file
 returns-clause-file g c = ap file_of c.measure.ensures.file ∙ c.commit_staged.ensures.file
+
+pub returns-clause-none : goal.returns-clause-none
+returns-clause-none g c = λ idle. absurd (not_idle c.args.keeper.now (c.is_staged.ensures.0 c.if-not-is_staged.false) idle)
+
+pub returns-in_err-measure-clause-none : goal.returns-in_err-measure-clause-none
+returns-in_err-measure-clause-none g c = λ idle. absurd (not_idle c.args.keeper.now (c.is_staged.ensures.0 c.if-not-is_staged.false) idle)
+
+pub returns-in_err-commit_staged-clause-none : goal.returns-in_err-commit_staged-clause-none
+returns-in_err-commit_staged-clause-none g c = λ idle. absurd (not_idle c.args.keeper.now (c.is_staged.ensures.0 c.if-not-is_staged.false) idle)

@@ -1,4 +1,5 @@
 use Rattle.std.proofs.Common.{rules, ◌≡◌, ◌≢◌, ◌+◌, ◌-◌, ◌<◌, ◌^◌, ℕ, List, [], ◌∷◌, length, refl, ap, subst, sym, ◌∙◌, None, Err, inl, arith, le_trans}
+use Rattle.ix_keep.specs.declared.keeper.Keeper.{Keeper}
 use Rattle.std.proofs.lemmas.Result.{IfOk-from_err}
 use Rattle.std.specs.Result.{is_err}
 use Rattle.ix_base.specs.Told.{Told}
@@ -12,11 +13,11 @@ use Rattle.ix_book.specs.Book.{IsBody}
 use Rattle.ix_book.specs.Root.{log_file, roots}
 use Rattle.ix_book.specs.declared.fault.CheckpointFault.TheVariants as faults
 use Rattle.ix_book.specs.Whole.{whole, whole_body}
-use Rattle.ix_keep.specs.Snapshot.{log_of}
+use Rattle.ix_keep.specs.Snapshot.{log_of, Held, IsOver, IsMeasured}
 use Rattle.ix_keep.specs.Shortening.{HasOneBody}
 use Rattle.ix_keep.proofs.Failing.{no_failure, no_want, handed_on}
 use Rattle.ix_keep.proofs.Settling.{anyhow_on, loosely}
-use Rattle.ix_keep.proofs.Shorter.{number_room, apart_comes, over_still, over_root, measured_still, end_gone, root_gone, over_new, root_mid, written_images, numbered_images, removed_images, shortened_held, place_one, new_file, new_file_other}
+use Rattle.ix_keep.proofs.Shorter.{number_room, apart_comes, over_still, over_root, measured_still, end_gone, root_gone, over_new, root_mid, written_images, numbered_images, removed_images, shortened_held, place_one, new_file, new_file_other, held_mid}
 use Rattle.ix_keep.proofs.Reading.{told_anyhow, anyhow_through, gone_done}
 use Rattle.ix_keep.proofs.shortening.checkpoint.Goals as goal
 
@@ -382,3 +383,31 @@ put_number-requires g c =
     let over = c.requires.over in
     let written = subst (λ (f : File). Goes g.D.Disk c.args.disk.now c.write_log.new.disk (Apart f)) c.log_file.ensures c.write_log.ensures.images in
     (over.checkpoints, omega (arith, over.counted), over_root g.D.Disk c.args.keeper.now c.args.disk.now c.write_log.new.disk over written)
+
+pub returns-in-Err-clause-held_still : goal.returns-in-Err-clause-held_still
+returns-in-Err-clause-held_still g c =
+    λ is s held.
+    let fits = g.B.Replay.fits in
+    let keeper = c.args.keeper.now in
+    let first = c.args.disk.now in
+    let mid = c.write_log.new.disk in
+    let next = c.log_file.ensures ∙ ap (λ (m : ℕ). log_file (m + 1)) held.committed.number in
+    let written = subst (λ (f : File). Goes g.D.Disk first mid (Apart f)) next c.write_log.ensures.images in
+    subst (λ (k : Keeper). Held g.D.Disk fits k mid s s) (sym (c.give_up.ensures.same (handed_on c.give_up.result c.in-Err.fault faults.NoMemory c.give_up.ensures.fault is))) (held_mid g.D.Disk fits keeper first s held mid written)
+
+pub returns-in-Err-clause-over_still : goal.returns-in-Err-clause-over_still
+returns-in-Err-clause-over_still g c =
+    λ is.
+    let first = c.args.disk.now in
+    let mid = c.write_log.new.disk in
+    let written = subst (λ (f : File). Goes g.D.Disk first mid (Apart f)) c.log_file.ensures c.write_log.ensures.images in
+    subst (λ (k : Keeper). IsOver g.D.Disk k mid) (sym (c.give_up.ensures.same (handed_on c.give_up.result c.in-Err.fault faults.NoMemory c.give_up.ensures.fault is))) (over_still g.D.Disk c.args.keeper.now first mid c.requires.over written)
+
+pub returns-in-Err-clause-measured_still : goal.returns-in-Err-clause-measured_still
+returns-in-Err-clause-measured_still g c =
+    λ is measured.
+    let first = c.args.disk.now in
+    let mid = c.write_log.new.disk in
+    let written = subst (λ (f : File). Goes g.D.Disk first mid (Apart f)) c.log_file.ensures c.write_log.ensures.images in
+    let told = subst (λ (f : File). Told (Apart f) (g.D.Disk.seen first) (g.D.Disk.seen mid)) c.log_file.ensures c.write_log.ensures.seen in
+    subst (λ (k : Keeper). IsMeasured g.D.Disk k mid) (sym (c.give_up.ensures.same (handed_on c.give_up.result c.in-Err.fault faults.NoMemory c.give_up.ensures.fault is))) (measured_still g.D.Disk c.args.keeper.now first mid c.requires.over written told measured)
