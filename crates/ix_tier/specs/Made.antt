@@ -1,5 +1,5 @@
 -- What a command is worked out to, with the Tick that may come before it.
-use Rattle.std.specs.Prelude.{◌≡◌, ◌++◌, ◌∷◌, [], ℤ, Bool, List, Some, None, is_some}
+use Rattle.std.specs.Prelude.{◌≡◌, ◌++◌, ◌∷◌, [], ℤ, Bool, List, Some, None, is_some, Result, Ok, Err, MatchResult}
 use Rattle.ix_bounds.specs.Parts.{IsPartsOf}
 use Rattle.ix_keep.specs.Snapshot.{Snapshot}
 use Rattle.ix_kept.specs.Configs.{IsChooser}
@@ -22,10 +22,11 @@ use Rattle.ix_store.specs.Making.{AreProper, LeadsBy, with_order, with_tick}
 use Rattle.ix_store.specs.Written.{AreDone}
 use Rattle.ix_steps.specs.Next.{HasRoom, IsReady}
 use Rattle.ix_tier.specs.Seen.{parts_of}
-use Rattle.ix_steps.specs.Steps.{Stands, IsStep, Steps, order_of}
+use Rattle.ix_steps.specs.Steps.{Stands, IsStep, order_of}
 use Rattle.ix_tier.specs.declared.pairs.Pair.{Pair}
 use Rattle.ix_steps.specs.declared.steps.Step.{Step}
-use Rattle.ix_steps.specs.declared.working.Working.{Working}
+use Rattle.ix_steps.specs.declared.steps.StepFault.{StepFault}
+use Rattle.ix_steps.specs.declared.steps.StepFault.TheVariants as faults
 use Rattle.ix_tier.specs.declared.pairs.Ticked.{Ticked}
 
 -- A command may come to a state that holds a history, which no cause hinders.
@@ -76,9 +77,10 @@ IsOver order held = (choose : Chooser) (history : List Order) → MayFollow choo
 abbrev pub done_with_more : Step → List File → Step
 done_with_more step files = record { next = step.next; draft = step.draft; done_with = step.done_with ++ files; moved = step.moved }
 
--- what the command leads to, done with more files
-abbrev pub StepsWith : Command → Working → List File → Step → Type 0
-StepsWith command w files more = (step : Step) × Steps command w step × (more ≡ done_with_more step files)
+-- a step, where there is one, is done with more files, or there is no room for them
+abbrev pub GoesOn : Result Step StepFault → List File → Result Step StepFault → Type 0
+GoesOn (Ok step) files result = MatchResult result (λ more. more ≡ done_with_more step files) (λ fault. fault ≡ faults.NoMemory)
+GoesOn (Err fault) files result = result ≡ Err fault
 
 -- the one behind the other, done with the files of both
 abbrev pub pair_with : Step → Step → Pair

@@ -4,8 +4,7 @@ ghost use Rattle.std.specs.Prelude.{◌≡◌, ◌++◌, true, false, IfOk, OnOk
 ghost use Rattle.std.specs.List.{AllByRecursion};
 ghost use Rattle.ix_items.specs.Spelling.{HasSpelling};
 ghost use Rattle.ix_kept.specs.Taken.{IsTakenCommand};
-ghost use Rattle.ix_steps.specs.Steps.{IsOver as IsStepOver, IsUsable};
-ghost use Rattle.ix_tier.specs.Made.{Pairs, PairsWithin, PairsWhere, IsOver, IsOverWhere, IsUsablePair, StepsWith, TickSteps, TickIsOver, done_with_more};
+ghost use Rattle.ix_tier.specs.Made.{Pairs, PairsWithin, PairsWhere, IsOver, IsOverWhere, IsUsablePair, GoesOn, TickSteps, TickIsOver};
 
 use crate::copying::storage_of;
 use crate::measuring::is_within;
@@ -27,17 +26,22 @@ fn add_files(list: &mut FileList, files: &[File]) -> Result<(), NoMemory>
     Ok(())
 }
 
-/// A step that is done with more files.
-fn with_files(step: Step, files: &[File]) -> Result<Step, NoMemory>
-    ensures { IfOk result (λ more. more ≡ done_with_more step files.now) }
+/// A step that is done with more files, where there is one.
+fn with_files(made: Result<Step, StepFault>, files: &[File]) -> Result<Step, StepFault>
+    ensures { GoesOn made files.now result }
 {
-    let mut step = step;
-    match add_files(&mut step.done_with, files) {
-        Ok(()) => Ok(step),
-        Err(fault) => {
-            drop(step);
-            Err(fault)
+    match made {
+        Ok(step) => {
+            let mut step = step;
+            match add_files(&mut step.done_with, files) {
+                Ok(()) => Ok(step),
+                Err(_) => {
+                    drop(step);
+                    Err(StepFault::NoMemory)
+                }
+            }
         }
+        Err(fault) => Err(fault),
     }
 }
 
@@ -70,18 +74,6 @@ fn tick<'a>(
     })
 }
 
-/// What a command leads to, done with more files.
-fn work_with(work: &Working<'_>, command: Command, files: &[File]) -> Result<Step, StepFault>
-    requires { IsTakenCommand command }
-    ensures done { IfOk result (λ more. StepsWith command work.now files.now more) }
-    ensures usable { IfOk result (λ more. IsUsable work.now.held.now more) }
-    ensures full { IsErrOf result StepFault.Full → IsStepOver command work.now }
-{
-    let step = work.work(command)?;
-    let more = with_files(step, files)?;
-    Ok(more)
-}
-
 /// A Tick, and a command behind it.
 fn with_tick(
     alloc: Global,
@@ -104,7 +96,7 @@ fn with_tick(
                     storage: &first.storage,
                     moment,
                 };
-                work_with(&work, command, first.done_with.as_slice())
+                with_files(work.work(command), first.done_with.as_slice())
             };
             match made {
                 Ok(step) => Ok(Pair {
