@@ -8,3 +8,4 @@ pub mod EndedLemmas
 pub mod PutLemmas
 pub mod Within
 pub mod Alike
+mod Failing

@@ -3,6 +3,7 @@ use Rattle.std.specs.Prelude.{◌≡◌, ℕ, List, [], Some, unwrap_or}
 use Rattle.ix_base.specs.declared.events.ChannelMeta.{ChannelMeta}
 use Rattle.ix_life.specs.declared.sets.LimitSet.{LimitSet}
 use Rattle.ix_parse.specs.Standing.{StandsFor}
+use Rattle.ix_parse.specs.declared.channel.Channel.{Channel}
 use Rattle.ix_props.specs.Settings.{AreSettings, AreUsable}
 use Rattle.ix_props.specs.declared.props.PropsEntry.{PropsEntry}
 use Rattle.ix_props.specs.declared.settings.Settings.{Settings}
@@ -18,6 +19,13 @@ resolved set meta = record {
 }
 
 -- it has no byte yet, and goes by the settings that are chosen for it
+pub record IsStarted (entries : List PropsEntry) (meta : ChannelMeta) (channel : Channel) : Type 0 where
+  pub settings : Settings
+  pub chosen : AreSettings entries meta settings
+  pub usable : AreUsable settings
+  pub stands : StandsFor settings meta [] channel
+
+-- such a channel is open under a name
 pub record IsBegun (entries : List PropsEntry) (name : List ℕ) (meta : ChannelMeta) (o : Open) : Type 0 where
   pub name_is : o.name ≡ name
   pub meta_is : o.meta ≡ meta

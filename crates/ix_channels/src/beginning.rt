@@ -52,19 +52,34 @@ pub(crate) fn resolved(limits: &LimitSet, meta: ChannelMeta) -> Result<ChannelMe
     })
 }
 
-/// A channel that has no byte yet, by the settings that are chosen for it.
+/// A channel that has no byte yet, by the settings that are chosen for its metadata.
+fn started(alloc: Global, props: &Props, meta: &ChannelMeta) -> Result<Channel, NoMemory>
+    requires { IsSome meta.now.index }
+    ensures { IfOk result (λ channel. defs.IsStarted props.now meta.now channel) }
+{
+    let settings = props.settings(alloc, meta)?;
+    let stated = meta.copy()?;
+    let channel = Channel::start(alloc, settings, stated)?;
+    Ok(channel)
+}
+
+/// An open channel that has no byte yet.
 fn opened(alloc: Global, props: &Props, name: Bytes, meta: ChannelMeta) -> Result<Open, NoMemory>
     requires { IsSome meta.index }
     ensures { IfOk result (λ begun. defs.IsBegun props.now name meta begun) }
 {
-    let stated = meta.copy()?;
-    let settings = props.settings(alloc, &meta)?;
-    let channel = Channel::start(alloc, settings, stated)?;
-    Ok(Open {
-        name,
-        meta,
-        channel,
-    })
+    match started(alloc, props, &meta) {
+        Ok(channel) => Ok(Open {
+            name,
+            meta,
+            channel,
+        }),
+        Err(fault) => {
+            drop(name);
+            drop(meta);
+            Err(fault)
+        }
+    }
 }
 
 /// The change by which the channel is open among the others.

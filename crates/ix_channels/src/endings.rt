@@ -20,7 +20,7 @@ ghost use Rattle.ix_channels.specs.Working.{MayBeDone, IsWorked, StaysWithin};
 use crate::change::ChannelChange;
 use crate::ending::{Ending, end_open};
 use crate::working::{WorkFault, Worked};
-use ix_base::{NoMemory, Routed, Sequence};
+use ix_base::{NoMemory, Routed, RoutedList, Sequence};
 use ix_items::Item;
 use ix_kept::{Held, Open};
 use ix_life::LimitSet;
@@ -33,6 +33,15 @@ struct Endings {
     items: Vec<Item>,
 }
 
+/// Adds what events come to behind the others.
+fn add_outcomes(all: &mut Vec<Routed>, more: RoutedList) -> Result<(), NoMemory>
+    ensures { OnOk result (all.new.items ≡ all.old.items ++ more) }
+{
+    let mut more = more.into_vec();
+    all.append(&mut more)?;
+    Ok(())
+}
+
 impl Endings {
     /// Puts the end of one channel behind them.
     fn push(&mut self, ending: Ending) -> Result<(), NoMemory>
@@ -40,10 +49,8 @@ impl Endings {
         ensures items { OnOk result (self.new.items.items ≡ self.old.items.items ++ ending.item ∷ []) }
     {
         let Ending { outcomes, item } = ending;
-        let mut outcomes = outcomes.into_vec();
-        self.outcomes.append(&mut outcomes)?;
         self.items.push(item)?;
-        Ok(())
+        add_outcomes(&mut self.outcomes, outcomes)
     }
 
     /// What they make of all channels.

@@ -1,6 +1,10 @@
-use Rattle.std.proofs.Common.{◌≡◌, ◌<◌, List, [], ◌∷◌, ◌∙◌, ap, subst, length, rules}
+use Rattle.std.proofs.Common.{◌≡◌, ◌<◌, List, [], ◌∷◌, ◌∙◌, ap, subst, length, rules, sym, refl}
+use Rattle.ix_channels.proofs.Failing.{no_failure, same_fault}
+use Rattle.ix_shelves.specs.Numbers.{HasRecord}
+use Rattle.ix_items.specs.Spelling.{HasSpelling}
+use Rattle.ix_base.specs.declared.events.Routed.{Routed}
 use Rattle.std.specs.Prelude.{IsErrOf, Some, None}
-use Rattle.std.specs.List.{position}
+use Rattle.std.specs.List.{position, All, AllByRecursion}
 use Rattle.ix_items.specs.declared.items.Item.{Item}
 use Rattle.ix_items.specs.declared.items.Item.TheVariants as items
 use Rattle.ix_machine.specs.declared.commands.Command.TheVariants.{End}
@@ -44,3 +48,15 @@ returns-clause-done c = λ choose history moment may.
     (record { change = change.Ended c.in-Some.at; outcomes = e.outcomes; items = items.Ended o.name ∷ [] }) c.in_ok-worked.ensures.change c.in_ok-worked.ensures.outcomes
     (c.in_ok-worked.ensures.items ∙ ap (λ (x : Item). x ∷ []) c.in_ok-ending.ensures.said)
     (end_works choose history channel moment held c.in-Some.at o e.outcomes may place within c.index-found.ensures c.in_ok-ending.ensures.settles)
+
+pub returns-in_err-worked-clause-full : goal.returns-in_err-worked-clause-full
+returns-in_err-worked-clause-full c = λ was choose history moment may within. c.worked.ensures.full (same_fault c.worked.result c.from_residual-in_err-worked.result c.in_err-worked.field-0.0 faults.Full c.in_err-worked.was c.from_residual-in_err-worked.ensures.1 was)
+
+pub returns-clause-full : goal.returns-clause-full
+returns-clause-full c = λ was choose history moment may within. no_failure _ _ was
+
+pub returns-clause-small : goal.returns-clause-small
+returns-clause-small c = subst (λ (l : List Routed). All (HasRecord c.args.held.now.config.limits) l) (sym c.in_ok-worked.ensures.outcomes) c.in_ok-ending.ensures.small
+
+pub returns-clause-proper : goal.returns-clause-proper
+returns-clause-proper c = subst (λ (l : List Item). AllByRecursion HasSpelling l) (sym c.in_ok-worked.ensures.items) (subst HasSpelling refl c.in_ok-ending.ensures.proper, tt)

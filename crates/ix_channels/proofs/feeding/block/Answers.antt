@@ -1,8 +1,13 @@
-use Rattle.std.proofs.Common.{w64, SFits}
+use Rattle.std.proofs.Common.{w64, SFits, sym}
+use Rattle.ix_channels.proofs.Failing.{no_failure}
+use Rattle.ix_shelves.specs.Numbers.{HasRecord}
+use Rattle.ix_items.specs.declared.items.Item.{Item}
+use Rattle.ix_items.specs.Spelling.{HasSpelling}
+use Rattle.ix_base.specs.declared.events.Routed.{Routed}
 use Rattle.std.proofs.lemmas.Int.{to_z-of_z}
 use Rattle.std.proofs.Common.{◌≡◌, ◌<◌, List, subst, length, rules}
 use Rattle.std.specs.Prelude.{IsErrOf, Some, None}
-use Rattle.std.specs.List.{position}
+use Rattle.std.specs.List.{position, All, AllByRecursion}
 use Rattle.ix_machine.specs.declared.commands.Command.TheVariants.{Block}
 use Rattle.ix_kept.specs.Causes.{has_name}
 use Rattle.ix_kept.specs.declared.held.Open.{Open}
@@ -47,3 +52,12 @@ returns-clause-done c = λ choose history spot may.
     alike choose history (Block channel bytes spot) c.args.moment held c.worked.result
     (record { change = change.Fed c.in-Some.at fed.channel; outcomes = fed.outcomes; items = fed.items }) c.worked.ensures.change c.worked.ensures.outcomes c.worked.ensures.items
     (block_works choose history channel bytes spot c.args.moment held c.in-Some.at c.index-found.result.now fed may place within c.index-found.ensures done)
+
+pub returns-clause-full : goal.returns-clause-full
+returns-clause-full c = λ was choose history spot may within. no_failure _ _ was
+
+pub returns-clause-small : goal.returns-clause-small
+returns-clause-small c = subst (λ (l : List Routed). All (HasRecord c.args.held.now.config.limits) l) (sym c.worked.ensures.outcomes) c.in_ok-fed.ensures.small
+
+pub returns-clause-proper : goal.returns-clause-proper
+returns-clause-proper c = subst (λ (l : List Item). AllByRecursion HasSpelling l) (sym c.worked.ensures.items) c.in_ok-fed.ensures.proper

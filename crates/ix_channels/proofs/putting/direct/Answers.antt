@@ -1,7 +1,11 @@
 use Rattle.std.proofs.Common.{w64, SFits}
+use Rattle.ix_channels.proofs.Failing.{no_failure, memory_no_full}
+use Rattle.ix_shelves.specs.Numbers.{HasRecord}
+use Rattle.ix_items.specs.declared.items.Item.{Item}
+use Rattle.ix_items.specs.Spelling.{HasSpelling}
 use Rattle.std.proofs.lemmas.Int.{to_z-of_z}
 use Rattle.std.proofs.Common.{List, refl, sym, subst}
-use Rattle.std.specs.List.{All}
+use Rattle.std.specs.List.{All, AllByRecursion}
 use Rattle.ix_base.specs.declared.events.Routed.{Routed}
 use Rattle.ix_machine.specs.declared.commands.Command.TheVariants.{Direct}
 use Rattle.ix_parse.specs.Limits.{IsSmall}
@@ -24,3 +28,15 @@ returns-else-have_records-clause-full c = λ was choose history may within.
     c.have_records.ensures.no c.if-have_records.false (brief_chance choose history (Direct c.args.events) c.args.moment held may)
     (subst (λ (l : List Routed). All IsSmall l) (sym c.as_slice.ensures)
     (all_at IsSmall outcomes (direct_small choose history c.args.events c.args.moment held outcomes may put)))
+
+pub returns-in_err-outcomes-clause-full : goal.returns-in_err-outcomes-clause-full
+returns-in_err-outcomes-clause-full c = λ was choose history may within. memory_no_full c.from_residual.result c.from_residual.ensures.1 was
+
+pub returns-then-have_records-clause-full : goal.returns-then-have_records-clause-full
+returns-then-have_records-clause-full c = λ was choose history may within. no_failure _ _ was
+
+pub returns-then-have_records-clause-small : goal.returns-then-have_records-clause-small
+returns-then-have_records-clause-small c = subst (λ (l : List Routed). All (HasRecord c.args.held.now.config.limits) l) c.as_slice.ensures (c.have_records.ensures.yes c.if-have_records.true)
+
+pub returns-then-have_records-clause-proper : goal.returns-then-have_records-clause-proper
+returns-then-have_records-clause-proper c = subst (λ (l : List Item). AllByRecursion HasSpelling l) (sym c.new.ensures) tt

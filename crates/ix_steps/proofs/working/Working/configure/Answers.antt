@@ -1,4 +1,5 @@
 use Rattle.std.proofs.Common.{◌≡◌, sym, subst}
+use Rattle.ix_steps.proofs.Causes.{memory_no_full, no_failure}
 use Rattle.std.specs.Prelude.{Err}
 use Rattle.std.specs.declared.result.Result.{Result}
 use Rattle.ix_machine.specs.declared.commands.Command.TheVariants.{Configure}
@@ -23,3 +24,9 @@ pub returns-in-Err-with_config-clause-full : goal.returns-in-Err-with_config-cla
 returns-in-Err-with_config-clause-full c = λ full choose history given h before behind.
     (let written = configured_written choose history c.args.config given c.args.self.now h behind in
     c.in-Err-with_config.ensures.full (again c.in-Err-with_config.fault full) written.0 written.1)
+
+pub returns-in_err-step-in-Ok-with_config-clause-full : goal.returns-in_err-step-in-Ok-with_config-clause-full
+returns-in_err-step-in-Ok-with_config-clause-full c = memory_no_full c.from_residual.result c.from_residual.ensures.1
+
+pub returns-in_ok-step-in-Ok-with_config-clause-full : goal.returns-in_ok-step-in-Ok-with_config-clause-full
+returns-in_ok-step-in-Ok-with_config-clause-full c = λ full. absurd (no_failure _ _ full)

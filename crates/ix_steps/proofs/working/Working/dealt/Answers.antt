@@ -2,7 +2,7 @@ use Rattle.std.proofs.Common.{◌≡◌, [], sym, subst, refl}
 use Rattle.ix_moves.specs.Moving.{deals}
 use Rattle.ix_steps.specs.Dealing.{Deals, CannotDeal}
 use Rattle.ix_steps.specs.Steps.{Steps, step_with}
-use Rattle.ix_steps.proofs.Causes.{move_full}
+use Rattle.ix_steps.proofs.Causes.{move_full, memory_no_full, no_failure}
 use Rattle.ix_steps.proofs.Dealt.{dealt_over, dealt_steps}
 use Rattle.ix_steps.proofs.working.Working.dealt.Goals as goal
 
@@ -15,3 +15,9 @@ pub returns-in_ok-step-in-Ok-clause-done : goal.returns-in_ok-step-in-Ok-clause-
 returns-in_ok-step-in-Ok-clause-done c =
     subst (Deals c.args.self.now c.args.worked c.args.beside) (sym c.in_ok-step-in-Ok.ensures.is)
     (dealt_steps c.args.self.now c.base-base.result c.args.worked c.in-Ok.moved c.args.beside c.base-base.ensures c.in-Ok.ensures.done)
+
+pub returns-in_err-step-in-Ok-clause-full : goal.returns-in_err-step-in-Ok-clause-full
+returns-in_err-step-in-Ok-clause-full c = memory_no_full c.from_residual.result c.from_residual.ensures.1
+
+pub returns-in_ok-step-in-Ok-clause-full : goal.returns-in_ok-step-in-Ok-clause-full
+returns-in_ok-step-in-Ok-clause-full c = λ full. absurd (no_failure _ _ full)

@@ -1,7 +1,8 @@
 use Rattle.std.proofs.Common.{◌≡◌}
+use Rattle.ix_steps.specs.declared.steps.StepFault.TheVariants as faults
 use Rattle.std.specs.Prelude.{Err}
 use Rattle.std.specs.declared.result.Result.{Result}
-use Rattle.ix_steps.proofs.Causes.{move_full}
+use Rattle.ix_steps.proofs.Causes.{move_full, same_fault}
 use Rattle.ix_steps.proofs.Configuring.{configured_over, configured_steps}
 use Rattle.ix_steps.proofs.working.Working.parts.Goals as goal
 
@@ -18,3 +19,6 @@ returns-in-Err-clause-full c =
     rw from (λ full.
     configured_over c.args.self.now c.base-base.result c.in_ok-change.field-0 c.args.config.now c.base-base.ensures (c.in_ok-change.ensures.done.works c.args.config.now)
     (c.in-Err.ensures.full (move_full c.in-Err.fault full)))
+
+pub returns-in_err-change-clause-full : goal.returns-in_err-change-clause-full
+returns-in_err-change-clause-full c = λ full. (c.ended.ensures.full (same_fault c.ended.result c.from_residual.result c.in_err-change.field-0.0 faults.Full c.in_err-change.was c.from_residual.ensures.1 full)).over c.args.config.now

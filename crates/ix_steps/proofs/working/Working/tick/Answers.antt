@@ -4,7 +4,7 @@ use Rattle.ix_channels.specs.declared.change.ChannelChange.TheVariants.{Same}
 use Rattle.ix_machine.specs.declared.commands.Command.TheVariants.{Tick}
 use Rattle.ix_moves.specs.Moving.{turns, rolls, thaws}
 use Rattle.ix_steps.specs.Steps.{Steps, step_with, no_beside}
-use Rattle.ix_steps.proofs.Causes.{move_full, none_full}
+use Rattle.ix_steps.proofs.Causes.{move_full, none_full, memory_no_full}
 use Rattle.ix_steps.proofs.Moving.{moved_at, over_at}
 use Rattle.ix_steps.proofs.Stepping.{still_steps}
 use Rattle.ix_steps.proofs.working.Working.tick.Goals as goal
@@ -21,3 +21,6 @@ returns-clause-done c =
     subst (Steps (Tick) c.args.self.now) (sym c.in_ok-step.ensures.is)
     (λ choose history given h. still_steps choose history (Tick) given c.args.self.now c.in_ok-moved.moved tt h
     (moved_at (turns) (Tick) c.args.self.now c.base-base.result c.in_ok-moved.moved c.base-base.ensures (λ choose history given h. refl) c.in_ok-moved.ensures.done choose history given h))
+
+pub returns-in_err-step-clause-full : goal.returns-in_err-step-clause-full
+returns-in_err-step-clause-full c = memory_no_full c.from_residual-in_err-step.result c.from_residual-in_err-step.ensures.1
