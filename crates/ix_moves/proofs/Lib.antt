@@ -10,3 +10,4 @@ pub mod Turned
 pub mod Rolled
 pub mod Thawed
 pub mod Configured
+mod Failing

@@ -1,4 +1,6 @@
 use Rattle.std.proofs.Common.{subst, sym, ◌∙◌}
+use Rattle.ix_moves.specs.declared.moved.MoveFault.TheVariants as faults
+use Rattle.ix_moves.proofs.Failing.{memory_no_full, same_fault}
 use Rattle.std.specs.Prelude.{[]}
 use Rattle.std.proofs.lemmas.Result.{IfOk-weaker}
 use Rattle.ix_moves.specs.Working.{shelves_in, CanBeSaid}
@@ -19,3 +21,10 @@ returns-clause-full c = λ is new r numbers balanced kept said.
     c.leave.ensures.full is
     (subst (λ (s : Shelves). CanBeSaid [] (shelves_in b) s)
     (sym (shelves_together b c.args.outcomes c.args.next.now c.in_ok-work.work c.in_ok-indexes.indexes new c.in_ok-work.ensures.done c.in_ok-indexes.ensures r)) said))
+
+pub returns-in_err-indexes-clause-full : goal.returns-in_err-indexes-clause-full
+returns-in_err-indexes-clause-full c = memory_no_full c.from_residual-in_err-indexes.result c.from_residual-in_err-indexes.ensures.1
+
+pub returns-in_err-work-clause-full : goal.returns-in_err-work-clause-full
+returns-in_err-work-clause-full c = λ is new r numbers balanced kept said.
+    c.work.ensures.full (same_fault c.work.result c.from_residual.result c.in_err-work.field-0.0 faults.Full c.in_err-work.was c.from_residual.ensures.1 is) numbers balanced kept
