@@ -46,3 +46,4 @@ pub mod Sized
 pub mod Parted
 pub mod Ledgers
 pub mod Blamed
+mod Failing

@@ -1,4 +1,5 @@
 use Rattle.std.proofs.Common.{◌≡◌, List, rules, ap, inr, subst, sym, ◌∙◌}
+use Rattle.ix_recall.proofs.Failing.{memory_no_bad}
 use Rattle.std.specs.Prelude.{ℕ, Result, Err}
 use Rattle.ix_base.specs.declared.events.ChannelMeta.{ChannelMeta}
 use Rattle.ix_carry.specs.Form.{IsCarryOf}
@@ -41,3 +42,12 @@ returns-in_ok-copy-in-Ok-clause-opened c =
           (c.in-Ok.ensures.stands stream
           (subst (λ (bytes : List ℕ). IsCarryOf (rules_of settings) bytes (carry_of settings stream)) (sym c.as_slice.ensures) carries));
     }
+
+pub returns-in_err-name-clause-bad : goal.returns-in_err-name-clause-bad
+returns-in_err-name-clause-bad c = λ subject is. memory_no_bad c.from_residual.result subject c.from_residual.ensures.1 is
+
+pub returns-in_err-stated-clause-bad : goal.returns-in_err-stated-clause-bad
+returns-in_err-stated-clause-bad c = λ subject is. memory_no_bad c.from_residual-in_err-stated.result subject c.from_residual-in_err-stated.ensures.1 is
+
+pub returns-in_err-settings-clause-bad : goal.returns-in_err-settings-clause-bad
+returns-in_err-settings-clause-bad c = λ subject is. memory_no_bad c.from_residual-in_err-settings.result subject c.from_residual-in_err-settings.ensures.1 is

@@ -1,4 +1,5 @@
 use Rattle.std.proofs.Common.{◌≡◌, List, ℕ, rules, refl, sym, ap, subst, inl, inr}
+use Rattle.ix_recall.proofs.Failing.{memory_no_bad}
 use Rattle.std.specs.Prelude.{Err}
 use Rattle.std.proofs.lemmas.Result.{err_from_is_err_and}
 use Rattle.ix_base.specs.declared.events.Spot.{Spot}
@@ -60,3 +61,9 @@ returns-in_err-channels-clause-bad c = λ subject is.
       has_bad = subst (λ (given : List Carried). HasBad given c.in_ok-config.config.props subject) c.into_vec-2.ensures
           (c.in_err-channels.ensures.bad subject (ap (λ f. Err f) gives));
     })
+
+pub returns-in_err-indexes-clause-bad : goal.returns-in_err-indexes-clause-bad
+returns-in_err-indexes-clause-bad c = λ subject is. memory_no_bad c.from_residual-in_err-indexes.result subject c.from_residual-in_err-indexes.ensures.1 is
+
+pub returns-in_err-ledger-clause-bad : goal.returns-in_err-ledger-clause-bad
+returns-in_err-ledger-clause-bad c = λ subject is. memory_no_bad c.from_residual-in_err-ledger.result subject c.from_residual-in_err-ledger.ensures.1 is

@@ -1,4 +1,5 @@
 use Rattle.std.proofs.Common.{◌≡◌, Bool, List, subst, sym, ap, ◌∙◌}
+use Rattle.ix_recall.proofs.Failing.{memory_no_bad}
 use Rattle.std.specs.Prelude.{not, reverse, Result, Err}
 use Rattle.std.specs.List.{list_any}
 use Rattle.ix_items.specs.declared.items.Item.{Item}
@@ -49,3 +50,9 @@ returns-in-Err-clause-sound c = λ subject err choose history run removed choose
     let gathered = c.in_ok-gathered.ensures ∙ ap (λ l. all_taken l nothing) same in
     not_refused choose history c.args.book subject listed (record { chooser = chooser; given = given; fits_it = fit; run = run; removed = removed; is = is })
     (subst (IsNoState subject) gathered (c.in-Err.ensures.bad subject (ap (λ f. Err f) (same_fault err))))
+
+pub returns-in_err-gathered-clause-bad : goal.returns-in_err-gathered-clause-bad
+returns-in_err-gathered-clause-bad c = λ subject is. memory_no_bad c.from_residual.result subject c.from_residual.ensures.1 is
+
+pub returns-in_err-gathered-clause-sound : goal.returns-in_err-gathered-clause-sound
+returns-in_err-gathered-clause-sound c = λ subject is. memory_no_bad c.from_residual.result subject c.from_residual.ensures.1 is

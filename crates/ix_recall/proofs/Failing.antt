@@ -1,0 +1,14 @@
+-- What is said where there was no room in memory.
+use Rattle.std.proofs.Common.{◌≡◌, Result, Ok, Err, refl}
+use Rattle.std.specs.Result.{IsErrAnd}
+use Rattle.ix_recall.specs.declared.faults.RecallFault.{RecallFault}
+use Rattle.ix_recall.specs.declared.faults.RecallFault.TheVariants as faults
+use Rattle.ix_store.specs.declared.subject.Subject.{Subject}
+
+no_cause : {T : Type 0} (r : Result T RecallFault) (e : RecallFault) (subject : Subject) → e ≡ faults.NoMemory → r ≡ Err e → r ≡ Err (faults.Bad subject) → ⊥
+no_cause r e subject a b c = cc
+
+-- it is no item's fault
+pub memory_no_bad : {T R : Type 0} (r : Result T RecallFault) (subject : Subject) → IsErrAnd r (λ e. e ≡ faults.NoMemory) → r ≡ Err (faults.Bad subject) → R
+memory_no_bad (Ok x) subject failed is = absurd failed
+memory_no_bad (Err e) subject failed is = absurd (no_cause (Err e) e subject failed refl is)
