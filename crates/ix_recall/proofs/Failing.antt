@@ -1,5 +1,6 @@
 -- What is said where there was no room in memory.
 use Rattle.std.proofs.Common.{◌≡◌, Result, Ok, Err, refl}
+use Rattle.std.specs.Prelude.{IsErrOf}
 use Rattle.std.specs.Result.{IsErrAnd}
 use Rattle.ix_recall.specs.declared.faults.RecallFault.{RecallFault}
 use Rattle.ix_recall.specs.declared.faults.RecallFault.TheVariants as faults
@@ -12,3 +13,10 @@ no_cause r e subject a b c = cc
 pub memory_no_bad : {T R : Type 0} (r : Result T RecallFault) (subject : Subject) → IsErrAnd r (λ e. e ≡ faults.NoMemory) → r ≡ Err (faults.Bad subject) → R
 memory_no_bad (Ok x) subject failed is = absurd failed
 memory_no_bad (Err e) subject failed is = absurd (no_cause (Err e) e subject failed refl is)
+
+pub lack_no_bad : {T : Type 0} (subject : Subject) → IsErrOf {T = T} (Err faults.NoMemory) (faults.Bad subject) → ⊥
+lack_no_bad subject is = cc
+
+-- an answer is no failure
+pub no_failure : {T E : Type 0} (x : T) (e : E) → Ok x ≡ Err e → ⊥
+no_failure x e is = cc

@@ -1,5 +1,5 @@
 use Rattle.std.proofs.Common.{◌≡◌, List, rules, ap, inr, subst, sym, ◌∙◌}
-use Rattle.ix_recall.proofs.Failing.{memory_no_bad}
+use Rattle.ix_recall.proofs.Failing.{memory_no_bad, no_failure, lack_no_bad}
 use Rattle.std.specs.Prelude.{ℕ, Result, Err}
 use Rattle.ix_base.specs.declared.events.ChannelMeta.{ChannelMeta}
 use Rattle.ix_carry.specs.Form.{IsCarryOf}
@@ -51,3 +51,9 @@ returns-in_err-stated-clause-bad c = λ subject is. memory_no_bad c.from_residua
 
 pub returns-in_err-settings-clause-bad : goal.returns-in_err-settings-clause-bad
 returns-in_err-settings-clause-bad c = λ subject is. memory_no_bad c.from_residual-in_err-settings.result subject c.from_residual-in_err-settings.ensures.1 is
+
+pub returns-in_ok-copy-in-Ok-clause-bad : goal.returns-in_ok-copy-in-Ok-clause-bad
+returns-in_ok-copy-in-Ok-clause-bad c = λ subject is. absurd (no_failure _ _ is)
+
+pub returns-in-Err-NoMemory-clause-bad : goal.returns-in-Err-NoMemory-clause-bad
+returns-in-Err-NoMemory-clause-bad c = λ subject is. absurd (lack_no_bad subject is)
