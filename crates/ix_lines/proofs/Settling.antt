@@ -11,7 +11,7 @@ use Rattle.ix_lines.specs.Lines.{line_of}
 use Rattle.ix_lines.specs.Laws.{IsStable}
 use Rattle.ix_lines.specs.Kept.{Keeps, IsPart, AddsSome, first_moment}
 use Rattle.ix_lines.specs.Moments.{moments_of}
-use Rattle.ix_lines.specs.Seek.{last_byte, seek}
+use Rattle.ix_lines.specs.Seek.{last_byte, seek, IsWithin}
 use Rattle.ix_lines.specs.Settle.{CameTo, Settles, part}
 use Rattle.ix_lines.specs.declared.kept.Kept.{Kept}
 use Rattle.ix_base.specs.declared.events.Line.{Line}
@@ -20,7 +20,33 @@ use Rattle.ix_lines.specs.declared.breaks.Found.{Found}
 use Rattle.ix_lines.specs.declared.breaks.Found.TheVariants.{Break, Stop}
 use Rattle.ix_lines.proofs.ListLemmas.{take-add, drop-drop, part-on, part-behind, bytes_of-zip, bytes_of-take, bytes_of-drop, take-past}
 use Rattle.ix_lines.proofs.WalkLemmas.{preceded-preceded, bytes_of-append}
-use Rattle.ix_lines.proofs.SeekLemmas.{by_found, walk-seek, last_byte-append}
+use Rattle.ix_lines.proofs.SeekLemmas.{by_found, walk-seek, last_byte-append, rest-is}
+
+-- before the first step
+pub came-first : (look : Looker) (u : Bool) (t : ℕ) (first : Option ℕ) (all stretch : List Dated) (kept : Kept) (out : List Line) → Keeps t stretch kept →
+    CameTo look u t (walk look u first stretch 0 all) first all 0 0 kept out out
+came-first look u t first all stretch kept out keeps = record {
+  stretch = stretch;
+  done = [];
+  keeps = keeps;
+  written = sym (append-nil out);
+  walk_on = ap (λ s. walk look u first s 0 all) (sym (append-nil stretch));
+}
+
+-- where the search stops, and a break with its match, lie within the bytes
+pub stop-within : (all : List ℕ) (at n most : ℕ) (f : Found) → f ≡ Stop n → at ≤ length all → IsWithin f (length (take (length all - at) (drop at all))) most →
+    (at + n ≤ length all) × (length all < at + n + most)
+stop-within all at n most f is h w =
+    let m = subst (λ (x : Found). IsWithin x (length (take (length all - at) (drop at all))) most) is w in
+    let e : length (take (length all - at) (drop at all)) ≡ length all - at = ap length (rest-is all at) ∙ length-drop at all in
+    (omega (arith, m.0, e, h), omega (arith, m.1, e, h))
+
+pub break-within : (all : List ℕ) (at from to end most : ℕ) (f : Found) → f ≡ Break from to end → at ≤ length all →
+    IsWithin f (length (take (length all - at) (drop at all))) most → (from ≤ to) × (to ≤ end) × (0 < end) × (at + end ≤ length all)
+break-within all at from to end most f is h w =
+    let m = subst (λ (x : Found). IsWithin x (length (take (length all - at) (drop at all))) most) is w in
+    let e : length (take (length all - at) (drop at all)) ≡ length all - at = ap length (rest-is all at) ∙ length-drop at all in
+    (m.0, m.1, m.2, omega (arith, m.3, e, h))
 
 -- a part of bytes and moments side by side
 first-part : (k s : ℕ) (bs : List ℕ) (ms : List ℤ) (m : ℤ) → (s < length ms → m ≡ get_or ms s (pos 0)) →

@@ -69,12 +69,22 @@ fn break_of(groups: &[Option<(usize, usize)>]) -> (usize, usize)
 
 /// A pattern of breaks, with the attempt that goes on while bytes come. Contracts see the pattern, what the attempt is to
 /// its callers, and whether one is made at all.
-#[derive(Drop)]
 pub struct Breaker {
     pattern: Pattern,
     scan: Scan,
     /// The pattern is a group of one or more bytes of a set: a break is counted, and no attempt is made.
     counts: bool,
+}
+
+/// It is written out, so that each place where one is let go is a call of it, which is proved once.
+impl Drop for Breaker {
+    fn drop(self) {
+        let Breaker {
+            pattern: _,
+            scan: _,
+            counts: _,
+        } = self;
+    }
 }
 
 impl Model for Breaker {

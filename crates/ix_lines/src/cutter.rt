@@ -24,7 +24,6 @@ use std::alloc::Global;
 use std::sync::ledger::Ledger;
 
 /// What cuts a stream into lines.
-#[derive(Drop)]
 pub struct Cutter {
     pub alloc: Global,
     pub breaker: Breaker,
@@ -32,6 +31,18 @@ pub struct Cutter {
     pub truncate: usize,
     /// The line that is open.
     pub kept: Kept,
+}
+
+/// It is written out, so that each place where one is let go is a call of it, which is proved once.
+impl Drop for Cutter {
+    fn drop(self) {
+        let Cutter {
+            alloc: _,
+            breaker: _,
+            truncate: _,
+            kept: _,
+        } = self;
+    }
 }
 
 impl Cutter {

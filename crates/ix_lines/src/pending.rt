@@ -13,13 +13,23 @@ use ix_base::{Bytes, Line, LineList, NoMemory};
 use std::alloc::Global;
 
 /// The bytes that wait, with their moments.
-#[derive(Drop)]
 pub struct Pending {
     /// The byte before the first one. There is none at the stream's start.
     pub before: Option<u8>,
     pub bytes: Bytes,
     /// Their moments.
     pub runs: Vec<Run>,
+}
+
+/// It is written out, so that each place where one is let go is a call of it, which is proved once.
+impl Drop for Pending {
+    fn drop(self) {
+        let Pending {
+            before: _,
+            bytes: _,
+            runs: _,
+        } = self;
+    }
 }
 
 impl Pending {

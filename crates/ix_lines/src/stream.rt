@@ -6,7 +6,11 @@ ghost use Rattle.ix_base.specs.Clocks.{clamped};
 ghost use Rattle.ix_base.specs.Stream.{Dated, dated};
 ghost use Rattle.ix_lines.specs.Lines.{effective, IsShort};
 ghost use Rattle.ix_match.specs.Attempt.{reach};
+ghost use Rattle.ix_pattern.specs.Piece.{least_length};
+ghost use Rattle.ix_pattern.specs.Rows.{tree};
+ghost use Rattle.ix_lines.specs.Begun.{Attends};
 ghost use Rattle.ix_lines.specs.Breaks.{breaks_by};
+ghost use Rattle.ix_lines.specs.Laws.{IsStable};
 ghost use Rattle.ix_lines.specs.Parts.{Holds, IsBreaker, Adds, AddsPart, Ends, EndsPart, moved};
 ghost use Rattle.ix_lines.specs.Carry.{carry_of, dated_of};
 
@@ -84,6 +88,19 @@ fn effective(truncate: u32) -> usize
     } else {
         truncate as usize
     }
+}
+
+/// The breaker of this pattern, with the attempt that was given the bytes that wait.
+fn brought_up(alloc: Global, pattern: Pattern, pending: &Pending) -> Result<Breaker, NoMemory>
+    requires { 0 < least_length (tree pattern.rows) }
+    ensures is { IfOk result (λ breaker. breaker.pattern ≡ pattern) }
+    ensures stable { IfOk result (λ breaker. IsStable (breaks_by breaker.pattern)) }
+    ensures attends { IfOk result (λ breaker. Attends breaker pending.now.before pending.now.bytes) }
+{
+    let mut breaker = Breaker::new(alloc, pattern)?;
+    let waiting = pending.bytes.as_slice();
+    breaker.bring_up::<Brand>(pending.before, waiting, Blank::new(1))?;
+    Ok(breaker)
 }
 
 impl Lines {
@@ -211,10 +228,8 @@ impl Lines {
         ensures truncate { IfOk result (λ lines. lines.parts.truncate ≡ effective truncate) }
         ensures stands { IfOk result (λ lines. (stream : List Dated) → parts ≡ carry_of (breaks_by breaker) (effective truncate) stream → Holds stream lines) }
     {
-        let mut breaker = Breaker::new(alloc, breaker)?;
         let pending = Pending::resumed(alloc, parts.before, parts.pending.as_slice())?;
-        let waiting = pending.bytes.as_slice();
-        breaker.bring_up::<Brand>(pending.before, waiting, Blank::new(1))?;
+        let breaker = brought_up(alloc, breaker, &pending)?;
         let cutter = Cutter {
             alloc,
             breaker,

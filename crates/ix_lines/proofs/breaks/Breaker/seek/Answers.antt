@@ -1,6 +1,8 @@
 use Rattle.std.proofs.Common.{◌≡◌, ℕ, ◌+◌, ◌-◌, ◌<◌, ◌≤◌, Bool, List, length, take, drop, get_or, Option, refl, sym, ◌∙◌, ap, subst, arith}
 use Rattle.std.specs.Prelude.{not, take_while, ◌≢◌}
 use Rattle.std.proofs.lemmas.List.{length-drop}
+use Rattle.std.proofs.lemmas.Result.{IfOk-from_err}
+use Rattle.std.proofs.Math.Nat.{le_trans}
 use Rattle.ix_pattern.specs.Piece.{in_set}
 use Rattle.ix_pattern.specs.Rows.{Shape}
 use Rattle.ix_match.specs.Attempt.{reach}
@@ -10,6 +12,7 @@ use Rattle.ix_lines.specs.Walk.{Look}
 use Rattle.ix_lines.specs.Breaks.{breaks_by}
 use Rattle.ix_lines.specs.Seek.{look_of, IsSized, last_byte, seek}
 use Rattle.ix_lines.specs.declared.breaks.Looked.{Looked}
+use Rattle.ix_lines.specs.declared.breaks.Looked.TheVariants.{Match}
 use Rattle.ix_lines.proofs.SeekLemmas.{Sought, past-zero, sought-none, sought-more, sought-match, sought-end, looked-at, rest-is}
 use Rattle.ix_lines.proofs.Attempts.{breaks-wait, sought-over, over-within}
 use Rattle.ix_lines.proofs.Looking.{anew, stood, there, one-more, no-more, one-again}
@@ -30,6 +33,14 @@ placed p q now starts u before r bytes at n l are same same' low h s over far b 
           (e ∙ ap (λ x. breaks_by x r (take (length bytes - (at + n)) (drop (at + n) bytes)) u) same'),
     )
 
+-- a match lies within the bytes
+match-within : (bytes : List ℕ) (place from to end : ℕ) (l : Looked) → l ≡ Match from to end → place ≤ length bytes →
+    IsSized l (length (take (length bytes - place) (drop place bytes))) → (from ≤ to) × (to ≤ end) × (0 < end) × (place + end ≤ length bytes)
+match-within bytes place from to end l is h sized =
+    let m = subst (λ (x : Looked). IsSized x (length (take (length bytes - place) (drop place bytes)))) is sized in
+    let e : length (take (length bytes - place) (drop place bytes)) ≡ length bytes - place = ap length (rest-is bytes place) ∙ length-drop place bytes in
+    (m.0, m.1, m.2, omega (arith, m.3, e, h))
+
 pub loop-at-init : goal.loop-at-init
 loop-at-init g c = record {
   within = omega arith;
@@ -40,6 +51,101 @@ loop-at-init g c = record {
   again = λ begun. omega arith;
   later = omega arith;
 }
+
+pub overflow_add-place : goal.overflow_add-place
+overflow_add-place g c =
+    let within = over-within (λ b. not (in_set c.self.inside.scan.starts b)) c.args.bytes.now c.loop-at.at c.passed_over.result c.loop-at.invariant.within c.passed_over.ensures in
+    omega (arith, within)
+
+pub slice_bounds-look-start : goal.slice_bounds-look-start
+slice_bounds-look-start g c =
+    let within = over-within (λ b. not (in_set c.self.inside.scan.starts b)) c.args.bytes.now c.loop-at.at c.passed_over.result c.loop-at.invariant.within c.passed_over.ensures in
+    omega (arith, within)
+
+pub overflow_add-at : goal.overflow_add-at
+overflow_add-at g c =
+    let within = over-within (λ b. not (in_set c.self.inside.scan.starts b)) c.args.bytes.now c.loop-at.at c.passed_over.result c.loop-at.invariant.within c.passed_over.ensures in
+    omega (arith, within, c.if-place-bytes.false)
+
+pub loop-at-smaller : goal.loop-at-smaller
+loop-at-smaller g c =
+    let within = over-within (λ b. not (in_set c.self.inside.scan.starts b)) c.args.bytes.now c.loop-at.at c.passed_over.result c.loop-at.invariant.within c.passed_over.ensures in
+    omega (arith, within, c.if-place-bytes.false)
+
+pub overflow_add-place-in-Match : goal.overflow_add-place-in-Match
+overflow_add-place-in-Match g c =
+    let within = over-within (λ b. not (in_set c.self.inside.scan.starts b)) c.args.bytes.now c.loop-at.at c.passed_over.result c.loop-at.invariant.within c.passed_over.ensures in
+    let place : ℕ = c.loop-at.at + c.passed_over.result in
+    let sized = match-within c.args.bytes.now place c.in-Match.from c.in-Match.to c.in-Match.end c.in_ok-look.field-0 c.in-Match.is within c.in_ok-look.ensures.sized in
+    omega arith
+
+pub overflow_add-result : goal.overflow_add-result
+overflow_add-result g c =
+    let within = over-within (λ b. not (in_set c.self.inside.scan.starts b)) c.args.bytes.now c.loop-at.at c.passed_over.result c.loop-at.invariant.within c.passed_over.ensures in
+    let place : ℕ = c.loop-at.at + c.passed_over.result in
+    let sized = match-within c.args.bytes.now place c.in-Match.from c.in-Match.to c.in-Match.end c.in_ok-look.field-0 c.in-Match.is within c.in_ok-look.ensures.sized in
+    omega arith
+
+pub overflow_add-result-in-Match : goal.overflow_add-result-in-Match
+overflow_add-result-in-Match g c =
+    let within = over-within (λ b. not (in_set c.self.inside.scan.starts b)) c.args.bytes.now c.loop-at.at c.passed_over.result c.loop-at.invariant.within c.passed_over.ensures in
+    let place : ℕ = c.loop-at.at + c.passed_over.result in
+    let sized = match-within c.args.bytes.now place c.in-Match.from c.in-Match.to c.in-Match.end c.in_ok-look.field-0 c.in-Match.is within c.in_ok-look.ensures.sized in
+    omega arith
+
+pub overflow_add-result-in-Match-2 : goal.overflow_add-result-in-Match-2
+overflow_add-result-in-Match-2 g c =
+    let within = over-within (λ b. not (in_set c.self.inside.scan.starts b)) c.args.bytes.now c.loop-at.at c.passed_over.result c.loop-at.invariant.within c.passed_over.ensures in
+    let place : ℕ = c.loop-at.at + c.passed_over.result in
+    let sized = match-within c.args.bytes.now place c.in-Match.from c.in-Match.to c.in-Match.end c.in_ok-look.field-0 c.in-Match.is within c.in_ok-look.ensures.sized in
+    omega arith
+
+pub returns-in-Match-clause-within : goal.returns-in-Match-clause-within
+returns-in-Match-clause-within g c =
+    let within = over-within (λ b. not (in_set c.self.inside.scan.starts b)) c.args.bytes.now c.loop-at.at c.passed_over.result c.loop-at.invariant.within c.passed_over.ensures in
+    let place : ℕ = c.loop-at.at + c.passed_over.result in
+    let sized = match-within c.args.bytes.now place c.in-Match.from c.in-Match.to c.in-Match.end c.in_ok-look.field-0 c.in-Match.is within c.in_ok-look.ensures.sized in
+    (omega (arith, sized.0), omega (arith, sized.1), omega (arith, sized.2), sized.3)
+
+pub returns-in_err-look-clause-is : goal.returns-in_err-look-clause-is
+returns-in_err-look-clause-is g c = IfOk-from_err c.from_residual.result _ c.from_residual.ensures.0
+
+pub returns-in_err-look-clause-within : goal.returns-in_err-look-clause-within
+returns-in_err-look-clause-within g c = IfOk-from_err c.from_residual.result _ c.from_residual.ensures.0
+
+pub returns-in_err-look-clause-goes_on : goal.returns-in_err-look-clause-goes_on
+returns-in_err-look-clause-goes_on g c = IfOk-from_err c.from_residual.result _ c.from_residual.ensures.0
+
+pub returns-in_err-look-clause-begun : goal.returns-in_err-look-clause-begun
+returns-in_err-look-clause-begun g c = IfOk-from_err c.from_residual.result _ c.from_residual.ensures.0
+
+pub returns-in_err-look-clause-counted : goal.returns-in_err-look-clause-counted
+returns-in_err-look-clause-counted g c = IfOk-from_err c.from_residual.result _ c.from_residual.ensures.0
+
+pub returns-in_err-look-clause-again : goal.returns-in_err-look-clause-again
+returns-in_err-look-clause-again g c = IfOk-from_err c.from_residual.result _ c.from_residual.ensures.0
+
+pub returns-in_err-look-clause-pattern : goal.returns-in_err-look-clause-pattern
+returns-in_err-look-clause-pattern g c = c.look.ensures.pattern ∙ c.stand.ensures.pattern ∙ c.loop-at.invariant.pattern
+
+pub returns-then-place-bytes-clause-later : goal.returns-then-place-bytes-clause-later
+returns-then-place-bytes-clause-later g c = c.loop-at.invariant.later
+
+pub returns-clause-later : goal.returns-clause-later
+returns-clause-later g c = c.loop-at.invariant.later
+
+pub returns-in_err-look-clause-later : goal.returns-in_err-look-clause-later
+returns-in_err-look-clause-later g c = le_trans c.loop-at.invariant.later c.look.ensures.later
+
+pub returns-in-More-clause-later : goal.returns-in-More-clause-later
+returns-in-More-clause-later g c = le_trans c.loop-at.invariant.later c.look.ensures.later
+
+pub returns-in-Match-clause-later : goal.returns-in-Match-clause-later
+returns-in-Match-clause-later g c = le_trans c.loop-at.invariant.later c.look.ensures.later
+
+pub returns-clause-is : goal.returns-clause-is
+returns-clause-is g c =
+    sym (sought-end (breaks_by c.args.self.now.pattern) c.args.unfinished c.args.before c.args.bytes.now c.loop-at.at c.loop-at.invariant.sought (omega (arith, c.loop-at-test.false)))
 
 pub look-requires : goal.look-requires
 look-requires g c =

@@ -2,12 +2,15 @@ use Rattle.std.proofs.Common.{◌≡◌, ◌∙◌, ap, ◌+◌, ◌*◌, ◌-�
 use mir.Val.{SFits}
 use Rattle.std.specs.List.{zip}
 use Rattle.std.proofs.Math.Facts.{to_z-of_z}
+use Rattle.std.proofs.Math.Nat.{le_trans}
 use Rattle.std.proofs.lemmas.List.{length-drop, length-take}
+use Rattle.std.proofs.lemmas.Result.{IfOk-from_err}
 use Rattle.ix_pattern.specs.Rows.{Shape}
 use Rattle.ix_match.specs.Attempt.{reach}
 use Rattle.ix_lines.specs.Walk.{walk}
 use Rattle.ix_lines.specs.Breaks.{breaks_by}
 use Rattle.ix_lines.specs.Moments.{moments_of}
+use Rattle.ix_lines.specs.Pending.{dated_in}
 use Rattle.ix_match.specs.Scans.{GoesOn}
 use Rattle.ix_lines.specs.Seek.{last_byte, seek, IsWithin, end_of, most_looks}
 use Rattle.ix_lines.specs.Begun.{IsBegun, StopsBegun}
@@ -17,8 +20,205 @@ use Rattle.ix_lines.specs.declared.breaks.Found.{Found}
 use Rattle.ix_lines.specs.declared.breaks.Found.TheVariants.{Break, Stop}
 use Rattle.ix_lines.proofs.Answering.{any-err}
 use Rattle.ix_lines.proofs.SeekLemmas.{rest-is}
-use Rattle.ix_lines.proofs.Settling.{part-is, bytes-taken, sought, came-break, came-stop, came-some, moment-is, part-lent}
+use Rattle.ix_lines.proofs.Settling.{came-first, stop-within, break-within, part-is, bytes-taken, sought, came-break, came-stop, came-some, moment-is, part-lent}
 use Rattle.ix_lines.proofs.cutter.Cutter.settle.Goals as goal
+
+pub loop-found-init : goal.loop-found-init
+loop-found-init g c =
+    let p = c.args.pending.now in
+    record {
+      order = omega arith;
+      within = omega arith;
+      points = c.new-cursor.ensures.stands c.as_slice-runs.result.now;
+      behind = omega (arith, c.new-cursor.ensures.passed);
+      came = λ stretch keeps.
+          came-first (breaks_by c.args.self.now.breaker.pattern) c.args.unfinished c.args.self.now.truncate p.before (dated_in p) stretch c.args.self.now.kept c.args.out.now keeps;
+      breaker = refl;
+      goes_on = c.requires.goes_on;
+      first = λ start. refl;
+      counted = omega arith;
+      again = λ begun. omega arith;
+      truncate = refl;
+      lines = λ short. short;
+      later = omega arith;
+    }
+
+pub moment_at-moment-requires-clause-stands : goal.moment_at-moment-requires-clause-stands
+moment_at-moment-requires-clause-stands g c = c.loop-found.invariant.points
+
+pub moment_at-moment-requires-clause-on : goal.moment_at-moment-requires-clause-on
+moment_at-moment-requires-clause-on g c = c.loop-found.invariant.behind
+
+pub returns-in_err-found-clause-walk : goal.returns-in_err-found-clause-walk
+returns-in_err-found-clause-walk g c = IfOk-from_err c.from_residual.result _ c.from_residual.ensures.0
+
+pub returns-in_err-found-clause-within : goal.returns-in_err-found-clause-within
+returns-in_err-found-clause-within g c = IfOk-from_err c.from_residual.result _ c.from_residual.ensures.0
+
+pub returns-in_err-found-clause-short : goal.returns-in_err-found-clause-short
+returns-in_err-found-clause-short g c = IfOk-from_err c.from_residual.result _ c.from_residual.ensures.0
+
+pub returns-in_err-found-clause-goes_on : goal.returns-in_err-found-clause-goes_on
+returns-in_err-found-clause-goes_on g c = IfOk-from_err c.from_residual.result _ c.from_residual.ensures.0
+
+pub returns-in_err-found-clause-begun : goal.returns-in_err-found-clause-begun
+returns-in_err-found-clause-begun g c = IfOk-from_err c.from_residual.result _ c.from_residual.ensures.0
+
+pub returns-in_err-found-clause-counted : goal.returns-in_err-found-clause-counted
+returns-in_err-found-clause-counted g c = IfOk-from_err c.from_residual.result _ c.from_residual.ensures.0
+
+pub returns-in_err-found-clause-again : goal.returns-in_err-found-clause-again
+returns-in_err-found-clause-again g c = IfOk-from_err c.from_residual.result _ c.from_residual.ensures.0
+
+pub returns-in_err-add-in-Stop-clause-walk : goal.returns-in_err-add-in-Stop-clause-walk
+returns-in_err-add-in-Stop-clause-walk g c = IfOk-from_err c.from_residual-in_err-add-in-Stop.result _ c.from_residual-in_err-add-in-Stop.ensures.0
+
+pub returns-in_err-add-in-Stop-clause-within : goal.returns-in_err-add-in-Stop-clause-within
+returns-in_err-add-in-Stop-clause-within g c = IfOk-from_err c.from_residual-in_err-add-in-Stop.result _ c.from_residual-in_err-add-in-Stop.ensures.0
+
+pub returns-in_err-add-in-Stop-clause-short : goal.returns-in_err-add-in-Stop-clause-short
+returns-in_err-add-in-Stop-clause-short g c = IfOk-from_err c.from_residual-in_err-add-in-Stop.result _ c.from_residual-in_err-add-in-Stop.ensures.0
+
+pub returns-in_err-add-in-Stop-clause-goes_on : goal.returns-in_err-add-in-Stop-clause-goes_on
+returns-in_err-add-in-Stop-clause-goes_on g c = IfOk-from_err c.from_residual-in_err-add-in-Stop.result _ c.from_residual-in_err-add-in-Stop.ensures.0
+
+pub returns-in_err-add-in-Stop-clause-begun : goal.returns-in_err-add-in-Stop-clause-begun
+returns-in_err-add-in-Stop-clause-begun g c = IfOk-from_err c.from_residual-in_err-add-in-Stop.result _ c.from_residual-in_err-add-in-Stop.ensures.0
+
+pub returns-in_err-add-in-Stop-clause-counted : goal.returns-in_err-add-in-Stop-clause-counted
+returns-in_err-add-in-Stop-clause-counted g c = IfOk-from_err c.from_residual-in_err-add-in-Stop.result _ c.from_residual-in_err-add-in-Stop.ensures.0
+
+pub returns-in_err-add-in-Stop-clause-again : goal.returns-in_err-add-in-Stop-clause-again
+returns-in_err-add-in-Stop-clause-again g c = IfOk-from_err c.from_residual-in_err-add-in-Stop.result _ c.from_residual-in_err-add-in-Stop.ensures.0
+
+pub returns-in_err-end_line-in-Break-clause-walk : goal.returns-in_err-end_line-in-Break-clause-walk
+returns-in_err-end_line-in-Break-clause-walk g c = IfOk-from_err c.from_residual-in_err-end_line-in-Break.result _ c.from_residual-in_err-end_line-in-Break.ensures.0
+
+pub returns-in_err-end_line-in-Break-clause-within : goal.returns-in_err-end_line-in-Break-clause-within
+returns-in_err-end_line-in-Break-clause-within g c = IfOk-from_err c.from_residual-in_err-end_line-in-Break.result _ c.from_residual-in_err-end_line-in-Break.ensures.0
+
+pub returns-in_err-end_line-in-Break-clause-short : goal.returns-in_err-end_line-in-Break-clause-short
+returns-in_err-end_line-in-Break-clause-short g c = IfOk-from_err c.from_residual-in_err-end_line-in-Break.result _ c.from_residual-in_err-end_line-in-Break.ensures.0
+
+pub returns-in_err-end_line-in-Break-clause-goes_on : goal.returns-in_err-end_line-in-Break-clause-goes_on
+returns-in_err-end_line-in-Break-clause-goes_on g c = IfOk-from_err c.from_residual-in_err-end_line-in-Break.result _ c.from_residual-in_err-end_line-in-Break.ensures.0
+
+pub returns-in_err-end_line-in-Break-clause-begun : goal.returns-in_err-end_line-in-Break-clause-begun
+returns-in_err-end_line-in-Break-clause-begun g c = IfOk-from_err c.from_residual-in_err-end_line-in-Break.result _ c.from_residual-in_err-end_line-in-Break.ensures.0
+
+pub returns-in_err-end_line-in-Break-clause-counted : goal.returns-in_err-end_line-in-Break-clause-counted
+returns-in_err-end_line-in-Break-clause-counted g c = IfOk-from_err c.from_residual-in_err-end_line-in-Break.result _ c.from_residual-in_err-end_line-in-Break.ensures.0
+
+pub returns-in_err-end_line-in-Break-clause-again : goal.returns-in_err-end_line-in-Break-clause-again
+returns-in_err-end_line-in-Break-clause-again g c = IfOk-from_err c.from_residual-in_err-end_line-in-Break.result _ c.from_residual-in_err-end_line-in-Break.ensures.0
+
+pub returns-in_err-found-clause-breaker : goal.returns-in_err-found-clause-breaker
+returns-in_err-found-clause-breaker g c = c.seek.ensures.pattern ∙ c.loop-found.invariant.breaker
+
+pub returns-in_err-found-clause-truncate : goal.returns-in_err-found-clause-truncate
+returns-in_err-found-clause-truncate g c = c.loop-found.invariant.truncate
+
+pub returns-in_err-found-clause-later : goal.returns-in_err-found-clause-later
+returns-in_err-found-clause-later g c = le_trans c.loop-found.invariant.later c.seek.ensures.later
+
+pub returns-in_err-found-clause-lines : goal.returns-in_err-found-clause-lines
+returns-in_err-found-clause-lines g c = c.loop-found.invariant.lines
+
+pub returns-in_err-add-in-Stop-clause-breaker : goal.returns-in_err-add-in-Stop-clause-breaker
+returns-in_err-add-in-Stop-clause-breaker g c = c.seek.ensures.pattern ∙ c.loop-found.invariant.breaker
+
+pub returns-in_err-add-in-Stop-clause-truncate : goal.returns-in_err-add-in-Stop-clause-truncate
+returns-in_err-add-in-Stop-clause-truncate g c = c.loop-found.invariant.truncate
+
+pub returns-in_err-add-in-Stop-clause-later : goal.returns-in_err-add-in-Stop-clause-later
+returns-in_err-add-in-Stop-clause-later g c = le_trans c.loop-found.invariant.later c.seek.ensures.later
+
+pub returns-in_err-add-in-Stop-clause-lines : goal.returns-in_err-add-in-Stop-clause-lines
+returns-in_err-add-in-Stop-clause-lines g c = c.loop-found.invariant.lines
+
+pub returns-in_err-end_line-in-Break-clause-breaker : goal.returns-in_err-end_line-in-Break-clause-breaker
+returns-in_err-end_line-in-Break-clause-breaker g c = c.seek.ensures.pattern ∙ c.loop-found.invariant.breaker
+
+pub returns-in_err-end_line-in-Break-clause-truncate : goal.returns-in_err-end_line-in-Break-clause-truncate
+returns-in_err-end_line-in-Break-clause-truncate g c = c.loop-found.invariant.truncate
+
+pub returns-in_err-end_line-in-Break-clause-later : goal.returns-in_err-end_line-in-Break-clause-later
+returns-in_err-end_line-in-Break-clause-later g c = le_trans c.loop-found.invariant.later c.seek.ensures.later
+
+pub returns-in_err-end_line-in-Break-clause-lines : goal.returns-in_err-end_line-in-Break-clause-lines
+returns-in_err-end_line-in-Break-clause-lines g c = λ short. c.end_line.ensures.short (c.loop-found.invariant.lines short)
+
+pub returns-in-Stop-clause-breaker : goal.returns-in-Stop-clause-breaker
+returns-in-Stop-clause-breaker g c = c.seek.ensures.pattern ∙ c.loop-found.invariant.breaker
+
+pub returns-in-Stop-clause-truncate : goal.returns-in-Stop-clause-truncate
+returns-in-Stop-clause-truncate g c = c.loop-found.invariant.truncate
+
+pub returns-in-Stop-clause-later : goal.returns-in-Stop-clause-later
+returns-in-Stop-clause-later g c = le_trans c.loop-found.invariant.later c.seek.ensures.later
+
+pub returns-in-Stop-clause-lines : goal.returns-in-Stop-clause-lines
+returns-in-Stop-clause-lines g c = c.loop-found.invariant.lines
+
+pub overflow_add-at : goal.overflow_add-at
+overflow_add-at g c =
+    let all = c.as_slice-bytes.result.now in
+    let w = stop-within all c.loop-found.at c.in-Stop.n reach c.in_ok-found.found c.in-Stop.is c.loop-found.invariant.within c.in_ok-found.ensures.within in
+    omega (arith, w.0)
+
+pub slice_bounds-add-end : goal.slice_bounds-add-end
+slice_bounds-add-end g c =
+    let all = c.as_slice-bytes.result.now in
+    let w = stop-within all c.loop-found.at c.in-Stop.n reach c.in_ok-found.found c.in-Stop.is c.loop-found.invariant.within c.in_ok-found.ensures.within in
+    omega (arith, w.0)
+
+pub overflow_add-result : goal.overflow_add-result
+overflow_add-result g c =
+    let all = c.as_slice-bytes.result.now in
+    let w = stop-within all c.loop-found.at c.in-Stop.n reach c.in_ok-found.found c.in-Stop.is c.loop-found.invariant.within c.in_ok-found.ensures.within in
+    omega (arith, w.0)
+
+pub returns-in-Stop-clause-within : goal.returns-in-Stop-clause-within
+returns-in-Stop-clause-within g c =
+    let all = c.as_slice-bytes.result.now in
+    let w = stop-within all c.loop-found.at c.in-Stop.n reach c.in_ok-found.found c.in-Stop.is c.loop-found.invariant.within c.in_ok-found.ensures.within in
+    omega (arith, w.0, ap length c.as_slice-bytes.ensures)
+
+pub returns-in-Stop-clause-short : goal.returns-in-Stop-clause-short
+returns-in-Stop-clause-short g c =
+    let all = c.as_slice-bytes.result.now in
+    let w = stop-within all c.loop-found.at c.in-Stop.n reach c.in_ok-found.found c.in-Stop.is c.loop-found.invariant.within c.in_ok-found.ensures.within in
+    omega (arith, w.1, ap length c.as_slice-bytes.ensures)
+
+pub overflow_add-part : goal.overflow_add-part
+overflow_add-part g c =
+    let all = c.as_slice-bytes.result.now in
+    let w = break-within all c.loop-found.at c.in-Break.from c.in-Break.to c.in-Break.end reach c.in_ok-found.found c.in-Break.is c.loop-found.invariant.within c.in_ok-found.ensures.within in
+    omega arith
+
+pub slice_bounds-part-end : goal.slice_bounds-part-end
+slice_bounds-part-end g c =
+    let all = c.as_slice-bytes.result.now in
+    let w = break-within all c.loop-found.at c.in-Break.from c.in-Break.to c.in-Break.end reach c.in_ok-found.found c.in-Break.is c.loop-found.invariant.within c.in_ok-found.ensures.within in
+    omega arith
+
+pub overflow_add-start : goal.overflow_add-start
+overflow_add-start g c =
+    let all = c.as_slice-bytes.result.now in
+    let w = break-within all c.loop-found.at c.in-Break.from c.in-Break.to c.in-Break.end reach c.in_ok-found.found c.in-Break.is c.loop-found.invariant.within c.in_ok-found.ensures.within in
+    omega arith
+
+pub overflow_add-at-in-Break : goal.overflow_add-at-in-Break
+overflow_add-at-in-Break g c =
+    let all = c.as_slice-bytes.result.now in
+    let w = break-within all c.loop-found.at c.in-Break.from c.in-Break.to c.in-Break.end reach c.in_ok-found.found c.in-Break.is c.loop-found.invariant.within c.in_ok-found.ensures.within in
+    omega arith
+
+pub loop-found-smaller : goal.loop-found-smaller
+loop-found-smaller g c =
+    let all = c.as_slice-bytes.result.now in
+    let w = break-within all c.loop-found.at c.in-Break.from c.in-Break.to c.in-Break.end reach c.in_ok-found.found c.in-Break.is c.loop-found.invariant.within c.in_ok-found.ensures.within in
+    omega (arith, w.2, w.3)
 
 pub returns-in_err-found-clause-err : goal.returns-in_err-found-clause-err
 returns-in_err-found-clause-err g c = any-err c.from_residual.result (λ stretch keeps.

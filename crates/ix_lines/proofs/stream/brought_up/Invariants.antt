@@ -1,4 +1,4 @@
-use Rattle.ix_lines.proofs.stream.Lines.resume.Given as goal
+use Rattle.ix_lines.proofs.stream.brought_up.Given as goal
 
 -- the ledger of the blank one
 abbrev pub ghosts-bring_up : goal.ghosts-bring_up
