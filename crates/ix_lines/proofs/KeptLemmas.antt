@@ -1,10 +1,13 @@
 -- The open line.
-use Rattle.std.proofs.Common.{◌≡◌, ℕ, ◌+◌, ◌-◌, ◌<◌, ◌≤◌, ℤ, Bool, true, false, List, [], ◌∷◌, ◌++◌, length, take, Some, None, refl, sym, ◌∙◌, ap, arith}
-use Rattle.std.specs.Prelude.{find, unwrap_or, nat_le, not, ◌&&◌}
+use Rattle.std.proofs.Common.{Ok, Err, subst, ◌≡◌, ℕ, ◌+◌, ◌-◌, ◌<◌, ◌≤◌, ℤ, Bool, true, false, List, [], ◌∷◌, ◌++◌, length, take, Some, None, refl, sym, ◌∙◌, ap, arith}
+use Rattle.std.specs.Prelude.{Result, OnOk, OnErr, find, unwrap_or, nat_le, not, ◌&&◌}
+use Rattle.std.specs.List.{All}
 use Rattle.std.proofs.lemmas.List.{length-take-le, get_or-take}
+use Rattle.std.proofs.lemmas.List.Elements.{All-push}
 use Rattle.std.proofs.lemmas.Bool.{leb-true, leb-false, lt-leb}
 use Rattle.ix_base.specs.Stream.{Dated, bytes_of}
-use Rattle.ix_lines.specs.Lines.{cut, step_back, goes_on, line_of, unless_empty}
+use Rattle.ix_base.specs.declared.events.Line.{Line}
+use Rattle.ix_lines.specs.Lines.{IsShort, cut, step_back, goes_on, line_of, unless_empty}
 use Rattle.ix_lines.specs.Kept.{Keeps, IsPart, first_moment}
 use Rattle.ix_lines.specs.declared.kept.Kept.{Kept}
 use Rattle.ix_lines.proofs.ListLemmas.{take-past, take-take, take-joined}
@@ -75,3 +78,9 @@ pub line-part : (t : ℕ) (part : List Dated) (bytes : List ℕ) (m : ℤ) → I
 line-part t [] bytes m is some = absurd (omega (arith, ap length is.bytes_are))
 line-part t (d ∷ part) bytes m is some =
     ap (λ bs. unless_empty (cut t bs) m) (sym is.bytes_are) ∙ ap (unless_empty (cut t (bytes_of (d ∷ part)))) (sym is.moment_is)
+
+-- a short line that is added, or none, leaves all of them short
+pub short-pushed : {T E : Type 0} (r : Result T E) (old new : List Line) (line : Line) → OnOk r (new ≡ old ++ line ∷ []) → OnErr r (new ≡ old) →
+    IsShort line → All IsShort old → All IsShort new
+short-pushed (Ok x) old new line e f h all = subst (All IsShort) (sym e) (All-push IsShort old line all h)
+short-pushed (Err x) old new line e f h all = subst (All IsShort) (sym f) all

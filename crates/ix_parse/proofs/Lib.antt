@@ -2,6 +2,7 @@ pub mod CarryLemmas
 pub mod EventLemmas
 pub mod FormLemmas
 pub mod LineLemmas
+pub mod ResultLemmas
 pub mod SameLemmas
 pub mod SizeLemmas
 pub mod StandLemmas

@@ -8,6 +8,7 @@ use Rattle.ix_base.specs.declared.events.Routed.{Routed}
 use Rattle.ix_lines.specs.Breaks.{breaks_by}
 use Rattle.ix_lines.specs.Laws.{LinesStay}
 use Rattle.ix_lines.specs.Lines.{effective}
+use Rattle.ix_lines.specs.Parts.{Held}
 use Rattle.ix_merge.specs.Events as events
 use Rattle.ix_merge.specs.Laws.{EventsStay}
 use Rattle.ix_merge.specs.Stands.{Merging, Holds}
@@ -16,10 +17,10 @@ use Rattle.ix_merge.specs.declared.events.Whole.{Whole}
 use Rattle.ix_props.specs.declared.settings.Settings.{Settings}
 use Rattle.ix_parse.specs.Marks.{marked_line, marked}
 use Rattle.ix_parse.specs.Settled.{channel_lines, events_of, latest_of, outcomes, settled, SettledStays}
-use Rattle.ix_parse.specs.Stage.{with_events, Takes, TakesEnd}
+use Rattle.ix_parse.specs.Stage.{Takes, TakesEnd, TakenIn}
 use Rattle.ix_parse.specs.Standing.{Kept, StandsFor}
 use Rattle.ix_parse.specs.declared.outcomes.Outcomes.{Outcomes}
-use Rattle.ix_parse.proofs.EventLemmas.{latest-append, outcomes-append, with-both}
+use Rattle.ix_parse.proofs.EventLemmas.{latest-append, outcomes-append}
 
 -- ---- the marked lines and the events of a longer list of lines
 
@@ -52,21 +53,6 @@ stays s lines-stay events-stay meta stream later true =
     )
 
 -- ---- events behind those of a stream
-
--- the outcomes of more events, as they were added to none
-more-settled : (s : Settings) (meta : ChannelMeta) (all first more : List Whole) (before behind : Outcomes) → all ≡ first ++ more →
-    before.latest ≡ latest_of s.time None first → before.routed ≡ [] → behind ≡ with_events s meta before more →
-    (outcomes s meta None all ≡ outcomes s meta None first ++ behind.routed) × (behind.latest ≡ latest_of s.time None all)
-more-settled s meta all first more before behind e latest empty is =
-    let routed : behind.routed ≡ outcomes s meta (latest_of s.time None first) more =
-    ap (λ (o : Outcomes). o.routed) is
-    ∙ ap (λ (l : List Routed). l ++ outcomes s meta before.latest more) empty
-    ∙ ap (λ (l : Option ℤ). outcomes s meta l more) latest in (
-      ap (outcomes s meta None) e ∙ outcomes-append s meta None first more
-          ∙ ap (λ (l : List Routed). outcomes s meta None first ++ l) (sym routed),
-      ap (λ (o : Outcomes). o.latest) is ∙ ap (λ (l : Option ℤ). latest_of s.time l more) latest
-          ∙ sym (latest-append s.time None first more) ∙ ap (latest_of s.time None) (sym e),
-    )
 
 -- what stands of the events when further bytes have come
 pub record GoesOn (s : Settings) (meta : ChannelMeta) (stream longer : List Dated) (merge : Merging) (behind : Outcomes) : Type 0 where
@@ -101,58 +87,71 @@ copied s meta stream k copy before is same latest empty = record {
   empty = empty;
 }
 
--- the events that further lines settle
-added-events : (s : Settings) (meta : ChannelMeta) (stream : List Dated) (all more : List Line) (copy new : Merging) (before behind : Outcomes) →
-    Copied s meta stream copy before → all ≡ channel_lines s stream false ++ more →
-    (t : Takes s meta (marked_of s stream) more copy new before behind) →
-    events.settled s.merge.on s.merge.max_lines (marked s.merge s.time all) ≡ events_of s stream false ++ t.added
-added-events s meta stream all more copy new before behind c e t =
-    let on = s.merge.on in
-    let max = s.merge.max_lines in
-    let lines : List MarkedLine = marked_of s stream ++ marked s.merge s.time more in
-    ap (events.settled on max) (more-marked s all (channel_lines s stream false) more e)
-    ∙ settled-as on copy.on max copy.max_lines lines (sym c.merges) (sym c.most_lines)
-    ∙ t.settles
-    ∙ ap (λ (l : List Whole). l ++ t.added) (settled-as copy.on on copy.max_lines max (marked_of s stream) c.merges c.most_lines)
-
-pub goes-on : (s : Settings) (meta : ChannelMeta) (stream longer : List Dated) (more : List Line) (copy new : Merging) (before behind : Outcomes) →
+-- and what they come to
+pub taken-in : (s : Settings) (meta : ChannelMeta) (stream : List Dated) (lines : List Line) (copy new : Merging) (before behind : Outcomes) →
     Copied s meta stream copy before → new.on ≡ copy.on → new.max_lines ≡ copy.max_lines →
-    channel_lines s longer false ≡ channel_lines s stream false ++ more →
-    Takes s meta (marked_of s stream) more copy new before behind → GoesOn s meta stream longer new behind
-goes-on s meta stream longer more copy new before behind c on max e t =
-    let all = added-events s meta stream (channel_lines s longer false) more copy new before behind c e t in
-    let r = more-settled s meta (events_of s longer false) (events_of s stream false) t.added before behind all c.latest_is c.empty t.outcomes_are in
+    Takes s meta (marked_of s stream) lines copy new before behind → TakenIn s meta stream lines new behind
+taken-in s meta stream lines copy new before behind c on max t =
+    let all : List MarkedLine = marked_of s stream ++ marked s.merge s.time lines in
     record {
       merges = on ∙ c.merges;
       most_lines = max ∙ c.most_lines;
-      events_are = subst (λ (l : List MarkedLine). Holds l new) (sym (more-marked s (channel_lines s longer false) (channel_lines s stream false) more e)) t.holds;
-      latest_is = r.1;
-      settles = r.0;
+      holds = t.holds;
+      added = t.added;
+      settles = settled-as s.merge.on copy.on s.merge.max_lines copy.max_lines all (sym c.merges) (sym c.most_lines)
+          ∙ t.settles
+          ∙ ap (λ (l : List Whole). l ++ t.added) (settled-as copy.on s.merge.on copy.max_lines s.merge.max_lines (marked_of s stream) c.merges c.most_lines);
+      latest_is = ap (λ (o : Outcomes). o.latest) t.outcomes_are ∙ ap (λ (l : Option ℤ). latest_of s.time l t.added) c.latest_is;
+      routed_is = ap (λ (o : Outcomes). o.routed) t.outcomes_are
+          ∙ ap (λ (l : List Routed). l ++ outcomes s meta before.latest t.added) c.empty
+          ∙ ap (λ (l : Option ℤ). outcomes s meta l t.added) c.latest_is;
     }
 
-pub comes-to-end : (s : Settings) (meta : ChannelMeta) (stream : List Dated) (more : List Line) (copy new : Merging) (before between behind : Outcomes) →
-    Copied s meta stream copy before → new.on ≡ copy.on → new.max_lines ≡ copy.max_lines →
-    channel_lines s stream true ≡ channel_lines s stream false ++ more →
-    Takes s meta (marked_of s stream) more copy new before between →
-    TakesEnd s meta (marked_of s stream ++ marked s.merge s.time more) new between behind →
+pub goes-on : (s : Settings) (meta : ChannelMeta) (stream longer : List Dated) (more : List Line) (merge : Merging) (behind : Outcomes) →
+    channel_lines s longer false ≡ channel_lines s stream false ++ more → TakenIn s meta stream more merge behind → GoesOn s meta stream longer merge behind
+goes-on s meta stream longer more merge behind e t =
+    let m = more-marked s (channel_lines s longer false) (channel_lines s stream false) more e in
+    let first : List Whole = events_of s stream false in
+    let all : events_of s longer false ≡ first ++ t.added = ap (events.settled s.merge.on s.merge.max_lines) m ∙ t.settles in
+    record {
+      merges = t.merges;
+      most_lines = t.most_lines;
+      events_are = subst (λ (l : List MarkedLine). Holds l merge) (sym m) t.holds;
+      latest_is = t.latest_is ∙ sym (latest-append s.time None first t.added) ∙ ap (latest_of s.time None) (sym all);
+      settles = ap (outcomes s meta None) all ∙ outcomes-append s meta None first t.added
+          ∙ ap (λ (l : List Routed). outcomes s meta None first ++ l) (sym t.routed_is);
+    }
+
+pub comes-to-end : (s : Settings) (meta : ChannelMeta) (stream : List Dated) (more : List Line) (merge : Merging) (between behind : Outcomes) →
+    channel_lines s stream true ≡ channel_lines s stream false ++ more → TakenIn s meta stream more merge between →
+    TakesEnd s meta (marked_of s stream ++ marked s.merge s.time more) merge between behind →
     settled s meta stream true ≡ settled s meta stream false ++ behind.routed
-comes-to-end s meta stream more copy new before between behind c on max e t end =
-    let lines : List Line = channel_lines s stream true in
-    let m = more-marked s lines (channel_lines s stream false) more e in
-    let first = added-events s meta stream lines more copy new before between c e t in
+comes-to-end s meta stream more merge between behind e t end =
     let marks : List MarkedLine = marked_of s stream ++ marked s.merge s.time more in
-    let b : new.on ≡ s.merge.on = on ∙ c.merges in
-    let n : new.max_lines ≡ s.merge.max_lines = max ∙ c.most_lines in
-    let all : events_of s stream true ≡ events_of s stream false ++ (t.added ++ end.added) =
-    ap (events.all_events s.merge.on s.merge.max_lines) m
-    ∙ all-as s.merge.on new.on s.merge.max_lines new.max_lines marks (sym b) (sym n)
+    let first : List Whole = events_of s stream false in
+    let latest : Option ℤ = latest_of s.time None first in
+    let all : events_of s stream true ≡ first ++ (t.added ++ end.added) =
+    ap (events.all_events s.merge.on s.merge.max_lines) (more-marked s (channel_lines s stream true) (channel_lines s stream false) more e)
+    ∙ all-as s.merge.on merge.on s.merge.max_lines merge.max_lines marks (sym t.merges) (sym t.most_lines)
     ∙ end.settles
     ∙ ap (λ (l : List Whole). l ++ end.added)
-    (settled-as new.on s.merge.on new.max_lines s.merge.max_lines marks b n
-    ∙ ap (events.settled s.merge.on s.merge.max_lines) (sym m) ∙ first)
-    ∙ append_assoc (events_of s stream false) t.added end.added in
-    (more-settled s meta (events_of s stream true) (events_of s stream false) (t.added ++ end.added) before behind all c.latest_is c.empty
-    (with-both s meta before between behind t.added end.added t.outcomes_are end.outcomes_are)).0
+    (settled-as merge.on s.merge.on merge.max_lines s.merge.max_lines marks t.merges t.most_lines ∙ t.settles)
+    ∙ append_assoc first t.added end.added in
+    let routed : behind.routed ≡ outcomes s meta latest (t.added ++ end.added) =
+    ap (λ (o : Outcomes). o.routed) end.outcomes_are
+    ∙ ap (λ (l : List Routed). l ++ outcomes s meta between.latest end.added) t.routed_is
+    ∙ ap (λ (l : Option ℤ). outcomes s meta latest t.added ++ outcomes s meta l end.added) t.latest_is
+    ∙ sym (outcomes-append s meta latest t.added end.added) in
+    ap (outcomes s meta None) all ∙ outcomes-append s meta None first (t.added ++ end.added)
+    ∙ ap (λ (l : List Routed). outcomes s meta None first ++ l) (sym routed)
+
+-- a channel with a copy of the settings and of the metadata
+pub same-kept : (s s' : Settings) (meta meta' : ChannelMeta) (lines : Held) (merge : Merging) (latest : Option ℤ) → s ≡ s' → meta ≡ meta' →
+    let k : Kept = record { settings = s; meta = meta; lines = lines; merge = merge; latest = latest } in
+    let k' : Kept = record { settings = s'; meta = meta'; lines = lines; merge = merge; latest = latest } in k ≡ k'
+same-kept s s' meta meta' lines merge latest e f =
+    ap (λ (x : Settings). let k : Kept = record { settings = x; meta = meta; lines = lines; merge = merge; latest = latest } in k) e
+    ∙ ap (λ (x : ChannelMeta). let k : Kept = record { settings = s'; meta = x; lines = lines; merge = merge; latest = latest } in k) f
 
 -- lines are taken in by what a channel keeps, which is what was stated
 pub as-stated : (s s' : Settings) (meta meta' : ChannelMeta) (earlier : List MarkedLine) (lines : List Line) (old new : Merging) (before behind : Outcomes) →

@@ -1,6 +1,6 @@
 //! A channel. Whoever has the bytes of a stream feeds them to it, block by block.
 
-ghost use Rattle.std.specs.Prelude.{◌≡◌, ◌<◌, ◌≤◌, ◌+◌, ◌*◌, ℕ, List, [], ◌++◌, length, IfOk, IsSome, Err, false, true};
+ghost use Rattle.std.specs.Prelude.{◌≡◌, ◌<◌, ◌≤◌, ◌+◌, ◌*◌, ℕ, List, [], ◌++◌, length, IfOk, IsSome, IsFalse, Err, false, true};
 ghost use Rattle.std.specs.List.{All};
 ghost use Rattle.ix_base.specs.Clocks.{clamped};
 ghost use Rattle.ix_base.specs.Stream.{Dated, dated};
@@ -8,12 +8,14 @@ ghost use Rattle.ix_base.specs.declared.events.ChannelMeta.{ChannelMeta};
 ghost use Rattle.ix_carry.specs.Form.{IsCarryOf};
 ghost use Rattle.ix_carry.specs.Spelling.{spell};
 ghost use Rattle.ix_carry.specs.declared.carry.Carry.{Carry as Carried};
+ghost use Rattle.ix_lines.specs.Lines.{IsShort};
 ghost use Rattle.ix_lines.specs.Parts.{moved};
 ghost use Rattle.ix_props.specs.Settings.{AreUsable};
 ghost use Rattle.ix_props.specs.declared.settings.Settings.{Settings as Chosen};
 ghost use Rattle.ix_parse.specs.Carry.{rules_of, carry_of, HasMoments};
 ghost use Rattle.ix_parse.specs.Limits.{KeepsLimits, IsSmall};
-ghost use Rattle.ix_parse.specs.Settled.{settled};
+ghost use Rattle.ix_parse.specs.Settled.{channel_lines, settled};
+ghost use Rattle.ix_parse.specs.Stage.{TakenIn};
 ghost use Rattle.ix_parse.specs.Standing.{StandsFor};
 
 use crate::outcomes::{Outcomes, Owner};
@@ -76,6 +78,31 @@ fn rules_of(settings: &Settings) -> CarryRules
     }
 }
 
+/// The lines, the events and the latest accepted time with which a channel with these settings goes on from a carry.
+fn resumed(
+    alloc: Global,
+    settings: &Settings,
+    carry: &[u8],
+) -> Result<(Lines, Merge, Option<i64>), ResumeFault>
+    requires { AreUsable settings.now }
+    ensures stands { IfOk result (λ r. (meta : ChannelMeta) (stream : List Dated) → IsCarryOf (rules_of settings.now) carry.now (carry_of settings.now stream) →
+        StandsFor settings.now meta stream (record { settings = settings.now; meta = meta; lines = r.0; merge = r.1; latest = r.2 })) }
+    ensures whole { IfOk result (λ r. IsFalse r.1.broken) }
+    ensures read { IfOk result (λ r. (said : Carried) × IsCarryOf (rules_of settings.now) carry.now said) }
+    ensures bad { result ≡ Err ResumeFault.BadCarry → (said : Carried) → IsCarryOf (rules_of settings.now) carry.now said → ⊥ }
+{
+    let said = read_carry(alloc, rules_of(settings), carry)?;
+    let breaker = settings.breaker.copy()?;
+    let lines = Lines::resume(alloc, breaker, settings.truncate, said.lines)?;
+    let merge = Merge::resume(
+        alloc,
+        settings.merge.on,
+        settings.merge.max_lines,
+        said.merge,
+    );
+    Ok((lines, merge, said.latest))
+}
+
 impl Channel {
     /// A channel that has no byte yet. The settings are such as `Props::settings` gives. The metadata name the index.
     pub fn start(alloc: Global, settings: Settings, meta: ChannelMeta) -> Result<Channel, NoMemory>
@@ -99,6 +126,7 @@ impl Channel {
     fn owner(&self) -> Owner<'_>
         ensures settings { result.settings.now ≡ self.now.settings }
         ensures meta { result.meta.now ≡ self.now.meta }
+        ensures usable { AreUsable result.settings.now }
     {
         Owner {
             alloc: self.alloc,
@@ -116,6 +144,44 @@ impl Channel {
             latest: self.latest,
             routed: RoutedList::new(self.alloc),
         }
+    }
+
+    /// The events once these lines have come behind those of this channel, and what they settle.
+    fn taken(&self, lines: LineList) -> Result<(Merge, Outcomes), NoMemory>
+        requires { All IsShort lines }
+        ensures takes { IfOk result (λ taken. (settings : Chosen) (meta : ChannelMeta) (stream : List Dated) →
+            StandsFor settings meta stream self.now → TakenIn settings meta stream lines taken.0 taken.1) }
+        ensures small { IfOk result (λ taken. KeepsLimits self.now.settings self.now.meta → All IsSmall taken.1.routed) }
+        ensures whole { IfOk result (λ taken. IsFalse taken.0.broken) }
+    {
+        let mut merge = self.merge.copy()?;
+        let mut outcomes = self.outcomes();
+        self.owner().take_lines(lines, &mut merge, &mut outcomes)?;
+        Ok((merge, outcomes))
+    }
+
+    /// The channel that goes on from this one with these lines and events, and the outcomes.
+    fn gone_on(
+        &self,
+        lines: Lines,
+        merge: Merge,
+        outcomes: Outcomes,
+    ) -> Result<(Channel, RoutedList), NoMemory>
+        requires { IsFalse merge.broken }
+        ensures kept { IfOk result (λ next. next.0 ≡ record { settings = self.now.settings; meta = self.now.meta; lines = lines; merge = merge; latest = outcomes.latest }) }
+        ensures routed { IfOk result (λ next. next.1 ≡ outcomes.routed) }
+    {
+        let settings = self.settings.copy(self.alloc)?;
+        let meta = self.meta.copy()?;
+        let next = Channel {
+            alloc: self.alloc,
+            settings,
+            meta,
+            lines,
+            merge,
+            latest: outcomes.latest,
+        };
+        Ok((next, outcomes.routed))
     }
 
     /// The channel once these bytes have come, all at one moment (microseconds since 1970-01-01T00:00:00Z; one before
@@ -140,46 +206,27 @@ impl Channel {
             steps.new ≤ steps.old + self.now.lines.breaker.weight * 512 * moved self.now.lines (length bytes.now) fed.0.lines) }
         ensures later { steps.old ≤ steps.new }
     {
-        let mut merge = self.merge.copy()?;
-        let mut outcomes = self.outcomes();
         let mut settled = LineList::new(self.alloc);
         let mut lines = self.lines.copy()?;
         lines.feed(bytes, moment, &mut settled, steps)?;
-        self.owner().take_lines(settled, &mut merge, &mut outcomes)?;
-        // What each end before this one would have to let go is made last.
-        let meta = self.meta.copy()?;
-        let settings = self.settings.copy(self.alloc)?;
-        let next = Channel {
-            alloc: self.alloc,
-            settings,
-            meta,
-            lines,
-            merge,
-            latest: outcomes.latest,
-        };
-        Ok((next, outcomes.routed))
+        let (merge, outcomes) = self.taken(settled)?;
+        self.gone_on(lines, merge, outcomes)
     }
 
-    /// What closing the stream settles, counted in the ledger that the blank one opens.
-    fn counted_end<L: Ledger>(&self, blank: Blank) -> Result<RoutedList, NoMemory>
+    /// The lines that closing the stream settles. Tests are counted in the ledger that the blank one opens, which nobody reads.
+    fn last_lines<L: Ledger>(&self, blank: Blank) -> Result<LineList, NoMemory>
         requires name { blank.name ≡ L.name }
         requires parts { blank.parts ≡ L.parts }
         requires some { 0 < blank.parts }
-        ensures settles { IfOk result (λ ended. (settings : Chosen) (meta : ChannelMeta) (stream : List Dated) →
+        ensures lines { IfOk result (λ last. (settings : Chosen) (meta : ChannelMeta) (stream : List Dated) →
             StandsFor settings meta stream self.now →
-            settled settings meta stream true ≡ settled settings meta stream false ++ ended) }
-        ensures small { IfOk result (λ ended. (settings : Chosen) (meta : ChannelMeta) (stream : List Dated) →
-            StandsFor settings meta stream self.now → KeepsLimits settings meta → All IsSmall ended) }
+            channel_lines settings stream true ≡ channel_lines settings stream false ++ last) }
+        ensures short { IfOk result (λ last. All IsShort last) }
     {
         let mut steps = Steps::<L>::new(blank);
         let mut last = LineList::new(self.alloc);
         self.lines.copy()?.close(&mut last, &mut steps)?;
-        let mut merge = self.merge.copy()?;
-        let mut outcomes = self.outcomes();
-        let owner = self.owner();
-        owner.take_lines(last, &mut merge, &mut outcomes)?;
-        owner.take_end(merge, &mut outcomes)?;
-        Ok(outcomes.routed)
+        Ok(last)
     }
 
     /// What closing the stream settles. This channel stays as it is.
@@ -190,8 +237,10 @@ impl Channel {
         ensures small { IfOk result (λ ended. (settings : Chosen) (meta : ChannelMeta) (stream : List Dated) →
             StandsFor settings meta stream self.now → KeepsLimits settings meta → All IsSmall ended) }
     {
-        let ended = self.counted_end::<Brand>(Blank::new(1))?;
-        Ok(ended)
+        let last = self.last_lines::<Brand>(Blank::new(1))?;
+        let (merge, mut outcomes) = self.taken(last)?;
+        self.owner().take_end(merge, &mut outcomes)?;
+        Ok(outcomes.routed)
     }
 
     /// What is to be carried of this channel over a stop, as bytes: the byte before the place from which on breaks are still to be
@@ -203,7 +252,6 @@ impl Channel {
         ensures is_carry { IfOk result (λ bytes. (settings : Chosen) (meta : ChannelMeta) (stream : List Dated) →
             StandsFor settings meta stream self.now → HasMoments stream → IsCarryOf (rules_of settings) bytes (carry_of settings stream)) }
     {
-        ix_merge::events_stay();
         let lines = self.lines.parts()?;
         let merge = self.merge.parts()?;
         let latest = self.latest;
@@ -212,8 +260,8 @@ impl Channel {
             merge,
             latest,
         };
-        let bytes = carry.write(self.alloc)?;
-        Ok(bytes)
+        ix_merge::events_stay();
+        carry.write(self.alloc)
     }
 
     /// A channel that goes on from a carry: it stands for each stream of which the bytes are the carry under these settings. The
@@ -232,22 +280,14 @@ impl Channel {
         ensures read { IfOk result (λ channel. (said : Carried) × IsCarryOf (rules_of settings) carry.now said) }
         ensures bad { result ≡ Err ResumeFault.BadCarry → (said : Carried) → IsCarryOf (rules_of settings) carry.now said → ⊥ }
     {
-        let said = read_carry(alloc, rules_of(&settings), carry)?;
-        let breaker = settings.breaker.copy()?;
-        let lines = Lines::resume(alloc, breaker, settings.truncate, said.lines)?;
-        let merge = Merge::resume(
-            alloc,
-            settings.merge.on,
-            settings.merge.max_lines,
-            said.merge,
-        );
+        let (lines, merge, latest) = resumed(alloc, &settings, carry)?;
         Ok(Channel {
             alloc,
             settings,
             meta,
             lines,
             merge,
-            latest: said.latest,
+            latest,
         })
     }
 }

@@ -1,4 +1,4 @@
-use Rattle.std.proofs.Common.{◌∙◌, ℕ, List, ap, sym, subst}
+use Rattle.std.proofs.Common.{◌∙◌, ℕ, List, sym, subst}
 use Rattle.ix_pattern.specs.Rows.{Shape}
 use Rattle.ix_lines.specs.Begun.{Attends}
 use Rattle.ix_lines.specs.Breaks.{breaks_by}

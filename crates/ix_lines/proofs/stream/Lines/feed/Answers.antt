@@ -2,6 +2,7 @@ use Rattle.std.proofs.Common.{◌≡◌, ◌∙◌, ◌++◌, ◌+◌, ◌*◌, 
 use mir.Val.{SFits}
 use Rattle.std.proofs.Math.Facts.{to_z-of_z}
 use Rattle.std.proofs.lemmas.List.{length-drop}
+use Rattle.std.proofs.lemmas.Result.{IfOk-from_err}
 use Rattle.std.proofs.lemmas.Slice.Zip.{length-zip}
 use Rattle.ix_base.specs.Clocks.{clamped}
 use Rattle.ix_base.specs.Stream.{Dated, dated}
@@ -10,6 +11,7 @@ use Rattle.ix_lines.specs.Laws.{IsStable}
 use Rattle.ix_lines.specs.Walk.{walk}
 use Rattle.ix_lines.specs.Breaks.{breaks_by}
 use Rattle.ix_lines.specs.Moments.{moments_of}
+use Rattle.ix_lines.specs.Parts.{Held}
 use Rattle.std.specs.Bool.{OnFalse}
 use Rattle.ix_lines.specs.Begun.{Attends}
 use Rattle.ix_lines.specs.Pending.{IsPaired, dated_in}
@@ -121,3 +123,75 @@ invariant_of-self-2 g c =
       left-attends c.settle.new.self.breaker all.before c.drop_first.new.self.before all.bytes c.drop_first.new.self.bytes c.in_ok-stop.stop c.in_ok-drop_first.ensures.before
           c.in_ok-drop_first.ensures.bytes c.in_ok-stop.ensures.goes_on c.in_ok-stop.ensures.begun,
     )
+
+pub returns-in_err-add-clause-ok : goal.returns-in_err-add-clause-ok
+returns-in_err-add-clause-ok g c = IfOk-from_err c.from_residual.result _ c.from_residual.ensures.0
+
+pub returns-in_err-add-clause-pending : goal.returns-in_err-add-clause-pending
+returns-in_err-add-clause-pending g c = IfOk-from_err c.from_residual.result _ c.from_residual.ensures.0
+
+pub returns-in_err-add-clause-counted : goal.returns-in_err-add-clause-counted
+returns-in_err-add-clause-counted g c = IfOk-from_err c.from_residual.result _ c.from_residual.ensures.0
+
+pub returns-in_err-add-clause-again : goal.returns-in_err-add-clause-again
+returns-in_err-add-clause-again g c = IfOk-from_err c.from_residual.result _ c.from_residual.ensures.0
+
+pub returns-in_err-stop-clause-ok : goal.returns-in_err-stop-clause-ok
+returns-in_err-stop-clause-ok g c = IfOk-from_err c.from_residual-in_err-stop.result _ c.from_residual-in_err-stop.ensures.0
+
+pub returns-in_err-stop-clause-pending : goal.returns-in_err-stop-clause-pending
+returns-in_err-stop-clause-pending g c = IfOk-from_err c.from_residual-in_err-stop.result _ c.from_residual-in_err-stop.ensures.0
+
+pub returns-in_err-stop-clause-counted : goal.returns-in_err-stop-clause-counted
+returns-in_err-stop-clause-counted g c = IfOk-from_err c.from_residual-in_err-stop.result _ c.from_residual-in_err-stop.ensures.0
+
+pub returns-in_err-stop-clause-again : goal.returns-in_err-stop-clause-again
+returns-in_err-stop-clause-again g c = IfOk-from_err c.from_residual-in_err-stop.result _ c.from_residual-in_err-stop.ensures.0
+
+pub returns-in_err-drop_first-clause-ok : goal.returns-in_err-drop_first-clause-ok
+returns-in_err-drop_first-clause-ok g c = IfOk-from_err c.from_residual-in_err-drop_first.result _ c.from_residual-in_err-drop_first.ensures.0
+
+pub returns-in_err-drop_first-clause-pending : goal.returns-in_err-drop_first-clause-pending
+returns-in_err-drop_first-clause-pending g c = IfOk-from_err c.from_residual-in_err-drop_first.result _ c.from_residual-in_err-drop_first.ensures.0
+
+pub returns-in_err-drop_first-clause-counted : goal.returns-in_err-drop_first-clause-counted
+returns-in_err-drop_first-clause-counted g c = IfOk-from_err c.from_residual-in_err-drop_first.result _ c.from_residual-in_err-drop_first.ensures.0
+
+pub returns-in_err-drop_first-clause-again : goal.returns-in_err-drop_first-clause-again
+returns-in_err-drop_first-clause-again g c = IfOk-from_err c.from_residual-in_err-drop_first.result _ c.from_residual-in_err-drop_first.ensures.0
+
+pub returns-in_err-stop-clause-breaker : goal.returns-in_err-stop-clause-breaker
+returns-in_err-stop-clause-breaker g c = c.settle.ensures.breaker ∙ ap (λ (h : Held). h.breaker) c.self.view_is
+
+pub returns-in_err-stop-clause-truncate : goal.returns-in_err-stop-clause-truncate
+returns-in_err-stop-clause-truncate g c = c.settle.ensures.truncate ∙ ap (λ (h : Held). h.parts.truncate) c.self.view_is
+
+pub returns-in_err-stop-clause-short : goal.returns-in_err-stop-clause-short
+returns-in_err-stop-clause-short g c = c.settle.ensures.lines
+
+pub returns-in_err-stop-clause-later : goal.returns-in_err-stop-clause-later
+returns-in_err-stop-clause-later g c = c.settle.ensures.later
+
+pub returns-in_err-drop_first-clause-breaker : goal.returns-in_err-drop_first-clause-breaker
+returns-in_err-drop_first-clause-breaker g c = c.settle.ensures.breaker ∙ ap (λ (h : Held). h.breaker) c.self.view_is
+
+pub returns-in_err-drop_first-clause-truncate : goal.returns-in_err-drop_first-clause-truncate
+returns-in_err-drop_first-clause-truncate g c = c.settle.ensures.truncate ∙ ap (λ (h : Held). h.parts.truncate) c.self.view_is
+
+pub returns-in_err-drop_first-clause-short : goal.returns-in_err-drop_first-clause-short
+returns-in_err-drop_first-clause-short g c = c.settle.ensures.lines
+
+pub returns-in_err-drop_first-clause-later : goal.returns-in_err-drop_first-clause-later
+returns-in_err-drop_first-clause-later g c = c.settle.ensures.later
+
+pub returns-clause-breaker : goal.returns-clause-breaker
+returns-clause-breaker g c = c.settle.ensures.breaker ∙ ap (λ (h : Held). h.breaker) c.self.view_is
+
+pub returns-clause-truncate : goal.returns-clause-truncate
+returns-clause-truncate g c = c.settle.ensures.truncate ∙ ap (λ (h : Held). h.parts.truncate) c.self.view_is
+
+pub returns-clause-short : goal.returns-clause-short
+returns-clause-short g c = c.settle.ensures.lines
+
+pub returns-clause-later : goal.returns-clause-later
+returns-clause-later g c = c.settle.ensures.later
