@@ -12,9 +12,15 @@ use std::marker::Model;
 
 /// A pattern that many texts are searched for. It is written out once, and what is known of the front of its matches is
 /// worked out once. Contracts see the pattern.
-#[derive(Drop)]
 pub struct Finder {
     prepared: Prepared,
+}
+
+/// It is written out, so that each place where one is let go is a call of it, which is proved once.
+impl Drop for Finder {
+    fn drop(self) {
+        let Finder { prepared: _ } = self;
+    }
 }
 
 impl Model for Finder {

@@ -5,7 +5,7 @@ ghost use Rattle.ix_pattern.specs.Rows.{Rows};
 ghost use Rattle.ix_threads.specs.Finders.{IsFinder, HasRoom};
 ghost use Rattle.ix_match.specs.Fronts.{IsCandidate};
 ghost use Rattle.ix_match.specs.Matches.{MatchesAt, IsFirst, LiesIn};
-ghost use Rattle.ix_match.specs.Prepared.{IsPrepared, SameProgram};
+ghost use Rattle.ix_match.specs.Prepared.{IsPrepared};
 ghost use Rattle.ix_match.specs.Tries.{IsTriedAt, IsTried, LiesIfFound};
 
 use crate::budget::{is_spent, turns_for};
@@ -18,7 +18,6 @@ use ix_threads::finder::{Finder as Written, finder_of, head, room_of};
 use ix_threads::input::Input;
 use ix_threads::place::first_place;
 use ix_threads::plan::Room;
-use ix_threads::program::Program;
 use ix_threads::run::Outcome;
 use std::alloc::Global;
 use std::marker::Brand;
@@ -41,39 +40,14 @@ pub enum Tried {
     From(usize),
 }
 
-/// A copy of a pattern that was written out.
-fn copy_program(alloc: Global, program: &Program) -> Result<Program, NoMemory>
-    ensures { IfOk result (λ copy. SameProgram copy program.now) }
-{
-    Ok(Program {
-        code: program.code.to_vec(alloc)?,
-        start: program.start,
-        asks: program.asks.to_vec(alloc)?,
-        inner: program.inner.to_vec(alloc)?,
-    })
-}
-
-/// A copy of a pattern that was written out, with its table.
-fn copy_written(alloc: Global, written: &Written) -> Result<Written, NoMemory>
-    ensures { IfOk result (λ copy. (rows : Rows) → IsFinder rows written.now → IsFinder rows copy) }
-{
-    let program = copy_program(alloc, &written.program)?;
-    let table = written.table.to_vec(alloc)?;
-    Ok(Written {
-        program,
-        table,
-        width: written.width,
-    })
-}
-
 impl Prepared {
     /// All that a search for this pattern needs.
     pub fn of(alloc: Global, pattern: Pattern) -> Result<Prepared, NoMemory>
         ensures is { IfOk result (λ prepared. prepared.pattern ≡ pattern) }
         ensures prepared { IfOk result IsPrepared }
     {
-        let prefilter = Prefilter::of(alloc, &pattern)?;
         let program = finder_of(alloc, &pattern)?;
+        let prefilter = Prefilter::of(alloc, &pattern)?;
         Ok(Prepared {
             pattern,
             prefilter,
@@ -312,9 +286,9 @@ impl Prepared {
         ensures is { IfOk result (λ copy. copy.pattern ≡ self.now.pattern) }
         ensures prepared { IfOk result IsPrepared }
     {
+        let program = self.program.copy()?;
         let pattern = self.pattern.copy()?;
         let prefilter = self.prefilter.copy()?;
-        let program = copy_written(*self.program.table.allocator(), &self.program)?;
         Ok(Prepared {
             pattern,
             prefilter,

@@ -36,6 +36,9 @@ returns-in-Some-2-clause-known c =
     c.loop-thread.ready.items c.put.new.ready.items c.loop-thread.stack.items c.pop.new.self.items c.put.new.stack.items c.in-Some.thread c.in_ok-act.act _
     c.in-Some.ensures.items act c.in_ok-best.ensures c.loop-thread.invariant
 
+pub returns-in-Some-2-clause-empty : goal.returns-in-Some-2-clause-empty
+returns-in-Some-2-clause-empty c = search rules
+
 pub loop-thread-smaller : goal.loop-thread-smaller
 loop-thread-smaller c =
     let r : c.mark.result ≡ true = search rules in
