@@ -1,6 +1,6 @@
 -- The bytes with which no match begins.
-use Rattle.std.proofs.Common.{◌≡◌, ℕ, zero, suc, ◌+◌, ◌<◌, Bool, true, false, ◌||◌, List, [], ◌∷◌, length, take, Option, Some, None, if◌then◌else◌, nat_le, refl, ◌∙◌, ap, arith}
-use Rattle.std.specs.Prelude.{slice_get, replicate}
+use Rattle.std.proofs.Common.{◌≡◌, ℕ, zero, suc, ◌+◌, ◌<◌, Bool, true, false, ◌||◌, List, [], ◌∷◌, length, take, Option, Some, None, if◌then◌else◌, nat_le, refl, ◌∙◌, ap, arith, ◌++◌, sym}
+use Rattle.std.specs.Prelude.{slice_get, replicate, unwrap_or}
 use Rattle.ix_pattern.specs.Piece.{Piece, nothing, byte_in, start, finish, word, seq, either, count, group, ahead}
 use Rattle.ix_pattern.specs.Ways.{Text, Reached, onward, required, optional, further_turns, here, byte_ways, close_group, sight, ways}
 use Rattle.ix_pattern.specs.Rows.{tree}
@@ -58,3 +58,15 @@ pub others-begin-nothing : OthersBeginNothing
 others-begin-nothing p before b bytes u f =
     none-begin (tree p.rows) (sight reach (record { before = before; bytes = b ∷ bytes; unfinished = u }))
     (record { place = 0; groups = replicate p.groups None }) b (seen-first reach before b bytes u reach-some) f
+
+-- what is known of one piece more
+known-next : (below : List Bool) (b : Bool) (f : ℕ → Bool) → ((k : ℕ) → k < length below → unwrap_or (slice_get below k) false ≡ f k) → b ≡ f (length below) →
+    (k : ℕ) → k < suc (length below) → unwrap_or (slice_get (below ++ b ∷ []) k) false ≡ f k
+known-next [] b f h e zero lt = e
+known-next [] b f h e (suc k) lt = absurd (omega (arith, lt))
+known-next (x ∷ xs) b f h e zero lt = h zero (omega arith)
+known-next (x ∷ xs) b f h e (suc k) lt = known-next xs b (λ j. f (suc j)) (λ j l. h (suc j) (omega (arith, l))) e k (omega (arith, lt))
+
+pub known-more : (below : List Bool) (b : Bool) (f : ℕ → Bool) (n : ℕ) → length below ≡ n → ((k : ℕ) → k < n → unwrap_or (slice_get below k) false ≡ f k) → b ≡ f n →
+    (k : ℕ) → k < n + 1 → unwrap_or (slice_get (below ++ b ∷ []) k) false ≡ f k
+known-more below b f n all h e k lt = known-next below b f (λ j l. h j (omega (arith, l, all))) (e ∙ ap f (sym all)) k (omega (arith, lt, all))
