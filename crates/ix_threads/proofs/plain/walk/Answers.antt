@@ -69,3 +69,21 @@ returns-then-not-is_empty-clause-grown g c = grown-both c.loop-at.invariant.grow
 
 pub returns-clause-grown : goal.returns-clause-grown
 returns-clause-grown g c = grown-both c.loop-at.invariant.grown c.in_ok-best-2.ensures.grown
+
+pub returns-then-is_empty-clause-counts : goal.returns-then-is_empty-clause-counts
+returns-then-is_empty-clause-counts g c = c.loop-at.invariant.counts
+
+pub returns-in_err-best-clause-counts : goal.returns-in_err-best-clause-counts
+returns-in_err-best-clause-counts g c = c.loop-at.invariant.counts
+
+pub returns-in_err-step-clause-counts : goal.returns-in_err-step-clause-counts
+returns-in_err-step-clause-counts g c = counts-more c.loop-at.invariant.counts c.step.ensures.counts
+
+pub returns-in_err-best-2-clause-counts : goal.returns-in_err-best-2-clause-counts
+returns-in_err-best-2-clause-counts g c = c.loop-at.invariant.counts
+
+pub returns-then-not-is_empty-clause-counts : goal.returns-then-not-is_empty-clause-counts
+returns-then-not-is_empty-clause-counts g c = c.loop-at.invariant.counts
+
+pub returns-clause-counts : goal.returns-clause-counts
+returns-clause-counts g c = c.loop-at.invariant.counts

@@ -29,3 +29,12 @@ pub returns-clause-moves : goal.returns-clause-moves
 returns-clause-moves g c = λ real sees start place g.
     let last : c.loop-at.at ≡ c.args.to = omega arith in
     subst (λ p. Goes (Knows c.args.plan) c.args.plan.code.now real start place p c.loop-at.room.main.cells.items c.loop-at.room.main.stack.items c.loop-at.best) last (c.loop-at.invariant.moves real sees start place g)
+
+pub returns-in_err-best-clause-counts : goal.returns-in_err-best-clause-counts
+returns-in_err-best-clause-counts g c = counts-more c.loop-at.invariant.counts c.round.ensures.counts
+
+pub returns-in_err-step-clause-counts : goal.returns-in_err-step-clause-counts
+returns-in_err-step-clause-counts g c = counts-more (counts-more c.loop-at.invariant.counts c.round.ensures.counts) c.step.ensures.counts
+
+pub returns-clause-counts : goal.returns-clause-counts
+returns-clause-counts g c = c.loop-at.invariant.counts

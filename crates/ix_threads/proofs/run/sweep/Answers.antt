@@ -68,3 +68,24 @@ returns-clause-head g c =
 
 pub loop-at-init : goal.loop-at-init
 loop-at-init g c = record { goes = λ start place g. g; known = c.requires.known; room = c.requires.room; counts = counts-none }
+
+pub returns-then-is_empty-clause-counts : goal.returns-then-is_empty-clause-counts
+returns-then-is_empty-clause-counts g c = c.loop-at.invariant.counts
+
+pub returns-in_err-best-clause-counts : goal.returns-in_err-best-clause-counts
+returns-in_err-best-clause-counts g c = counts-more c.loop-at.invariant.counts c.round.ensures.counts
+
+pub returns-in_err-step-clause-counts : goal.returns-in_err-step-clause-counts
+returns-in_err-step-clause-counts g c = counts-more (counts-more c.loop-at.invariant.counts c.round.ensures.counts) c.step.ensures.counts
+
+pub returns-in_err-best-2-clause-counts : goal.returns-in_err-best-2-clause-counts
+returns-in_err-best-2-clause-counts g c = counts-more (counts-more c.loop-at.invariant.counts c.round.ensures.counts) c.step.ensures.counts
+
+pub returns-in_err-best-3-clause-counts : goal.returns-in_err-best-3-clause-counts
+returns-in_err-best-3-clause-counts g c = counts-more c.loop-at.invariant.counts c.round-2.ensures.counts
+
+pub returns-then-not-is_empty-clause-counts : goal.returns-then-not-is_empty-clause-counts
+returns-then-not-is_empty-clause-counts g c = counts-more c.loop-at.invariant.counts c.round-2.ensures.counts
+
+pub returns-clause-counts : goal.returns-clause-counts
+returns-clause-counts g c = counts-more c.loop-at.invariant.counts c.round-2.ensures.counts

@@ -1,8 +1,28 @@
 use Rattle.std.proofs.Common.{rules, ◌≡◌, ◌+◌, ◌*◌, ◌<◌, true, false, length, sym, subst, arith}
 use Rattle.ix_threads.specs.Leaf.{text_of}
-use Rattle.ix_threads.proofs.SettleLemmas.{At, Acted, unmarked, popped-known, at-dropped, at-acted, at-stopped, at-end, acted-smaller, ready-known, none-left}
+use Rattle.ix_threads.proofs.SettleLemmas.{At, at-init, Acted, unmarked, popped-known, at-dropped, at-acted, at-stopped, at-end, acted-smaller, ready-known, none-left}
 use Rattle.ix_threads.specs.Acts.{Puts}
 use Rattle.ix_threads.proofs.settle.settle.Goals as goal
+
+pub loop-thread-init : goal.loop-thread-init
+loop-thread-init c =
+    at-init c.args.code.now c.args.looks.now (text_of c.args.input) c.args.place c.args.cells.now.items c.args.stack.now.items c.args.ready.now.items c.args.stamp c.args.marks.now
+    c.requires.known c.requires.empty c.requires.marks c.requires.unmarked
+
+pub returns-clause-bytes : goal.returns-clause-bytes
+returns-clause-bytes c = c.loop-thread.invariant.bytes
+
+pub returns-clause-known : goal.returns-clause-known
+returns-clause-known c = c.loop-thread.invariant.waits
+
+pub returns-clause-marks : goal.returns-clause-marks
+returns-clause-marks c = c.loop-thread.invariant.all
+
+pub returns-clause-stamps : goal.returns-clause-stamps
+returns-clause-stamps c = c.loop-thread.invariant.low
+
+pub returns-clause-grown : goal.returns-clause-grown
+returns-clause-grown c = c.loop-thread.invariant.grown
 
 pub mark-requires : goal.mark-requires
 mark-requires c =
