@@ -178,6 +178,17 @@ kept-later code looks text p cells0 stack0 marks stamp cells new added ready old
     (sym (append_assoc cells added later) ∙ ap (λ c. c ++ later) (sym grown))
     (kept-popped code looks text p cells0 stack0 marks stamp cells ready old stack t is k rows blank mean rank m lk best goal head (added ++ later))
 
+-- a mark more
+pub low-set : (marks : List ℕ) (pc stamp : ℕ) → ((k : ℕ) → get_or marks k 0 ≤ stamp) → pc < length marks → (k : ℕ) → get_or (set marks pc stamp) k 0 ≤ stamp
+low-set marks pc stamp low h k = by (eqb k pc) refl
+  where
+    by : (b : Bool) → eqb k pc ≡ b → get_or (set marks pc stamp) k 0 ≤ stamp
+    by false e = subst (λ n. n ≤ stamp) (sym (get_or-set_other marks pc k stamp 0 (λ f. grind (arith, e, f)))) (low k)
+    by true e =
+        let same : k ≡ pc = grind (arith, e) in
+        let is : get_or (set marks pc stamp) k 0 ≡ stamp = ap (λ n. get_or (set marks pc stamp) n 0) same ∙ get_or-set_same marks pc stamp 0 h in
+        omega (arith, is)
+
 pub at-acted : (code : List Instr) (looks : List Leaf) (text : Text) (p : ℕ) (cells0 : List Cell) (stack0 : List Thread) (stamp : ℕ) (marks : List ℕ) (cells new : List Cell) (ready rest old stack more : List Thread) (t : Thread) (a : Act) →
     old ≡ stack ++ t ∷ [] → Acted code looks text p cells new t a → Puts a t stack more ready rest None → At code looks text p cells0 stack0 stamp marks cells ready old →
     At code looks text p cells0 stack0 stamp (set marks t.pc stamp) new rest more
@@ -191,20 +202,13 @@ at-acted code looks text p cells0 stack0 stamp marks cells new ready rest old st
       waits = both.1;
       bytes = bytes-acted code t a stack more ready rest None put act.bytes s.bytes;
       all = length-set marks t.pc stamp ∙ s.all;
-      low = λ i. low-set (let h : t.pc < length marks = omega (arith, k.1.0, s.all) in h) i (eqb i t.pc) refl;
+      low = low-set marks t.pc stamp s.low (omega (arith, k.1.0, s.all));
       grown = (s.grown.0 ++ act.grown.0, act.grown.1 ∙ ap (λ c. c ++ act.grown.0) s.grown.1 ∙ append_assoc cells0 s.grown.0 act.grown.0);
       kept = λ real ag rows blank mean rank m lk best goal head later.
           kept-acted code mean blank rank (new ++ later) p t a (marked marks stamp) (marked (set marks t.pc stamp) stamp) stack more ready rest (best_ways blank (new ++ later) best) goal
           (alike code rows real blank mean rank m (new ++ later) p) (adds-mark marks stamp t.pc) (act.does real ag rows blank mean rank m lk later) put
           (kept-later code looks real p cells0 stack0 marks stamp cells new act.grown.0 ready old stack t act.grown.1 is (s.kept real ag) rows blank mean rank m lk best goal head later);
     }
-  where
-    low-set : t.pc < length marks → (k : ℕ) (b : Bool) → eqb k t.pc ≡ b → get_or (set marks t.pc stamp) k 0 ≤ stamp
-    low-set h k false e = subst (λ n. n ≤ stamp) (sym (get_or-set_other marks t.pc k stamp 0 (λ f. grind (arith, e, f)))) (s.low k)
-    low-set h k true e =
-        let same : k ≡ t.pc = grind (arith, e) in
-        let is : get_or (set marks t.pc stamp) k 0 ≡ stamp = ap (λ n. get_or (set marks t.pc stamp) n 0) same ∙ get_or-set_same marks t.pc stamp 0 h in
-        omega (arith, is)
 
 pub at-stopped : (code : List Instr) (looks : List Leaf) (text : Text) (p : ℕ) (cells0 : List Cell) (stack0 : List Thread) (stamp : ℕ) (marks : List ℕ) (cells new : List Cell) (ready rest old stack more : List Thread) (t : Thread) (a : Act) (found : Best) →
     old ≡ stack ++ t ∷ [] → Acted code looks text p cells new t a → Puts a t stack more ready rest (Some found) → At code looks text p cells0 stack0 stamp marks cells ready old →

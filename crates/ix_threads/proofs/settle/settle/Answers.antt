@@ -1,6 +1,6 @@
-use Rattle.std.proofs.Common.{rules, ◌≡◌, ◌+◌, ◌*◌, ◌<◌, true, false, length, sym, subst, arith}
+use Rattle.std.proofs.Common.{rules, ◌≡◌, ◌+◌, ◌*◌, ◌<◌, ◌≤◌, get_or, true, false, length, sym, subst, arith}
 use Rattle.ix_threads.specs.Leaf.{text_of}
-use Rattle.ix_threads.proofs.SettleLemmas.{At, at-init, Acted, unmarked, popped-known, at-dropped, at-acted, at-stopped, at-end, acted-smaller, ready-known, none-left}
+use Rattle.ix_threads.proofs.SettleLemmas.{At, at-init, low-set, Acted, unmarked, popped-known, at-dropped, at-acted, at-stopped, at-end, acted-smaller, ready-known, none-left}
 use Rattle.ix_threads.specs.Acts.{Puts}
 use Rattle.ix_threads.proofs.settle.settle.Goals as goal
 
@@ -55,6 +55,13 @@ returns-in-Some-2-clause-known c =
     ready-known c.args.code.now c.args.looks.now (text_of c.args.input) c.args.place c.args.cells.now.items c.args.stack.now.items c.args.stamp c.loop-thread.marks c.loop-thread.cells.items c.act_at.new.cells.items
     c.loop-thread.ready.items c.put.new.ready.items c.loop-thread.stack.items c.pop.new.self.items c.put.new.stack.items c.in-Some.thread c.in_ok-act.act _
     c.in-Some.ensures.items act c.in_ok-best.ensures c.loop-thread.invariant
+
+pub returns-in-Some-2-clause-stamps : goal.returns-in-Some-2-clause-stamps
+returns-in-Some-2-clause-stamps c = λ k.
+    let r : c.mark.result ≡ true = search rules in
+    let known = popped-known _ _ _ _ _ _ _ _ _ _ _ _ _ c.in-Some.ensures.items c.loop-thread.invariant in
+    subst (λ marks. get_or marks k 0 ≤ c.args.stamp) (sym (c.mark.ensures.first r).1)
+    (low-set c.loop-thread.marks c.in-Some.thread.pc c.args.stamp c.loop-thread.invariant.low (omega (arith, known.0, c.loop-thread.invariant.all)) k)
 
 pub returns-in-Some-2-clause-empty : goal.returns-in-Some-2-clause-empty
 returns-in-Some-2-clause-empty c = search rules
