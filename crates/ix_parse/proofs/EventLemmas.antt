@@ -1,6 +1,6 @@
 -- The outcomes of events, and lines on their way to them.
 use Rattle.std.proofs.Common.{◌≡◌, ℕ, ℤ, Bool, List, [], ◌∷◌, ◌++◌, Option, refl, sym, ◌∙◌, ap, subst, append_assoc}
-use Rattle.std.proofs.lemmas.List.{map-append}
+use Rattle.std.proofs.lemmas.List.{append-nil, map-append}
 use Rattle.std.proofs.lemmas.List.Sums.{fold-append}
 use Rattle.ix_base.specs.declared.events.ChannelMeta.{ChannelMeta}
 use Rattle.ix_base.specs.declared.events.Line.{Line}
@@ -59,6 +59,15 @@ together : (s : Settings) (earlier : List MarkedLine) (lines more : List Line) �
 together s earlier lines more =
     ap (λ (l : List MarkedLine). earlier ++ l) (map-append (marked_line s.merge s.time) lines more)
     ∙ sym (append_assoc earlier (marked s.merge s.time lines) (marked s.merge s.time more))
+
+pub takes-none : (s : Settings) (meta : ChannelMeta) (earlier : List MarkedLine) (merge : Merging) (o : Outcomes) → Holds earlier merge →
+    Takes s meta earlier [] merge merge o o
+takes-none s meta earlier merge o holds = record {
+  added = [];
+  holds = subst (λ (l : List MarkedLine). Holds l merge) (sym (append-nil earlier)) holds;
+  settles = ap (settled merge.on merge.max_lines) (append-nil earlier) ∙ sym (append-nil (settled merge.on merge.max_lines earlier));
+  outcomes_are = made o.latest o.latest o.routed (o.routed ++ []) refl (sym (append-nil o.routed));
+}
 
 pub takes-more : (s : Settings) (meta : ChannelMeta) (earlier : List MarkedLine) (lines more : List Line) (old mid new : Merging)
     (before between behind : Outcomes) → mid.on ≡ old.on → mid.max_lines ≡ old.max_lines →
