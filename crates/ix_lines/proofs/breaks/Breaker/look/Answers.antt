@@ -2,18 +2,30 @@ use Rattle.std.proofs.Common.{rules, arith, ◌≡◌, ◌<◌, ◌∙◌, ap, i
 use Rattle.ix_match.specs.Scans.{Scanned, GoesOn}
 use Rattle.ix_lines.specs.Begun.{Breaking, IsBegun}
 use Rattle.ix_lines.specs.Breaks.{breaks_by}
+use Rattle.ix_lines.specs.Laws.{IsStable}
 use Rattle.ix_lines.specs.Seek.{look_of}
 use Rattle.ix_lines.proofs.Attempts.{breaks-stable}
 use Rattle.ix_lines.proofs.Looking.{any-ok, given-these, no-tests}
-use Rattle.ix_lines.proofs.SeekLemmas.{answer-sized}
+use Rattle.ix_lines.proofs.SeekLemmas.{looked-sized, answer-sized}
 use Rattle.ix_lines.proofs.RunBreaks.{counted-look}
 use Rattle.ix_lines.proofs.breaks.Breaker.look.Goals as goal
 
+pub returns-clause-is : goal.returns-clause-is
+returns-clause-is g c =
+    let is : IfOk c.match-branch-2.result (λ l. look_of l ≡ breaks_by c.self.inside.pattern c.args.before c.args.bytes.now c.args.unfinished) = search rules in
+    subst (λ (b : Breaking). IfOk c.match-branch-2.result (λ l. look_of l ≡ breaks_by b.pattern c.args.before c.args.bytes.now c.args.unfinished)) c.self.view_is is
+
 pub returns-clause-sized : goal.returns-clause-sized
 returns-clause-sized g c =
-    let p = c.self.inside.pattern in
-    let is : IfOk c.match-branch-2.result (λ l. look_of l ≡ breaks_by p c.args.before c.args.bytes.now c.args.unfinished) = search rules in
-    answer-sized (breaks_by p) (breaks-stable p c.self.invariant.0 c.self.invariant.1) c.args.unfinished c.args.before c.args.bytes.now c.match-branch-2.result is
+    let stable = subst (λ (b : Breaking). IsStable (breaks_by b.pattern)) c.self.view_is (breaks-stable c.self.inside.pattern c.self.invariant.0 c.self.invariant.1) in
+    answer-sized (breaks_by c.args.self.now.pattern) stable c.args.unfinished c.args.before c.args.bytes.now c.match-branch-2.result (returns-clause-is g c)
+
+pub returns-then-self-clause-sized : goal.returns-then-self-clause-sized
+returns-then-self-clause-sized g c =
+    let i = c.self.inside in
+    looked-sized (breaks_by i.pattern) (breaks-stable i.pattern c.self.invariant.0 c.self.invariant.1) c.args.unfinished c.args.before c.args.bytes.now c.run_at.result
+    (c.run_at.ensures
+    ∙ counted-look i.pattern i.scan.starts c.self.invariant.2 (c.self.invariant.4 c.if-self.true) c.args.before c.args.bytes.now c.args.unfinished (λ k. omega (arith, c.type_inv.bytes k)))
 
 pub returns-then-self-clause-is : goal.returns-then-self-clause-is
 returns-then-self-clause-is g c =
