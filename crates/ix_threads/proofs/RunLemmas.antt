@@ -1,6 +1,6 @@
 -- From place to place.
-use Rattle.std.proofs.Common.{◌≡◌, ℕ, ◌+◌, if◌then◌else◌, Bool, true, false, List, [], ◌∷◌, ◌++◌, length, Option, Some, refl, sym, ◌∙◌, ap, arith, append_assoc, take, reverse}
-use Rattle.std.specs.Prelude.{slice_get}
+use Rattle.std.proofs.Common.{◌≡◌, ℕ, ◌+◌, if◌then◌else◌, Bool, true, false, List, [], ◌∷◌, ◌++◌, length, Option, Some, refl, sym, ◌∙◌, ap, arith, append_assoc, take, reverse, ◌≤◌, subst}
+use Rattle.std.specs.Prelude.{slice_get, slice_index_or}
 use Rattle.std.proofs.lemmas.Option.{slice_get_past}
 use Rattle.std.proofs.lemmas.List.{append-nil}
 use Rattle.ix_pattern.specs.Ways.{Text, Way, edge, byte_ways, at_end}
@@ -16,7 +16,7 @@ use Rattle.ix_threads.specs.Code.{Mean, Meaning, history, thread_ways, list_ways
 use Rattle.ix_threads.specs.Acts.{IsByte}
 use Rattle.ix_threads.specs.Settled.{AllBytes}
 use Rattle.ix_threads.specs.Stepped.{AreAnswers, Steps}
-use Rattle.ix_threads.specs.Ran.{Rounds, Goes, Ends, Grown}
+use Rattle.ix_threads.specs.Ran.{AreMarks, Rounds, Goes, Ends, Grown}
 
 pub goes-init : (known : Rows → Type 0) (code : List Instr) (text : Text) (start place : ℕ) (cells : List Cell) (stack : List Thread) →
     stack ≡ record { pc = start; trail = 0 } ∷ [] → Goes known code text start place place cells stack No
@@ -110,3 +110,13 @@ take-grown xs ys n g e = ap (λ k. take k ys) e ∙ ap (take (length xs)) g.is �
     front : (us vs : List Cell) → take (length us) (us ++ vs) ≡ us
     front [] vs = refl
     front (u ∷ us) vs = ap (λ l. u ∷ l) (front us vs)
+
+-- marks that were lent are all that stand there afterwards
+pub marks-kept : (xs zs : List ℕ) (n count stamp : ℕ) → n ≡ length xs → length xs ≡ count → ((k : ℕ) → slice_index_or xs k 0 ≤ stamp) →
+    AreMarks (take n (xs ++ zs)) count stamp
+marks-kept xs zs n count stamp e all low =
+    subst (λ l. AreMarks l count stamp) (sym (ap (λ k. take k (xs ++ zs)) e ∙ front xs)) (all, low)
+  where
+    front : (us : List ℕ) → take (length us) (us ++ zs) ≡ us
+    front [] = refl
+    front (u ∷ us) = ap (λ l. u ∷ l) (front us)

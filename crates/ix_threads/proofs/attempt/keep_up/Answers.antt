@@ -1,4 +1,4 @@
-use Rattle.std.proofs.Common.{arith, inl, inr}
+use Rattle.std.proofs.Common.{arith, inl, inr, ◌++◌, ◌∙◌, sym, ap}
 use Rattle.ix_threads.specs.Leaf.{text_of}
 use Rattle.ix_threads.specs.Attempts.{IsSettled}
 use Rattle.ix_threads.proofs.AttemptLemmas.{settled-sees}
@@ -12,3 +12,7 @@ returns-clause-lasts g c = λ start lasts real goes_on.
       | inr s ↦ s
     ] in
     c.in_ok-best.ensures.moves real (settled-sees c.args.plan.asks.now seen real c.settled_place-to.result settled goes_on) start 0 (lasts real goes_on)
+
+pub returns-clause-threads : goal.returns-clause-threads
+returns-clause-threads g c =
+    sym (c.in_ok-extend_from_slice.ensures.items ∙ ap (λ l. l ++ c.deref.result.now) c.clear.ensures.items ∙ c.deref.ensures.value)

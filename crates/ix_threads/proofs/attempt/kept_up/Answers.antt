@@ -1,5 +1,7 @@
-use Rattle.std.proofs.Common.{refl, sym, ap}
+use Rattle.std.proofs.Common.{length, refl, sym, ap, subst}
+use Rattle.ix_threads.specs.Acts.{AllKnown}
 use Rattle.ix_threads.specs.Plans.{Knows}
+use Rattle.ix_threads.specs.Ran.{AreMarks}
 use Rattle.ix_threads.specs.Attempts.{so_far}
 use Rattle.ix_threads.proofs.AttemptLemmas.{lasts-same}
 use Rattle.ix_threads.proofs.attempt.kept_up.Goals as goal
@@ -10,3 +12,20 @@ returns-clause-lasts g c = λ start lasts.
     (lasts-same (Knows c.args.plan) c.args.plan.code.now (so_far c.args.input.before c.args.input.bytes.now) start _ _ _ _ _ _ _ _ (sym c.take_up.ensures.place)
     (ap (λ v. v.items) (sym c.take_up.ensures.cells)) (sym c.in_ok-take_up.ensures.stack) (sym c.take_up.ensures.best) lasts) in
     lasts-same (Knows c.args.plan) c.args.plan.code.now (so_far c.args.input.before c.args.input.bytes.now) start _ _ _ _ _ _ _ _ refl (sym (ap (λ v. v.items) c.swap.ensures.y_after)) c.in_ok-keep_up.ensures.threads refl moved
+
+pub keep_up-requires-clause-room : goal.keep_up-requires-clause-room
+keep_up-requires-clause-room g c =
+    let work = c.take_up.new.work in
+    let n = length c.args.plan.code.now in (
+      subst (AreMarks work.marks.items n) (sym c.take_up.ensures.stamp)
+          (subst (λ m. AreMarks m.items n c.args.room.now.main.stamp) (sym c.take_up.ensures.marks) c.requires.room.0),
+      c.requires.room.1,
+      c.requires.room.2,
+    )
+
+pub keep_up-requires-clause-known : goal.keep_up-requires-clause-known
+keep_up-requires-clause-known g c =
+    let work = c.take_up.new.work in
+    let n = length c.args.plan.code.now in
+    subst (λ cells. AllKnown n (length cells.items) work.stack.items) (sym c.take_up.ensures.cells)
+    (subst (AllKnown n (length c.args.attempt.now.cells.items)) (sym c.in_ok-take_up.ensures.stack) c.requires.known)

@@ -1,8 +1,10 @@
-use Rattle.std.proofs.Common.{rules, ◌≡◌, length, sym, ◌∙◌, ap}
+use Rattle.std.proofs.Common.{rules, ◌≡◌, length, sym, ◌∙◌, ap, subst}
 use Rattle.std.specs.Prelude.{replicate, None, slice_get}
 use Rattle.ix_threads.specs.Leaf.{text_of}
+use Rattle.ix_threads.specs.Acts.{AllKnown}
 use Rattle.ix_threads.specs.Code.{best_ways}
 use Rattle.ix_threads.specs.Plans.{Knows}
+use Rattle.ix_threads.specs.Ran.{AreMarks}
 use Rattle.ix_threads.specs.Attempts.{so_far}
 use Rattle.ix_threads.proofs.AttemptLemmas.{continues-self, lasts-same}
 use Rattle.ix_threads.proofs.RunLemmas.{take-grown}
@@ -22,3 +24,23 @@ pub returns-clause-cells : goal.returns-clause-cells
 returns-clause-cells g c =
     let kept : c.len-kept.result ≡ length c.take_up.new.work.cells.items = search rules in
     ap (λ v. v.items) c.swap.ensures.y_after ∙ c.truncate.ensures.items ∙ take-grown _ _ c.len-kept.result c.in_ok-best.ensures.grown kept ∙ ap (λ v. v.items) c.take_up.ensures.cells
+
+pub walk-requires-clause-room : goal.walk-requires-clause-room
+walk-requires-clause-room g c =
+    let work = c.take_up.new.work in
+    let n = length c.args.plan.code.now in (
+      subst (AreMarks work.marks.items n) (sym c.take_up.ensures.stamp)
+          (subst (λ m. AreMarks m.items n c.args.room.now.main.stamp) (sym c.take_up.ensures.marks) c.requires.room.0),
+      c.requires.room.1,
+      c.requires.room.2,
+    )
+
+pub walk-requires-clause-known : goal.walk-requires-clause-known
+walk-requires-clause-known g c =
+    let work = c.take_up.new.work in
+    let n = length c.args.plan.code.now in
+    subst (λ cells. AllKnown n (length cells.items) work.stack.items) (sym c.take_up.ensures.cells)
+    (subst (AllKnown n (length c.args.attempt.now.cells.items)) (sym c.in_ok-take_up.ensures.stack) c.requires.known)
+
+pub returns-clause-room : goal.returns-clause-room
+returns-clause-room g c = c.in_ok-best.ensures.room
