@@ -7,7 +7,7 @@ use Rattle.std.specs.List.{flat_map, AllByRecursion}
 use Rattle.ix_items.specs.declared.items.ItemFault.{ItemFault}
 use Rattle.ix_items.specs.declared.items.ItemFault.TheVariants as faults
 use Rattle.ix_fields.specs.Reading.{◌>>=◌}
-use Rattle.ix_items.specs.Reading.{Fails, list_at}
+use Rattle.ix_items.specs.Reading.{Fails, list_at, made}
 
 -- what was read before, and what is still read
 abbrev pub with_front : {A : Type 0} → List A → Option (List A × List ℕ) → Option (List A × List ℕ)
@@ -50,6 +50,11 @@ module _ {A : Type 0} (one : List ℕ → Option (A × List ℕ)) where
   list_again spell Fits again (x ∷ list) rest fits =
       let split : flat_map spell (x ∷ list) ++ rest ≡ spell x ++ (flat_map spell list ++ rest) = ap (λ (l : List ℕ). l ++ rest) (flat_map-cons spell x list) ∙ append_assoc (spell x) (flat_map spell list) rest in
       ap (list_at one (suc (length list))) split ∙ rw (again x (flat_map spell list ++ rest) fits.0, list_again spell Fits again list rest fits.1) refl
+
+-- what was not read makes no value
+pub fails_made : {A B : Type 0} (f : A → B) (e : ItemFault) (read : Option (A × List ℕ)) → Fails e read → Fails e (made f read)
+fails_made f faults.NoMemory read h = tt
+fails_made f faults.BadItem read h = ap (made f) h
 
 -- one value more
 pub push_found : {A : Type 0} (spell : A → List ℕ) (list : List A) (x : A) (bytes rest after : List ℕ) → bytes ≡ flat_map spell list ++ rest → rest ≡ spell x ++ after → bytes ≡ flat_map spell (list ++ x ∷ []) ++ after

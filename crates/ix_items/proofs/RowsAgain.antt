@@ -15,7 +15,7 @@ use Rattle.ix_items.specs.declared.items.Item.TheVariants as items
 use Rattle.ix_items.specs.declared.items.ItemFault.{ItemFault}
 use Rattle.ix_items.specs.declared.items.ItemFault.TheVariants as faults
 use Rattle.ix_items.specs.Spelling.{area_byte, state_byte, rule_byte, archive_number, file_bytes, kept_bytes, files_bytes, settings_bytes, meta_bytes, bucket_bytes, entry_bytes, spot_bytes, kind_byte, field_bytes, item_bytes, body_bytes, IsKept, IsMeta, IsWritable, BucketInRange, EntryInRange, IsInRange, HasSpelling}
-use Rattle.ix_items.specs.Reading.{Fails, file_at, file_number_at, kept_at, settings_at, files_at, meta_at, bucket_at, archive_of, entry_at, spot_at, moments_at, channel_at, counts_at, named_at, in_index_at, fields_at, item_at}
+use Rattle.ix_items.specs.Reading.{Fails, file_at, file_number_at, kept_at, settings_at, files_at, meta_at, span_at, place_at, bucket_at, archive_of, frozen_at, entry_at, spot_at, moments_at, channel_at, counts_at, named_at, in_index_at, fields_at, item_at}
 use Rattle.ix_fields.specs.Spelling.{byte, four, eight, signed, string, option, IsShort, Is64}
 use Rattle.ix_fields.specs.Reading.{byte_at}
 use Rattle.ix_fields.proofs.Again.{byte_again, four_again, eight_again, signed_again, string_again, option_again}
@@ -36,7 +36,7 @@ meta_again m rest h =
     ap meta_at split ∙ rw (string_again m.host _ h.host, string_again m.source _ h.source, option_again m.sourcetype _ h.sourcetype, option_again m.index rest h.index) refl
 
 bucket_again : (b : Bucket) (rest : List ℕ) → BucketInRange b → bucket_at (bucket_bytes b ++ rest) ≡ Some (b, rest)
-unfolding bucket_at bucket_bytes
+unfolding bucket_at place_at span_at bucket_bytes
 bucket_again b rest h =
     let split : bucket_bytes b ++ rest ≡ eight b.id ++ (byte (state_byte b.state) ++ (byte (area_byte b.file.area) ++ (eight b.file.number ++ (eight b.bytes ++ (eight b.count ++ (signed b.newest ++ (signed b.oldest ++ (eight b.used ++ (signed b.touched ++ rest))))))))) = simp append_assoc in
     ap bucket_at split ∙ rw (eight_again b.id _ h.id, byte_again (state_byte b.state), state_again b.state, file_again b.file _ h.number, eight_again b.bytes _ h.bytes, eight_again b.count _ h.count, signed_again b.newest _ h.newest, signed_again b.oldest _ h.oldest, eight_again b.used _ h.used, signed_again b.touched rest h.touched) refl
@@ -48,7 +48,7 @@ archive_again (Some zero) h = absurd (h refl)
 archive_again (Some (suc n)) h = rw (ne_eqb (suc n) 0 (λ e. absurd (omega arith))) refl
 
 entry_again : (e : Entry) (rest : List ℕ) → IsShort e.index → (e.archive ≡ Some 0 → ⊥) → EntryInRange e → entry_at (entry_bytes e ++ rest) ≡ Some (e, rest)
-unfolding entry_at entry_bytes
+unfolding entry_at frozen_at span_at entry_bytes
 entry_again e rest short some h =
     let split : entry_bytes e ++ rest ≡ string e.index ++ (eight e.id ++ (byte (rule_byte e.rule) ++ (signed e.moment ++ (eight e.count ++ (signed e.newest ++ (signed e.oldest ++ (eight e.bytes ++ (eight (archive_number e.archive) ++ rest)))))))) = simp append_assoc in
     ap entry_at split ∙ rw (string_again e.index _ short, eight_again e.id _ h.id, byte_again (rule_byte e.rule), rule_again e.rule, signed_again e.moment _ h.moment, eight_again e.count _ h.count, signed_again e.newest _ h.newest, signed_again e.oldest _ h.oldest, eight_again e.bytes _ h.bytes, eight_again (archive_number e.archive) rest h.archive, archive_again e.archive some) refl

@@ -1,5 +1,5 @@
 -- Reading from left to right: a value and the bytes after it, or nothing.
-use Rattle.std.specs.Prelude.{◌≡◌, ℕ, zero, suc, List, [], ◌∷◌, Option, Some, None, Result, Ok, Err, nat_le, ◌==◌, ◌&&◌, if◌then◌else◌}
+use Rattle.std.specs.Prelude.{◌≡◌, ℕ, ℤ, zero, suc, List, [], ◌∷◌, Option, Some, None, Result, Ok, Err, nat_le, ◌==◌, ◌&&◌, if◌then◌else◌}
 use Rattle.ix_fields.specs.Reading.{◌>>=◌, byte_at, four_at, eight_at, signed_at, string_at, option_at}
 use Rattle.ix_base.specs.declared.files.Area.{Area}
 use Rattle.ix_base.specs.declared.files.Area.TheVariants.{Meta, Home, Cold, Frozen, Thawed}
@@ -105,34 +105,50 @@ meta_at bytes = do
   index ← option_at string_at sourcetype.1
   Some (record { host = host.0; source = source.0; sourcetype = sourcetype.0; index = index.0 }, index.1)
 
-unfoldable pub bucket_at : List ℕ → Option (Bucket × List ℕ)
-bucket_at bytes = do
+-- how many events, and the latest and the earliest time of one
+unfoldable pub span_at : List ℕ → Option ((ℕ × ℤ × ℤ) × List ℕ)
+span_at bytes = do
+  count ← eight_at bytes
+  newest ← signed_at count.1
+  oldest ← signed_at newest.1
+  Some ((count.0, newest.0, oldest.0), oldest.1)
+
+-- a bucket's number, what it does, its file and how many bytes of it count
+unfoldable pub place_at : List ℕ → Option ((ℕ × State × File × ℕ) × List ℕ)
+place_at bytes = do
   id ← eight_at bytes
   state ← coded_at state_of id.1
   file ← file_at state.1
   size ← eight_at file.1
-  count ← eight_at size.1
-  newest ← signed_at count.1
-  oldest ← signed_at newest.1
-  used ← eight_at oldest.1
+  Some ((id.0, state.0, file.0, size.0), size.1)
+
+unfoldable pub bucket_at : List ℕ → Option (Bucket × List ℕ)
+bucket_at bytes = do
+  place ← place_at bytes
+  span ← span_at place.1
+  used ← eight_at span.1
   touched ← signed_at used.1
-  Some (record { id = id.0; state = state.0; file = file.0; bytes = size.0; count = count.0; newest = newest.0; oldest = oldest.0; used = used.0; touched = touched.0 }, touched.1)
+  Some (record { id = place.0.0; state = place.0.1; file = place.0.2; bytes = place.0.3; count = span.0.0; newest = span.0.1; oldest = span.0.2; used = used.0; touched = touched.0 }, touched.1)
 
 unfoldable pub archive_of : ℕ → Option ℕ
 archive_of n = if n == 0 then None else Some n
 
+-- a bucket's number, why it was frozen, and when
+unfoldable pub frozen_at : List ℕ → Option ((ℕ × Rule × ℤ) × List ℕ)
+frozen_at bytes = do
+  id ← eight_at bytes
+  rule ← coded_at rule_of id.1
+  moment ← signed_at rule.1
+  Some ((id.0, rule.0, moment.0), moment.1)
+
 unfoldable pub entry_at : List ℕ → Option (Entry × List ℕ)
 entry_at bytes = do
   index ← string_at bytes
-  id ← eight_at index.1
-  rule ← coded_at rule_of id.1
-  moment ← signed_at rule.1
-  count ← eight_at moment.1
-  newest ← signed_at count.1
-  oldest ← signed_at newest.1
-  size ← eight_at oldest.1
+  frozen ← frozen_at index.1
+  span ← span_at frozen.1
+  size ← eight_at span.1
   archive ← eight_at size.1
-  Some (record { index = index.0; id = id.0; rule = rule.0; moment = moment.0; count = count.0; newest = newest.0; oldest = oldest.0; bytes = size.0; archive = archive_of archive.0 }, archive.1)
+  Some (record { index = index.0; id = frozen.0.0; rule = frozen.0.1; moment = frozen.0.2; count = span.0.0; newest = span.0.1; oldest = span.0.2; bytes = size.0; archive = archive_of archive.0 }, archive.1)
 
 unfoldable pub spot_at : List ℕ → Option (Spot × List ℕ)
 spot_at bytes = do

@@ -1,10 +1,10 @@
 //! The parts of items at the front of bytes: each reader gives the value and the bytes after it.
 
 ghost use Rattle.std.specs.Prelude.{◌≡◌, ◌≢◌, ◌≤◌, ◌++◌, IfOk, IfSome, Some};
-ghost use Rattle.ix_fields.specs.Spelling.{byte, string, option, IsShort, IsShortOption, Is64};
+ghost use Rattle.ix_fields.specs.Spelling.{byte, eight, signed, string, option, IsShort, IsShortOption, Is64, IsSigned64};
 ghost use Rattle.ix_fields.specs.Reading.{string_at, option_at};
 ghost use Rattle.ix_items.specs.Spelling.{area_byte, state_byte, rule_byte, archive_number, file_bytes, kept_bytes, meta_bytes, bucket_bytes, entry_bytes, spot_bytes, IsKept, IsMeta, BucketInRange, EntryInRange};
-ghost use Rattle.ix_items.specs.Reading.{Gives, area_of, state_of, rule_of, archive_of, coded_at, file_at, file_number_at, kept_at, meta_at, bucket_at, entry_at, spot_at};
+ghost use Rattle.ix_items.specs.Reading.{Gives, area_of, state_of, rule_of, archive_of, coded_at, file_at, file_number_at, kept_at, meta_at, span_at, place_at, bucket_at, frozen_at, entry_at, spot_at};
 
 use crate::items::{Bucket, Entry, ItemFault, Kept, Rule, State};
 use ix_base::{Area, Bytes, ChannelMeta, File, Spot};
@@ -168,19 +168,41 @@ pub fn read_meta(alloc: Global, bytes: &[u8]) -> Result<(ChannelMeta, &[u8]), It
     Ok((meta, rest))
 }
 
+/// How many events there are, and the latest and the earliest time of one.
+#[tactic(auto, unfolding(crate::specs::Reading::span_at))]
+fn read_span(bytes: &[u8]) -> Result<((u64, i64, i64), &[u8]), ItemFault>
+    ensures gives { Gives (λ x. (x.0, x.1.now)) result (span_at bytes.now) }
+    ensures found { IfOk result (λ x. bytes.now ≡ eight x.0.0 ++ signed x.0.1 ++ signed x.0.2 ++ x.1.now) }
+    ensures ranged { IfOk result (λ x. Is64 x.0.0 × IsSigned64 x.0.1 × IsSigned64 x.0.2) }
+{
+    let (count, rest) = read_u64(bytes)?;
+    let (newest, rest) = read_i64(rest)?;
+    let (oldest, rest) = read_i64(rest)?;
+    Ok(((count, newest, oldest), rest))
+}
+
+/// A bucket's number, what it does, its file and how many bytes of it count.
+#[tactic(auto, unfolding(crate::specs::Reading::place_at))]
+fn read_place(bytes: &[u8]) -> Result<((u64, State, File, u64), &[u8]), ItemFault>
+    ensures gives { Gives (λ x. (x.0, x.1.now)) result (place_at bytes.now) }
+    ensures found { IfOk result (λ x. bytes.now ≡ eight x.0.0 ++ byte (state_byte x.0.1) ++ file_bytes x.0.2 ++ eight x.0.3 ++ x.1.now) }
+    ensures ranged { IfOk result (λ x. Is64 x.0.0 × Is64 x.0.2.number × Is64 x.0.3) }
+{
+    let (id, rest) = read_u64(bytes)?;
+    let (state, rest) = read_state(rest)?;
+    let (file, rest) = read_file(rest)?;
+    let (size, rest) = read_u64(rest)?;
+    Ok(((id, state, file, size), rest))
+}
+
 #[tactic(auto, unfolding(crate::specs::Reading::bucket_at, crate::specs::Spelling::bucket_bytes))]
 pub fn read_bucket(bytes: &[u8]) -> Result<(Bucket, &[u8]), ItemFault>
     ensures gives { Gives (λ x. (x.0, x.1.now)) result (bucket_at bytes.now) }
     ensures found { IfOk result (λ x. bytes.now ≡ bucket_bytes x.0 ++ x.1.now) }
     ensures ranged { IfOk result (λ x. BucketInRange x.0) }
 {
-    let (id, rest) = read_u64(bytes)?;
-    let (state, rest) = read_state(rest)?;
-    let (file, rest) = read_file(rest)?;
-    let (size, rest) = read_u64(rest)?;
-    let (count, rest) = read_u64(rest)?;
-    let (newest, rest) = read_i64(rest)?;
-    let (oldest, rest) = read_i64(rest)?;
+    let ((id, state, file, size), rest) = read_place(bytes)?;
+    let ((count, newest, oldest), rest) = read_span(rest)?;
     let (used, rest) = read_u64(rest)?;
     let (touched, rest) = read_i64(rest)?;
     let bucket = Bucket {
@@ -206,21 +228,32 @@ fn archive_of_number(number: u64) -> Option<u64>
     if number == 0 { None } else { Some(number) }
 }
 
+/// A bucket's number, why it was frozen, and when.
+#[tactic(auto, unfolding(crate::specs::Reading::frozen_at))]
+fn read_frozen(bytes: &[u8]) -> Result<((u64, Rule, i64), &[u8]), ItemFault>
+    ensures gives { Gives (λ x. (x.0, x.1.now)) result (frozen_at bytes.now) }
+    ensures found { IfOk result (λ x. bytes.now ≡ eight x.0.0 ++ byte (rule_byte x.0.1) ++ signed x.0.2 ++ x.1.now) }
+    ensures ranged { IfOk result (λ x. Is64 x.0.0 × IsSigned64 x.0.2) }
+{
+    let (id, rest) = read_u64(bytes)?;
+    let (rule, rest) = read_rule(rest)?;
+    let (moment, rest) = read_i64(rest)?;
+    Ok(((id, rule, moment), rest))
+}
+
+/// Reads an entry. Its string is copied last, behind all that may fail.
 #[tactic(auto, unfolding(crate::specs::Reading::entry_at, crate::specs::Spelling::entry_bytes))]
 pub fn read_entry(alloc: Global, bytes: &[u8]) -> Result<(Entry, &[u8]), ItemFault>
     ensures gives { Gives (λ x. (x.0, x.1.now)) result (entry_at bytes.now) }
     ensures found { IfOk result (λ x. (bytes.now ≡ entry_bytes x.0 ++ x.1.now) × IsShort x.0.index × (x.0.archive ≢ Some 0)) }
     ensures ranged { IfOk result (λ x. EntryInRange x.0) }
 {
-    let (index, rest) = copy_string(alloc, bytes)?;
-    let (id, rest) = read_u64(rest)?;
-    let (rule, rest) = read_rule(rest)?;
-    let (moment, rest) = read_i64(rest)?;
-    let (count, rest) = read_u64(rest)?;
-    let (newest, rest) = read_i64(rest)?;
-    let (oldest, rest) = read_i64(rest)?;
+    let (name, rest) = read_string(bytes)?;
+    let ((id, rule, moment), rest) = read_frozen(rest)?;
+    let ((count, newest, oldest), rest) = read_span(rest)?;
     let (size, rest) = read_u64(rest)?;
     let (archive, rest) = read_u64(rest)?;
+    let index = Bytes::copy_of(alloc, name)?;
     let entry = Entry {
         index,
         id,

@@ -8,18 +8,18 @@ use Rattle.ix_items.proofs.fields.read_bucket.Goals as goal
 
 pub returns-clause-found : goal.returns-clause-found
 returns-clause-found c =
-    let f1 : SFits w64 c.in_ok-newest.newest = search rules in
-    let f2 : SFits w64 c.in_ok-oldest.oldest = search rules in
+    let f1 : SFits w64 c.in_ok-count.newest = search rules in
+    let f2 : SFits w64 c.in_ok-count.oldest = search rules in
     let f3 : SFits w64 c.in_ok-touched.touched = search rules in
     let b : Bucket = record {
       id = c.in_ok-id.id;
-      state = c.in_ok-state.state;
-      file = c.in_ok-file.file;
-      bytes = c.in_ok-size.size;
+      state = c.in_ok-id.state;
+      file = c.in_ok-id.file;
+      bytes = c.in_ok-id.size;
       count = c.in_ok-count.count;
-      newest = c.in_ok-newest.newest;
-      oldest = c.in_ok-oldest.oldest;
+      newest = c.in_ok-count.newest;
+      oldest = c.in_ok-count.oldest;
       used = c.in_ok-used.used;
       touched = c.in_ok-touched.touched;
     } in
-    simp to_z-of_z (bucket_found b _ _ _ _ _ _ _ _ _ _ c.in_ok-id.ensures.found c.in_ok-state.ensures.found c.in_ok-file.ensures.found c.in_ok-size.ensures.found c.in_ok-count.ensures.found c.in_ok-newest.ensures.found c.in_ok-oldest.ensures.found c.in_ok-used.ensures.found c.in_ok-touched.ensures.found)
+    simp to_z-of_z (bucket_found b _ _ _ _ _ c.in_ok-id.ensures.found c.in_ok-count.ensures.found c.in_ok-used.ensures.found c.in_ok-touched.ensures.found)
