@@ -1,17 +1,19 @@
 -- How far an export of buckets has come, and what it has written when it stops.
-use Rattle.std.proofs.Common.{◌≡◌, ℕ, suc, ◌+◌, ◌-◌, ◌<◌, ◌≤◌, List, [], ◌∷◌, ◌++◌, length, take, drop, get_or, Option, refl, sym, ap, subst, ◌∙◌, arith}
+use Rattle.std.proofs.Common.{◌≡◌, ℕ, suc, ◌+◌, ◌-◌, ◌<◌, ◌≤◌, List, [], ◌∷◌, ◌++◌, length, take, drop, get_or, Option, Result, Err, refl, sym, ap, subst, ◌∙◌, arith}
 use Rattle.std.proofs.lemmas.List.{take_more, take_all}
 use Rattle.std.proofs.Math.Seq.{split_at}
 use Rattle.ix_base.specs.Told.{HasWritten, HasBegun}
 use Rattle.ix_base.specs.declared.events.Event.{Event}
 use Rattle.ix_base.specs.declared.events.Range.{Range}
-use Rattle.ix_bucket.specs.Ahead.{between, HasNoRecord}
+use Rattle.ix_bucket.specs.Ahead.{between, HasNoRecord, OnBadRecord}
+use Rattle.ix_bucket.specs.declared.ahead.ReadFault.{ReadFault}
+use Rattle.ix_bucket.specs.declared.ahead.ReadFault.TheVariants as reads
 use Rattle.ix_bucket.specs.Count.{HasRecords}
 use Rattle.ix_bucket.specs.Record.{event_bytes, IsRecordOf}
 use Rattle.ix_disk.specs.Image.{Image, bytes_in}
 use Rattle.ix_items.specs.declared.items.Bucket.{Bucket}
 use Rattle.ix_export.specs.Lines.{text, HasExported}
-use Rattle.ix_export.specs.Faults.{OnDamaged}
+use Rattle.ix_export.specs.Faults.{OnDamaged, fault_of}
 use Rattle.ix_export.specs.Stored.{HasEvents, HaveEvents, AreWhole, joined}
 use Rattle.ix_export.specs.declared.fault.BucketFault.{BucketFault}
 use Rattle.ix_export.specs.declared.fault.BucketFault.TheVariants.{Disk, Damaged, Output, NoMemory}
@@ -149,7 +151,27 @@ all_whole range image buckets i x y n m le p = record { all = p.all; have = subs
 
 -- ---- faults
 
+abbrev failed : (T : Type 0) → BucketFault → Result T BucketFault
+failed T fault = Err fault
+
+-- one fault, whatever was asked
+pub same_fault : {T : Type 0} (U : Type 0) (x y : BucketFault) → failed T x ≡ failed T y → failed U x ≡ failed U y
+same_fault U x y is = let e : x ≡ y = cc in ap (failed U) e
+
+-- what follows from what is said of the place of a bad record
+pub on_bad : (file : File) (fault : ReadFault) (told : BucketFault) (A : ℕ → Type 0) (Q : File → ℕ → Type 0) → told ≡ fault_of file fault
+    → ((at : ℕ) → A at → Q file at) → OnBadRecord fault A → OnDamaged told Q
+on_bad file reads.Disk told A Q is f a = subst (λ (x : BucketFault). OnDamaged x Q) (sym is) tt
+on_bad file (reads.BadRecord at) told A Q is f a = subst (λ (x : BucketFault). OnDamaged x Q) (sym is) (f at a)
+on_bad file reads.NoMemory told A Q is f a = subst (λ (x : BucketFault). OnDamaged x Q) (sym is) tt
+
 -- what follows from what is said of a damaged place
+pub on_damaged1 : (fault : BucketFault) (A Q : File → ℕ → Type 0) → ((file : File) (at : ℕ) → A file at → Q file at) → OnDamaged fault A → OnDamaged fault Q
+on_damaged1 Disk A Q f a = tt
+on_damaged1 (Damaged file at) A Q f a = f file at a
+on_damaged1 Output A Q f a = tt
+on_damaged1 NoMemory A Q f a = tt
+
 pub on_damaged2 : (fault : BucketFault) (A B Q : File → ℕ → Type 0) → ((file : File) (at : ℕ) → A file at → B file at → Q file at) → OnDamaged fault A → OnDamaged fault B → OnDamaged fault Q
 on_damaged2 Disk A B Q f a b = tt
 on_damaged2 (Damaged file at) A B Q f a b = f file at a b

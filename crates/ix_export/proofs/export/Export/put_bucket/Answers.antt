@@ -1,28 +1,29 @@
-use Rattle.std.proofs.Common.{◌≡◌, ℕ, Some, rules, refl, sym, subst, ◌∙◌, arith}
+use Rattle.std.proofs.Common.{◌≡◌, ◌<◌, ℕ, Some, refl, sym, subst, ◌∙◌, arith}
 use Rattle.std.proofs.lemmas.Result.{err_from_is_err_and}
 use Rattle.ix_base.proofs.ToldLemmas.{on_err_always}
 use Rattle.ix_base.specs.Told.{HasBegun}
 use Rattle.ix_base.specs.declared.events.Range.{Range}
 use Rattle.ix_base.specs.declared.files.File.{File}
 use Rattle.ix_bucket.specs.Ahead.{IsCurrent, HasNoRecord}
-use Rattle.ix_disk.proofs.Runs.{stays_on}
+use Rattle.ix_disk.proofs.Runs.{nowhere, stays_on, rose_later}
 use Rattle.ix_disk.specs.Image.{Image, bytes_in}
 use Rattle.ix_export.specs.Lines.{text}
 use Rattle.ix_export.specs.Steps.{TakesEvent}
 use Rattle.ix_export.specs.Stops.{StopsIn}
-use Rattle.ix_export.proofs.Progress.{none_read, read_more, takes, stops_in, stops_in_front, on_damaged3}
+use Rattle.ix_export.proofs.Progress.{none_read, read_more, takes, stops_in, stops_in_front, same_fault, on_damaged1, on_damaged3}
+use Rattle.ix_export.specs.declared.fault.BucketFault.TheVariants.{Disk, Output}
 use Rattle.ix_export.proofs.export.Export.put_bucket.Goals as goal
 
 pub loop-at-init : goal.loop-at-init
 loop-at-init g c = record {
-  within = search rules;
+  within = omega arith;
   read = λ image told current. none_read c.args.self.now.writer.range (bytes_in image c.args.bucket.now.file) _ _;
   range = refl;
   current = λ current. current;
   same = refl;
-  later = search rules;
-  grown = search rules;
-  images = search rules;
+  later = omega arith;
+  grown = omega arith;
+  images = nowhere g.D.Disk c.args.disk.now;
 }
 
 pub returns-in_err-at-clause-begun : goal.returns-in_err-at-clause-begun
@@ -33,6 +34,27 @@ returns-in_err-at-clause-begun g c =
     inv.within (inv.read image told current) has
     (λ more there. subst (λ (r : Range). HasBegun (text r more) (g.W.Sink.given c.loop-at.out) (g.W.Sink.given c.put_event.new.out)) inv.range
     (c.in_err-at.ensures.begun image more (inv.same ∙ told) (inv.current current) there)))
+
+pub returns-in_err-at-clause-images : goal.returns-in_err-at-clause-images
+returns-in_err-at-clause-images g c = stays_on g.D.Disk _ _ _ c.loop-at.invariant.images c.put_event.ensures.images
+
+pub returns-in_err-at-clause-cause : goal.returns-in_err-at-clause-cause
+returns-in_err-at-clause-cause g c =
+    let p = err_from_is_err_and c.from_residual.result c.from_residual.ensures.1 in
+    rw (p.1, p.2) (λ is. rose_later _ _ _ c.loop-at.invariant.later (c.in_err-at.ensures.cause (same_fault ℕ c.in_err-at.field-0.0 Disk is)))
+
+pub returns-in_err-at-clause-written : goal.returns-in_err-at-clause-written
+returns-in_err-at-clause-written g c =
+    let p = err_from_is_err_and c.from_residual.result c.from_residual.ensures.1 in
+    rw (p.1, p.2) (λ is. rose_later _ _ _ c.loop-at.invariant.grown (c.in_err-at.ensures.written (same_fault ℕ c.in_err-at.field-0.0 Output is)))
+
+pub returns-in_err-at-clause-named : goal.returns-in_err-at-clause-named
+returns-in_err-at-clause-named g c =
+    let p = err_from_is_err_and c.from_residual.result c.from_residual.ensures.1 in
+    let file = c.args.bucket.now.file in
+    let here : File → ℕ → Type 0 = λ named place. (named ≡ file) × (place ≡ c.loop-at.at) in
+    let within : File → ℕ → Type 0 = λ named place. (named ≡ file) × (place < c.args.bucket.now.bytes) in
+    rw (p.1, p.2) (on_damaged1 c.in_err-at.field-0.0 here within (λ named place is. (is.0, omega (arith, is.1, c.loop-at-test.true))) c.in_err-at.ensures.named)
 
 pub returns-in_err-at-clause-damaged : goal.returns-in_err-at-clause-damaged
 returns-in_err-at-clause-damaged g c =
