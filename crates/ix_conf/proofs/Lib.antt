@@ -2,6 +2,7 @@ pub mod CutLemmas
 pub mod LineLemmas
 pub mod EntryLemmas
 pub mod MergeLemmas
+pub mod SaidLemmas
 pub mod SearchLemmas
 pub mod FitLemmas
 pub mod TokenLemmas

@@ -92,27 +92,53 @@ fn own_entry(alloc: Global, stanza: &[u8]) -> Result<MergedEntry, NoMemory>
     })
 }
 
+fn setting(
+    alloc: Global,
+    layer: &[u8],
+    stanza: &Bytes,
+    key: &Bytes,
+    value: &Bytes,
+) -> Result<MergedEntry, NoMemory>
+    ensures { IfOk result (λ entry. entry ≡ record { stanza = stanza.now; key = key.now; value = value.now; layer = layer.now }) }
+{
+    Ok(MergedEntry {
+        stanza: stanza.copy()?,
+        key: key.copy()?,
+        value: value.copy()?,
+        layer: Bytes::copy_of(alloc, layer)?,
+    })
+}
+
+/// What a pair of a file says.
+fn said_by_pair(
+    alloc: Global,
+    layer: &[u8],
+    stanza: &Bytes,
+    key: &Bytes,
+    value: &Bytes,
+) -> Result<Entries, NoMemory>
+    ensures { IfOk result (λ entries. entries.items ≡ said_by layer.now (Entry.Pair stanza.now key.now value.now)) }
+{
+    let mut entries = VecDeque::new(alloc);
+    push(&mut entries, own_entry(alloc, stanza.as_slice())?)?;
+    if !key.is_empty() {
+        push(&mut entries, setting(alloc, layer, stanza, key, value)?)?;
+    }
+    Ok(entries)
+}
+
 /// What one entry of a file says.
 fn said_entries(alloc: Global, layer: &[u8], entry: &Entry) -> Result<Entries, NoMemory>
     ensures { IfOk result (λ entries. entries.items ≡ said_by layer.now entry.now) }
 {
-    let mut entries = VecDeque::new(alloc);
     match entry {
-        Entry::Stanza(name) => push(&mut entries, own_entry(alloc, name.as_slice())?)?,
-        Entry::Pair(stanza, key, value) => {
-            push(&mut entries, own_entry(alloc, stanza.as_slice())?)?;
-            if !key.is_empty() {
-                let setting = MergedEntry {
-                    stanza: stanza.copy()?,
-                    key: key.copy()?,
-                    value: value.copy()?,
-                    layer: Bytes::copy_of(alloc, layer)?,
-                };
-                push(&mut entries, setting)?;
-            }
+        Entry::Stanza(name) => {
+            let mut entries = VecDeque::new(alloc);
+            push(&mut entries, own_entry(alloc, name.as_slice())?)?;
+            Ok(entries)
         }
+        Entry::Pair(stanza, key, value) => said_by_pair(alloc, layer, stanza, key, value),
     }
-    Ok(entries)
 }
 
 /// What the entries of a file say, the last one of a key alone.

@@ -17,53 +17,36 @@ fn add_zone(alloc: Global, file: &mut ConfFile, name: &[u8], rule: &[u8]) -> Res
     file.push(Entry::Pair(stanza, key, rule))
 }
 
+/// Adds the zones, each behind those before it.
+fn add_zones(alloc: Global, file: &mut ConfFile) -> Result<(), NoMemory>
+    requires { file.old ≡ [] }
+    ensures { OnOk result (file.new ≡ zone_entries zones) }
+{
+    add_zone(alloc, file, b"UTC", b"UTC0")?;
+    add_zone(alloc, file, b"GMT", b"GMT0")?;
+    add_zone(alloc, file, b"US/Eastern", b"EST5EDT,M3.2.0,M11.1.0")?;
+    add_zone(alloc, file, b"America/New_York", b"EST5EDT,M3.2.0,M11.1.0")?;
+    add_zone(alloc, file, b"US/Central", b"CST6CDT,M3.2.0,M11.1.0")?;
+    add_zone(alloc, file, b"America/Chicago", b"CST6CDT,M3.2.0,M11.1.0")?;
+    add_zone(alloc, file, b"US/Mountain", b"MST7MDT,M3.2.0,M11.1.0")?;
+    add_zone(alloc, file, b"America/Denver", b"MST7MDT,M3.2.0,M11.1.0")?;
+    add_zone(alloc, file, b"US/Pacific", b"PST8PDT,M3.2.0,M11.1.0")?;
+    add_zone(
+        alloc,
+        file,
+        b"America/Los_Angeles",
+        b"PST8PDT,M3.2.0,M11.1.0",
+    )?;
+    add_zone(alloc, file, b"Europe/London", b"GMT0BST,M3.5.0/1,M10.5.0")?;
+    add_zone(alloc, file, b"Europe/Berlin", b"CET-1CEST,M3.5.0,M10.5.0/3")
+}
+
 /// The zones that are known without any file, as entries of a zones.conf: a stanza for each name, with its POSIX rule as
 /// `RULE`. They are the lowest layer of zones.
 pub fn built_in_zones(alloc: Global) -> Result<ConfFile, NoMemory>
     ensures { IfOk result (λ file. file ≡ zone_entries zones) }
 {
     let mut file = Sequence::new(alloc);
-    add_zone(alloc, &mut file, b"UTC", b"UTC0")?;
-    add_zone(alloc, &mut file, b"GMT", b"GMT0")?;
-    add_zone(alloc, &mut file, b"US/Eastern", b"EST5EDT,M3.2.0,M11.1.0")?;
-    add_zone(
-        alloc,
-        &mut file,
-        b"America/New_York",
-        b"EST5EDT,M3.2.0,M11.1.0",
-    )?;
-    add_zone(alloc, &mut file, b"US/Central", b"CST6CDT,M3.2.0,M11.1.0")?;
-    add_zone(
-        alloc,
-        &mut file,
-        b"America/Chicago",
-        b"CST6CDT,M3.2.0,M11.1.0",
-    )?;
-    add_zone(alloc, &mut file, b"US/Mountain", b"MST7MDT,M3.2.0,M11.1.0")?;
-    add_zone(
-        alloc,
-        &mut file,
-        b"America/Denver",
-        b"MST7MDT,M3.2.0,M11.1.0",
-    )?;
-    add_zone(alloc, &mut file, b"US/Pacific", b"PST8PDT,M3.2.0,M11.1.0")?;
-    add_zone(
-        alloc,
-        &mut file,
-        b"America/Los_Angeles",
-        b"PST8PDT,M3.2.0,M11.1.0",
-    )?;
-    add_zone(
-        alloc,
-        &mut file,
-        b"Europe/London",
-        b"GMT0BST,M3.5.0/1,M10.5.0",
-    )?;
-    add_zone(
-        alloc,
-        &mut file,
-        b"Europe/Berlin",
-        b"CET-1CEST,M3.5.0,M10.5.0/3",
-    )?;
+    add_zones(alloc, &mut file)?;
     Ok(file)
 }
