@@ -1,5 +1,5 @@
 -- Where the file of a log ends.
-use Rattle.std.proofs.Common.{◌≡◌, ◌≤◌, ℕ, ◌+◌, List, length, take, drop, ◌++◌, Bool, true, false, if◌then◌else◌, refl, ◌∙◌, arith, length-append, length-take, length-drop}
+use Rattle.std.proofs.Common.{◌≡◌, ◌≤◌, ℕ, ◌+◌, List, [], ◌∷◌, length, take, drop, ◌++◌, Bool, true, false, if◌then◌else◌, refl, ◌∙◌, arith, length-append, length-take, length-drop}
 use Rattle.ix_base.specs.Told.{Told}
 use Rattle.ix_disk.specs.Image.{Writes, overwritten, bytes_in}
 use Rattle.ix_disk.specs.Moments.{Reads}
@@ -56,3 +56,11 @@ put_ends g mid new log bytes begun sees had image told = go log.begun begun
     go : (test : Bool) → test ≡ true → length (bytes_in image log.file) ≡ (if test then log.at + 5 + (log.len + length bytes) else log.at + 1)
     go true is = omega (arith, now)
     go false is = absurd (cc is)
+
+-- a block does so by the gate behind it
+pub close_ends : {D : Type 0} (g : Ghosts D) (old mid new : D) (log : Log) (four : List ℕ) → length four ≡ 4 → log.begun ≡ true → Told (Writes log.file (log.at + 1) four) (g.seen old) (g.seen mid)
+    → Told (Writes log.file (log.at + 5 + log.len) (0 ∷ [])) (g.seen mid) (g.seen new) → HasNoMore g log old → Reads g new log.file (λ l. length l ≡ log.at + 6 + log.len)
+close_ends g old mid new log four size begun first second had image told =
+    let end = log.at + 5 + log.len in
+    let within = end_within g old mid log.file (log.at + 1) four first end (λ before is. had before is ∙ end_begun log begun) (omega (arith, size)) in
+    omega (arith, end_moves g mid new log.file end (0 ∷ []) second end within refl image told)

@@ -1,15 +1,17 @@
 -- What reading one body more gives.
-use Rattle.std.proofs.Common.{◌≡◌, ◌^◌, ◌≤◌, ◌<◌, ◌+◌, ◌-◌, ℕ, List, [], ◌∷◌, ◌++◌, length, take, drop, Bool, Result, Err, refl, sym, ◌∙◌, ap, arith, append_assoc, length-append, length-take, length-drop, take-append-drop}
+use Rattle.std.proofs.Common.{◌≡◌, ◌^◌, ◌≤◌, ◌<◌, ◌+◌, ◌-◌, ℕ, List, [], ◌∷◌, ◌++◌, length, take, drop, Bool, false, Some, Result, Err, refl, sym, subst, ◌∙◌, ap, arith, append_assoc, length-append, length-take, length-drop, take-append-drop}
 use Rattle.std.proofs.lemmas.List.{take_at, drop_at, drop-drop}
 use Rattle.std.specs.Int.{to_be_bytes, from_be_bytes, w32}
 use Rattle.std.proofs.lemmas.Nat.{from_be_bytes-to_be_bytes_4}
 use Rattle.ix_base.specs.declared.files.File.{File}
-use Rattle.ix_disk.specs.Image.{Image, Stays}
-use Rattle.ix_disk.specs.Moments.{Goes}
+use Rattle.ix_disk.specs.Image.{Image, Stays, bytes_in}
+use Rattle.ix_disk.specs.Moments.{Goes, Holds}
+use Rattle.ix_disk.proofs.Runs.{settles}
 use Rattle.ix_disk.specs.declared.disk.Disk.{Ghosts}
-use Rattle.ix_log.specs.Log.{block, blocks, Gated, ReadOn, IsAsRead, IsCut}
+use Rattle.ix_log.specs.Log.{block, blocks, Gated, AtEnd, ReadOn, IsAsRead, IsAtEnd, IsReading, IsCut}
 use Rattle.ix_log.specs.Head.{IsHead}
 use Rattle.ix_log.specs.declared.head.Head.TheVariants.{End, Body, Cut}
+use Rattle.ix_log.specs.declared.log.Log.{Log}
 use Rattle.ix_log.specs.declared.log.LogFault.{LogFault}
 use Rattle.ix_log.specs.declared.log.LogFault.TheVariants.{Damaged}
 use Rattle.ix_log.proofs.Blocks.{blocks_push, all_push}
@@ -42,6 +44,32 @@ gated_here bodies size at file on place head = record {
   shut = head.3;
   fit = on.fit;
 }
+
+-- a file of at most one byte has been read to its end
+pub short_end : {D : Type 0} (g : Ghosts D) (disk : D) (log : Log) (bodies : List (List ℕ)) → IsReading g log disk bodies → log.size ≤ 1 → IsAtEnd g log disk bodies
+short_end g disk log bodies reading le = record {
+  place = reading.place;
+  idle = reading.idle;
+  none_put = reading.none_put;
+  images = subst (λ (b : Bool). Holds g disk log.file (AtEnd b bodies)) (sym reading.fresh)
+      (settles g disk log.file (AtEnd false bodies) reading.settled (λ image told.
+      let on = reading.reads image told in
+      let short : length (bytes_in image log.file) ≤ 1 = omega (arith, on.measured, le) in
+      (on.short short, short)));
+}
+
+-- what each image holds where a gate was read that is not open
+pub gated_end : {D : Type 0} (g : Ghosts D) (old new : D) (log : Log) (bodies : List (List ℕ)) (left : ℕ) → IsReading g log old bodies → 1 < log.size → left ≡ log.size - log.at
+    → Goes g old new Stays → g.seen new ≡ g.seen old
+    → ((image : Image) → g.seen old ≡ Some image → left ≡ length (drop log.at (bytes_in image log.file)) → 0 < left → IsHead End (drop log.at (bytes_in image log.file)))
+    → Holds g new log.file (Gated bodies)
+gated_end g old new log bodies left reading more left_by stays same head =
+    settles g new log.file (Gated bodies) (as_read_still g old new log.file stays same reading.settled) (λ image is.
+    let told : g.seen old ≡ Some image = sym same ∙ is in
+    let file = bytes_in image log.file in
+    let on = reading.reads image told in
+    let fits = left_is bodies log.size log.at file on reading.place more left left_by in
+    gated_here bodies log.size log.at file on reading.place (head image told fits.0 fits.1))
 
 -- the next body, and what stands behind it
 module _ (bodies : List (List ℕ)) (size at len : ℕ) (file : List ℕ) (on : ReadOn bodies size file) (place : at ≡ length (blocks bodies)) (more : 1 < size) (head : IsHead (Body len) (drop at file)) (fits : len < 2 ^ 32) where

@@ -1,13 +1,14 @@
 -- The run of calls that puts a shut gate into a file that has no room for a body.
-use Rattle.std.proofs.Common.{◌≡◌, ◌∙◌, ℕ, List, [], ◌∷◌, length, Some, Bool, false, inr, subst, sym, ap}
-use Rattle.ix_disk.specs.Image.{Image, Torn, MayWrite, Writes, Stays, overwritten}
+use Rattle.std.proofs.Common.{◌≡◌, ◌≤◌, ◌∙◌, ℕ, List, [], ◌∷◌, length, Some, Bool, false, inr, subst, sym, ap, arith}
+use Rattle.ix_disk.specs.Image.{Image, Torn, MayWrite, Writes, Stays, overwritten, bytes_in}
 use Rattle.ix_base.specs.Told.{Told}
 use Rattle.ix_disk.specs.Moments.{Goes, InFile, Holds, Reads}
-use Rattle.ix_disk.proofs.Runs.{write_first, write_holds, write_reads, stay_on, holds_reads}
+use Rattle.ix_disk.proofs.Runs.{begins, write_first, write_holds, write_reads, stay_on, holds_reads}
 use Rattle.ix_disk.specs.declared.disk.Disk.{Ghosts}
 use Rattle.ix_log.specs.Log.{blocks, HasBodies, Gated, AtEnd, IsAtEnd}
 use Rattle.ix_log.specs.declared.log.Log.{Log}
 use Rattle.ix_log.proofs.Bytes.{short_torn, short_written}
+use Rattle.ix_log.proofs.OneList.{end_has_bodies}
 
 torn_short : (bodies : List (List ℕ)) (at : ℕ) (a b : List ℕ) → at ≡ length (blocks bodies) → AtEnd false bodies a → Torn at 1 a b → HasBodies bodies b
 torn_short bodies at a b place short torn =
@@ -35,3 +36,15 @@ module _ {D : Type 0} (g : Ghosts D) (old mid : D) (bodies : List (List ℕ)) (l
   pub shut_reads : ((image : Image) (disk : D) → g.seen disk ≡ Some image → g.may_leave disk image) → Told (Writes log.file log.at (0 ∷ [])) (g.seen old) (g.seen mid) → Reads g mid log.file (Gated bodies)
   shut_reads may_stay sees = write_reads g old mid log.file log.at (0 ∷ []) (AtEnd false bodies) (Gated bodies) sees (holds_reads g may_stay old log.file (AtEnd false bodies) short_holds)
       (λ a short. written_short bodies log.at a end.place short)
+
+module _ {D : Type 0} (g : Ghosts D) (disk : D) (bodies : List (List ℕ)) (log : Log) (end : IsAtEnd g log disk bodies) where
+  -- no call is needed
+  pub shut_already : Goes g disk disk (InFile log.file (HasBodies bodies))
+  shut_already = begins g disk log.file (HasBodies bodies) (λ image left. end_has_bodies log.closed bodies (bytes_in image log.file) (end.images image left))
+
+  -- the gate is the first byte of the file, or its end
+  pub shut_room : log.closed ≡ false → ((image : Image) (disk : D) → g.seen disk ≡ Some image → g.may_leave disk image) → Reads g disk log.file (λ l. log.at ≤ length l)
+  shut_room open_still may_stay image is =
+      let short = subst (λ (b : Bool). Holds g disk log.file (AtEnd b bodies)) open_still end.images image (may_stay image disk is) in
+      let start : log.at ≡ 0 = end.place ∙ ap (λ (l : List (List ℕ)). length (blocks l)) short.0 in
+      omega (arith, start)

@@ -68,3 +68,16 @@ module _ (at : ℕ) (file ahead : List ℕ) (front : IsFrontOf ahead (drop at fi
             ∙ sym (append_assoc copied (take more (drop (at + n) file)) (drop (n + more) buf))
             ∙ ap (λ (l : List ℕ). l ++ drop (n + more) buf) (sym two),
       )
+
+-- a head that is read into the front of five bytes
+module _ (at room : ℕ) (file buf none : List ℕ) (five : length none ≡ 5) where
+  pub head_size : room ≤ 5 → length buf ≡ length (take room none) → length (buf ++ drop room none) ≡ 5
+  head_size le size = omega (arith, length-append buf (drop room none), length-take room none, length-drop room none, size, five)
+
+  pub head_read : (n left : ℕ) → room ≡ min left 5 → left ≡ length (drop at file)
+      → (n ≡ min (length (take room none)) (length file - at)) × (buf ≡ take n (drop at file) ++ drop n (take room none))
+      → (buf ++ drop room none ≡ take n (drop at file) ++ (drop n (take room none) ++ drop room none)) × (n ≡ min 5 (length (drop at file)))
+  head_read n left room_is left_is read = (
+    ap (λ (l : List ℕ). l ++ drop room none) read.1 ∙ append_assoc (take n (drop at file)) (drop n (take room none)) (drop room none),
+    omega (arith, read.0, room_is, left_is, five, length-take room none, length-drop at file),
+  )

@@ -235,7 +235,6 @@ impl Log {
     }
 
     /// Puts a shut gate into a file that has no room for a body yet.
-    #[tactic(auto, using(ix_disk::proofs::Others::others))]
     fn shut<D: Disk>(&mut self, disk: &mut D) -> Result<(), Failed>
         requires { (bodies : List (List ℕ)) × IsAtEnd D.Disk self.old disk.old bodies }
         ensures shut { (bodies : List (List ℕ)) → IsAtEnd D.Disk self.old disk.old bodies →
@@ -251,14 +250,14 @@ impl Log {
         if self.closed {
             return Ok(());
         }
-        disk.write_at(self.file, self.at, &[0])?;
-        disk.sync(self.file)?;
+        let file = self.file;
+        disk.write_at(file, self.at, &[0])?;
+        disk.sync(file)?;
         self.closed = true;
         Ok(())
     }
 
     /// Makes room for the length of the next body, whose bytes stand behind it.
-    #[tactic(auto, using(ix_disk::proofs::Others::others))]
     fn start_body<D: Disk>(&mut self, disk: &mut D) -> Result<(), Failed>
         requires { (bodies : List (List ℕ)) × IsAtEnd D.Disk self.old disk.old bodies }
         ensures begun { (bodies : List (List ℕ)) → IsAtEnd D.Disk self.old disk.old bodies →
@@ -277,7 +276,6 @@ impl Log {
         Ok(())
     }
 
-    #[tactic(auto, using(ix_disk::proofs::Others::others))]
     fn ready<D: Disk>(&mut self, disk: &mut D) -> Result<(), Failed>
         requires { IsUsable D.Disk self.old disk.old }
         ensures begun { (bodies : List (List ℕ)) (body : List ℕ) → IsReady D.Disk self.old disk.old bodies body →
@@ -298,7 +296,6 @@ impl Log {
     }
 
     /// Puts further bytes of the next body. No body counts before `finish`. After `Failed` the log is not used again.
-    #[tactic(auto, using(ix_disk::proofs::Others::others))]
     pub fn put<D: Disk>(&mut self, disk: &mut D, bytes: &[u8]) -> Result<(), Failed>
         requires usable { IsUsable D.Disk self.old disk.old }
         requires short { put_so_far self.old + length bytes.now < 2 ^ 32 }
@@ -323,7 +320,6 @@ impl Log {
     }
 
     /// Puts the whole block on the disk, but for its gate.
-    #[tactic(auto, using(ix_disk::proofs::Others::others))]
     fn close<D: Disk>(&self, disk: &mut D) -> Result<(), Failed>
         requires { (bodies : List (List ℕ)) × (body : List ℕ) × IsPutting D.Disk self.now disk.old bodies body }
         ensures whole { (bodies : List (List ℕ)) (body : List ℕ) → IsPutting D.Disk self.now disk.old bodies body →
@@ -343,7 +339,6 @@ impl Log {
     }
 
     /// Opens the gate of a block that is on the disk.
-    #[tactic(auto, using(ix_disk::proofs::Others::others))]
     fn open<D: Disk>(&self, disk: &mut D) -> Result<(), Failed>
         requires { (bodies : List (List ℕ)) × (body : List ℕ) × IsWhole D.Disk self.now disk.old bodies body }
         ensures opened { (bodies : List (List ℕ)) (body : List ℕ) → IsWhole D.Disk self.now disk.old bodies body →
@@ -354,13 +349,13 @@ impl Log {
         ensures seen { Told (Apart (file_of self.now)) (D.Disk.seen disk.old) (D.Disk.seen disk.new) }
         ensures cause { HasCause (D.Disk.faults disk.old) (D.Disk.faults disk.new) result }
     {
-        disk.write_at(self.file, self.at, &[1])?;
-        disk.sync(self.file)?;
+        let log_file = self.file;
+        disk.write_at(log_file, self.at, &[1])?;
+        disk.sync(log_file)?;
         Ok(())
     }
 
     /// Makes the body that was put count. After `Failed` the log is not used again.
-    #[tactic(auto, using(ix_disk::proofs::Others::others))]
     pub fn finish<D: Disk>(&mut self, disk: &mut D) -> Result<(), Failed>
         requires { IsBegun D.Disk self.old disk.old }
         ensures usable { OnOk result (IsUsable D.Disk self.new disk.new) }

@@ -3,6 +3,7 @@ use Rattle.ix_disk.specs.Moments.{Holds}
 use Rattle.ix_disk.proofs.Runs.{weaker, run_on}
 use Rattle.ix_log.specs.Log.{Gated, AtEnd, WithOrWithout}
 use Rattle.ix_log.proofs.Blocks.{length-blocks_push}
+use Rattle.ix_disk.proofs.Others.{apart_on}
 use Rattle.ix_log.proofs.log.Log.finish.Goals as goal
 
 pub returns-in_err-close-clause-images : goal.returns-in_err-close-clause-images
@@ -40,3 +41,9 @@ pub returns-clause-no_more : goal.returns-clause-no_more
 returns-clause-no_more g c = λ had image told.
     let log = c.args.self.now in
     omega (arith, c.in_ok-open.ensures.no_more (log.at + 6 + log.len) (omega arith) (c.in_ok-close.ensures.no_more had) image told)
+
+pub returns-in_err-open-clause-seen : goal.returns-in_err-open-clause-seen
+returns-in_err-open-clause-seen g c = apart_on c.args.self.now.file _ _ _ c.close.ensures.seen c.open.ensures.seen
+
+pub returns-clause-seen : goal.returns-clause-seen
+returns-clause-seen g c = apart_on c.args.self.now.file _ _ _ c.close.ensures.seen c.open.ensures.seen

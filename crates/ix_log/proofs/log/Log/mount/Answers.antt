@@ -1,5 +1,6 @@
 use Rattle.std.proofs.Common.{[], refl, sym, ◌∙◌, arith}
 use Rattle.ix_disk.specs.Image.{bytes_in}
+use Rattle.ix_disk.proofs.Runs.{stays_on}
 use Rattle.ix_log.proofs.Nexts.{as_read_still}
 use Rattle.ix_log.proofs.Windows.{empty_on}
 use Rattle.ix_log.proofs.log.Log.mount.Goals as goal
@@ -24,3 +25,9 @@ returns-clause-reading g c = record {
 
 pub returns-clause-mounted : goal.returns-clause-mounted
 returns-clause-mounted g c = record { bodies = []; reading = returns-clause-reading g c }
+
+pub returns-in_err-size-clause-images : goal.returns-in_err-size-clause-images
+returns-in_err-size-clause-images g c = stays_on g.D.Disk _ _ _ c.sync.ensures.images c.length.ensures.images
+
+pub returns-clause-images : goal.returns-clause-images
+returns-clause-images g c = stays_on g.D.Disk _ _ _ c.sync.ensures.images c.length.ensures.images

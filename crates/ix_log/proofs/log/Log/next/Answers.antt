@@ -1,13 +1,51 @@
-use Rattle.std.proofs.Common.{◌≡◌, ◌<◌, ◌+◌, [], ◌∷◌, ◌++◌, take, drop, Some, Err, refl, sym, subst, rules, ◌∙◌, arith}
+use Rattle.std.proofs.Common.{◌≡◌, ◌<◌, ◌+◌, [], ◌∷◌, ◌++◌, take, drop, Some, Err, inl, refl, sym, subst, rules, ◌∙◌, arith}
 use Rattle.std.proofs.lemmas.Result.{err_from_is_err_and}
 use Rattle.ix_disk.specs.Image.{bytes_in}
+use Rattle.ix_disk.proofs.Runs.{stays_on}
 use Rattle.ix_log.specs.Head.{IsHead}
 use Rattle.ix_log.specs.declared.head.Head.{Head}
-use Rattle.ix_log.specs.declared.head.Head.TheVariants.{Body, Cut}
+use Rattle.ix_log.specs.declared.head.Head.TheVariants.{End, Body, Cut}
 use Rattle.ix_log.specs.declared.log.LogFault.TheVariants.{Damaged}
 use Rattle.ix_log.proofs.Blocks.{length-blocks_push}
-use Rattle.ix_log.proofs.Nexts.{as_read_still, left_is, room_for, body_here, cut_here, not_cut, damaged_is}
+use Rattle.ix_log.proofs.Nexts.{as_read_still, left_is, short_end, gated_end, room_for, body_here, cut_here, not_cut, damaged_is}
 use Rattle.ix_log.proofs.log.Log.next.Goals as goal
+
+pub returns-then-self-le1-clause-next : goal.returns-then-self-le1-clause-next
+returns-then-self-le1-clause-next g c = λ bodies h. (short_end g.D.Disk c.args.disk.now c.args.self.now bodies h c.if-self-le1.true, refl)
+
+pub returns-then-self-le1-clause-usable : goal.returns-then-self-le1-clause-usable
+returns-then-self-le1-clause-usable g c = record {
+  bodies = c.requires.bodies;
+  body = [];
+  ready = inl (short_end g.D.Disk c.args.disk.now c.args.self.now c.requires.bodies c.requires.reading c.if-self-le1.true, refl);
+}
+
+pub returns-in-End-clause-next : goal.returns-in-End-clause-next
+returns-in-End-clause-next g c = λ bodies h.
+    let log = c.args.self.now in
+    let more : 1 < log.size = omega arith in (
+      record {
+        place = h.place;
+        idle = h.idle;
+        none_put = h.none_put;
+        images = gated_end g.D.Disk c.args.disk.now c.head_at.new.disk log bodies _ h more c.saturating_sub-left.ensures c.head_at.ensures.images c.head_at.ensures.same (λ image told is some.
+            subst (λ (x : Head). IsHead x (drop log.at (bytes_in image log.file))) c.in-End.is (c.in_ok-head_at.ensures.head h.ahead image told is some));
+      },
+      refl,
+    )
+
+pub returns-in-End-clause-usable : goal.returns-in-End-clause-usable
+returns-in-End-clause-usable g c = record {
+  bodies = c.requires.bodies;
+  body = [];
+  ready = inl ((returns-in-End-clause-next g c c.requires.bodies c.requires.reading).0, refl);
+}
+
+pub returns-in_err-body-in-Body-clause-images : goal.returns-in_err-body-in-Body-clause-images
+returns-in_err-body-in-Body-clause-images g c = stays_on g.D.Disk _ _ _ c.head_at.ensures.images c.body.ensures.images
+
+pub returns-in_ok-body-in-Body-clause-images : goal.returns-in_ok-body-in-Body-clause-images
+returns-in_ok-body-in-Body-clause-images g c = stays_on g.D.Disk _ _ _ c.head_at.ensures.images c.body.ensures.images
 
 pub returns-in_ok-body-in-Body-clause-next : goal.returns-in_ok-body-in-Body-clause-next
 returns-in_ok-body-in-Body-clause-next g c = λ bodies h.

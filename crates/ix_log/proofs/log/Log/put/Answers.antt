@@ -2,6 +2,7 @@ use Rattle.std.proofs.Common.{arith, length-append, inr, ◌++◌}
 use Rattle.ix_log.proofs.Bytes.{staged_long}
 use Rattle.ix_log.proofs.Ends.{put_ends}
 use Rattle.ix_log.proofs.Put.{put_run, put_holds, put_reads}
+use Rattle.ix_log.proofs.Calls.{then_begun, then_written}
 use Rattle.ix_log.proofs.log.Log.put.Goals as goal
 
 pub returns-in_err-write_at-clause-images : goal.returns-in_err-write_at-clause-images
@@ -45,3 +46,9 @@ returns-clause-no_more g c = λ had.
     let u = c.requires.usable in
     let putting = c.in_ok-ready.ensures.begun u.bodies u.body u.ready in
     put_ends g.D.Disk _ _ c.ready.new.self c.args.bytes.now putting.begun c.in_ok-write_at.ensures.written (c.in_ok-ready.ensures.no_more had)
+
+pub returns-in_err-write_at-clause-seen : goal.returns-in_err-write_at-clause-seen
+returns-in_err-write_at-clause-seen g c = then_begun c.args.self.now.file _ _ _ _ _ c.ready.ensures.file c.ready.ensures.seen _ c.in_err-write_at.ensures.begun
+
+pub returns-clause-seen : goal.returns-clause-seen
+returns-clause-seen g c = then_written c.args.self.now.file _ _ _ _ _ c.ready.ensures.file c.ready.ensures.seen _ c.in_ok-write_at.ensures.written
