@@ -1,12 +1,13 @@
 -- The run of calls that makes a log ready for a body.
-use Rattle.std.proofs.Common.{◌≡◌, ◌<◌, ◌≤◌, ◌∙◌, ℕ, ◌+◌, List, [], ◌∷◌, length, Some, Bool, true, inl, subst, refl, arith}
+use Rattle.std.proofs.Common.{◌≡◌, ◌<◌, ◌≤◌, ◌∙◌, ℕ, ◌+◌, List, [], ◌∷◌, length, Some, Bool, true, false, inl, inr, sym, subst, refl, arith}
+use Rattle.std.proofs.lemmas.Bool.{true≢false}
 use Rattle.ix_base.specs.declared.files.File.{File}
 use Rattle.ix_disk.specs.Image.{Image, MayWrite, Writes, bytes_in}
 use Rattle.ix_base.specs.Told.{Told}
 use Rattle.ix_disk.specs.Moments.{Goes, InFile, Holds, Reads}
 use Rattle.ix_disk.proofs.Runs.{write_on, write_holds, write_reads, holds_reads}
 use Rattle.ix_disk.specs.declared.disk.Disk.{Ghosts}
-use Rattle.ix_log.specs.Log.{blocks, HasBodies, Gated, AtEnd, Staged, IsAtEnd, HasNoMore}
+use Rattle.ix_log.specs.Log.{blocks, HasBodies, Gated, AtEnd, Staged, IsAtEnd, IsPutting, IsReady, HasNoMore}
 use Rattle.ix_log.specs.declared.log.Log.{Log}
 use Rattle.ix_log.proofs.Bytes.{gate_stays, gated_long, stage}
 use Rattle.ix_log.proofs.Ends.{end_idle, end_moves}
@@ -43,3 +44,14 @@ pub start_ends : {D : Type 0} (g : Ghosts D) (mid new : D) (bodies : List (List 
     → HasNoMore g log mid → Reads g new log.file (λ l. length l ≡ log.at + 5 + log.len)
 start_ends g mid new bodies log shut sees had image told =
     omega (arith, shut.none_put, end_moves g mid new log.file (log.at + 1) (0 ∷ 0 ∷ 0 ∷ 0 ∷ []) sees (log.at + 1) (λ before is. had before is ∙ end_idle log shut.idle) refl image told)
+
+module _ {D : Type 0} (g : Ghosts D) (log : Log) (disk : D) (bodies : List (List ℕ)) (body : List ℕ) where
+  -- no byte of a further body was put yet
+  pub idle_end : IsReady g log disk bodies body → log.begun ≡ false → IsAtEnd g log disk bodies × (body ≡ [])
+  idle_end (inl end) idle = end
+  idle_end (inr putting) idle = absurd (true≢false (sym putting.begun ∙ idle))
+
+  -- some were
+  pub begun_on : IsReady g log disk bodies body → log.begun ≡ true → IsPutting g log disk bodies body
+  begun_on (inl end) begun = absurd (true≢false (sym begun ∙ end.0.idle))
+  begun_on (inr putting) begun = putting

@@ -47,3 +47,11 @@ returns-in_err-open-clause-seen g c = apart_on c.args.self.now.file _ _ _ c.clos
 
 pub returns-clause-seen : goal.returns-clause-seen
 returns-clause-seen g c = apart_on c.args.self.now.file _ _ _ c.close.ensures.seen c.open.ensures.seen
+
+pub close-requires : goal.close-requires
+close-requires g c = (c.requires.bodies, c.requires.body, c.requires.putting)
+
+pub open-requires : goal.open-requires
+open-requires g c =
+    let begun = c.requires in
+    (begun.bodies, begun.body, c.in_ok-close.ensures.whole begun.bodies begun.body begun.putting)
