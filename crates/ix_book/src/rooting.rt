@@ -14,7 +14,6 @@ use ix_disk::Disk;
 use ix_log::Log;
 
 /// Puts the next number behind those of the root log, and makes it count. After `Failed` the root log is not used again.
-#[tactic(auto, using(ix_disk::proofs::Others::others))]
 pub fn put_number<D: Disk>(root: &mut Log, disk: &mut D, number: u64) -> Result<(), Failed>
     requires { (checkpoints : ℕ) × (number ≡ checkpoints + 2) × IsAtEnd D.Disk root.old disk.old (roots checkpoints) }
     ensures finished { (checkpoints : ℕ) → number ≡ checkpoints + 2 → IsAtEnd D.Disk root.old disk.old (roots checkpoints) →

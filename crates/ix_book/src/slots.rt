@@ -121,7 +121,7 @@ fn drop_in(slots: &mut Vec<Slot>, from: usize, size: u64) -> u64
         let at = earlier(slots.as_slice(), k);
         if at < k {
             size -= size_at(slots.as_slice(), at);
-            slots.remove(at);
+            drop(slots.remove(at));
         } else {
             k += 1;
         }

@@ -20,7 +20,6 @@ use ix_log::Log;
 use std::alloc::Global;
 
 /// Puts the bytes of an item into the first body of a log.
-#[tactic(auto, using(ix_disk::proofs::Others::others))]
 fn put_item<D: Disk>(
     alloc: Global,
     log: &mut Log,
@@ -50,7 +49,6 @@ fn put_item<D: Disk>(
 }
 
 /// Puts the next item of a state into the first body of a log. Behind the last item it answers false.
-#[tactic(auto, using(ix_disk::proofs::Others::others))]
 fn put_next<D: Disk, W: Whole>(
     alloc: Global,
     log: &mut Log,
@@ -72,11 +70,14 @@ fn put_next<D: Disk, W: Whole>(
     ensures later { D.Disk.faults disk.old ≤ D.Disk.faults disk.new }
     ensures cause { IsErrOf result CheckpointFault.Disk → Rose (D.Disk.faults disk.old) (D.Disk.faults disk.new) }
 {
-    let Some(item) = state.next(alloc)? else {
-        return Ok(false);
-    };
-    put_item(alloc, log, disk, item)?;
-    Ok(true)
+    let next = state.next(alloc)?;
+    match next {
+        None => Ok(false),
+        Some(item) => {
+            put_item(alloc, log, disk, item)?;
+            Ok(true)
+        }
+    }
 }
 
 /// Puts the items of a state into the first body of a log, one behind the other.
@@ -116,7 +117,6 @@ fn removal(alloc: Global, file: File) -> Result<Item, NoMemory>
 
 /// Makes the file a log of one body, whatever it held: the items of a state, and behind them the removal of a file that is
 /// done with. One item at a time is in memory.
-#[tactic(auto, using(ix_disk::proofs::Others::others))]
 pub fn write_log<D: Disk, W: Whole>(
     alloc: Global,
     disk: &mut D,

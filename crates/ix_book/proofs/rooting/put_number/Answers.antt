@@ -1,7 +1,10 @@
 use Rattle.std.proofs.Common.{◌≡◌, ◌+◌, ℕ, List, [], ◌∷◌, length, refl, subst, sym, ap, ◌∙◌, inl, arith}
 use Rattle.std.specs.Int.{to_be_bytes, w64}
 use Rattle.ix_base.specs.declared.files.File.{File}
+use Rattle.ix_base.specs.Told.{Told}
+use Rattle.ix_disk.specs.Image.{Apart}
 use Rattle.ix_disk.specs.Moments.{Goes, InFile}
+use Rattle.ix_disk.proofs.Others.{apart_on}
 use Rattle.ix_log.specs.Log.{WithOrWithout, IsPutting, file_of}
 use Rattle.ix_book.specs.Root.{roots}
 use Rattle.ix_book.proofs.RootNumbers.{roots_end, numbers_none, numbers_more}
@@ -36,3 +39,13 @@ returns-clause-finished g c = λ k is end.
     let bytes : c.as_slice.result.now ≡ to_be_bytes w64 (k + 2) = c.as_slice.ensures ∙ c.to_be_bytes-bytes.ensures ∙ ap (λ (n : ℕ). to_be_bytes w64 n) is in
     let putting = subst (λ (b : List ℕ). IsPutting g.D.Disk c.put.new.self c.put.new.disk (roots k) b) bytes (c.in_ok-put.ensures.put (roots k) [] (inl (end, refl))) in
     roots_end g.D.Disk c.finish.new.self c.finish.new.disk k (c.in_ok-finish.ensures.finished (roots k) (to_be_bytes w64 (k + 2)) putting)
+
+pub returns-in_err-finish-clause-seen : goal.returns-in_err-finish-clause-seen
+returns-in_err-finish-clause-seen g c =
+    apart_on (file_of c.args.root.now) _ _ _ c.put.ensures.seen
+    (subst (λ (f : File). Told (Apart f) (g.D.Disk.seen c.put.new.disk) (g.D.Disk.seen c.finish.new.disk)) c.put.ensures.file c.finish.ensures.seen)
+
+pub returns-clause-seen : goal.returns-clause-seen
+returns-clause-seen g c =
+    apart_on (file_of c.args.root.now) _ _ _ c.put.ensures.seen
+    (subst (λ (f : File). Told (Apart f) (g.D.Disk.seen c.put.new.disk) (g.D.Disk.seen c.finish.new.disk)) c.put.ensures.file c.finish.ensures.seen)

@@ -1,7 +1,8 @@
-use Rattle.std.proofs.Common.{◌≡◌, ℕ, List, [], ◌++◌, ap, subst, ◌∙◌}
+use Rattle.std.proofs.Common.{◌≡◌, ℕ, List, [], ◌++◌, refl, ap, subst, ◌∙◌}
+use Rattle.ix_disk.proofs.Others.{apart_same}
 use Rattle.ix_items.specs.Spelling.{item_bytes}
 use Rattle.ix_log.specs.Log.{HasBodies, IsPutting, file_of}
-use Rattle.ix_book.proofs.PutItems.{apart_of}
+use Rattle.ix_book.proofs.PutItems.{apart_of, apart_none}
 use Rattle.ix_book.proofs.writing.put_item.Goals as goal
 
 pub returns-clause-put : goal.returns-clause-put
@@ -18,3 +19,9 @@ pub returns-in_err-put-clause-images : goal.returns-in_err-put-clause-images
 returns-in_err-put-clause-images g c =
     let u = c.requires.usable in
     apart_of g.D.Disk c.args.disk.now c.put.new.disk (file_of c.args.log.now) (HasBodies u.bodies) (c.put.ensures.images u.bodies u.body u.ready)
+
+pub returns-in_err-written-clause-images : goal.returns-in_err-written-clause-images
+returns-in_err-written-clause-images g c = apart_none g.D.Disk c.args.disk.now (file_of c.args.log.now)
+
+pub returns-in_err-written-clause-seen : goal.returns-in_err-written-clause-seen
+returns-in_err-written-clause-seen g c = apart_same (file_of c.args.log.now) (g.D.Disk.seen c.args.disk.now) (g.D.Disk.seen c.args.disk.now) refl

@@ -1,15 +1,47 @@
-use Rattle.std.proofs.Common.{◌≡◌, ℕ, List, [], ◌∷◌, ◌++◌, refl, ap, subst, sym, ◌∙◌, inl}
+use Rattle.std.proofs.Common.{◌≡◌, ℕ, List, [], ◌∷◌, ◌++◌, length, refl, ap, subst, sym, ◌∙◌, inl, arith, length-append}
 use Rattle.ix_base.specs.declared.files.File.{File}
 use Rattle.ix_base.specs.Told.{Told}
 use Rattle.ix_disk.specs.Image.{Apart}
 use Rattle.ix_disk.specs.Moments.{Goes}
 use Rattle.ix_disk.proofs.Others.{apart_on}
-use Rattle.ix_items.specs.Spelling.{item_bytes, body_bytes}
+use Rattle.ix_items.specs.Spelling.{HasSpelling, item_bytes, body_bytes}
 use Rattle.ix_items.specs.declared.items.Item.{Item}
 use Rattle.ix_log.specs.Log.{IsAtEnd, IsPutting, WithOrWithout, file_of}
 use Rattle.ix_book.specs.Whole.{removal}
 use Rattle.ix_book.proofs.PutItems.{apart_of, apart_more, is_whole, body_end}
 use Rattle.ix_book.proofs.writing.write_log.Goals as goal
+
+pub put_items-requires-clause-short : goal.put_items-requires-clause-short
+put_items-requires-clause-short g c =
+    let told = body_bytes (g.W.Whole.left c.args.state.now) in
+    omega (arith, c.requires, c.in_ok-log.ensures.counted, ap length (body_end (g.W.Whole.left c.args.state.now) (removal c.args.done)), length-append told (item_bytes (removal c.args.done)))
+
+pub put_item-requires-clause-proper : goal.put_item-requires-clause-proper
+put_item-requires-clause-proper g c = subst (λ (item : Item). HasSpelling item) (sym c.in_ok-last.ensures.is) c.in_ok-last.ensures.proper
+
+pub put_item-requires-clause-short : goal.put_item-requires-clause-short
+put_item-requires-clause-short g c =
+    let told = body_bytes (g.W.Whole.left c.args.state.now) in
+    omega (
+      arith,
+      c.requires,
+      c.in_ok-log.ensures.counted,
+      c.in_ok-put_items.ensures.counted,
+      ap (λ (item : Item). length (item_bytes item)) c.in_ok-last.ensures.is,
+      ap length (body_end (g.W.Whole.left c.args.state.now) (removal c.args.done)),
+      length-append told (item_bytes (removal c.args.done)),
+    )
+
+pub returns-clause-no_more : goal.returns-clause-no_more
+returns-clause-no_more g c = c.in_ok-finish.ensures.no_more (c.in_ok-put_item.ensures.no_more (c.in_ok-put_items.ensures.no_more c.in_ok-log.ensures.alone))
+
+pub returns-clause-file : goal.returns-clause-file
+returns-clause-file g c = c.finish.ensures.file ∙ c.put_item.ensures.file ∙ c.put_items.ensures.file ∙ c.in_ok-log.ensures.file
+
+pub returns-in_err-put_items-clause-images : goal.returns-in_err-put_items-clause-images
+returns-in_err-put_items-clause-images g c =
+    apart_more g.D.Disk c.args.disk.now c.begin.new.disk c.put_items.new.disk c.args.file c.begin.ensures.images
+    (subst (λ (f : File). Goes g.D.Disk c.begin.new.disk c.put_items.new.disk (Apart f)) c.in_ok-log.ensures.file c.put_items.ensures.images)
 
 pub returns-in_err-last-clause-images : goal.returns-in_err-last-clause-images
 returns-in_err-last-clause-images g c =
