@@ -1,6 +1,7 @@
-use Rattle.std.proofs.Common.{ℕ, List, ap}
+use Rattle.std.proofs.Common.{ℕ, List, ap, sym}
 use Rattle.std.proofs.lemmas.Result.{err_from_is_err_and}
 use Rattle.ix_items.specs.declared.items.Item.TheVariants as items
+use Rattle.ix_items.specs.Spelling.{field_bytes}
 use Rattle.ix_items.specs.Reading.{made, fields_at}
 use Rattle.ix_items.proofs.Lists.{fails_made}
 use Rattle.ix_items.proofs.reading.read_fields.Goals as goal
@@ -110,3 +111,51 @@ unfolding fields_at
 returns-in_err-index-in-13-clause-gives c =
     let p = err_from_is_err_and c.from_residual-in_err-index-in-13.result c.from_residual-in_err-index-in-13.ensures.1 in
     rw (p.1, p.2, c.in-13.is) (fails_made (λ (x : List ℕ × ℕ). items.NextId x.0 x.1) c.in_err-index-in-13.field-0.0 _ c.in_err-index-in-13.ensures.gives)
+
+pub returns-in_ok-kept-in-1-clause-found : goal.returns-in_ok-kept-in-1-clause-found
+unfolding field_bytes
+returns-in_ok-kept-in-1-clause-found c = (sym c.in-1.is, c.in_ok-kept-in-1.ensures.found.0, (c.in_ok-kept-in-1.ensures.found.1, c.in_ok-kept-in-1.ensures.found.2))
+
+pub returns-in_ok-run-in-2-clause-found : goal.returns-in_ok-run-in-2-clause-found
+unfolding field_bytes
+returns-in_ok-run-in-2-clause-found c = (sym c.in-2.is, c.in_ok-run-in-2.ensures.found, tt)
+
+pub returns-in_ok-name-in-5-clause-found : goal.returns-in_ok-name-in-5-clause-found
+unfolding field_bytes
+returns-in_ok-name-in-5-clause-found c = (sym c.in-5.is, c.in_ok-name-in-5.ensures.found.0, c.in_ok-name-in-5.ensures.found.1)
+
+pub returns-in_ok-index-in-7-clause-found : goal.returns-in_ok-index-in-7-clause-found
+unfolding field_bytes
+returns-in_ok-index-in-7-clause-found c = (sym c.in-7.is, c.in_ok-index-in-7.ensures.found.0, c.in_ok-index-in-7.ensures.found.1)
+
+pub returns-in_ok-entry-in-8-clause-found : goal.returns-in_ok-entry-in-8-clause-found
+unfolding field_bytes
+returns-in_ok-entry-in-8-clause-found c = (sym c.in-8.is, c.in_ok-entry-in-8.ensures.found.0, (c.in_ok-entry-in-8.ensures.found.1, c.in_ok-entry-in-8.ensures.found.2))
+
+pub returns-in_ok-spot-in-10-clause-found : goal.returns-in_ok-spot-in-10-clause-found
+unfolding field_bytes
+returns-in_ok-spot-in-10-clause-found c = (sym c.in-10.is, c.in_ok-spot-in-10.ensures.found.0, (c.in_ok-spot-in-10.ensures.found.1, c.in_ok-spot-in-10.ensures.found.2))
+
+pub returns-in_ok-number-in-11-clause-found : goal.returns-in_ok-number-in-11-clause-found
+unfolding field_bytes
+returns-in_ok-number-in-11-clause-found c = (sym c.in-11.is, c.in_ok-number-in-11.ensures.found, tt)
+
+pub returns-in_ok-files-in-12-clause-found : goal.returns-in_ok-files-in-12-clause-found
+unfolding field_bytes
+returns-in_ok-files-in-12-clause-found c = (sym c.in-12.is, c.in_ok-files-in-12.ensures.found.0, c.in_ok-files-in-12.ensures.found.1)
+
+pub returns-in_ok-index-in-13-clause-found : goal.returns-in_ok-index-in-13-clause-found
+unfolding field_bytes
+returns-in_ok-index-in-13-clause-found c = (sym c.in-13.is, c.in_ok-index-in-13.ensures.found.0, c.in_ok-index-in-13.ensures.found.1)
+
+pub returns-in-3-clause-found : goal.returns-in-3-clause-found
+returns-in-3-clause-found c = rw c.in-3.is c.read_moments.ensures.found
+
+pub returns-in-4-clause-found : goal.returns-in-4-clause-found
+returns-in-4-clause-found c = rw c.in-4.is c.read_channel.ensures.found
+
+pub returns-in-6-clause-found : goal.returns-in-6-clause-found
+returns-in-6-clause-found c = rw c.in-6.is c.read_in_index.ensures.found
+
+pub returns-in-9-clause-found : goal.returns-in-9-clause-found
+returns-in-9-clause-found c = rw c.in-9.is c.read_counts.ensures.found
