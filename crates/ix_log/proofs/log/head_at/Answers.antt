@@ -1,4 +1,4 @@
-use Rattle.std.proofs.Common.{ℕ, [], ◌∷◌, ◌++◌, take, drop, refl, ◌∙◌, arith, length-take}
+use Rattle.std.proofs.Common.{[], ◌∷◌, ◌++◌, take, drop, refl, ◌∙◌, arith}
 use Rattle.ix_disk.specs.Image.{bytes_in}
 use Rattle.ix_disk.proofs.Runs.{stays_on, stay_reads}
 use Rattle.ix_log.specs.Window.{IsWindowOn}
@@ -28,12 +28,3 @@ returns-clause-head g c = λ had image told left some.
     let read = c.in_ok-n.ensures.bytes image now (c.in_ok-reach.ensures.shows had image now) in
     let head = head_read c.args.at room file c.read.new.buf none refl n c.args.left c.min-room.ensures left read in
     c.head_of.ensures.head (drop c.args.at file) (drop n (take room none) ++ drop room none) head.0 head.1 left (omega (arith, left, some))
-
-pub read-requires : goal.read-requires
-read-requires g c = omega (arith, c.requires, length-take {A = ℕ} c.min-room.result (0 ∷ 0 ∷ 0 ∷ 0 ∷ 0 ∷ []))
-
-pub returns-in_err-n-clause-same : goal.returns-in_err-n-clause-same
-returns-in_err-n-clause-same g c = c.read.ensures.same ∙ c.reach.ensures.same
-
-pub returns-clause-same : goal.returns-clause-same
-returns-clause-same g c = c.read.ensures.same ∙ c.reach.ensures.same

@@ -20,20 +20,6 @@ returns-then-self-le1-clause-usable g c = record {
   ready = inl (short_end g.D.Disk c.args.disk.now c.args.self.now c.requires.bodies c.requires.reading c.if-self-le1.true, refl);
 }
 
-pub returns-in_err-head_at-clause-damaged : goal.returns-in_err-head_at-clause-damaged
-returns-in_err-head_at-clause-damaged g c = λ bodies h at is image told.
-    let p = err_from_is_err_and c.from_residual.result c.from_residual.ensures.1 in
-    let p1 = p.1 in
-    let p2 = p.2 in
-    absurd cc
-
-pub returns-in_err-head_at-clause-memory : goal.returns-in_err-head_at-clause-memory
-returns-in_err-head_at-clause-memory g c = λ bodies h is image told cut.
-    let p = err_from_is_err_and c.from_residual.result c.from_residual.ensures.1 in
-    let p1 = p.1 in
-    let p2 = p.2 in
-    absurd cc
-
 pub returns-in-End-clause-next : goal.returns-in-End-clause-next
 returns-in-End-clause-next g c = λ bodies h.
     let log = c.args.self.now in

@@ -26,9 +26,6 @@ returns-clause-begun g c = λ bodies h.
           (λ image disk is. g.met.D.Disk.seen_may_stay disk image is) c.in_ok-write_at.ensures.written;
     }
 
-pub shut-requires : goal.shut-requires
-shut-requires g c = (c.requires.0, c.requires.1)
-
 pub write_at-requires : goal.write_at-requires
 write_at-requires g c =
     let shut = c.in_ok-shut.ensures.shut c.requires.0 c.requires.1 in
