@@ -4,7 +4,9 @@ use Rattle.ix_base.specs.declared.files.File.{File}
 use Rattle.ix_base.specs.Told.{Told}
 use Rattle.ix_disk.specs.Image.{Apart}
 use Rattle.ix_disk.specs.Moments.{Goes, InFile}
+use Rattle.std.proofs.lemmas.Bool.{true≢false}
 use Rattle.ix_disk.proofs.Others.{apart_on}
+use Rattle.ix_disk.proofs.Runs.{rose_later}
 use Rattle.ix_log.specs.Log.{WithOrWithout, IsPutting, file_of}
 use Rattle.ix_book.specs.Root.{roots}
 use Rattle.ix_book.proofs.RootNumbers.{roots_end, numbers_none, numbers_more}
@@ -49,3 +51,24 @@ pub returns-clause-seen : goal.returns-clause-seen
 returns-clause-seen g c =
     apart_on (file_of c.args.root.now) _ _ _ c.put.ensures.seen
     (subst (λ (f : File). Told (Apart f) (g.D.Disk.seen c.put.new.disk) (g.D.Disk.seen c.finish.new.disk)) c.put.ensures.file c.finish.ensures.seen)
+
+pub returns-in_err-finish-clause-cause : goal.returns-in_err-finish-clause-cause
+returns-in_err-finish-clause-cause g c = record {
+  later = omega (arith, c.put.ensures.cause.later, c.finish.ensures.cause.later);
+  failed = λ e. rose_later _ _ _ c.put.ensures.cause.later (c.in_err-finish.ensures.cause.failed refl);
+}
+
+pub returns-clause-cause : goal.returns-clause-cause
+returns-clause-cause g c = record {
+  later = omega (arith, c.put.ensures.cause.later, c.finish.ensures.cause.later);
+  failed = λ e. absurd (true≢false (sym e));
+}
+
+pub returns-in_err-finish-clause-file : goal.returns-in_err-finish-clause-file
+returns-in_err-finish-clause-file g c = c.finish.ensures.file ∙ c.put.ensures.file
+
+pub returns-clause-file : goal.returns-clause-file
+returns-clause-file g c = c.finish.ensures.file ∙ c.put.ensures.file
+
+pub finish-requires : goal.finish-requires
+finish-requires g c = c.in_ok-put.ensures.begun
