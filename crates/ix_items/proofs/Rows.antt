@@ -1,9 +1,10 @@
 -- The rows with many fields: their fields one behind the other.
-use Rattle.std.proofs.Common.{◌≡◌, ℕ, List, ◌++◌, append_assoc}
+use Rattle.std.proofs.Common.{◌≡◌, ℕ, ℤ, List, ◌++◌, append_assoc}
 use Rattle.ix_base.specs.declared.events.ChannelMeta.{ChannelMeta}
 use Rattle.ix_base.specs.declared.events.Spot.{Spot}
 use Rattle.ix_items.specs.declared.items.Item.TheVariants as items
 use Rattle.ix_items.specs.declared.items.Kept.{Kept}
+use Rattle.ix_items.specs.declared.items.Rule.{Rule}
 use Rattle.ix_items.specs.declared.items.Bucket.{Bucket}
 use Rattle.ix_items.specs.declared.items.Entry.{Entry}
 use Rattle.ix_fields.specs.Spelling.{byte, eight, signed, string, option}
@@ -14,6 +15,10 @@ pub bucket_found : (b : Bucket) (bytes r1 r2 r3 rest : List ℕ) → bytes ≡ e
     → bytes ≡ bucket_bytes b ++ rest
 unfolding bucket_bytes
 bucket_found b bytes r1 r2 r3 rest h1 h2 h3 h4 = rw (h1, h2, h3, h4) (simp append_assoc)
+
+pub frozen_found : (id : ℕ) (rule : Rule) (moment : ℤ) (bytes r1 r2 rest : List ℕ) → bytes ≡ eight id ++ r1 → r1 ≡ byte (rule_byte rule) ++ r2 → r2 ≡ signed moment ++ rest
+    → bytes ≡ eight id ++ byte (rule_byte rule) ++ signed moment ++ rest
+frozen_found id rule moment bytes r1 r2 rest h1 h2 h3 = rw (h1, h2, h3) (simp append_assoc)
 
 pub entry_found : (e : Entry) (bytes r1 r2 r3 r4 rest : List ℕ) → bytes ≡ string e.index ++ r1 → r1 ≡ eight e.id ++ byte (rule_byte e.rule) ++ signed e.moment ++ r2
     → r2 ≡ eight e.count ++ signed e.newest ++ signed e.oldest ++ r3 → r3 ≡ eight e.bytes ++ r4 → r4 ≡ eight (archive_number e.archive) ++ rest
