@@ -3,6 +3,7 @@ use Rattle.ix_disk.specs.Image.{bytes_in}
 use Rattle.ix_disk.proofs.Runs.{stays_on, stay_reads}
 use Rattle.ix_log.specs.Window.{IsWindowOn}
 use Rattle.ix_log.proofs.Windows.{head_size, head_read}
+use Rattle.ix_log.proofs.Calls.{cause_second, cause_none}
 use Rattle.ix_log.proofs.log.head_at.Goals as goal
 
 pub head_of-requires : goal.head_of-requires
@@ -28,3 +29,9 @@ returns-clause-head g c = λ had image told left some.
     let read = c.in_ok-n.ensures.bytes image now (c.in_ok-reach.ensures.shows had image now) in
     let head = head_read c.args.at room file c.read.new.buf none refl n c.args.left c.min-room.ensures left read in
     c.head_of.ensures.head (drop c.args.at file) (drop n (take room none) ++ drop room none) head.0 head.1 left (omega (arith, left, some))
+
+pub returns-in_err-n-clause-cause : goal.returns-in_err-n-clause-cause
+returns-in_err-n-clause-cause g c = cause_second _ _ _ _ c.reach.ensures.cause.later c.read.ensures.cause.later (c.in_err-n.ensures.cause.failed refl)
+
+pub returns-clause-cause : goal.returns-clause-cause
+returns-clause-cause g c = cause_none _ _ _ _ c.reach.ensures.cause.later c.read.ensures.cause.later refl

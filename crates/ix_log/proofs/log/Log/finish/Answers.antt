@@ -4,6 +4,7 @@ use Rattle.ix_disk.proofs.Runs.{weaker, run_on}
 use Rattle.ix_log.specs.Log.{Gated, AtEnd, WithOrWithout}
 use Rattle.ix_log.proofs.Blocks.{length-blocks_push}
 use Rattle.ix_disk.proofs.Others.{apart_on}
+use Rattle.ix_log.proofs.Calls.{cause_second, cause_none}
 use Rattle.ix_log.proofs.log.Log.finish.Goals as goal
 
 pub returns-in_err-close-clause-images : goal.returns-in_err-close-clause-images
@@ -55,3 +56,15 @@ pub open-requires : goal.open-requires
 open-requires g c =
     let begun = c.requires in
     (begun.bodies, begun.body, c.in_ok-close.ensures.whole begun.bodies begun.body begun.putting)
+
+pub returns-in_err-open-clause-cause : goal.returns-in_err-open-clause-cause
+returns-in_err-open-clause-cause g c = cause_second _ _ _ _ c.close.ensures.cause.later c.open.ensures.cause.later (c.in_err-open.ensures.cause.failed refl)
+
+pub returns-clause-cause : goal.returns-clause-cause
+returns-clause-cause g c = cause_none _ _ _ _ c.close.ensures.cause.later c.open.ensures.cause.later refl
+
+pub returns-in_err-open-clause-file : goal.returns-in_err-open-clause-file
+returns-in_err-open-clause-file g c = refl
+
+pub returns-clause-file : goal.returns-clause-file
+returns-clause-file g c = refl

@@ -1,8 +1,8 @@
-use Rattle.std.proofs.Common.{arith, length-append, inr, ◌++◌}
+use Rattle.std.proofs.Common.{arith, length-append, inr, refl, ◌++◌}
 use Rattle.ix_log.proofs.Bytes.{staged_long}
 use Rattle.ix_log.proofs.Ends.{put_ends}
 use Rattle.ix_log.proofs.Put.{put_run, put_holds, put_reads}
-use Rattle.ix_log.proofs.Calls.{then_begun, then_written}
+use Rattle.ix_log.proofs.Calls.{then_begun, then_written, cause_second, cause_none}
 use Rattle.ix_log.proofs.log.Log.put.Goals as goal
 
 pub returns-in_err-write_at-clause-images : goal.returns-in_err-write_at-clause-images
@@ -52,3 +52,18 @@ returns-in_err-write_at-clause-seen g c = then_begun c.args.self.now.file _ _ _ 
 
 pub returns-clause-seen : goal.returns-clause-seen
 returns-clause-seen g c = then_written c.args.self.now.file _ _ _ _ _ c.ready.ensures.file c.ready.ensures.seen _ c.in_ok-write_at.ensures.written
+
+pub returns-in_err-write_at-clause-cause : goal.returns-in_err-write_at-clause-cause
+returns-in_err-write_at-clause-cause g c = cause_second _ _ _ _ c.ready.ensures.cause.later c.write_at.ensures.cause.later (c.in_err-write_at.ensures.cause.failed refl)
+
+pub returns-clause-cause : goal.returns-clause-cause
+returns-clause-cause g c = cause_none _ _ _ _ c.ready.ensures.cause.later c.write_at.ensures.cause.later refl
+
+pub ready-requires : goal.ready-requires
+ready-requires g c = c.requires.usable
+
+pub returns-in_err-write_at-clause-file : goal.returns-in_err-write_at-clause-file
+returns-in_err-write_at-clause-file g c = c.ready.ensures.file
+
+pub returns-clause-file : goal.returns-clause-file
+returns-clause-file g c = c.ready.ensures.file

@@ -1,4 +1,4 @@
-use Rattle.ix_log.proofs.Calls.{then_begun, then_written}
+use Rattle.ix_log.proofs.Calls.{then_begun, then_written, cause_second, cause_none}
 use Rattle.ix_log.proofs.Start.{start_run, start_holds, start_reads, start_room, start_ends}
 use Rattle.std.proofs.Common.{refl}
 use Rattle.ix_log.proofs.log.Log.start_body.Goals as goal
@@ -41,3 +41,9 @@ returns-in_err-write_at-clause-seen g c = then_begun c.args.self.now.file _ _ _ 
 
 pub returns-clause-seen : goal.returns-clause-seen
 returns-clause-seen g c = then_written c.args.self.now.file _ _ _ _ _ c.shut.ensures.file c.shut.ensures.seen _ c.in_ok-write_at.ensures.written
+
+pub returns-in_err-write_at-clause-cause : goal.returns-in_err-write_at-clause-cause
+returns-in_err-write_at-clause-cause g c = cause_second _ _ _ _ c.shut.ensures.cause.later c.write_at.ensures.cause.later (c.in_err-write_at.ensures.cause.failed refl)
+
+pub returns-clause-cause : goal.returns-clause-cause
+returns-clause-cause g c = cause_none _ _ _ _ c.shut.ensures.cause.later c.write_at.ensures.cause.later refl
