@@ -30,6 +30,11 @@ returns-in-None-clause-counted g c =
     let none = subst (λ (o : Option Item). HasTold o (g.W.Whole.left c.args.state.now) (g.W.Whole.left c.next.new.self)) c.in-None.is c.in_ok-next.ensures in
     omega (arith, ap (λ (l : List Item). length (body_bytes l)) none.0, ap (λ (l : List Item). length (body_bytes l)) none.1)
 
+pub put_item-requires-clause-proper : goal.put_item-requires-clause-proper
+put_item-requires-clause-proper g c =
+    let told = subst (λ (o : Option Item). HasTold o (g.W.Whole.left c.args.state.now) (g.W.Whole.left c.next.new.self)) c.in-Some.is c.in_ok-next.ensures in
+    told.0
+
 pub put_item-requires-clause-short : goal.put_item-requires-clause-short
 put_item-requires-clause-short g c =
     let left = g.W.Whole.left c.next.new.self in
