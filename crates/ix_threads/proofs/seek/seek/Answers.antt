@@ -38,3 +38,21 @@ returns-clause-sought g c =
     (subst (Turned (Knows c.args.plan) c.args.plan.code.now (text_of c.args.input) c.args.start c.args.from (min (length c.args.input.bytes.now + 1) c.args.to) (length c.args.input.bytes.now) c.turn-2.new.room.main.ready.items) c.if-branch-2.false
     (c.in_ok-turn-2.ensures.turned c.args.from c.requires.from
     (subst (λ k. Carry (Knows c.args.plan) c.args.plan.code.now (text_of c.args.input) c.args.start c.args.from (min k c.args.to) k (reverse c.loop-at.room.main.stack.items)) last c.loop-at.invariant.carry)))
+
+pub returns-in_err-turn-clause-counts : goal.returns-in_err-turn-clause-counts
+returns-in_err-turn-clause-counts g c = counts-more c.loop-at.invariant.counts c.turn.ensures.counts
+
+pub returns-then-branch-clause-counts : goal.returns-then-branch-clause-counts
+returns-then-branch-clause-counts g c = counts-more c.loop-at.invariant.counts c.turn.ensures.counts
+
+pub returns-in_err-pass-clause-counts : goal.returns-in_err-pass-clause-counts
+returns-in_err-pass-clause-counts g c = counts-more (counts-more c.loop-at.invariant.counts c.turn.ensures.counts) c.pass.ensures.counts
+
+pub returns-in_err-turn-2-clause-counts : goal.returns-in_err-turn-2-clause-counts
+returns-in_err-turn-2-clause-counts g c = counts-more c.loop-at.invariant.counts c.turn-2.ensures.counts
+
+pub returns-then-branch-2-clause-counts : goal.returns-then-branch-2-clause-counts
+returns-then-branch-2-clause-counts g c = counts-more c.loop-at.invariant.counts c.turn-2.ensures.counts
+
+pub returns-clause-counts : goal.returns-clause-counts
+returns-clause-counts g c = counts-more c.loop-at.invariant.counts c.turn-2.ensures.counts
