@@ -92,6 +92,7 @@ fn own_entry(alloc: Global, stanza: &[u8]) -> Result<MergedEntry, NoMemory>
     })
 }
 
+/// The entry of a key with a value.
 fn setting(
     alloc: Global,
     layer: &[u8],
