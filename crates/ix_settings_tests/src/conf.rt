@@ -1,6 +1,7 @@
 //! Tests of `ix_conf`: texts, layers and patterns worked by hand.
 
-use crate::said::{add_layer, bytes_of, check, compare, note, put, repeat};
+use crate::said::{add_layer, bytes_of, compare, note, put, repeat, say, shown};
+use crate::tables::{Asked, check_rows};
 use ix_base::{Bytes, NoMemory};
 use ix_conf::{
     ConfFault, Entry, Layer, Layers, Merged, NameFault, NamePattern, built_in_zones, merge, parse,
@@ -27,7 +28,7 @@ fn put_entry(out: &mut String, entry: &Entry) {
 }
 
 /// The entries of a text.
-fn entries_of(alloc: Global, text: &[u8]) -> String {
+pub fn entries_of(alloc: Global, text: &[u8]) -> String {
     let mut out = String::new(alloc);
     match parse(alloc, text) {
         Ok(file) => {
@@ -41,40 +42,35 @@ fn entries_of(alloc: Global, text: &[u8]) -> String {
     out
 }
 
-static ENTRIES: [(&[u8], &str); 20] = [
-    (b"", ""),
-    (b"\n \t\n\r\n", ""),
-    (b"\xEF\xBB\xBF[a]\nk=v", "[a]\na|k|v\n"),
-    (b"[a]\r\nk = v \r\n", "[a]\na|k|v\n"),
-    (b"\t k \t=\t v w \t", "default|k|v w\n"),
-    (b"k=v\r", "default|k|v\r\n"),
-    (b"k=a\rb\r\r\n", "default|k|a\rb\r\n"),
-    (b"k=a=b\nl=", "default|k|a=b\ndefault|l|\n"),
-    (b"  # [x\n#=\nk=#v", "default|k|#v\n"),
-    (b"k=v\\", "default|k|v\n"),
-    (b"k=v\\\n", "default|k|v\n"),
-    (b"k=a\\\nb\\\r\nc\nl=d", "default|k|abc\ndefault|l|d\n"),
-    (b"k = a \\\n  b", "default|k|a   b\n"),
-    (b"k=a\\\\\n\nl=b", "default|k|a\\\ndefault|l|b\n"),
-    (b"# c\\\nk=v", "default|k|v\n"),
-    (b"\\\n#k=v", "default|#k|v\n"),
-    (b"k=a\\\n# b", "default|k|a# b\n"),
-    (b"[a]b] \nk=1", "[a]b]\na]b|k|1\n"),
-    (b"[ a ]\n[=]\n[[b]", "[ a ]\n[=]\n[[b]\n"),
-    (
-        b"[a]\nK=1\n[b]\nk=2\n[a]\nK=3",
-        "[a]\na|K|1\n[b]\nb|k|2\n[a]\na|K|3\n",
-    ),
-];
+/// Texts, and their entries.
+const ENTRIES: &str = "\
+    ¦¶\
+    \n \t\n\r\n¦¶\
+    \u{feff}[a]\nk=v¦[a]\na|k|v\n¶\
+    [a]\r\nk = v \r\n¦[a]\na|k|v\n¶\
+    \t k \t=\t v w \t¦default|k|v w\n¶\
+    k=v\r¦default|k|v\r\n¶\
+    k=a\rb\r\r\n¦default|k|a\rb\r\n¶\
+    k=a=b\nl=¦default|k|a=b\ndefault|l|\n¶\
+    \x20 # [x\n#=\nk=#v¦default|k|#v\n¶\
+    k=v\\¦default|k|v\n¶\
+    k=v\\\n¦default|k|v\n¶\
+    k=a\\\nb\\\r\nc\nl=d¦default|k|abc\ndefault|l|d\n¶\
+    k = a \\\n  b¦default|k|a   b\n¶\
+    k=a\\\\\n\nl=b¦default|k|a\\\ndefault|l|b\n¶\
+    # c\\\nk=v¦default|k|v\n¶\
+    \\\n#k=v¦default|#k|v\n¶\
+    k=a\\\n# b¦default|k|a# b\n¶\
+    [a]b] \nk=1¦[a]b]\na]b|k|1\n¶\
+    [ a ]\n[=]\n[[b]¦[ a ]\n[=]\n[[b]\n¶\
+    [a]\nK=1\n[b]\nk=2\n[a]\nK=3¦[a]\na|K|1\n[b]\nb|k|2\n[a]\na|K|3\n";
 
 #[test]
 fn a_text_has_its_entries(rt: HostRuntime) {
-    for (asked, wanted) in &ENTRIES {
-        compare(&rt, entries_of(rt.alloc(), asked), wanted);
-    }
+    check_rows(&rt, rt.alloc(), Asked::Entries, ENTRIES);
 }
 
-fn fault_of(alloc: Global, text: &[u8]) -> Option<ConfFault> {
+pub fn fault_of(alloc: Global, text: &[u8]) -> Option<ConfFault> {
     match parse(alloc, text) {
         Ok(file) => {
             drop(file);
@@ -84,27 +80,34 @@ fn fault_of(alloc: Global, text: &[u8]) -> Option<ConfFault> {
     }
 }
 
-static FAULTS: [(&[u8], ConfFault); 13] = [
-    (b"[", ConfFault::BadStanza { line: 1 }),
-    (b"[]", ConfFault::BadStanza { line: 1 }),
-    (b"\n\n[a]x", ConfFault::BadStanza { line: 3 }),
-    (b" \t= x", ConfFault::NoEquals { line: 1 }),
-    (b"k=v\nx\\\ny\n[z", ConfFault::NoEquals { line: 2 }),
-    (b"k=a\\\nb\nx", ConfFault::NoEquals { line: 3 }),
-    (b"# a\n\nx", ConfFault::NoEquals { line: 3 }),
-    (b"[a\nx", ConfFault::BadStanza { line: 1 }),
-    (b"x\n[a", ConfFault::NoEquals { line: 1 }),
-    (b"\xFF", ConfFault::NotUtf8 { at: 0 }),
-    (b"k=v\nab\xC3", ConfFault::NotUtf8 { at: 6 }),
-    (b"\xEF\xBB\xBF\xC3\xA4=\xC0", ConfFault::NotUtf8 { at: 6 }),
-    (b"x\n\xED\xA0\x80", ConfFault::NotUtf8 { at: 2 }),
-];
+/// Texts, and the fault of each.
+const FAULTS: &str = "\
+    [¦Some(BadStanza { line: 1 })¶\
+    []¦Some(BadStanza { line: 1 })¶\
+    \n\n[a]x¦Some(BadStanza { line: 3 })¶\
+    \x20\t= x¦Some(NoEquals { line: 1 })¶\
+    k=v\nx\\\ny\n[z¦Some(NoEquals { line: 2 })¶\
+    k=a\\\nb\nx¦Some(NoEquals { line: 3 })¶\
+    # a\n\nx¦Some(NoEquals { line: 3 })¶\
+    [a\nx¦Some(BadStanza { line: 1 })¶\
+    x\n[a¦Some(NoEquals { line: 1 })";
+
+/// The faults of bytes that are no text.
+fn no_text_said(alloc: Global) -> String {
+    let mut text = String::new(alloc);
+    note(&mut text, fault_of(alloc, b"\xFF"));
+    note(&mut text, fault_of(alloc, b"k=v\nab\xC3"));
+    note(&mut text, fault_of(alloc, b"\xEF\xBB\xBF\xC3\xA4=\xC0"));
+    note(&mut text, fault_of(alloc, b"x\n\xED\xA0\x80"));
+    text
+}
 
 #[test]
 fn the_first_fault_is_answered(rt: HostRuntime) {
-    for (asked, wanted) in &FAULTS {
-        check(&rt, asked, fault_of(rt.alloc(), asked) == Some(*wanted));
-    }
+    check_rows(&rt, rt.alloc(), Asked::Fault, FAULTS);
+    let wanted =
+        "Some(NotUtf8 { at: 0 }) Some(NotUtf8 { at: 6 }) Some(NotUtf8 { at: 6 }) Some(NotUtf8 { at: 2 })";
+    compare(&rt, no_text_said(rt.alloc()), wanted);
 }
 
 /// Writes the fault of a stanza's line with a name of so many bytes.
@@ -134,17 +137,26 @@ fn sizes_have_their_limits(rt: HostRuntime) {
     compare(&rt, sizes_said(rt.alloc()), wanted);
 }
 
-fn has_value(merged: &Merged, stanza: &[u8], key: &[u8], value: &[u8], layer: &[u8]) -> bool {
+/// Writes a value and the layer that it is from.
+fn note_value(text: &mut String, merged: &Merged, stanza: &[u8], key: &[u8]) {
     match merged.get(stanza, key) {
-        Some(setting) => setting.value == value && setting.layer == layer,
-        None => false,
+        Some(setting) => {
+            say(text, shown(setting.value));
+            say(text, shown(setting.layer));
+        }
+        None => say(text, "none"),
     }
 }
 
-fn has_item(merged: &Merged, at: usize, stanza: &[u8], key: &[u8], value: &[u8]) -> bool {
+/// Writes the stanza, the key and the value of an entry.
+fn note_item(text: &mut String, merged: &Merged, at: usize) {
     match merged.item(at) {
-        Some(item) => item.stanza == stanza && item.key == key && item.value == value,
-        None => false,
+        Some(item) => {
+            say(text, shown(item.stanza));
+            say(text, shown(item.key));
+            say(text, shown(item.value));
+        }
+        None => say(text, "none"),
     }
 }
 
@@ -184,21 +196,13 @@ fn merge_apps(alloc: Global) -> Result<Merged, NoMemory> {
     merged
 }
 
-/// Stanzas, keys, values and layers, each with whether the value is that one.
-static VALUES: [(&[u8], &[u8], &[u8], &[u8], bool); 4] = [
-    (b"web", b"TRUNCATE", b"5", b"etc/apps/10/local", true),
-    (b"web", b"priority", b"2", b"etc/system/local", true),
-    (b"default", b"LINE_BREAKER", b"", b"etc/system/local", true),
-    (b"web", b"truncate", b"5", b"etc/apps/10/local", false),
-];
-
 fn values_said(alloc: Global) -> String {
     let mut text = String::new(alloc);
     if let Ok(merged) = merge_apps(alloc) {
-        for (stanza, key, value, layer, wanted) in &VALUES {
-            let is_there = has_value(&merged, stanza, key, value, layer);
-            note(&mut text, is_there == *wanted);
-        }
+        note_value(&mut text, &merged, b"web", b"TRUNCATE");
+        note_value(&mut text, &merged, b"web", b"priority");
+        note_value(&mut text, &merged, b"default", b"LINE_BREAKER");
+        note_value(&mut text, &merged, b"web", b"truncate");
         note(&mut text, merged.has(b"Alone"));
         note(&mut text, merged.has(b"alone"));
         drop(merged);
@@ -208,11 +212,9 @@ fn values_said(alloc: Global) -> String {
 
 #[test]
 fn the_first_layer_counts_and_in_it_the_last_value(rt: HostRuntime) {
-    compare(
-        &rt,
-        values_said(rt.alloc()),
-        "true true true true true false",
-    );
+    // The last value is empty, and a key in other letters is another one.
+    let wanted = "5 etc/apps/10/local 2 etc/system/local  etc/system/local none true false";
+    compare(&rt, values_said(rt.alloc()), wanted);
 }
 
 const LISTING: &[u8] = b"[Alone]
@@ -228,8 +230,8 @@ etc/system/local priority=2
 fn order_said(alloc: Global) -> String {
     let mut text = String::new(alloc);
     if let Ok(merged) = merge_apps(alloc) {
-        note(&mut text, has_item(&merged, 0, b"Alone", b"", b""));
-        note(&mut text, has_item(&merged, 4, b"web", b"A", b"x"));
+        note_item(&mut text, &merged, 0);
+        note_item(&mut text, &merged, 4);
         note(&mut text, count_items(&merged));
         note(&mut text, has_listing(alloc, &merged, LISTING));
         drop(merged);
@@ -239,11 +241,11 @@ fn order_said(alloc: Global) -> String {
 
 #[test]
 fn entries_are_numbered_and_listed_in_order(rt: HostRuntime) {
-    compare(&rt, order_said(rt.alloc()), "true true 8 true");
+    compare(&rt, order_said(rt.alloc()), "Alone   web A x 8 true");
 }
 
 /// Whether a name fits; nothing where the text is no pattern.
-fn name_fits(alloc: Global, text: &[u8], fold: bool, name: &[u8]) -> Option<bool> {
+pub fn name_fits(alloc: Global, text: &[u8], fold: bool, name: &[u8]) -> Option<bool> {
     match NamePattern::read(alloc, text, fold) {
         Ok(pattern) => {
             let fits = pattern.fits(alloc, name);
@@ -254,47 +256,48 @@ fn name_fits(alloc: Global, text: &[u8], fold: bool, name: &[u8]) -> Option<bool
     }
 }
 
-static NAMES: [(&[u8], bool, &[u8], bool); 29] = [
-    (b"", false, b"", true),
-    (b"", false, b"a", false),
-    (b"/var/log/*.log", false, b"/var/log/.log", true),
-    (b"/var/log/*.log", false, b"/var/log/a/b.log", false),
-    (b"/var/.../b.log", false, b"/var/log/a/b.log", true),
-    (b"/var/.../b.log", false, b"/var/b.log", false),
-    (b"...", false, b"", true),
-    (b"....", false, b"a", false),
-    (b"....", false, b"a.", true),
-    (b"....", false, b".", true),
-    (b"..", false, b"ab", false),
-    (b"..", false, b"..", true),
-    (b"a|b", false, b"a", true),
-    (b"a|b", false, b"b", true),
-    (b"a|b", false, b"ab", false),
-    (b"ab|cd", false, b"abd", false),
-    (b"x(a|bc)y", false, b"xbcy", true),
-    (b"x(a|bc)y", false, b"xy", false),
-    (b"(|a)b|c()", false, b"b", true),
-    (b"(|a)b|c()", false, b"c", true),
-    (b"((a|b)c|d)*", false, b"bcxx", true),
-    (b"((a|b)c|d)*", false, b"cxx", false),
-    (b"a\\\\b", false, b"a\\b", true),
-    (b"a\\b", false, b"a\\b", true),
-    (b"a\\\\\\b", false, b"a\\\\b", true),
-    (b"a.c?[d]", false, b"abc?[d]", false),
-    (b"Web*", true, b"wEB01", true),
-    (b"Web*", false, b"wEB01", false),
-    (b"[", true, b"{", false),
-];
+/// Patterns, names, and whether these fit.
+const NAMES: &str = "\
+    ¦¦Some(true)¶\
+    ¦a¦Some(false)¶\
+    /var/log/*.log¦/var/log/.log¦Some(true)¶\
+    /var/log/*.log¦/var/log/a/b.log¦Some(false)¶\
+    /var/.../b.log¦/var/log/a/b.log¦Some(true)¶\
+    /var/.../b.log¦/var/b.log¦Some(false)¶\
+    ...¦¦Some(true)¶\
+    ....¦a¦Some(false)¶\
+    ....¦a.¦Some(true)¶\
+    ....¦.¦Some(true)¶\
+    ..¦ab¦Some(false)¶\
+    ..¦..¦Some(true)¶\
+    a|b¦a¦Some(true)¶\
+    a|b¦b¦Some(true)¶\
+    a|b¦ab¦Some(false)¶\
+    ab|cd¦abd¦Some(false)¶\
+    x(a|bc)y¦xbcy¦Some(true)¶\
+    x(a|bc)y¦xy¦Some(false)¶\
+    (|a)b|c()¦b¦Some(true)¶\
+    (|a)b|c()¦c¦Some(true)¶\
+    ((a|b)c|d)*¦bcxx¦Some(true)¶\
+    ((a|b)c|d)*¦cxx¦Some(false)¶\
+    a\\\\b¦a\\b¦Some(true)¶\
+    a\\b¦a\\b¦Some(true)¶\
+    a\\\\\\b¦a\\\\b¦Some(true)¶\
+    a.c?[d]¦abc?[d]¦Some(false)¶\
+    Web*¦wEB01¦Some(false)";
+
+/// The same where letters fit in either case.
+const FOLDED: &str = "\
+    Web*¦wEB01¦Some(true)¶\
+    [¦{¦Some(false)";
 
 #[test]
 fn names_fit_their_patterns(rt: HostRuntime) {
-    for (asked, fold, name, wanted) in &NAMES {
-        let fits = name_fits(rt.alloc(), asked, *fold, name);
-        check(&rt, asked, fits == Some(*wanted));
-    }
+    check_rows(&rt, rt.alloc(), Asked::Name, NAMES);
+    check_rows(&rt, rt.alloc(), Asked::Folded, FOLDED);
 }
 
-fn is_bad(alloc: Global, text: &[u8]) -> bool {
+pub fn is_bad(alloc: Global, text: &[u8]) -> bool {
     match NamePattern::read(alloc, text, false) {
         Ok(pattern) => {
             drop(pattern);
@@ -304,23 +307,21 @@ fn is_bad(alloc: Global, text: &[u8]) -> bool {
     }
 }
 
-static PAIRS: [(&[u8], bool); 9] = [
-    (b"(", true),
-    (b")", true),
-    (b"a)(b", true),
-    (b"((a)", true),
-    (b"(?i)a", true),
-    (b"a(b|(?c))", true),
-    (b"(a?)?", false),
-    (b"(|?)", false),
-    (b"\\(a)", false),
-];
+/// Patterns of names, and whether they are refused.
+const PAIRS: &str = "\
+    (¦true¶\
+    )¦true¶\
+    a)(b¦true¶\
+    ((a)¦true¶\
+    (?i)a¦true¶\
+    a(b|(?c))¦true¶\
+    (a?)?¦false¶\
+    (|?)¦false¶\
+    \\(a)¦false";
 
 #[test]
 fn parentheses_pair_and_no_question_follows_them(rt: HostRuntime) {
-    for (asked, wanted) in &PAIRS {
-        check(&rt, asked, is_bad(rt.alloc(), asked) == *wanted);
-    }
+    check_rows(&rt, rt.alloc(), Asked::Bad, PAIRS);
 }
 
 /// Writes whether a long name fits a pattern.
@@ -389,21 +390,11 @@ fn merge_zones(alloc: Global) -> Result<Merged, NoMemory> {
     merged
 }
 
-const LONDON: &[u8] = b"GMT0BST,M3.5.0/1,M10.5.0";
-
 fn zones_said(alloc: Global) -> String {
     let mut text = String::new(alloc);
     if let Ok(merged) = merge_zones(alloc) {
-        let berlin = has_value(
-            &merged,
-            b"Europe/Berlin",
-            b"RULE",
-            b"X1",
-            b"etc/system/local",
-        );
-        note(&mut text, berlin);
-        let london = has_value(&merged, b"Europe/London", b"RULE", LONDON, b"built-in");
-        note(&mut text, london);
+        note_value(&mut text, &merged, b"Europe/Berlin", b"RULE");
+        note_value(&mut text, &merged, b"Europe/London", b"RULE");
         note(&mut text, count_items(&merged));
         drop(merged);
     }
@@ -412,5 +403,6 @@ fn zones_said(alloc: Global) -> String {
 
 #[test]
 fn zones_are_built_in_below_the_files(rt: HostRuntime) {
-    compare(&rt, zones_said(rt.alloc()), "true true 24");
+    let wanted = "X1 etc/system/local GMT0BST,M3.5.0/1,M10.5.0 built-in 24";
+    compare(&rt, zones_said(rt.alloc()), wanted);
 }

@@ -9,3 +9,5 @@ mod life;
 mod props;
 #[cfg(test)]
 mod said;
+#[cfg(test)]
+mod tables;

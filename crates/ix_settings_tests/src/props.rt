@@ -1,64 +1,60 @@
 //! Tests of `ix_values` and `ix_props`: values of each kind, and whole files, by examples worked by hand.
 
-use crate::said::{bytes_of, check, compare, note, put, repeat, say, settings_of, shown};
-use ix_base::{ChannelMeta, NoMemory};
+use crate::said::{bytes_of, compare, note, put, repeat, say, settings_of, shown};
+use crate::tables::{Asked, check_rows};
+use ix_base::{Bytes, ChannelMeta, NoMemory};
 use ix_conf::Merged;
 use ix_pattern::{BreakFault, Pattern, PatternFault};
 use ix_props::{MergeSettings, Props, RuleFault, SettingFault, Settings, TimeSettings, Zone};
 use ix_values::{
     Directive, FormatFault, Key, Part, Sed, SedFault, TimeFormat, Transform, TransformFault, Which,
-    read_boolean, read_number,
 };
 use std::alloc::Global;
 
-static BOOLEANS: [(&[u8], Option<bool>); 14] = [
-    (b"true", Some(true)),
-    (b"T", Some(true)),
-    (b"yEs", Some(true)),
-    (b"y", Some(true)),
-    (b"1", Some(true)),
-    (b"FALSE", Some(false)),
-    (b"f", Some(false)),
-    (b"No", Some(false)),
-    (b"N", Some(false)),
-    (b"0", Some(false)),
-    (b"", None),
-    (b"on", None),
-    (b"truer", None),
-    (b"01", None),
-];
+/// Texts, and what they are as a boolean.
+const BOOLEANS: &str = "\
+    true¦Some(true)¶\
+    T¦Some(true)¶\
+    yEs¦Some(true)¶\
+    y¦Some(true)¶\
+    1¦Some(true)¶\
+    FALSE¦Some(false)¶\
+    f¦Some(false)¶\
+    No¦Some(false)¶\
+    N¦Some(false)¶\
+    0¦Some(false)¶\
+    ¦None¶\
+    on¦None¶\
+    truer¦None¶\
+    01¦None";
 
 #[test]
 fn booleans_are_ten_words(rt: HostRuntime) {
-    for (asked, wanted) in &BOOLEANS {
-        check(&rt, asked, read_boolean(asked) == *wanted);
-    }
+    check_rows(&rt, rt.alloc(), Asked::Boolean, BOOLEANS);
 }
 
-static NUMBERS: [(&[u8], Option<i64>); 16] = [
-    (b"0", Some(0)),
-    (b"-0", Some(0)),
-    (b"-1", Some(-1)),
-    (b"-2", None),
-    (b"007", Some(7)),
-    (b"1048576", Some(1_048_576)),
-    (b"1048577", None),
-    (b"0001048576", Some(1_048_576)),
-    (b"00001048576", None),
-    (b"9999999999", None),
-    (b"", None),
-    (b"-", None),
-    (b"--1", None),
-    (b"+1", None),
-    (b"1 ", None),
-    (b"0x1", None),
-];
+/// Texts, and what they are as a number from -1 to 1,048,576.
+const NUMBERS: &str = "\
+    0¦Some(0)¶\
+    -0¦Some(0)¶\
+    -1¦Some(-1)¶\
+    -2¦None¶\
+    007¦Some(7)¶\
+    1048576¦Some(1048576)¶\
+    1048577¦None¶\
+    0001048576¦Some(1048576)¶\
+    00001048576¦None¶\
+    9999999999¦None¶\
+    ¦None¶\
+    -¦None¶\
+    --1¦None¶\
+    +1¦None¶\
+    1 ¦None¶\
+    0x1¦None";
 
 #[test]
 fn numbers_have_a_sign_or_none_and_ten_digits(rt: HostRuntime) {
-    for (asked, wanted) in &NUMBERS {
-        check(&rt, asked, read_number(asked, -1, 1_048_576) == *wanted);
-    }
+    check_rows(&rt, rt.alloc(), Asked::Number, NUMBERS);
 }
 
 fn put_digit(out: &mut String, digit: u32) {
@@ -124,7 +120,7 @@ fn put_change(out: &mut String, change: &Sed) {
 }
 
 /// What a text changes, or its fault.
-fn describe_change(alloc: Global, text: &[u8]) -> String {
+pub fn describe_change(alloc: Global, text: &[u8]) -> String {
     let mut found = String::new(alloc);
     match Sed::read(alloc, text) {
         Ok(change) => {
@@ -138,41 +134,39 @@ fn describe_change(alloc: Global, text: &[u8]) -> String {
     found
 }
 
-static CHANGES: [(&[u8], &str); 27] = [
-    (b"s/a/b/", "first|b"),
-    (b"s/a/b/g", "all|b"),
-    (b"s/a/b/7", "0007|b"),
-    (b"s/a/b/0010", "0010|b"),
-    (b"s/a/b/1000", "1000|b"),
-    (b"s/a//", "first|"),
-    (b"s/\\//&/", "first|&"),
-    (b"s/(a)/<\\1\\9>/", "first|<<01><09>>"),
-    (b"s/a/\\n\\t\\/\\\\/", "first|\n\t/\\"),
-    (b"s/a/$1/", "first|$1"),
-    (b"s/a/b/0", "bad value"),
-    (b"s/a/b/1001", "bad value"),
-    (b"s/a/b/00001", "bad value"),
-    (b"s/a/b/G", "bad value"),
-    (b"s/a/b", "bad value"),
-    (b"s/a\\/b/", "bad value"),
-    (b"s/a/\\0/", "bad value"),
-    (b"s/a/\\x/", "bad value"),
-    (b"s|a|b|", "bad value"),
-    (b"", "bad value"),
-    (b"s/(/b/", "syntax"),
-    (b"s/(/\\x/", "bad value"),
-    (b"s/(a*)*/b/", "empty repeat"),
-    (b"y/ab/cd/", "ab|cd"),
-    (b"y/\\/\\n/\\t\\\\/", "/\n|\t\\"),
-    (b"y/ab/c/", "bad value"),
-    (b"y/a/\\1/", "bad value"),
-];
+/// Texts of SEDCMD, and what they change, or their fault.
+const CHANGES: &str = "\
+    s/a/b/¦first|b¶\
+    s/a/b/g¦all|b¶\
+    s/a/b/7¦0007|b¶\
+    s/a/b/0010¦0010|b¶\
+    s/a/b/1000¦1000|b¶\
+    s/a//¦first|¶\
+    s/\\//&/¦first|&¶\
+    s/(a)/<\\1\\9>/¦first|<<01><09>>¶\
+    s/a/\\n\\t\\/\\\\/¦first|\n\t/\\¶\
+    s/a/$1/¦first|$1¶\
+    s/a/b/0¦bad value¶\
+    s/a/b/1001¦bad value¶\
+    s/a/b/00001¦bad value¶\
+    s/a/b/G¦bad value¶\
+    s/a/b¦bad value¶\
+    s/a\\/b/¦bad value¶\
+    s/a/\\0/¦bad value¶\
+    s/a/\\x/¦bad value¶\
+    s|a|b|¦bad value¶\
+    ¦bad value¶\
+    s/(/b/¦syntax¶\
+    s/(/\\x/¦bad value¶\
+    s/(a*)*/b/¦empty repeat¶\
+    y/ab/cd/¦ab|cd¶\
+    y/\\/\\n/\\t\\\\/¦/\n|\t\\¶\
+    y/ab/c/¦bad value¶\
+    y/a/\\1/¦bad value";
 
 #[test]
 fn changes_have_two_forms(rt: HostRuntime) {
-    for (asked, wanted) in &CHANGES {
-        compare(&rt, describe_change(rt.alloc(), asked), wanted);
-    }
+    check_rows(&rt, rt.alloc(), Asked::Change, CHANGES);
 }
 
 /// A directive as a format spells it; `_` for white space, and the byte itself stands behind a `=`.
@@ -213,7 +207,7 @@ fn put_directive(out: &mut String, directive: Directive) {
 }
 
 /// The directives of a format, or its fault.
-fn describe_format(alloc: Global, text: &[u8]) -> String {
+pub fn describe_format(alloc: Global, text: &[u8]) -> String {
     let mut found = String::new(alloc);
     match TimeFormat::read(alloc, text) {
         Ok(format) => {
@@ -228,34 +222,32 @@ fn describe_format(alloc: Global, text: &[u8]) -> String {
     found
 }
 
-static FORMATS: [(&[u8], &str); 20] = [
-    (b"%s", "%s"),
-    (b"%j", "%j"),
-    (b"%m%d", "%m%d"),
-    (b"%e %b", "%e__%b"),
-    (b"%B%d", "%B%d"),
-    (b"%F", "%Y=-%m=-%d"),
-    (b"%sT%T", "%s=T%H=:%M=:%S"),
-    (b"%%%s", "=%%s"),
-    (b"%s.%3N%6N%9N%N", "%s=.%3%6%9%N"),
-    (b"%s \t\x0B\r\n%p", "%s__%p"),
-    (b"%a%A%I%y%z%Z%j", "%a%A%I%y%z%Z%j"),
-    (b"", "bad value"),
-    (b"%Y-%m", "bad value"),
-    (b"%Y-%d", "bad value"),
-    (b"%T", "bad value"),
-    (b"%s%", "bad value"),
-    (b"%s%Q", "bad value"),
-    (b"%s%3", "bad value"),
-    (b"%s%3S", "bad value"),
-    (b"%s%1N", "bad value"),
-];
+/// Formats, and their directives, or their fault.
+const FORMATS: &str = "\
+    %s¦%s¶\
+    %j¦%j¶\
+    %m%d¦%m%d¶\
+    %e %b¦%e__%b¶\
+    %B%d¦%B%d¶\
+    %F¦%Y=-%m=-%d¶\
+    %sT%T¦%s=T%H=:%M=:%S¶\
+    %%%s¦=%%s¶\
+    %s.%3N%6N%9N%N¦%s=.%3%6%9%N¶\
+    %s \t\x0b\r\n%p¦%s__%p¶\
+    %a%A%I%y%z%Z%j¦%a%A%I%y%z%Z%j¶\
+    ¦bad value¶\
+    %Y-%m¦bad value¶\
+    %Y-%d¦bad value¶\
+    %T¦bad value¶\
+    %s%¦bad value¶\
+    %s%Q¦bad value¶\
+    %s%3¦bad value¶\
+    %s%3S¦bad value¶\
+    %s%1N¦bad value";
 
 #[test]
 fn formats_are_lists_of_directives(rt: HostRuntime) {
-    for (asked, wanted) in &FORMATS {
-        compare(&rt, describe_format(rt.alloc(), asked), wanted);
-    }
+    check_rows(&rt, rt.alloc(), Asked::Format, FORMATS);
 }
 
 fn key_letter(key: Key) -> &'static [u8] {
@@ -316,7 +308,7 @@ fn put_stanza(out: &mut String, alloc: Global, transforms: &Merged) {
     }
 }
 
-fn describe_transform(alloc: Global, text: &[u8]) -> String {
+pub fn describe_transform(alloc: Global, text: &[u8]) -> String {
     let mut found = String::new(alloc);
     if let Ok(transforms) = settings_of(alloc, text) {
         put_stanza(&mut found, alloc, &transforms);
@@ -325,56 +317,30 @@ fn describe_transform(alloc: Global, text: &[u8]) -> String {
     found
 }
 
-static TRANSFORMED: [(&[u8], &str); 18] = [
-    (b"[t]\nREGEX=(a)\nWRITE_META=1", "r-+t::<01>"),
-    (
-        b"[t]\nREGEX=a\nDEST_KEY=queue\nFORMAT=nullQueue",
-        "rq-nullQueue",
-    ),
-    (
-        b"[t]\nREGEX=a\nDEST_KEY=_meta\nFORMAT=$0 $12$3x$ $$1",
-        "rm-<00> <12><03>x$ $<01>",
-    ),
-    (
-        b"[t]\nREGEX=a\nSOURCE_KEY=MetaData:Host\nDEST_KEY=_MetaData:Index\nFORMAT=$123\nDEFAULT_VALUE=x y",
-        "hi-<12>3|x y",
-    ),
-    (
-        b"DEST_KEY=_raw\nREGEX=a\nWRITE_META=y\n[t]\nFORMAT=",
-        "rr+t::<01>",
-    ),
-    (b"DEST_KEY=_raw\nREGEX=a\n[t]\nDEST_KEY=", "bad DEST_KEY"),
-    (
-        b"[t]\nREGEX=a\nSOURCE_KEY=MetaData:Sourcetype\nDEST_KEY=MetaData:Source\nFORMAT=$a",
-        "ts-$a",
-    ),
-    (b"[t]\nREGEX=a", "bad DEST_KEY"),
-    (b"[t]\nREGEX=a\nWRITE_META=0", "bad DEST_KEY"),
-    (b"[t]\nREGEX=a\nWRITE_META=2", "bad DEST_KEY"),
-    (
-        b"[t]\nREGEX=a\nWRITE_META=2\nDEST_KEY=_raw",
-        "bad WRITE_META",
-    ),
-    (b"[t]\nREGEX=a\nDEST_KEY=raw\nLOOKAHEAD=0", "bad DEST_KEY"),
-    (b"[t]\nREGEX=(\nDEST_KEY=_raw\nLOOKAHEAD=0", "bad LOOKAHEAD"),
-    (
-        b"[t]\nREGEX=a\nDEST_KEY=_raw\nLOOKAHEAD=8388609",
-        "bad LOOKAHEAD",
-    ),
-    (b"[t]\nREGEX=(\nDEST_KEY=_raw\nSOURCE_KEY=x", "REGEX syntax"),
-    (b"[t]\nREGEX=\nDEST_KEY=_raw\nSOURCE_KEY=x", "bad REGEX"),
-    (b"[t]\nDEST_KEY=_raw", "bad REGEX"),
-    (
-        b"[t]\nREGEX=a\nDEST_KEY=_raw\nSOURCE_KEY=MetaData:Index\nWRITE_META=2",
-        "bad SOURCE_KEY",
-    ),
-];
+/// Texts of transforms.conf, and what the stanza `t` is.
+const TRANSFORMED: &str = "\
+    [t]\nREGEX=(a)\nWRITE_META=1¦r-+t::<01>¶\
+    [t]\nREGEX=a\nDEST_KEY=queue\nFORMAT=nullQueue¦rq-nullQueue¶\
+    [t]\nREGEX=a\nDEST_KEY=_meta\nFORMAT=$0 $12$3x$ $$1¦rm-<00> <12><03>x$ $<01>¶\
+    [t]\nREGEX=a\nSOURCE_KEY=MetaData:Host\nDEST_KEY=_MetaData:Index\nFORMAT=$123\nDEFAULT_VALUE=x y¦hi-<12>3|x y¶\
+    DEST_KEY=_raw\nREGEX=a\nWRITE_META=y\n[t]\nFORMAT=¦rr+t::<01>¶\
+    DEST_KEY=_raw\nREGEX=a\n[t]\nDEST_KEY=¦bad DEST_KEY¶\
+    [t]\nREGEX=a\nSOURCE_KEY=MetaData:Sourcetype\nDEST_KEY=MetaData:Source\nFORMAT=$a¦ts-$a¶\
+    [t]\nREGEX=a¦bad DEST_KEY¶\
+    [t]\nREGEX=a\nWRITE_META=0¦bad DEST_KEY¶\
+    [t]\nREGEX=a\nWRITE_META=2¦bad DEST_KEY¶\
+    [t]\nREGEX=a\nWRITE_META=2\nDEST_KEY=_raw¦bad WRITE_META¶\
+    [t]\nREGEX=a\nDEST_KEY=raw\nLOOKAHEAD=0¦bad DEST_KEY¶\
+    [t]\nREGEX=(\nDEST_KEY=_raw\nLOOKAHEAD=0¦bad LOOKAHEAD¶\
+    [t]\nREGEX=a\nDEST_KEY=_raw\nLOOKAHEAD=8388609¦bad LOOKAHEAD¶\
+    [t]\nREGEX=(\nDEST_KEY=_raw\nSOURCE_KEY=x¦REGEX syntax¶\
+    [t]\nREGEX=\nDEST_KEY=_raw\nSOURCE_KEY=x¦bad REGEX¶\
+    [t]\nDEST_KEY=_raw¦bad REGEX¶\
+    [t]\nREGEX=a\nDEST_KEY=_raw\nSOURCE_KEY=MetaData:Index\nWRITE_META=2¦bad SOURCE_KEY";
 
 #[test]
 fn transforms_are_stanzas(rt: HostRuntime) {
-    for (asked, wanted) in &TRANSFORMED {
-        compare(&rt, describe_transform(rt.alloc(), asked), wanted);
-    }
+    check_rows(&rt, rt.alloc(), Asked::Transform, TRANSFORMED);
 }
 
 /// How many bytes of the source the stanza `t` looks at.
@@ -395,14 +361,14 @@ fn lookahead_of(alloc: Global, transforms: &Merged) -> Option<u32> {
     }
 }
 
-static LOOKAHEADS: [(&[u8], u32); 3] = [
-    (b"[t]\nREGEX=a\nDEST_KEY=_raw", 4096),
-    (b"[t]\nREGEX=a\nDEST_KEY=_raw\nLOOKAHEAD=8388608", 8_388_608),
-    (b"LOOKAHEAD=0\n[t]\nREGEX=a\nDEST_KEY=_raw\nLOOKAHEAD=1", 1),
-];
+/// Texts of transforms.conf, and how many bytes the stanza `t` looks at.
+const LOOKAHEADS: &str = "\
+    [t]\nREGEX=a\nDEST_KEY=_raw¦Some(4096)¶\
+    [t]\nREGEX=a\nDEST_KEY=_raw\nLOOKAHEAD=8388608¦Some(8388608)¶\
+    LOOKAHEAD=0\n[t]\nREGEX=a\nDEST_KEY=_raw\nLOOKAHEAD=1¦Some(1)";
 
 /// How many bytes of the source the stanza `t` of a text looks at.
-fn lookahead_in(alloc: Global, text: &[u8]) -> Option<u32> {
+pub fn lookahead_in(alloc: Global, text: &[u8]) -> Option<u32> {
     match settings_of(alloc, text) {
         Ok(transforms) => {
             let lookahead = lookahead_of(alloc, &transforms);
@@ -415,9 +381,7 @@ fn lookahead_in(alloc: Global, text: &[u8]) -> Option<u32> {
 
 #[test]
 fn transforms_look_ahead(rt: HostRuntime) {
-    for (asked, wanted) in &LOOKAHEADS {
-        check(&rt, asked, lookahead_in(rt.alloc(), asked) == Some(*wanted));
-    }
+    check_rows(&rt, rt.alloc(), Asked::Lookahead, LOOKAHEADS);
 }
 
 fn put_word(out: &mut String, word: &[u8]) {
@@ -525,7 +489,7 @@ fn load_props(alloc: Global, text: &[u8]) -> Result<Props, SettingFault> {
 }
 
 /// The fault of a props.conf beside them, or `good`.
-fn describe_props(alloc: Global, text: &[u8]) -> String {
+pub fn describe_props(alloc: Global, text: &[u8]) -> String {
     let mut found = String::new(alloc);
     match load_props(alloc, text) {
         Ok(props) => {
@@ -540,90 +504,52 @@ fn describe_props(alloc: Global, text: &[u8]) -> String {
     found
 }
 
-static JUDGED: [(&[u8], &str); 40] = [
-    (b"", "good"),
-    (b"LINE_BREAKER=", "good"),
-    (
-        b"Other=(\n[rule::(]\nTRUNCATE=x\n[delayedrule::a]\nTZ=x",
-        "good",
-    ),
-    (b"LINE_BREAKER=a", "pattern|default|LINE_BREAKER|no group"),
-    (
-        b"LINE_BREAKER=(a*)",
-        "pattern|default|LINE_BREAKER|matches empty",
-    ),
-    (b"LINE_BREAKER=(", "pattern|default|LINE_BREAKER|syntax"),
-    (b"[w]\nTRUNCATE=4294967295", "good"),
-    (b"[w]\nTRUNCATE=4294967296", "value|w|TRUNCATE"),
-    (b"[w]\nTRUNCATE=-1", "value|w|TRUNCATE"),
-    (b"[w]\nSHOULD_LINEMERGE=on", "value|w|SHOULD_LINEMERGE"),
-    (
-        b"[w]\nBREAK_ONLY_BEFORE_DATE=2",
-        "value|w|BREAK_ONLY_BEFORE_DATE",
-    ),
-    (
-        b"[w]\nBREAK_ONLY_BEFORE=(a*)*",
-        "pattern|w|BREAK_ONLY_BEFORE|empty repeat",
-    ),
-    (
-        b"[w]\nMUST_BREAK_AFTER=)",
-        "pattern|w|MUST_BREAK_AFTER|syntax",
-    ),
-    (
-        b"[w]\nMUST_NOT_BREAK_AFTER=[",
-        "pattern|w|MUST_NOT_BREAK_AFTER|syntax",
-    ),
-    (
-        b"[w]\nMUST_NOT_BREAK_BEFORE=a{1001}",
-        "pattern|w|MUST_NOT_BREAK_BEFORE|too large",
-    ),
-    (b"[w]\nTIME_PREFIX=*", "pattern|w|TIME_PREFIX|syntax"),
-    (b"[w]\nMAX_EVENTS=0", "value|w|MAX_EVENTS"),
-    (b"[w]\nMAX_EVENTS=1000001", "value|w|MAX_EVENTS"),
-    (b"[w]\nTIME_FORMAT=%Y-%m", "value|w|TIME_FORMAT"),
-    (b"[w]\nMAX_TIMESTAMP_LOOKAHEAD=-1", "good"),
-    (
-        b"[w]\nMAX_TIMESTAMP_LOOKAHEAD=-2",
-        "value|w|MAX_TIMESTAMP_LOOKAHEAD",
-    ),
-    (b"[w]\nMAX_DAYS_AGO=10952", "value|w|MAX_DAYS_AGO"),
-    (b"[w]\nMAX_DAYS_HENCE=10951", "value|w|MAX_DAYS_HENCE"),
-    (b"[w]\npriority=-1000001", "value|w|priority"),
-    (b"[w]\nTZ=here", "good"),
-    (b"[w]\nTZ=gone", "zone|w|gone"),
-    (b"[w]\nTZ=none", "zone|w|none"),
-    (b"[w]\nTZ=empty", "zone|w|empty"),
-    (b"[w]\nTZ=bad", "value|bad|RULE"),
-    (b"[w]\nSEDCMD-=s/a/b/\nSEDCMD-x=s/a/b", "value|w|SEDCMD-x"),
-    (b"[w]\nSEDCMD-x=s/(/b/", "pattern|w|SEDCMD-x|syntax"),
-    (b"[w]\nTRANSFORMS-x= good , ,good,", "good"),
-    (
-        b"[w]\nTRANSFORMS-x=good,gone",
-        "transform|w|TRANSFORMS-x|gone",
-    ),
-    (
-        b"[w]\nTRANSFORMS-x=good\t,gone",
-        "transform|w|TRANSFORMS-x|good\t",
-    ),
-    (b"[w]\nTRANSFORMS-x=nowhere,gone", "value|nowhere|DEST_KEY"),
-    (b"[w]\nTRANSFORMS-x=open", "pattern|open|REGEX|syntax"),
-    (b"[w]\nTRANSFORMS-x=far", "value|far|LOOKAHEAD"),
-    (b"[source::a(]\nTRUNCATE=x", "stanza|source::a("),
-    (
-        b"[host::(?b)]\n[a]\nTRUNCATE=x\nTZ=gone",
-        "value|a|TRUNCATE",
-    ),
-    (
-        b"[host::a|b*]\n[source::...(/x|y)]\n[host::)]",
-        "stanza|host::)",
-    ),
-];
+/// Texts of props.conf, and the fault of each.
+const JUDGED: &str = "\
+    ¦good¶\
+    LINE_BREAKER=¦good¶\
+    Other=(\n[rule::(]\nTRUNCATE=x\n[delayedrule::a]\nTZ=x¦good¶\
+    LINE_BREAKER=a¦pattern|default|LINE_BREAKER|no group¶\
+    LINE_BREAKER=(a*)¦pattern|default|LINE_BREAKER|matches empty¶\
+    LINE_BREAKER=(¦pattern|default|LINE_BREAKER|syntax¶\
+    [w]\nTRUNCATE=4294967295¦good¶\
+    [w]\nTRUNCATE=4294967296¦value|w|TRUNCATE¶\
+    [w]\nTRUNCATE=-1¦value|w|TRUNCATE¶\
+    [w]\nSHOULD_LINEMERGE=on¦value|w|SHOULD_LINEMERGE¶\
+    [w]\nBREAK_ONLY_BEFORE_DATE=2¦value|w|BREAK_ONLY_BEFORE_DATE¶\
+    [w]\nBREAK_ONLY_BEFORE=(a*)*¦pattern|w|BREAK_ONLY_BEFORE|empty repeat¶\
+    [w]\nMUST_BREAK_AFTER=)¦pattern|w|MUST_BREAK_AFTER|syntax¶\
+    [w]\nMUST_NOT_BREAK_AFTER=[¦pattern|w|MUST_NOT_BREAK_AFTER|syntax¶\
+    [w]\nMUST_NOT_BREAK_BEFORE=a{1001}¦pattern|w|MUST_NOT_BREAK_BEFORE|too large¶\
+    [w]\nTIME_PREFIX=*¦pattern|w|TIME_PREFIX|syntax¶\
+    [w]\nMAX_EVENTS=0¦value|w|MAX_EVENTS¶\
+    [w]\nMAX_EVENTS=1000001¦value|w|MAX_EVENTS¶\
+    [w]\nTIME_FORMAT=%Y-%m¦value|w|TIME_FORMAT¶\
+    [w]\nMAX_TIMESTAMP_LOOKAHEAD=-1¦good¶\
+    [w]\nMAX_TIMESTAMP_LOOKAHEAD=-2¦value|w|MAX_TIMESTAMP_LOOKAHEAD¶\
+    [w]\nMAX_DAYS_AGO=10952¦value|w|MAX_DAYS_AGO¶\
+    [w]\nMAX_DAYS_HENCE=10951¦value|w|MAX_DAYS_HENCE¶\
+    [w]\npriority=-1000001¦value|w|priority¶\
+    [w]\nTZ=here¦good¶\
+    [w]\nTZ=gone¦zone|w|gone¶\
+    [w]\nTZ=none¦zone|w|none¶\
+    [w]\nTZ=empty¦zone|w|empty¶\
+    [w]\nTZ=bad¦value|bad|RULE¶\
+    [w]\nSEDCMD-=s/a/b/\nSEDCMD-x=s/a/b¦value|w|SEDCMD-x¶\
+    [w]\nSEDCMD-x=s/(/b/¦pattern|w|SEDCMD-x|syntax¶\
+    [w]\nTRANSFORMS-x= good , ,good,¦good¶\
+    [w]\nTRANSFORMS-x=good,gone¦transform|w|TRANSFORMS-x|gone¶\
+    [w]\nTRANSFORMS-x=good\t,gone¦transform|w|TRANSFORMS-x|good\t¶\
+    [w]\nTRANSFORMS-x=nowhere,gone¦value|nowhere|DEST_KEY¶\
+    [w]\nTRANSFORMS-x=open¦pattern|open|REGEX|syntax¶\
+    [w]\nTRANSFORMS-x=far¦value|far|LOOKAHEAD¶\
+    [source::a(]\nTRUNCATE=x¦stanza|source::a(¶\
+    [host::(?b)]\n[a]\nTRUNCATE=x\nTZ=gone¦value|a|TRUNCATE¶\
+    [host::a|b*]\n[source::...(/x|y)]\n[host::)]¦stanza|host::)";
 
 #[test]
 fn values_of_props_are_judged(rt: HostRuntime) {
-    for (asked, wanted) in &JUDGED {
-        compare(&rt, describe_props(rt.alloc(), asked), wanted);
-    }
+    check_rows(&rt, rt.alloc(), Asked::Props, JUDGED);
 }
 
 /// Writes what is said of a stanza with a source type of so many bytes.
@@ -649,7 +575,7 @@ fn a_source_type_has_a_bounded_name(rt: HostRuntime) {
 }
 
 /// Whether a rule is one, and a copy of its zone too; nothing where memory is lacking.
-fn is_rule(alloc: Global, text: &[u8]) -> Option<bool> {
+pub fn is_rule(alloc: Global, text: &[u8]) -> Option<bool> {
     match Zone::read(alloc, text) {
         Ok(zone) => {
             let copy = zone.copy();
@@ -663,37 +589,36 @@ fn is_rule(alloc: Global, text: &[u8]) -> Option<bool> {
     }
 }
 
-static RULES: [(&[u8], bool); 7] = [
-    (b"UTC0", true),
-    (b"CET-1CEST,M3.5.0,M10.5.0/3", true),
-    (b"<+03>-3", true),
-    (b"", false),
-    (b"UTC", false),
-    (b"EST5EDT", false),
-    (b"UTC0 ", false),
-];
+/// Texts, and whether they are the rule of a zone.
+const RULES: &str = "\
+    UTC0¦Some(true)¶\
+    CET-1CEST,M3.5.0,M10.5.0/3¦Some(true)¶\
+    <+03>-3¦Some(true)¶\
+    ¦Some(false)¶\
+    UTC¦Some(false)¶\
+    EST5EDT¦Some(false)¶\
+    UTC0 ¦Some(false)";
 
 #[test]
 fn zones_have_rules(rt: HostRuntime) {
-    for (asked, wanted) in &RULES {
-        check(&rt, asked, is_rule(rt.alloc(), asked) == Some(*wanted));
+    check_rows(&rt, rt.alloc(), Asked::Rule, RULES);
+}
+
+fn bytes_or_none(alloc: Global, text: &str) -> Option<Bytes> {
+    if text.is_empty() {
+        None
+    } else {
+        Some(bytes_of(alloc, text.as_bytes()))
     }
 }
 
-/// The text of props.conf that a channel's settings come from, and its host, source and source type, which is empty where the
-/// channel states none.
-type Row = (&'static str, &'static str, &'static str, &'static str);
-
-fn channel(alloc: Global, host: &str, source: &str, sourcetype: &str) -> ChannelMeta {
-    let sourcetype = if sourcetype.is_empty() {
-        None
-    } else {
-        Some(bytes_of(alloc, sourcetype.as_bytes()))
-    };
+/// A channel by its host, its source and its source type, which is empty where it states none.
+fn meta_of(alloc: Global, channel: &str) -> ChannelMeta {
+    let mut fields = channel.split('¦');
     ChannelMeta {
-        host: bytes_of(alloc, host.as_bytes()),
-        source: bytes_of(alloc, source.as_bytes()),
-        sourcetype,
+        host: bytes_of(alloc, fields.next().unwrap_or("").as_bytes()),
+        source: bytes_of(alloc, fields.next().unwrap_or("").as_bytes()),
+        sourcetype: bytes_or_none(alloc, fields.next().unwrap_or("")),
         index: None,
     }
 }
@@ -743,7 +668,6 @@ fn note_settings(text: &mut String, settings: &Settings) {
     note_time(text, &settings.time);
     note(text, settings.transforms.len());
     note_changes(text, settings.seds.as_slice());
-    let _ = text.push('\n');
 }
 
 fn note_copy(text: &mut String, alloc: Global, settings: &Settings) {
@@ -753,177 +677,62 @@ fn note_copy(text: &mut String, alloc: Global, settings: &Settings) {
     }
 }
 
-fn note_channel(text: &mut String, alloc: Global, props: &Props, meta: &ChannelMeta) {
-    if let Ok(settings) = props.settings(alloc, meta) {
+fn note_channel(text: &mut String, alloc: Global, props: &Props, channel: &str) {
+    let meta = meta_of(alloc, channel);
+    let settings = props.settings(alloc, &meta);
+    drop(meta);
+    if let Ok(settings) = settings {
         note_copy(text, alloc, &settings);
         drop(settings);
     }
 }
 
-fn note_row(text: &mut String, alloc: Global, row: &Row) {
-    let (props, host, source, sourcetype) = *row;
+/// The settings of a channel: asked are the text of props.conf that they come from, and then the channel.
+pub fn describe_channel(alloc: Global, asked: &str) -> String {
+    let (props, channel) = asked.split_once('¦').unwrap_or((asked, ""));
+    let mut text = String::new(alloc);
     match load_props(alloc, props.as_bytes()) {
         Ok(props) => {
-            let meta = channel(alloc, host, source, sourcetype);
-            note_channel(text, alloc, &props, &meta);
-            drop(meta);
+            note_channel(&mut text, alloc, &props, channel);
             drop(props);
         }
         Err(fault) => drop(fault),
-    }
-}
-
-fn rows_said(alloc: Global, rows: &[Row]) -> String {
-    let mut text = String::new(alloc);
-    for row in rows {
-        note_row(&mut text, alloc, row);
     }
     text
 }
 
 /// Which stanza's value holds: by what it stands for, then by its priority, then by its name.
-static BY_STANZAS: [Row; 11] = [
-    ("", "web1", "/a/x", ""),
-    (
-        "[host::WEB*]\nTRUNCATE=3\n[source::/a/...]\nTRUNCATE=4\n[source::/a/*]\nTRUNCATE=5",
-        "web1",
-        "/a/x",
-        "",
-    ),
-    (
-        "[host::WEB*]\nTRUNCATE=3\n[source::/a/...]\nTRUNCATE=4",
-        "web1",
-        "/b",
-        "",
-    ),
-    (
-        "[source::/a/...]\nTRUNCATE=4\npriority=1\n[source::/a/*]\nTRUNCATE=5",
-        "web1",
-        "/a/x",
-        "",
-    ),
-    (
-        "[source::/a/x]\nTRUNCATE=6\n[source::/a/*]\nTRUNCATE=5\npriority=99",
-        "web1",
-        "/a/x",
-        "",
-    ),
-    (
-        "[source::/a/x]\nTRUNCATE=6\n[source::/a/*]\nTRUNCATE=5\npriority=101",
-        "web1",
-        "/a/x",
-        "",
-    ),
-    (
-        "[host::web1]\npriority=1000\nTRUNCATE=3\n[source::...]\nTRUNCATE=4",
-        "web1",
-        "/a/x",
-        "",
-    ),
-    (
-        "[source::/A/*]\nTRUNCATE=4\n[host::WEB1]\nTRUNCATE=3",
-        "web1",
-        "/a/x",
-        "",
-    ),
-    (
-        "TRUNCATE=8\n[st]\nTRUNCATE=7\n[host::x]\nTRUNCATE=3",
-        "web1",
-        "/a/x",
-        "st",
-    ),
-    (
-        "[st]\nTRUNCATE=7\n[host::web1]\nTRUNCATE=3",
-        "web1",
-        "/a/x",
-        "st",
-    ),
-    ("TRUNCATE=8\n[host::web1]\nTRUNCATE=", "web1", "/a/x", ""),
-];
-
-const STANZAS: &str = "unknown 10000 6 true true 256 0 0 0 0 0 0 128 2000 2 0
-unknown 5 6 true true 256 0 0 0 0 0 0 128 2000 2 0
-unknown 3 6 true true 256 0 0 0 0 0 0 128 2000 2 0
-unknown 4 6 true true 256 0 0 0 0 0 0 128 2000 2 0
-unknown 6 6 true true 256 0 0 0 0 0 0 128 2000 2 0
-unknown 5 6 true true 256 0 0 0 0 0 0 128 2000 2 0
-unknown 4 6 true true 256 0 0 0 0 0 0 128 2000 2 0
-unknown 3 6 true true 256 0 0 0 0 0 0 128 2000 2 0
-st 7 6 true true 256 0 0 0 0 0 0 128 2000 2 0
-st 3 6 true true 256 0 0 0 0 0 0 128 2000 2 0
-unknown 10000 6 true true 256 0 0 0 0 0 0 128 2000 2 0
-";
+const BY_STANZAS: &str = "\
+    ¦web1¦/a/x¦¦unknown 10000 6 true true 256 0 0 0 0 0 0 128 2000 2 0¶\
+    [host::WEB*]\nTRUNCATE=3\n[source::/a/...]\nTRUNCATE=4\n[source::/a/*]\nTRUNCATE=5¦web1¦/a/x¦¦unknown 5 6 true true 256 0 0 0 0 0 0 128 2000 2 0¶\
+    [host::WEB*]\nTRUNCATE=3\n[source::/a/...]\nTRUNCATE=4¦web1¦/b¦¦unknown 3 6 true true 256 0 0 0 0 0 0 128 2000 2 0¶\
+    [source::/a/...]\nTRUNCATE=4\npriority=1\n[source::/a/*]\nTRUNCATE=5¦web1¦/a/x¦¦unknown 4 6 true true 256 0 0 0 0 0 0 128 2000 2 0¶\
+    [source::/a/x]\nTRUNCATE=6\n[source::/a/*]\nTRUNCATE=5\npriority=99¦web1¦/a/x¦¦unknown 6 6 true true 256 0 0 0 0 0 0 128 2000 2 0¶\
+    [source::/a/x]\nTRUNCATE=6\n[source::/a/*]\nTRUNCATE=5\npriority=101¦web1¦/a/x¦¦unknown 5 6 true true 256 0 0 0 0 0 0 128 2000 2 0¶\
+    [host::web1]\npriority=1000\nTRUNCATE=3\n[source::...]\nTRUNCATE=4¦web1¦/a/x¦¦unknown 4 6 true true 256 0 0 0 0 0 0 128 2000 2 0¶\
+    [source::/A/*]\nTRUNCATE=4\n[host::WEB1]\nTRUNCATE=3¦web1¦/a/x¦¦unknown 3 6 true true 256 0 0 0 0 0 0 128 2000 2 0¶\
+    TRUNCATE=8\n[st]\nTRUNCATE=7\n[host::x]\nTRUNCATE=3¦web1¦/a/x¦st¦st 7 6 true true 256 0 0 0 0 0 0 128 2000 2 0¶\
+    [st]\nTRUNCATE=7\n[host::web1]\nTRUNCATE=3¦web1¦/a/x¦st¦st 3 6 true true 256 0 0 0 0 0 0 128 2000 2 0¶\
+    TRUNCATE=8\n[host::web1]\nTRUNCATE=¦web1¦/a/x¦¦unknown 10000 6 true true 256 0 0 0 0 0 0 128 2000 2 0";
 
 #[test]
 fn the_nearest_stanza_holds(rt: HostRuntime) {
-    compare(&rt, rows_said(rt.alloc(), &BY_STANZAS), STANZAS);
+    check_rows(&rt, rt.alloc(), Asked::Settings, BY_STANZAS);
 }
 
 /// Source types, classes, and a value of each key.
-static BY_VALUES: [Row; 9] = [
-    (
-        "[source::/a/*]\nsourcetype=app\n[app]\nTRUNCATE=9",
-        "web1",
-        "/a/x",
-        "",
-    ),
-    (
-        "[source::/a/*]\nsourcetype=app\n[app]\nTRUNCATE=9",
-        "web1",
-        "/a/x",
-        "st",
-    ),
-    (
-        "sourcetype=all\n[host::web1]\nsourcetype=hosts\n[unknown]\nTRUNCATE=9",
-        "web1",
-        "/a/x",
-        "",
-    ),
-    (
-        "[source::/a/*]\nsourcetype=\n[source::/a/...]\nsourcetype=b",
-        "web1",
-        "/a/x",
-        "",
-    ),
-    (
-        "TRUNCATE=8\n[source::/b]\nTRUNCATE=9",
-        "web1",
-        "/a/x",
-        "source::/b",
-    ),
-    (
-        "TRUNCATE=8\n[rule::x]\nTRUNCATE=9",
-        "web1",
-        "/a/x",
-        "rule::x",
-    ),
-    (
-        "SEDCMD-c=\nTRANSFORMS-b=good\nTRANSFORMS-a=good,good\n[source::/a/*]\nSEDCMD-b=s/a/1/\n[host::web1]\nSEDCMD-a=y/a/b/\nSEDCMD-b=s/a/2/",
-        "web1",
-        "/a/x",
-        "",
-    ),
-    (
-        "LINE_BREAKER=(a)\nSHOULD_LINEMERGE=no\nBREAK_ONLY_BEFORE_DATE=0\nBREAK_ONLY_BEFORE=a\nMUST_BREAK_AFTER=ab\nMUST_NOT_BREAK_AFTER=abc\nMUST_NOT_BREAK_BEFORE=abcd\nMAX_EVENTS=9\nTIME_PREFIX=ab\nTIME_FORMAT=%s.\nMAX_TIMESTAMP_LOOKAHEAD=-1\nTZ=here\nMAX_DAYS_AGO=10951\nMAX_DAYS_HENCE=0\nTRUNCATE=0",
-        "web1",
-        "/a/x",
-        "",
-    ),
-    ("MAX_TIMESTAMP_LOOKAHEAD=1048576", "web1", "/a/x", ""),
-];
-
-const VALUES: &str = "app 9 6 true true 256 0 0 0 0 0 0 128 2000 2 0
-st 10000 6 true true 256 0 0 0 0 0 0 128 2000 2 0
-unknown 9 6 true true 256 0 0 0 0 0 0 128 2000 2 0
-unknown 10000 6 true true 256 0 0 0 0 0 0 128 2000 2 0
-source::/b 8 6 true true 256 0 0 0 0 0 0 128 2000 2 0
-rule::x 8 6 true true 256 0 0 0 0 0 0 128 2000 2 0
-unknown 10000 6 true true 256 0 0 0 0 0 0 128 2000 2 3 a|b first|1
-unknown 0 3 false false 9 1 2 3 4 2 2 0 10951 0 0
-unknown 10000 6 true true 256 0 0 0 0 0 0 1048576 2000 2 0
-";
+const BY_VALUES: &str = "\
+    [source::/a/*]\nsourcetype=app\n[app]\nTRUNCATE=9¦web1¦/a/x¦¦app 9 6 true true 256 0 0 0 0 0 0 128 2000 2 0¶\
+    [source::/a/*]\nsourcetype=app\n[app]\nTRUNCATE=9¦web1¦/a/x¦st¦st 10000 6 true true 256 0 0 0 0 0 0 128 2000 2 0¶\
+    sourcetype=all\n[host::web1]\nsourcetype=hosts\n[unknown]\nTRUNCATE=9¦web1¦/a/x¦¦unknown 9 6 true true 256 0 0 0 0 0 0 128 2000 2 0¶\
+    [source::/a/*]\nsourcetype=\n[source::/a/...]\nsourcetype=b¦web1¦/a/x¦¦unknown 10000 6 true true 256 0 0 0 0 0 0 128 2000 2 0¶\
+    TRUNCATE=8\n[source::/b]\nTRUNCATE=9¦web1¦/a/x¦source::/b¦source::/b 8 6 true true 256 0 0 0 0 0 0 128 2000 2 0¶\
+    TRUNCATE=8\n[rule::x]\nTRUNCATE=9¦web1¦/a/x¦rule::x¦rule::x 8 6 true true 256 0 0 0 0 0 0 128 2000 2 0¶\
+    SEDCMD-c=\nTRANSFORMS-b=good\nTRANSFORMS-a=good,good\n[source::/a/*]\nSEDCMD-b=s/a/1/\n[host::web1]\nSEDCMD-a=y/a/b/\nSEDCMD-b=s/a/2/¦web1¦/a/x¦¦unknown 10000 6 true true 256 0 0 0 0 0 0 128 2000 2 3 a|b first|1¶\
+    LINE_BREAKER=(a)\nSHOULD_LINEMERGE=no\nBREAK_ONLY_BEFORE_DATE=0\nBREAK_ONLY_BEFORE=a\nMUST_BREAK_AFTER=ab\nMUST_NOT_BREAK_AFTER=abc\nMUST_NOT_BREAK_BEFORE=abcd\nMAX_EVENTS=9\nTIME_PREFIX=ab\nTIME_FORMAT=%s.\nMAX_TIMESTAMP_LOOKAHEAD=-1\nTZ=here\nMAX_DAYS_AGO=10951\nMAX_DAYS_HENCE=0\nTRUNCATE=0¦web1¦/a/x¦¦unknown 0 3 false false 9 1 2 3 4 2 2 0 10951 0 0¶\
+    MAX_TIMESTAMP_LOOKAHEAD=1048576¦web1¦/a/x¦¦unknown 10000 6 true true 256 0 0 0 0 0 0 1048576 2000 2 0";
 
 #[test]
 fn each_key_has_its_value(rt: HostRuntime) {
-    compare(&rt, rows_said(rt.alloc(), &BY_VALUES), VALUES);
+    check_rows(&rt, rt.alloc(), Asked::Settings, BY_VALUES);
 }

@@ -18,15 +18,22 @@ pub fn say(text: &mut String, word: &str) {
     let _ = write!(text, " {word}");
 }
 
-/// Compares what calls answered with what they are to answer, without the space in front of the first answer.
-pub fn compare(rt: &impl Abort, found: String, wanted: &str) {
-    assert_eq!(rt; found.as_str().trim_start(), wanted);
+/// A text that has what a call answered.
+pub fn noted<T: Debug + Drop>(alloc: Global, answer: T) -> String {
+    let mut text = String::new(alloc);
+    note(&mut text, answer);
+    text
 }
 
-/// Says what was asked where the answer is wrong.
-pub fn check(rt: &impl Abort, asked: &[u8], is_right: bool) {
-    let asked = shown(asked);
-    assert!(rt; is_right, "{asked}");
+/// Compares what calls answered with what they are to answer, without the space in front of the first answer, and says what was
+/// asked where that is something else.
+pub fn compare_answer(rt: &impl Abort, asked: &str, found: String, wanted: &str) {
+    assert!(rt; found.as_str().trim_start() == wanted, "{asked}: {found}");
+}
+
+/// The same where it is plain what was asked.
+pub fn compare(rt: &impl Abort, found: String, wanted: &str) {
+    compare_answer(rt, wanted, found, wanted);
 }
 
 pub fn bytes_of(alloc: Global, bytes: &[u8]) -> Bytes {
