@@ -43,6 +43,12 @@ fn check(rt: &impl Abort, alloc: Global, (files, want): Row) {
     compare(rt, "btool", listed(alloc, files, &[]), want);
 }
 
+fn check_all(rt: &impl Abort, alloc: Global, rows: &[Row]) {
+    for row in rows {
+        check(rt, alloc, *row);
+    }
+}
+
 static LAYERS: [Row; 6] = [
     (&[], "0: "),
     (&[("etc/apps/note", b"a plain file")], "0: "),
@@ -64,9 +70,7 @@ static LAYERS: [Row; 6] = [
 
 #[test]
 fn the_highest_layer_counts(rt: HostRuntime) {
-    for &row in &LAYERS {
-        check(&rt, rt.alloc(), row);
-    }
+    check_all(&rt, rt.alloc(), &LAYERS);
 }
 
 static FAULTS: [Row; 4] = [
@@ -93,9 +97,7 @@ static FAULTS: [Row; 4] = [
 
 #[test]
 fn the_first_fault_is_told(rt: HostRuntime) {
-    for &row in &FAULTS {
-        check(&rt, rt.alloc(), row);
-    }
+    check_all(&rt, rt.alloc(), &FAULTS);
 }
 
 static ONE: Files = &[TEN];

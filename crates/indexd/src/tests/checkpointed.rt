@@ -7,15 +7,15 @@ use std::alloc::Global;
 use std::process::Abort;
 
 /// No line is cut before a mebibyte, so that each commit writes all of the open line that a block makes longer.
-const WIDE: Files<'static> = &[("props", "[default]\nTRUNCATE = 0\n")];
+const WIDE: Files<'static> = "props:[default]\nTRUNCATE = 0\n";
 
 /// Seven blocks, all of which are accepted, as the later ones.
-const SEVEN: Step = Step::Send(WIDE, 1, (0, 7), "1 7 0");
+const SEVEN: Step = Step::Send(WIDE, 1, (0, 7), "1 7 0 ");
 
 static GROWN: [Step; 5] = [
     SEVEN,
     Step::Logs("1"),
-    Step::Send(WIDE, 0, (7, 15), "0 8 0"),
+    Step::Send(WIDE, 0, (7, 15), "0 8 0 "),
     Step::Logs("03"),
     // the root log behind two checkpoints
     Step::Holds(
@@ -32,7 +32,7 @@ fn a_log_is_made_short_behind_a_reply(rt: HostRuntime) {
 
 static BEFORE: [Step; 2] = [SEVEN, Step::Logs("1")];
 
-static EIGHTH: [Step; 1] = [Step::Send(WIDE, 0, (7, 8), "0 1 0")];
+static EIGHTH: [Step; 1] = [Step::Send(WIDE, 0, (7, 8), "0 1 0 ")];
 
 static SHORT: [Step; 1] = [Step::Logs("02")];
 

@@ -1,8 +1,6 @@
 //! Requests over a connection each, as `serve` takes them, over links in memory.
 
-use crate::tests::exchanges::{
-    BEGUN, BLOCKS, Exchange, OK, feeds, replies_of, requests_of, write_reply,
-};
+use crate::tests::exchanges::{BEGUN, Exchanges, feeds, replies_of, requests_of, write_wanted};
 use crate::tests::requests::{CHANNELS, DATED};
 use crate::tests::runs::{
     DEFAULT, NOON, PLAIN, Run, agree, bytes_of, compare, compare_texts, disk_of, plan_of, run_of,
@@ -16,17 +14,17 @@ use std::alloc::Global;
 use std::process::Abort;
 
 /// Adds a connection with this request.
-fn add_link(alloc: Global, links: &mut MemLinkList, exchange: Exchange) {
-    let text = requests_of(alloc, &[exchange]);
+fn add_link(alloc: Global, links: &mut MemLinkList, exchange: Exchanges<'_>) {
+    let text = requests_of(alloc, exchange);
     let bytes = bytes_of(alloc, text.as_bytes());
     let link = MemLink::in_pieces(alloc, bytes, 7, FailPlan::none(alloc));
     let _ = links.push(link);
 }
 
 /// A listener at which these requests wait, and of which this call fails.
-fn listener_of(alloc: Global, exchanges: &[Exchange], call: u64) -> MemListener {
+fn listener_of(alloc: Global, exchanges: Exchanges<'_>, call: u64) -> MemListener {
     let mut links = MemLinkList::new(alloc);
-    for &exchange in exchanges {
+    for exchange in exchanges.split('¶') {
         add_link(alloc, &mut links, exchange);
     }
     MemListener::new(alloc, links, plan_of(alloc, &[call]))
@@ -35,9 +33,9 @@ fn listener_of(alloc: Global, exchanges: &[Exchange], call: u64) -> MemListener 
 /// What was written on the connections, one behind the other.
 fn given_of(alloc: Global, listener: &MemListener) -> String {
     let mut text = String::new(alloc);
-    let _ = write!(text, "0: ");
+    let _ = text.push_str("0: ");
     for link in listener.handed() {
-        let _ = write!(text, "{}", str::from_utf8(link.given()).unwrap_or("?"));
+        let _ = text.push_str(str::from_utf8(link.given()).unwrap_or("?"));
     }
     text
 }
@@ -71,73 +69,61 @@ fn connections_are_served(rt: HostRuntime) {
     check_served(&rt, rt.alloc(), &mut disk, &mut listener);
 }
 
-/// A connection: the request, how many bytes of it come, which call on the link fails, and how much of the reply is given: `+` all, `-` a front, `0` nothing.
-type Peer = (Exchange, usize, u64, char);
-
-const ALL: usize = usize::MAX;
-
 const NEVER: u64 = u64::MAX;
 
-const FIRST: Exchange = (BLOCKS, "", "a\nb\nc", OK, "{\"ack\":0,\"run\":1}");
+/// Connections, with `¶` between: how many bytes of the request come, which call on the link fails, and the request with its reply. Where
+/// no number stands all bytes come, and no call fails. Behind the first one there is one that hangs up at once, one behind a byte, one
+/// inside the body, and one whose reading fails; then one that does not take its reply, whose block is accepted; and at the end one of which
+/// the end is not known.
+const PEERS: &str = "\
+    ¦¦PUT /channels/c¦¦{\"host\":\"h\",\"source\":\"s\"}¦201 Created¦{\"channel\":\"c\"}¶\
+    0¦¦POST /channels/c/blocks¦¦a\nb\nc¦200 OK¦{\"ack\":0,\"run\":1}¶\
+    1¦¦POST /channels/c/blocks¦¦a\nb\nc¦200 OK¦{\"ack\":0,\"run\":1}¶\
+    58¦¦POST /channels/c/blocks¦¦a\nb\nc¦200 OK¦{\"ack\":0,\"run\":1}¶\
+    ¦20¦POST /channels/c/blocks¦¦a\nb\nc¦200 OK¦{\"ack\":0,\"run\":1}¶\
+    ¦59¦POST /channels/c/blocks¦¦a\nb\nc¦200 OK¦{\"ack\":0,\"run\":1}¶\
+    ¦¦POST /channels/c/blocks¦¦\nd\ne¦200 OK¦{\"ack\":1,\"run\":1}¶\
+    ¦¦POST /channels/c/blocks¦Transfer-Encoding: chunked\r\n¦f¦411 Length Required¦{\"error\":\"NoLength\"}";
 
-static PEERS: &[Peer] = &[
-    (BEGUN, ALL, NEVER, '+'),
-    // one that hangs up at once, one behind a byte, one inside the body, and one whose reading fails
-    (FIRST, 0, NEVER, '0'),
-    (FIRST, 1, NEVER, '0'),
-    (FIRST, 58, NEVER, '0'),
-    (FIRST, ALL, 20, '0'),
-    // one that does not take its reply: the block is accepted
-    (FIRST, ALL, 59, '-'),
-    (
-        (BLOCKS, "", "\nd\ne", OK, "{\"ack\":1,\"run\":1}"),
-        ALL,
-        NEVER,
-        '+',
-    ),
-    // one of which the end is not known
-    (
-        (
-            BLOCKS,
-            "Transfer-Encoding: chunked\r\n",
-            "f",
-            "411 Length Required",
-            "{\"error\":\"NoLength\"}",
-        ),
-        ALL,
-        NEVER,
-        '+',
-    ),
-];
+/// How much of each reply is given: `+` all, `-` a front, `0` nothing.
+const MARKS: &str = "+0000-++";
 
 /// Adds a connection with its peer.
-fn add_peer(alloc: Global, links: &mut MemLinkList, peer: Peer) {
-    let (exchange, count, call, _) = peer;
-    let request = requests_of(alloc, &[exchange]);
+fn add_peer(alloc: Global, links: &mut MemLinkList, peer: &str) {
+    let (count, behind) = peer.split_once('¦').unwrap_or(("", peer));
+    let (call, exchange) = behind.split_once('¦').unwrap_or(("", behind));
+    let request = requests_of(alloc, exchange);
     let sent = request.as_bytes();
+    let count = count.parse().unwrap_or(sent.len());
     let bytes = bytes_of(alloc, &sent[..count.min(sent.len())]);
-    let link = MemLink::new(alloc, bytes, plan_of(alloc, &[call]));
+    let link = MemLink::new(
+        alloc,
+        bytes,
+        plan_of(alloc, &[call.parse().unwrap_or(NEVER)]),
+    );
     let _ = links.push(link);
 }
 
 fn peers_of(alloc: Global) -> MemListener {
     let mut links = MemLinkList::new(alloc);
-    for &peer in PEERS {
+    for peer in PEERS.split('¶') {
         add_peer(alloc, &mut links, peer);
     }
     MemListener::new(alloc, links, FailPlan::none(alloc))
 }
 
 /// How much of a reply is given.
-fn mark_of(alloc: Global, exchange: Exchange, given: &[u8]) -> char {
-    let (_, _, _, status, reply) = exchange;
+fn mark_of(alloc: Global, exchange: &str, given: &[u8]) -> char {
     let mut text = String::new(alloc);
-    write_reply(&mut text, status, reply);
+    write_wanted(&mut text, exchange);
+    let is_whole = given == text.as_bytes();
+    let is_front = text.as_bytes().starts_with(given);
+    drop(text);
     if given.is_empty() {
         '0'
-    } else if given == text.as_bytes() {
+    } else if is_whole {
         '+'
-    } else if text.as_bytes().starts_with(given) {
+    } else if is_front {
         '-'
     } else {
         '?'
@@ -147,17 +133,10 @@ fn mark_of(alloc: Global, exchange: Exchange, given: &[u8]) -> char {
 /// How much of each reply is given.
 fn marks_of(alloc: Global, links: &[MemLink]) -> String {
     let mut marks = String::new(alloc);
-    for (&(exchange, _, _, _), link) in PEERS.iter().zip(links) {
-        let _ = write!(marks, "{}", mark_of(alloc, exchange, link.given()));
-    }
-    marks
-}
-
-/// How much of each reply is wanted.
-fn wanted_marks(alloc: Global) -> String {
-    let mut marks = String::new(alloc);
-    for &(_, _, _, want) in PEERS {
-        let _ = write!(marks, "{want}");
+    let mut peers = PEERS.split('¶');
+    for link in links {
+        let peer = peers.next().unwrap_or("");
+        let _ = marks.push(mark_of(alloc, peer, link.given()));
     }
     marks
 }
@@ -176,7 +155,7 @@ fn check_peers(rt: &impl Abort, alloc: Global, disk: &mut MemDisk, listener: &mu
         "0: served 8\n",
     );
     let marks = marks_of(alloc, listener.handed());
-    compare_texts(rt, "the marks", marks, wanted_marks(alloc));
+    compare(rt, "the marks", marks, MARKS);
     take_all(rt, alloc, disk, &ACCEPTED);
 }
 
@@ -188,29 +167,20 @@ fn connections_that_fail_do_no_harm(rt: HostRuntime) {
     check_peers(&rt, rt.alloc(), &mut disk, &mut listener);
 }
 
-static ENDED: &[Exchange] = &[
-    BEGUN,
-    ("POST /channels/c/end", "", "", OK, "{\"ack\":0,\"run\":1}"),
-];
+const ENDED: Exchanges<'static> = "\
+    PUT /channels/c¦¦{\"host\":\"h\",\"source\":\"s\"}¦201 Created¦{\"channel\":\"c\"}¶\
+    POST /channels/c/end¦¦¦200 OK¦{\"ack\":0,\"run\":1}";
 
-const OPEN: Exchange = (
-    "PUT /channels/c",
-    "",
-    "{\"host\":\"h\",\"source\":\"s\"}",
-    "409 Conflict",
-    "{\"error\":\"ChannelOpen\"}",
-);
-
-/// Which call of the listener fails, of one that binds and those that accept, and what the next begin is then replied.
-static LISTENERS: &[(u64, Exchange)] = &[(0, BEGUN), (2, OPEN), (NEVER, BEGUN)];
+const OPEN: Exchanges<'static> =
+    "PUT /channels/c¦¦{\"host\":\"h\",\"source\":\"s\"}¦409 Conflict¦{\"error\":\"ChannelOpen\"}";
 
 /// The next begin is replied to so.
-fn check_next(rt: &impl Abort, alloc: Global, disk: &mut MemDisk, next: Exchange) {
-    feeds(rt, alloc, disk, (PLAIN, [next].as_slice()), ("0", ""));
+fn check_next(rt: &impl Abort, alloc: Global, disk: &mut MemDisk, next: Exchanges<'_>) {
+    feeds(rt, alloc, disk, (PLAIN, next), ("0", ""));
 }
 
-/// A listener of which this call fails ends the run.
-fn check_listener(rt: &impl Abort, alloc: Global, (call, next): (u64, Exchange)) {
+/// A listener of which this call fails, of one that binds and those that accept, ends the run, and the next begin is then replied to so.
+fn check_listener(rt: &impl Abort, alloc: Global, call: u64, next: Exchanges<'_>) {
     let mut disk = disk_of(alloc);
     let mut listener = listener_of(alloc, ENDED, call);
     let serve = run_of("serve --port 0 --requests 3", PLAIN, b"");
@@ -222,16 +192,14 @@ fn check_listener(rt: &impl Abort, alloc: Global, (call, next): (u64, Exchange))
 /// A listener that cannot bind or accept ends the run, and what was accepted is stored. The third connection does not come.
 #[test]
 fn a_listener_that_fails_ends_the_run(rt: HostRuntime) {
-    for &listener in LISTENERS {
-        check_listener(&rt, rt.alloc(), listener);
-    }
+    check_listener(&rt, rt.alloc(), 0, BEGUN);
+    check_listener(&rt, rt.alloc(), 2, OPEN);
+    check_listener(&rt, rt.alloc(), NEVER, BEGUN);
 }
-
-static ONE: &[Exchange] = &[BEGUN];
 
 /// What a run over one connection says whose output fails.
 fn untold(alloc: Global, disk: &mut MemDisk) -> String {
-    let mut listener = listener_of(alloc, ONE, NEVER);
+    let mut listener = listener_of(alloc, BEGUN, NEVER);
     let run = Run {
         writes: &[0],
         ..run_of("serve --port 0 --requests 1", PLAIN, b"")

@@ -1,54 +1,33 @@
 //! Worked examples: the runs of each, one behind the other over one disk.
 
-use crate::tests::runs::{AGE, Files, KEPT, LATER, LINES, NOON, ON_TIME, PLAIN, STORE};
+use crate::tests::runs::{AGE, Files, KEPT, LATER, NOON, ON_TIME, PLAIN, STORE};
 use crate::tests::steps::{BUCKET, Script, Step, check, check_each};
 use ix_base::{Area, File};
 
-const SECONDS: (&str, &str) = (
-    "props",
-    "[default]\nSHOULD_LINEMERGE = false\nTIME_FORMAT = %s\n",
-);
+const BOTH: Files<'static> = "\
+    props:[default]\nSHOULD_LINEMERGE = false\n§\
+    indexes:[main]\nfrozenTimePeriodInSecs = 100\n[web]\nfrozenTimePeriodInSecs = 100\n";
 
-const BOTH: Files<'static> = &[
-    LINES,
-    (
-        "indexes",
-        "[main]\nfrozenTimePeriodInSecs = 100\n[web]\nfrozenTimePeriodInSecs = 100\n",
-    ),
-];
+const HOT: Files<'static> = "\
+    props:[default]\nSHOULD_LINEMERGE = false\nTIME_FORMAT = %s\n§\
+    indexes:[main]\nmaxHotBuckets = 2\n";
 
-const HOT: Files<'static> = &[SECONDS, ("indexes", "[main]\nmaxHotBuckets = 2\n")];
+const COLD: Files<'static> = "\
+    props:[default]\nSHOULD_LINEMERGE = false\n§\
+    indexes:[main]\nmaxWarmDBCount = 0\n";
 
-const COLD: Files<'static> = &[LINES, ("indexes", "[main]\nmaxWarmDBCount = 0\n")];
+const MASKED: Files<'static> = "\
+    props:[default]\nSHOULD_LINEMERGE = false\nSEDCMD-mask = s/\\d{4}-(\\d{4})/xxxx-\\1/g\nTRANSFORMS-drop = drop\n§\
+    transforms:[drop]\nREGEX = xxxx-4\nDEST_KEY = queue\nFORMAT = nullQueue\n";
 
-const MASKED: Files<'static> = &[
-    (
-        "props",
-        "[default]\nSHOULD_LINEMERGE = false\nSEDCMD-mask = s/\\d{4}-(\\d{4})/xxxx-\\1/g\nTRANSFORMS-drop = drop\n",
-    ),
-    (
-        "transforms",
-        "[drop]\nREGEX = xxxx-4\nDEST_KEY = queue\nFORMAT = nullQueue\n",
-    ),
-];
+const NOWHERE: Files<'static> = "\
+    props:[default]\nSHOULD_LINEMERGE = false\nTRANSFORMS-r = toweb\n§\
+    transforms:[toweb]\nREGEX = .\nDEST_KEY = _MetaData:Index\nFORMAT = web\n";
 
-const TO_WEB: (&str, &str) = (
-    "props",
-    "[default]\nSHOULD_LINEMERGE = false\nTRANSFORMS-r = toweb\n",
-);
-
-const WEB: (&str, &str) = (
-    "transforms",
-    "[toweb]\nREGEX = .\nDEST_KEY = _MetaData:Index\nFORMAT = web\n",
-);
-
-const NOWHERE: Files<'static> = &[TO_WEB, WEB];
-
-const LOST: Files<'static> = &[
-    TO_WEB,
-    WEB,
-    ("indexes", "[default]\nlastChanceIndex = lost\n[lost]\n"),
-];
+const LOST: Files<'static> = "\
+    props:[default]\nSHOULD_LINEMERGE = false\nTRANSFORMS-r = toweb\n§\
+    transforms:[toweb]\nREGEX = .\nDEST_KEY = _MetaData:Index\nFORMAT = web\n§\
+    indexes:[default]\nlastChanceIndex = lost\n[lost]\n";
 
 static STORED: [Script<'static>; 2] = [
     &[

@@ -1,8 +1,6 @@
 //! Requests that are not as they should be, and links that are cut or fail inside of one, by `feed`.
 
-use crate::tests::exchanges::{
-    BEGUN, BLOCKS, Exchange, OK, feeds, replies_of, requests_of, write_reply,
-};
+use crate::tests::exchanges::{BEGUN, Exchanges, feeds, replies_of, requests_of, write_wanted};
 use crate::tests::runs::{
     DEFAULT, NOON, PLAIN, Run, bytes_of, code_of, compare_texts, crash_of, disk_of, nobody,
     plan_of, run_of, said,
@@ -13,114 +11,28 @@ use ix_disk::MemDisk;
 use std::alloc::Global;
 use std::process::Abort;
 
-/// A text, another one so many times, and a third.
-type Parts = (&'static str, &'static str, usize, &'static str);
+/// Requests, with `¶` between: how what is said of one begins; a text, another one so many times, and a third, which are the request; and the
+/// reply's status and body. The first request has a head of 16,385 bytes without an end. Where one is not delimited the run ends with a line.
+const HOSTILE: &str = "\
+    12: ¦GET /¦x¦16380¦¦400 Bad Request¦{\"error\":\"BadHead\"}¶\
+    12: ¦GET /buckets HTTP/1.1\r\n¦A: b\r\n¦65¦\r\n¦400 Bad Request¦{\"error\":\"BadHead\"}¶\
+    12: ¦\x00GET /buckets HTTP/1.1\r\n\r\n¦¦0¦¦400 Bad Request¦{\"error\":\"BadHead\"}¶\
+    12: ¦POST /channels/c/blocks HTTP/1.1\r\n¦Content-Length: 5\r\n¦2¦\r\nabcde¦400 Bad Request¦{\"error\":\"BadHead\"}¶\
+    12: ¦POST /channels/c/blocks HTTP/1.1\r\nContent-Length: ¦9¦11¦\r\n\r\nabcde¦400 Bad Request¦{\"error\":\"BadHead\"}¶\
+    12: ¦PUT /channels/c HTTP/1.1\r\nTransfer-Encoding: chunked\r\n\r\n0\r\n\r\n¦¦0¦¦411 Length Required¦{\"error\":\"NoLength\"}¶\
+    0: ¦PUT /channels/¦x¦65¦ HTTP/1.1\r\nContent-Length: 0\r\n\r\n¦404 Not Found¦{\"error\":\"NoRoute\"}¶\
+    0: ¦POST /acks HTTP/1.1\r\nContent-Length: 19\r\n\r\n{\"run\":1,\"acks\":[]}¦¦0¦¦200 OK¦{\"acks\":[]}¶\
+    0: ¦POST /acks HTTP/1.1\r\nContent-Length: 400\r\n\r\n¦[¦200¦]]]]]]]]]]]]]]]]]]]]]]]]]]]]]]]]]]]]]]]]]]]]]]]]]]]]]]]]]]]]]]]]]]]]]]]]]]]]]]]]]]]]]]]]]]]]]]]]]]]]]]]]]]]]]]]]]]]]]]]]]]]]]]]]]]]]]]]]]]]]]]]]]]]]]]]]]]]]]]]]]]]]]]]]]]]]]]]]]]]]]]]]]]]]]]]]]]]]]]]]¦400 Bad Request¦{\"error\":\"BadBody\"}¶\
+    0: ¦PUT /channels/c HTTP/1.1\r\nContent-Length: 24\r\n\r\n{\"host\":\"\",\"source\":\"s\"}¦¦0¦¦400 Bad Request¦{\"error\":\"BadBody\"}¶\
+    0: ¦GET /indexes/main/events?earliest=1&earliest=2 HTTP/1.1\r\n\r\n¦¦0¦¦400 Bad Request¦{\"error\":\"BadQuery\"}";
 
-/// A request, its reply's status and body, and whether it is delimited.
-type Hostile = (Parts, (&'static str, &'static str), bool);
-
-const BAD_HEAD: (&str, &str) = ("400 Bad Request", "{\"error\":\"BadHead\"}");
-
-const BAD_BODY: (&str, &str) = ("400 Bad Request", "{\"error\":\"BadBody\"}");
-
-static HOSTILE: &[Hostile] = &[
-    // a head of 16,385 bytes without an end
-    (("GET /", "x", 16_380, ""), BAD_HEAD, false),
-    (
-        ("GET /buckets HTTP/1.1\r\n", "A: b\r\n", 65, "\r\n"),
-        BAD_HEAD,
-        false,
-    ),
-    (
-        ("\0GET /buckets HTTP/1.1\r\n\r\n", "", 0, ""),
-        BAD_HEAD,
-        false,
-    ),
-    (
-        (
-            "POST /channels/c/blocks HTTP/1.1\r\n",
-            "Content-Length: 5\r\n",
-            2,
-            "\r\nabcde",
-        ),
-        BAD_HEAD,
-        false,
-    ),
-    (
-        (
-            "POST /channels/c/blocks HTTP/1.1\r\nContent-Length: ",
-            "9",
-            11,
-            "\r\n\r\nabcde",
-        ),
-        BAD_HEAD,
-        false,
-    ),
-    (
-        (
-            "PUT /channels/c HTTP/1.1\r\nTransfer-Encoding: chunked\r\n\r\n0\r\n\r\n",
-            "",
-            0,
-            "",
-        ),
-        ("411 Length Required", "{\"error\":\"NoLength\"}"),
-        false,
-    ),
-    (
-        (
-            "PUT /channels/",
-            "x",
-            65,
-            " HTTP/1.1\r\nContent-Length: 0\r\n\r\n",
-        ),
-        ("404 Not Found", "{\"error\":\"NoRoute\"}"),
-        true,
-    ),
-    (
-        (
-            "POST /acks HTTP/1.1\r\nContent-Length: 19\r\n\r\n{\"run\":1,\"acks\":[]}",
-            "",
-            0,
-            "",
-        ),
-        (OK, "{\"acks\":[]}"),
-        true,
-    ),
-    (
-        (
-            "POST /acks HTTP/1.1\r\nContent-Length: 400\r\n\r\n",
-            "[",
-            200,
-            "]]]]]]]]]]]]]]]]]]]]]]]]]]]]]]]]]]]]]]]]]]]]]]]]]]]]]]]]]]]]]]]]]]]]]]]]]]]]]]]]]]]]]]]]]]]]]]]]]]]]]]]]]]]]]]]]]]]]]]]]]]]]]]]]]]]]]]]]]]]]]]]]]]]]]]]]]]]]]]]]]]]]]]]]]]]]]]]]]]]]]]]]]]]]]]]]]]]]]]]]",
-        ),
-        BAD_BODY,
-        true,
-    ),
-    (
-        (
-            "PUT /channels/c HTTP/1.1\r\nContent-Length: 24\r\n\r\n{\"host\":\"\",\"source\":\"s\"}",
-            "",
-            0,
-            "",
-        ),
-        BAD_BODY,
-        true,
-    ),
-    (
-        (
-            "GET /indexes/main/events?earliest=1&earliest=2 HTTP/1.1\r\n\r\n",
-            "",
-            0,
-            "",
-        ),
-        ("400 Bad Request", "{\"error\":\"BadQuery\"}"),
-        true,
-    ),
-];
-
-/// A request by its parts.
-fn whole_of(alloc: Global, parts: Parts) -> String {
-    let (front, filler, count, back) = parts;
+/// A request by its parts: a text, another one so many times, and a third.
+fn whole_of(alloc: Global, parts: &str) -> String {
+    let mut fields = parts.split('¦');
+    let front = fields.next().unwrap_or("");
+    let filler = fields.next().unwrap_or("");
+    let count: usize = fields.next().unwrap_or("").parse().unwrap_or(0);
+    let back = fields.next().unwrap_or("");
     let mut text = String::new(alloc);
     let _ = text.push_str(front);
     for _ in 0..count {
@@ -130,40 +42,44 @@ fn whole_of(alloc: Global, parts: Parts) -> String {
     text
 }
 
-/// What a run says that replies so. Where the request is not delimited the run ends with a line.
-fn answer_of(alloc: Global, (status, reply): (&str, &str), is_delimited: bool) -> String {
+/// What a run says that begins so and has this reply.
+fn answer_of(alloc: Global, begin: &str, reply: &str) -> String {
     let mut text = String::new(alloc);
-    let _ = text.push_str(if is_delimited { "0: " } else { "12: " });
-    write_reply(&mut text, status, reply);
-    if !is_delimited {
+    let _ = text.push_str(begin);
+    write_wanted(&mut text, reply);
+    if begin != "0: " {
         let _ = text.push_str("indexd: request 1 cannot be read\n");
     }
     text
 }
 
 /// What a run of `feed` over this request says.
-fn asked(alloc: Global, disk: &mut MemDisk, parts: Parts) -> String {
+fn asked(alloc: Global, disk: &mut MemDisk, parts: &str) -> String {
     let input = whole_of(alloc, parts);
     said(alloc, run_of("feed", DEFAULT, input.as_bytes()), disk)
 }
 
-fn check_hostile(rt: &impl Abort, alloc: Global, disk: &mut MemDisk, hostile: Hostile) {
-    let (parts, reply, is_delimited) = hostile;
-    let want = answer_of(alloc, reply, is_delimited);
-    compare_texts(rt, parts.0, asked(alloc, disk, parts), want);
+fn check_hostile(rt: &impl Abort, alloc: Global, disk: &mut MemDisk, row: &str) {
+    let (begin, parts) = row.split_once('¦').unwrap_or(("", row));
+    let want = answer_of(alloc, begin, parts);
+    compare_texts(rt, parts, asked(alloc, disk, parts), want);
+}
+
+fn check_all_hostile(rt: &impl Abort, alloc: Global, rows: &str) {
+    let mut disk = disk_of(alloc);
+    for row in rows.split('¶') {
+        check_hostile(rt, alloc, &mut disk, row);
+    }
 }
 
 /// Each request has its reply, and ends the run where it is not known where it ends.
 #[test]
 fn hostile_requests_are_refused(rt: HostRuntime) {
-    let mut disk = disk_of(rt.alloc());
-    for &hostile in HOSTILE {
-        check_hostile(&rt, rt.alloc(), &mut disk, hostile);
-    }
+    check_all_hostile(&rt, rt.alloc(), HOSTILE);
 }
 
 /// Settled of it are `a` and `b`.
-static SENT: &[Exchange] = &[(BLOCKS, "", "a\nb\nc", OK, "{\"ack\":0,\"run\":2}")];
+const SENT: Exchanges<'static> = "POST /channels/c/blocks¦¦a\nb\nc¦200 OK¦{\"ack\":0,\"run\":2}";
 
 static STORED: [Step; 1] = [Step::Run(
     (NOON, "export main", PLAIN, ""),
@@ -171,17 +87,14 @@ static STORED: [Step; 1] = [Step::Run(
 )];
 
 /// The requests in which a link is cut or fails, behind `SENT`.
-static LATER: &[Exchange] = &[
-    ("GET /nothing", "", "", "", ""),
-    (BLOCKS, "", "d\ne", "", ""),
-];
-
-static FIRST: &[Exchange] = &[BEGUN];
+const LATER: Exchanges<'static> = "\
+    GET /nothing¦¦¦¦¶\
+    POST /channels/c/blocks¦¦d\ne¦¦";
 
 /// A store in which the channel is begun.
 fn begun(rt: &impl Abort, alloc: Global) -> MemDisk {
     let mut disk = disk_of(alloc);
-    feeds(rt, alloc, &mut disk, (PLAIN, FIRST), ("0", ""));
+    feeds(rt, alloc, &mut disk, (PLAIN, BEGUN), ("0", ""));
     disk
 }
 
@@ -229,8 +142,8 @@ fn check_cuts(rt: &impl Abort, alloc: Global, begun: &MemDisk, text: &[u8]) {
 }
 
 /// Does so with a request.
-fn check_request(rt: &impl Abort, alloc: Global, begun: &MemDisk, exchange: Exchange) {
-    let text = requests_of(alloc, &[exchange]);
+fn check_request(rt: &impl Abort, alloc: Global, begun: &MemDisk, exchange: Exchanges<'_>) {
+    let text = requests_of(alloc, exchange);
     check_cuts(rt, alloc, begun, text.as_bytes());
 }
 
@@ -238,7 +151,7 @@ fn check_request(rt: &impl Abort, alloc: Global, begun: &MemDisk, exchange: Exch
 #[test]
 fn a_cut_request_loses_nothing(rt: HostRuntime) {
     let begun = begun(&rt, rt.alloc());
-    for &exchange in LATER {
+    for exchange in LATER.split('¶') {
         check_request(&rt, rt.alloc(), &begun, exchange);
     }
 }

@@ -11,7 +11,7 @@ use std::cell::Cell;
 use std::process::Abort;
 
 /// Lines are not merged.
-const APART: Files<'static> = &[("props", "[default]\nSHOULD_LINEMERGE = false")];
+const APART: Files<'static> = "props:[default]\nSHOULD_LINEMERGE = false";
 
 /// What a run says that ends with this status: the lines of events with these raw texts, which stand with `|` between, and what stands
 /// behind them.
@@ -37,38 +37,35 @@ fn check_input(rt: &impl Abort, alloc: Global, (input, raws): (&str, &str), most
     compare_texts(rt, raws, previewed(alloc, run), want);
 }
 
-/// Inputs, and the raw texts of their events with `|` between.
-static LINES: [(&str, &str); 6] = [
-    ("", ""),
-    ("\r\n\r\n", ""),
-    ("a\r\nb", "a|b"),
-    ("\n\na\n", "a"),
-    ("a\\b\tc\u{7f}\u{e9}", "a\\\\b\\tc\\x7f\\xc3\\xa9"),
-    ("one\rtwo\nthree", "one|two|three"),
-];
+/// Inputs, and the raw texts of their events with `|` between, a row behind the other.
+const LINES: &str = "\
+    ¦¶\
+    \r\n\r\n¦¶\
+    a\r\nb¦a|b¶\
+    \n\na\n¦a¶\
+    a\\b\tc\x7f\u{e9}¦a\\\\b\\tc\\x7f\\xc3\\xa9¶\
+    one\rtwo\nthree¦one|two|three";
 
 /// The input has these events, however it is read.
-fn check_lines(rt: &impl Abort, alloc: Global, row: (&str, &str)) {
+fn check_lines(rt: &impl Abort, alloc: Global, row: &str) {
+    let row = row.split_once('¦').unwrap_or((row, "?"));
     check_input(rt, alloc, row, 1);
     check_input(rt, alloc, row, 2);
     check_input(rt, alloc, row, 1 << 20);
 }
 
-#[test]
-fn lines_become_events(rt: HostRuntime) {
-    for &row in &LINES {
-        check_lines(&rt, rt.alloc(), row);
+fn check_all_lines(rt: &impl Abort, alloc: Global, rows: &str) {
+    for row in rows.split('¶') {
+        check_lines(rt, alloc, row);
     }
 }
 
-/// How many letters a line has, what stands behind them, and how many letters are kept.
-static LONG: [(usize, &str, usize); 4] = [
-    (10_000, "", 10_000),
-    (10_001, "", 10_000),
-    (9_998, "\u{20ac}", 9_998),
-    (9_999, "\u{20ac}", 9_999),
-];
+#[test]
+fn lines_become_events(rt: HostRuntime) {
+    check_all_lines(&rt, rt.alloc(), LINES);
+}
 
+/// A line has so many letters, this stands behind them, and so many letters are kept.
 fn check_long(rt: &impl Abort, alloc: Global, (letters, tail, kept): (usize, &str, usize)) {
     let mut input = repeated(alloc, "x", letters);
     let _ = input.push_str(tail);
@@ -79,30 +76,17 @@ fn check_long(rt: &impl Abort, alloc: Global, (letters, tail, kept): (usize, &st
 /// Lines are cut at 10,000 bytes, or before a character that would be cut.
 #[test]
 fn long_lines_are_cut_between_characters(rt: HostRuntime) {
-    for &row in &LONG {
-        check_long(&rt, rt.alloc(), row);
-    }
+    check_long(&rt, rt.alloc(), (10_000, "", 10_000));
+    check_long(&rt, rt.alloc(), (10_001, "", 10_000));
+    check_long(&rt, rt.alloc(), (9_998, "\u{20ac}", 9_998));
+    check_long(&rt, rt.alloc(), (9_999, "\u{20ac}", 9_999));
 }
 
 /// A run whose reads and writes fail at these calls: the number of its status, the raw texts whose lines stand in the output, and what
 /// stands behind them.
-type Fault = (
-    &'static [u64],
-    &'static [u64],
-    u8,
-    &'static str,
-    &'static str,
-);
+type Fault<'a> = (&'a [u64], &'a [u64], u8, &'a str, &'a str);
 
-static FAULTS: [Fault; 5] = [
-    (&[0], &[], 4, "", "indexd: input fault\n"),
-    (&[1], &[], 4, "a", "indexd: input fault\n"),
-    (&[1], &[1], 4, "a", "indexd: in"),
-    (&[1], &[0], 7, "", "main\t1700000000.000"),
-    (&[], &[1], 7, "a", "main\t1700000000.000"),
-];
-
-fn check_fault(rt: &impl Abort, alloc: Global, (reads, writes, code, raws, end): Fault) {
+fn check_fault(rt: &impl Abort, alloc: Global, (reads, writes, code, raws, end): Fault<'_>) {
     let run = Run {
         reads,
         writes,
@@ -115,9 +99,12 @@ fn check_fault(rt: &impl Abort, alloc: Global, (reads, writes, code, raws, end):
 /// Of each read three bytes are taken, so the first one settles the line of `a` alone.
 #[test]
 fn faults_end_a_run_behind_its_lines(rt: HostRuntime) {
-    for &fault in &FAULTS {
-        check_fault(&rt, rt.alloc(), fault);
-    }
+    let alloc = rt.alloc();
+    check_fault(&rt, alloc, (&[0], &[], 4, "", "indexd: input fault\n"));
+    check_fault(&rt, alloc, (&[1], &[], 4, "a", "indexd: input fault\n"));
+    check_fault(&rt, alloc, (&[1], &[1], 4, "a", "indexd: in"));
+    check_fault(&rt, alloc, (&[1], &[0], 7, "", "main\t1700000000.000"));
+    check_fault(&rt, alloc, (&[], &[1], 7, "a", "main\t1700000000.000"));
 }
 
 /// An object of the outside that notes each of its calls by a digit.
@@ -198,13 +185,6 @@ fn lines_are_written_before_the_next_read(rt: HostRuntime) {
     assert_eq!(rt; calls.get(), 1_232_323);
 }
 
-/// What the clock shows, and what a run says first.
-static MOMENTS: [(i64, &str); 3] = [
-    (-1, "0: main\t0.000000\t"),
-    (1, "0: main\t0.000001\t"),
-    (i64::MAX, "0: main\t4102444800.000000\t"),
-];
-
 /// What a run says whose clock shows this moment, and then another one.
 fn said_then(alloc: Global, moment: i64) -> String {
     let moments = [moment, 5];
@@ -215,6 +195,7 @@ fn said_then(alloc: Global, moment: i64) -> String {
     previewed(alloc, run)
 }
 
+/// A run whose clock shows this moment first says this first.
 fn check_moment(rt: &impl Abort, alloc: Global, (moment, want): (i64, &str)) {
     let text = said_then(alloc, moment);
     let begins = text.as_str().starts_with(want);
@@ -224,34 +205,29 @@ fn check_moment(rt: &impl Abort, alloc: Global, (moment, want): (i64, &str)) {
 /// A clock outside the years 1970 to 2100 counts as the nearer end.
 #[test]
 fn moments_lie_between_1970_and_2100(rt: HostRuntime) {
-    for &row in &MOMENTS {
-        check_moment(&rt, rt.alloc(), row);
-    }
+    check_moment(&rt, rt.alloc(), (-1, "0: main\t0.000000\t"));
+    check_moment(&rt, rt.alloc(), (1, "0: main\t0.000001\t"));
+    check_moment(&rt, rt.alloc(), (i64::MAX, "0: main\t4102444800.000000\t"));
 }
 
-const USAGE: &str = "2: indexd: usage\n";
-
-/// Words that are a command which is built, and such as are none.
-static WORDS: [(&str, &str); 12] = [
-    ("preview --host h --source s", "0: "),
-    ("preview --source s --host h", "0: "),
-    (
-        "preview --host=h --source=- --index main --sourcetype t",
-        "0: ",
-    ),
-    ("btool transforms", "0: "),
-    ("btool indexes", "0: "),
-    ("", USAGE),
-    ("preview --host h", USAGE),
-    ("thaw main", USAGE),
-    ("preview --host  --source s", USAGE),
-    ("btool props.conf", USAGE),
-    ("buckets main", USAGE),
-    ("--help", USAGE),
-];
+/// Words that are a command which is built, and such as are none, with what is said of each.
+const WORDS: &str = "\
+    preview --host h --source s¦0: ¶\
+    preview --source s --host h¦0: ¶\
+    preview --host=h --source=- --index main --sourcetype t¦0: ¶\
+    btool transforms¦0: ¶\
+    btool indexes¦0: ¶\
+    ¦2: indexd: usage\n¶\
+    preview --host h¦2: indexd: usage\n¶\
+    thaw main¦2: indexd: usage\n¶\
+    preview --host  --source s¦2: indexd: usage\n¶\
+    btool props.conf¦2: indexd: usage\n¶\
+    buckets main¦2: indexd: usage\n¶\
+    --help¦2: indexd: usage\n";
 
 /// A run on these words over an empty input, whose clock shows nothing.
-fn check_words(rt: &impl Abort, alloc: Global, (line, want): (&str, &str)) {
+fn check_words(rt: &impl Abort, alloc: Global, row: &str) {
+    let (line, want) = row.split_once('¦').unwrap_or((row, "?"));
     let run = Run {
         moments: &[],
         ..run_of(line, APART, b"")
@@ -259,11 +235,15 @@ fn check_words(rt: &impl Abort, alloc: Global, (line, want): (&str, &str)) {
     compare(rt, line, previewed(alloc, run), want);
 }
 
+fn check_all_words(rt: &impl Abort, alloc: Global, rows: &str) {
+    for row in rows.split('¶') {
+        check_words(rt, alloc, row);
+    }
+}
+
 #[test]
 fn words_are_those_of_the_commands(rt: HostRuntime) {
-    for &row in &WORDS {
-        check_words(&rt, rt.alloc(), row);
-    }
+    check_all_words(&rt, rt.alloc(), WORDS);
 }
 
 static STATUSES: [Status; 14] = [

@@ -1,41 +1,22 @@
 //! Worked examples of requests: what `feed` replies to those of its input, and what is stored then.
 
-use crate::tests::exchanges::{BEGUN, BLOCKS, Exchange, OK, feeds};
+use crate::tests::exchanges::{BEGUN, Exchanges, feeds};
 use crate::tests::runs::{DEFAULT, Files, NOON, PLAIN, disk_of};
 use crate::tests::steps::{Step, check, take_all};
 use ix_disk::StopDisk;
 use std::alloc::Global;
 use std::process::Abort;
 
-const ACKNOWLEDGED: &[Exchange] = &[
-    BEGUN,
-    (BLOCKS, "", "a", OK, "{\"ack\":0,\"run\":1}"),
-    (BLOCKS, "", "\n", OK, "{\"ack\":1,\"run\":1}"),
-    (BLOCKS, "", "b", OK, "{\"ack\":2,\"run\":1}"),
-    ("POST /channels/c/end", "", "", OK, "{\"ack\":3,\"run\":1}"),
-    // What is not committed yet is not acknowledged, but the question has it committed.
-    (
-        "POST /acks",
-        "",
-        "{\"run\":1,\"acks\":[0,3,4]}",
-        OK,
-        "{\"acks\":[false,false,false]}",
-    ),
-    (
-        "POST /acks",
-        "",
-        "{\"run\":1,\"acks\":[0,3,4]}",
-        OK,
-        "{\"acks\":[true,true,false]}",
-    ),
-    (
-        "POST /acks",
-        "",
-        "{\"run\":2,\"acks\":[0]}",
-        OK,
-        "{\"acks\":[false]}",
-    ),
-];
+/// What is not committed yet is not acknowledged, but the question has it committed.
+const ACKNOWLEDGED: Exchanges<'static> = "\
+    PUT /channels/c¦¦{\"host\":\"h\",\"source\":\"s\"}¦201 Created¦{\"channel\":\"c\"}¶\
+    POST /channels/c/blocks¦¦a¦200 OK¦{\"ack\":0,\"run\":1}¶\
+    POST /channels/c/blocks¦¦\n¦200 OK¦{\"ack\":1,\"run\":1}¶\
+    POST /channels/c/blocks¦¦b¦200 OK¦{\"ack\":2,\"run\":1}¶\
+    POST /channels/c/end¦¦¦200 OK¦{\"ack\":3,\"run\":1}¶\
+    POST /acks¦¦{\"run\":1,\"acks\":[0,3,4]}¦200 OK¦{\"acks\":[false,false,false]}¶\
+    POST /acks¦¦{\"run\":1,\"acks\":[0,3,4]}¦200 OK¦{\"acks\":[true,true,false]}¶\
+    POST /acks¦¦{\"run\":2,\"acks\":[0]}¦200 OK¦{\"acks\":[false]}";
 
 const TWO: &str =
     "0: main\t1700000000.000000\th\ts\tunknown\t\ta\nmain\t1700000000.000000\th\ts\tunknown\t\tb\n";
@@ -51,65 +32,21 @@ fn blocks_are_numbered_and_acknowledged(rt: HostRuntime) {
     check(&rt, rt.alloc(), &NUMBERED);
 }
 
-const SYSTEM: Exchange = (
-    "PUT /channels/sys",
-    "",
-    "{\"host\":\"web1\",\"source\":\"/var/log/messages\",\"sourcetype\":\"syslog\"}",
-    "201 Created",
-    "{\"channel\":\"sys\"}",
-);
-
-const WEB: Exchange = (
-    "PUT /channels/web",
-    "",
-    "{\"host\":\"web1\",\"source\":\"/var/log/access.log\",\"sourcetype\":\"access_combined\"}",
-    "201 Created",
-    "{\"channel\":\"web\"}",
-);
-
-const LISTED: &str =
-    "index main stored 3 bytes 396 frozen 0\nbucket main hot_v1_0 hot 3 396\nevents settled 3 nulled 0 dropped 0\n";
-
 /// Two channels side by side, and then the listing.
-const TWO_CHANNELS: &[Exchange] = &[
-    SYSTEM,
-    WEB,
-    (
-        "POST /channels/sys/blocks",
-        "",
-        "Nov 14 22:10:01 web1 sshd[311]: Accepted publickey for ann\nNov 14 22:10:05 web1 kernel: eth0 up\n",
-        OK,
-        "{\"ack\":0,\"run\":1}",
-    ),
-    (
-        "POST /channels/web/blocks",
-        "",
-        "10.0.0.7 - - [14/Nov/2023:22:10:03 +0000] \"GET / HTTP/1.1\" 200 512\n",
-        OK,
-        "{\"ack\":1,\"run\":1}",
-    ),
-    (
-        "POST /channels/sys/end",
-        "",
-        "",
-        OK,
-        "{\"ack\":2,\"run\":1}",
-    ),
-    (
-        "POST /channels/web/end",
-        "",
-        "",
-        OK,
-        "{\"ack\":3,\"run\":1}",
-    ),
-    ("GET /buckets", "", "", OK, LISTED),
-];
+const TWO_CHANNELS: Exchanges<'static> = "\
+    PUT /channels/sys¦¦{\"host\":\"web1\",\"source\":\"/var/log/messages\",\"sourcetype\":\"syslog\"}¦201 Created¦{\"channel\":\"sys\"}¶\
+    PUT /channels/web¦¦{\"host\":\"web1\",\"source\":\"/var/log/access.log\",\"sourcetype\":\"access_combined\"}¦201 Created¦{\"channel\":\"web\"}¶\
+    POST /channels/sys/blocks¦¦Nov 14 22:10:01 web1 sshd[311]: Accepted publickey for ann\nNov 14 22:10:05 web1 kernel: eth0 up\n¦200 OK¦{\"ack\":0,\"run\":1}¶\
+    POST /channels/web/blocks¦¦10.0.0.7 - - [14/Nov/2023:22:10:03 +0000] \"GET / HTTP/1.1\" 200 512\n¦200 OK¦{\"ack\":1,\"run\":1}¶\
+    POST /channels/sys/end¦¦¦200 OK¦{\"ack\":2,\"run\":1}¶\
+    POST /channels/web/end¦¦¦200 OK¦{\"ack\":3,\"run\":1}¶\
+    GET /buckets¦¦¦200 OK¦index main stored 3 bytes 396 frozen 0\nbucket main hot_v1_0 hot 3 396\nevents settled 3 nulled 0 dropped 0\n";
 
 pub(crate) const DATED: &str =
     "0: main\t1699999801.000000\tweb1\t/var/log/messages\tsyslog\t\tNov 14 22:10:01 web1 sshd[311]: Accepted publickey for ann\nmain\t1699999805.000000\tweb1\t/var/log/messages\tsyslog\t\tNov 14 22:10:05 web1 kernel: eth0 up\nmain\t1699999803.000000\tweb1\t/var/log/access.log\taccess_combined\t\t10.0.0.7 - - [14/Nov/2023:22:10:03 +0000] \"GET / HTTP/1.1\" 200 512\n";
 
 /// The same, for other forms of the program.
-pub(crate) static CHANNELS: &[Exchange] = TWO_CHANNELS;
+pub(crate) const CHANNELS: Exchanges<'static> = TWO_CHANNELS;
 
 static BESIDE: [Step; 2] = [
     Step::Feed(DEFAULT, TWO_CHANNELS, "0", ""),
@@ -121,102 +58,24 @@ fn two_channels_are_stored(rt: HostRuntime) {
     check(&rt, rt.alloc(), &BESIDE);
 }
 
-const REFUSED: &[Exchange] = &[
-    (
-        "GET /nothing",
-        "",
-        "",
-        "404 Not Found",
-        "{\"error\":\"NoRoute\"}",
-    ),
-    (
-        "DELETE /buckets",
-        "",
-        "",
-        "405 Method Not Allowed",
-        "{\"error\":\"WrongMethod\"}",
-    ),
-    (
-        BLOCKS,
-        "",
-        "",
-        "411 Length Required",
-        "{\"error\":\"NoLength\"}",
-    ),
-    (
-        BLOCKS,
-        "Content-Encoding: gzip\r\n",
-        "a",
-        "415 Unsupported Media Type",
-        "{\"error\":\"Encoded\"}",
-    ),
-    (
-        BLOCKS,
-        "",
-        "a",
-        "404 Not Found",
-        "{\"error\":\"NoChannel\"}",
-    ),
-    (
-        "POST /channels/c/end",
-        "",
-        "",
-        "404 Not Found",
-        "{\"error\":\"NoChannel\"}",
-    ),
-    BEGUN,
-    (
-        "PUT /channels/c",
-        "",
-        "{\"host\":\"h\",\"source\":\"s\"}",
-        "409 Conflict",
-        "{\"error\":\"ChannelOpen\"}",
-    ),
-    (
-        "PUT /channels/d",
-        "",
-        "{\"host\":\"h\",\"source\":\"s\",\"index\":\"web\"}",
-        "404 Not Found",
-        "{\"error\":\"UnknownIndex\"}",
-    ),
-    (
-        "PUT /channels/d",
-        "",
-        "{\"host\":\"h\"}",
-        "400 Bad Request",
-        "{\"error\":\"BadBody\"}",
-    ),
-    (
-        "GET /indexes/web/events",
-        "",
-        "",
-        "404 Not Found",
-        "{\"error\":\"UnknownIndex\"}",
-    ),
-    (
-        "GET /indexes/main/events?from=1",
-        "",
-        "",
-        "400 Bad Request",
-        "{\"error\":\"BadQuery\"}",
-    ),
-    (
-        "POST /acks",
-        "",
-        "{}",
-        "400 Bad Request",
-        "{\"error\":\"BadBody\"}",
-    ),
-    ("GET /indexes/main/events", "", "", OK, ""),
-];
+const REFUSED: Exchanges<'static> = "\
+    GET /nothing¦¦¦404 Not Found¦{\"error\":\"NoRoute\"}¶\
+    DELETE /buckets¦¦¦405 Method Not Allowed¦{\"error\":\"WrongMethod\"}¶\
+    POST /channels/c/blocks¦¦¦411 Length Required¦{\"error\":\"NoLength\"}¶\
+    POST /channels/c/blocks¦Content-Encoding: gzip\r\n¦a¦415 Unsupported Media Type¦{\"error\":\"Encoded\"}¶\
+    POST /channels/c/blocks¦¦a¦404 Not Found¦{\"error\":\"NoChannel\"}¶\
+    POST /channels/c/end¦¦¦404 Not Found¦{\"error\":\"NoChannel\"}¶\
+    PUT /channels/c¦¦{\"host\":\"h\",\"source\":\"s\"}¦201 Created¦{\"channel\":\"c\"}¶\
+    PUT /channels/c¦¦{\"host\":\"h\",\"source\":\"s\"}¦409 Conflict¦{\"error\":\"ChannelOpen\"}¶\
+    PUT /channels/d¦¦{\"host\":\"h\",\"source\":\"s\",\"index\":\"web\"}¦404 Not Found¦{\"error\":\"UnknownIndex\"}¶\
+    PUT /channels/d¦¦{\"host\":\"h\"}¦400 Bad Request¦{\"error\":\"BadBody\"}¶\
+    GET /indexes/web/events¦¦¦404 Not Found¦{\"error\":\"UnknownIndex\"}¶\
+    GET /indexes/main/events?from=1¦¦¦400 Bad Request¦{\"error\":\"BadQuery\"}¶\
+    POST /acks¦¦{}¦400 Bad Request¦{\"error\":\"BadBody\"}¶\
+    GET /indexes/main/events¦¦¦200 OK¦";
 
-const TOO_LONG: &[Exchange] = &[(
-    BLOCKS,
-    "Content-Length: 1048577\r\n",
-    "",
-    "413 Payload Too Large",
-    "{\"error\":\"TooLong\"}",
-)];
+const TOO_LONG: Exchanges<'static> =
+    "POST /channels/c/blocks¦Content-Length: 1048577\r\n¦¦413 Payload Too Large¦{\"error\":\"TooLong\"}";
 
 static UNREAD: [Step; 3] = [
     Step::Feed(PLAIN, REFUSED, "0", ""),
@@ -233,7 +92,7 @@ fn requests_are_refused(rt: HostRuntime) {
     check(&rt, rt.alloc(), &UNREAD);
 }
 
-static MANY: [Step; 1] = [Step::Send(PLAIN, 257, (0, 1), "256 1 1")];
+static MANY: [Step; 1] = [Step::Send(PLAIN, 257, (0, 1), "256 1 1 ")];
 
 /// 256 channels can be open, and a block has at most 1,048,576 bytes.
 #[test]
@@ -241,41 +100,22 @@ fn limits_of_requests(rt: HostRuntime) {
     check(&rt, rt.alloc(), &MANY);
 }
 
-const SENT: &str = "x\ny\nz";
-
-static UNACKNOWLEDGED: &[Exchange] = &[BEGUN, (BLOCKS, "", SENT, OK, "{\"ack\":0,\"run\":1}")];
+const UNACKNOWLEDGED: Exchanges<'static> = "\
+    PUT /channels/c¦¦{\"host\":\"h\",\"source\":\"s\"}¦201 Created¦{\"channel\":\"c\"}¶\
+    POST /channels/c/blocks¦¦x\ny\nz¦200 OK¦{\"ack\":0,\"run\":1}";
 
 /// The run that drew the number has ended without it, so the block is sent again.
-const SENT_AGAIN: &[Exchange] = &[
-    (
-        "POST /acks",
-        "",
-        "{\"run\":1,\"acks\":[0]}",
-        OK,
-        "{\"acks\":[false]}",
-    ),
-    ("GET /indexes/main/events", "", "", OK, ""),
-    (BLOCKS, "", SENT, OK, "{\"ack\":0,\"run\":2}"),
-    (
-        "POST /acks",
-        "",
-        "{\"run\":2,\"acks\":[0]}",
-        OK,
-        "{\"acks\":[false]}",
-    ),
-    (
-        "POST /acks",
-        "",
-        "{\"run\":2,\"acks\":[0]}",
-        OK,
-        "{\"acks\":[true]}",
-    ),
-];
+const SENT_AGAIN: Exchanges<'static> = "\
+    POST /acks¦¦{\"run\":1,\"acks\":[0]}¦200 OK¦{\"acks\":[false]}¶\
+    GET /indexes/main/events¦¦¦200 OK¦¶\
+    POST /channels/c/blocks¦¦x\ny\nz¦200 OK¦{\"ack\":0,\"run\":2}¶\
+    POST /acks¦¦{\"run\":2,\"acks\":[0]}¦200 OK¦{\"acks\":[false]}¶\
+    POST /acks¦¦{\"run\":2,\"acks\":[0]}¦200 OK¦{\"acks\":[true]}";
 
 const X_AND_Y: &str =
     "0: main\t1700000000.000000\th\ts\tunknown\t\tx\nmain\t1700000000.000000\th\ts\tunknown\t\ty\n";
 
-static BEGINNING: [Step; 1] = [Step::Feed(PLAIN, &[BEGUN], "0", "")];
+static BEGINNING: [Step; 1] = [Step::Feed(PLAIN, BEGUN, "0", "")];
 
 static AGAIN: [Step; 2] = [
     Step::Feed(PLAIN, SENT_AGAIN, "0", ""),
@@ -304,20 +144,14 @@ fn a_block_that_is_not_acknowledged_is_sent_again(rt: HostRuntime) {
     check_again(&rt, rt.alloc(), calls_of_begin(&rt, rt.alloc()));
 }
 
-const CUT: Files<'static> = &[(
-    "props",
-    "[default]\nSHOULD_LINEMERGE = false\nTRUNCATE = 2\n",
-)];
+const CUT: Files<'static> = "props:[default]\nSHOULD_LINEMERGE = false\nTRUNCATE = 2\n";
 
-const OPEN: &[Exchange] = &[BEGUN, (BLOCKS, "", "x\nyyyy", OK, "{\"ack\":0,\"run\":1}")];
+const OPEN: Exchanges<'static> = "\
+    PUT /channels/c¦¦{\"host\":\"h\",\"source\":\"s\"}¦201 Created¦{\"channel\":\"c\"}¶\
+    POST /channels/c/blocks¦¦x\nyyyy¦200 OK¦{\"ack\":0,\"run\":1}";
 
-const ENDED: &[Exchange] = &[(
-    BLOCKS,
-    "",
-    "z",
-    "404 Not Found",
-    "{\"error\":\"NoChannel\"}",
-)];
+const ENDED: Exchanges<'static> =
+    "POST /channels/c/blocks¦¦z¦404 Not Found¦{\"error\":\"NoChannel\"}";
 
 static UNCUT: [Step; 4] = [
     Step::Feed(PLAIN, OPEN, "0", ""),
@@ -338,38 +172,16 @@ fn settings_that_change_end_channels(rt: HostRuntime) {
     check(&rt, rt.alloc(), &UNCUT);
 }
 
-const LOST: Files<'static> = &[("indexes", "[lost]\n")];
+const LOST: Files<'static> = "indexes:[lost]\n";
 
-const IN_LOST: &str = "{\"host\":\"h\",\"source\":\"s\",\"index\":\"lost\"}";
+const TO_LOST: Exchanges<'static> = "\
+    PUT /channels/c¦¦{\"host\":\"h\",\"source\":\"s\",\"index\":\"lost\"}¦201 Created¦{\"channel\":\"c\"}¶\
+    POST /channels/c/blocks¦¦a¦200 OK¦{\"ack\":0,\"run\":1}¶\
+    POST /channels/c/end¦¦¦200 OK¦{\"ack\":1,\"run\":1}";
 
-const TO_LOST: &[Exchange] = &[
-    (
-        "PUT /channels/c",
-        "",
-        IN_LOST,
-        "201 Created",
-        "{\"channel\":\"c\"}",
-    ),
-    (BLOCKS, "", "a", OK, "{\"ack\":0,\"run\":1}"),
-    ("POST /channels/c/end", "", "", OK, "{\"ack\":1,\"run\":1}"),
-];
-
-const RETIRED: &[Exchange] = &[
-    (
-        "PUT /channels/c",
-        "",
-        IN_LOST,
-        "404 Not Found",
-        "{\"error\":\"UnknownIndex\"}",
-    ),
-    (
-        "GET /indexes/lost/events",
-        "",
-        "",
-        OK,
-        "lost\t1700000000.000000\th\ts\tunknown\t\ta\n",
-    ),
-];
+const RETIRED: Exchanges<'static> = "\
+    PUT /channels/c¦¦{\"host\":\"h\",\"source\":\"s\",\"index\":\"lost\"}¦404 Not Found¦{\"error\":\"UnknownIndex\"}¶\
+    GET /indexes/lost/events¦¦¦200 OK¦lost\t1700000000.000000\th\ts\tunknown\t\ta\n";
 
 static RETIRING: [Step; 2] = [
     Step::Feed(LOST, TO_LOST, "0", ""),

@@ -9,8 +9,8 @@ use ix_tree::{MemTree, Tree, TreeFile, TreeFileList};
 use std::alloc::Global;
 use std::process::Abort;
 
-/// Files of `etc/system/local`: the name of each, and its text.
-pub(crate) type Files<'a> = &'a [(&'a str, &'a str)];
+/// Files of `etc/system/local`, with `§` between: the name of each, a colon, and its text.
+pub(crate) type Files<'a> = &'a str;
 
 /// 2023-11-14T22:13:20Z, in microseconds since 1970.
 pub(crate) const NOON: i64 = 1_700_000_000_000_000;
@@ -25,27 +25,20 @@ pub(crate) const PREVIEW: &str = "preview --host h --source s";
 
 pub(crate) const STORE: &str = "preview --host h --source s --store";
 
-pub(crate) const DEFAULT: Files<'static> = &[];
+pub(crate) const DEFAULT: Files<'static> = "";
 
 /// Each line is an event of its own.
-pub(crate) const LINES: (&str, &str) = ("props", "[default]\nSHOULD_LINEMERGE = false\n");
-
-pub(crate) const PLAIN: Files<'static> = &[LINES];
+pub(crate) const PLAIN: Files<'static> = "props:[default]\nSHOULD_LINEMERGE = false\n";
 
 /// What is older than 100 seconds is frozen, and deleted then.
-pub(crate) const AGE: Files<'static> = &[
-    LINES,
-    ("indexes", "[main]\nfrozenTimePeriodInSecs = 100\n"),
-];
+pub(crate) const AGE: Files<'static> = "\
+    props:[default]\nSHOULD_LINEMERGE = false\n§\
+    indexes:[main]\nfrozenTimePeriodInSecs = 100\n";
 
 /// The same with an archive.
-pub(crate) const KEPT: Files<'static> = &[
-    LINES,
-    (
-        "indexes",
-        "[main]\nfrozenTimePeriodInSecs = 100\ncoldToFrozenDir = kept\n",
-    ),
-];
+pub(crate) const KEPT: Files<'static> = "\
+    props:[default]\nSHOULD_LINEMERGE = false\n§\
+    indexes:[main]\nfrozenTimePeriodInSecs = 100\ncoldToFrozenDir = kept\n";
 
 /// A run of the program, beside its disk and its listener.
 #[derive(Clone, Copy)]
@@ -148,8 +141,10 @@ fn add_file(alloc: Global, files: &mut TreeFileList, path: Bytes, bytes: &[u8]) 
 /// The tree that has these files.
 pub(crate) fn tree_of(alloc: Global, files: Files<'_>) -> MemTree {
     let mut list = TreeFileList::new(alloc);
-    for &(name, text) in files {
-        add_file(alloc, &mut list, path_of(alloc, name), text.as_bytes());
+    for file in files.split('§') {
+        if let Some((name, text)) = file.split_once(':') {
+            add_file(alloc, &mut list, path_of(alloc, name), text.as_bytes());
+        }
     }
     MemTree::new(list, FailPlan::none(alloc))
 }

@@ -2,10 +2,12 @@
 
 ghost use Rattle.std.specs.Prelude.{◌≡◌, None};
 
-use crate::tests::exchanges::{Exchange, replies_of, requests_of};
+use crate::tests::exchanges::{Exchanges, replies_of, requests_of};
 use crate::tests::requests::{CHANNELS, DATED};
-use crate::tests::runs::{DEFAULT, NOON, compare, compare_texts, disk_of, run_of, said_at, told};
+use crate::tests::runs::{DEFAULT, NOON, compare, compare_texts, disk_of, run_of, said_at};
+use crate::tests::steps::{Step, take_all};
 use ix_base::Failed;
+use ix_disk::MemDisk;
 use ix_link::{Listener, TcpLink, TcpListen};
 use std::alloc::Global;
 use std::io::{Read, Write};
@@ -62,10 +64,10 @@ impl<R: Net + Drop> Listener for Dialer<R> {
     }
 }
 
-fn texts_of(alloc: Global, exchanges: &[Exchange]) -> Vec<String> {
+fn texts_of(alloc: Global, exchanges: Exchanges<'_>) -> Vec<String> {
     let mut texts = Vec::new(alloc);
-    for &exchange in exchanges {
-        let _ = texts.push(requests_of(alloc, &[exchange]));
+    for exchange in exchanges.split('¶') {
+        let _ = texts.push(requests_of(alloc, exchange));
     }
     texts
 }
@@ -86,29 +88,38 @@ fn received<S: Read>(alloc: Global, senders: &mut [S]) -> String {
         let _ = sender.read_to_end(&mut bytes);
     }
     let mut text = String::new(alloc);
-    let _ = write!(text, "0: {}", str::from_utf8(&bytes).unwrap_or("?"));
+    let _ = text.push_str("0: ");
+    let _ = text.push_str(str::from_utf8(&bytes).unwrap_or("?"));
     text
 }
 
-/// Each connection has its reply, and the events are stored.
-fn check_dialed(rt: &impl Abort, alloc: Global, listener: &mut Dialer<HostRuntime>) {
-    let mut disk = disk_of(alloc);
+/// The run that serves the requests says so.
+fn check_run<R: Net + Drop>(
+    rt: &impl Abort,
+    alloc: Global,
+    disk: &mut MemDisk,
+    listener: &mut Dialer<R>,
+) {
     let serve = run_of("serve --port 0 --requests 7", DEFAULT, b"");
-    compare(
-        rt,
-        serve.line,
-        said_at(alloc, serve, &mut disk, listener),
-        "0: served 7\n",
-    );
-    let given = received(alloc, listener.senders.as_mut_slice());
-    compare_texts(
-        rt,
-        "the senders",
-        given,
-        replies_of(alloc, "0", CHANNELS, ""),
-    );
-    let export = (NOON, "export main", DEFAULT, "");
-    compare(rt, "export", told(alloc, export, &mut disk), DATED);
+    let found = said_at(alloc, serve, disk, listener);
+    compare(rt, serve.line, found, "0: served 7\n");
+}
+
+/// Each of the senders has its reply.
+fn check_replies<S: Read>(rt: &impl Abort, alloc: Global, senders: &mut [S]) {
+    let given = received(alloc, senders);
+    let want = replies_of(alloc, "0", CHANNELS, "");
+    compare_texts(rt, "the senders", given, want);
+}
+
+static STORED: [Step; 1] = [Step::Run((NOON, "export main", DEFAULT, ""), DATED)];
+
+/// Each connection has its reply, and the events are stored.
+fn check_dialed<R: Net + Drop>(rt: &impl Abort, alloc: Global, listener: &mut Dialer<R>) {
+    let mut disk = disk_of(alloc);
+    check_run(rt, alloc, &mut disk, listener);
+    check_replies(rt, alloc, listener.senders.as_mut_slice());
+    take_all(rt, alloc, &mut disk, &STORED);
 }
 
 #[test]

@@ -1,6 +1,6 @@
 //! Scripts: what is done with a store, one step behind the other, and what it then says and holds.
 
-use crate::tests::exchanges::{Exchange, feeds};
+use crate::tests::exchanges::{Exchanges, feeds};
 use crate::tests::runs::{Files, PIECE, Run, Task, compare, disk_of, run_of, said, told};
 use indexd_core::Tier;
 use ix_base::{Area, Bytes, File};
@@ -16,9 +16,9 @@ pub(crate) enum Step {
     /// A run at noon whose reading fails where the input ends: its words, its files, its input, and what it says.
     Cut(&'static str, Files<'static>, &'static str, &'static str),
     /// A run of `feed` at noon: its files, its requests with their replies, and the status and the line of its end.
-    Feed(Files<'static>, &'static [Exchange], &'static str, &'static str),
+    Feed(Files<'static>, Exchanges<'static>, &'static str, &'static str),
     /// A run of `feed` that begins so many channels and sends the blocks from one number up to another: how many replies are
-    /// `201`, `200` and `429`.
+    /// `201`, `200` and `429`, with a space behind each.
     Send(Files<'static>, usize, (usize, usize), &'static str),
     /// How long a file is.
     Length(File, u64),
@@ -116,20 +116,28 @@ pub(crate) fn replied<D: Disk>(
     said(alloc, run_of("feed", files, input.as_slice()), disk)
 }
 
-/// How many replies have a status: of those that are created, fine, and too many.
-fn counts_of(alloc: Global, replies: String) -> String {
-    let mut counts = [0usize; 3];
+/// How many replies have this status.
+fn count_of(replies: &str, status: &str) -> usize {
+    let mut count = 0usize;
     for word in replies.split(' ') {
-        match word {
-            "201" => counts[0] = counts[0].saturating_add(1),
-            "200" => counts[1] = counts[1].saturating_add(1),
-            "429" => counts[2] = counts[2].saturating_add(1),
-            _ => {}
+        if word == status {
+            count = count.saturating_add(1);
         }
     }
-    let mut text = String::new(alloc);
-    let _ = write!(text, "{} {} {}", counts[0], counts[1], counts[2]);
-    text
+    count
+}
+
+fn add_count(counts: &mut String, replies: &str, status: &str) {
+    let _ = write!(counts, "{} ", count_of(replies, status));
+}
+
+/// How many replies have a status: of those that are created, fine, and too many, with a space behind each.
+fn counts_of(alloc: Global, replies: String) -> String {
+    let mut counts = String::new(alloc);
+    add_count(&mut counts, replies.as_str(), "201");
+    add_count(&mut counts, replies.as_str(), "200");
+    add_count(&mut counts, replies.as_str(), "429");
+    counts
 }
 
 /// How long a file is; one that is missing has no bytes.
@@ -234,37 +242,64 @@ fn sure(rt: &impl Abort, holds: bool, what: &str) {
     assert!(rt; holds, "{what}");
 }
 
+/// A run says what is wanted.
+fn take_run(rt: &impl Abort, alloc: Global, disk: &mut MemDisk, task: Task, want: &str) {
+    compare(rt, task.1, told(alloc, task, disk), want);
+}
+
+/// A run whose reading fails where the input ends says what is wanted.
+fn take_cut(
+    rt: &impl Abort,
+    alloc: Global,
+    disk: &mut MemDisk,
+    (line, files, input): (&str, Files<'_>, &str),
+    want: &str,
+) {
+    compare(rt, line, cut_off(alloc, line, files, input, disk), want);
+}
+
+/// Of the replies to blocks so many have each status.
+fn take_send(
+    rt: &impl Abort,
+    alloc: Global,
+    disk: &mut MemDisk,
+    (files, begins, blocks): (Files<'_>, usize, (usize, usize)),
+    want: &str,
+) {
+    let replies = replied(alloc, files, begins, blocks, disk);
+    compare(rt, "replies", counts_of(alloc, replies), want);
+}
+
+/// What a step finds is what is wanted, or its change is made.
+fn take_file(rt: &impl Abort, alloc: Global, disk: &mut MemDisk, step: &Step) {
+    match *step {
+        Step::Length(file, length) => sure(rt, length_of(disk, file) == length, "a length"),
+        Step::Holds(file, bytes) => sure(rt, holds(alloc, disk, file, bytes), "a file"),
+        Step::Shorten(file, length) => shorten(alloc, disk, file, length),
+        Step::Lengthen(file, count) => sure(rt, lengthen(alloc, disk, file, count), "no room"),
+        Step::Change(file, sought, further, bytes) => {
+            let is_changed = change(alloc, disk, file, (sought, further), bytes);
+            sure(rt, is_changed, "no change");
+        }
+        _ => sure(rt, keeps_its_listing(alloc, disk), "the listing"),
+    }
+}
+
 /// Takes a step. What it says or finds is what is wanted.
 fn take(rt: &impl Abort, alloc: Global, disk: &mut MemDisk, step: &Step) {
     match *step {
-        Step::Run(task, want) => compare(rt, task.1, told(alloc, task, disk), want),
+        Step::Run(task, want) => take_run(rt, alloc, disk, task, want),
         Step::Cut(line, files, input, want) => {
-            compare(rt, line, cut_off(alloc, line, files, input, disk), want)
+            take_cut(rt, alloc, disk, (line, files, input), want)
         }
         Step::Feed(files, exchanges, code, line) => {
             feeds(rt, alloc, disk, (files, exchanges), (code, line))
         }
         Step::Send(files, begins, blocks, want) => {
-            compare(
-                rt,
-                "replies",
-                counts_of(alloc, replied(alloc, files, begins, blocks, disk)),
-                want,
-            )
+            take_send(rt, alloc, disk, (files, begins, blocks), want)
         }
-        Step::Length(file, length) => sure(rt, length_of(disk, file) == length, "a length"),
-        Step::Holds(file, bytes) => sure(rt, holds(alloc, disk, file, bytes), "a file"),
         Step::Logs(numbers) => compare(rt, "logs", logs_of(alloc, disk), numbers),
-        Step::Shorten(file, length) => shorten(alloc, disk, file, length),
-        Step::Lengthen(file, count) => sure(rt, lengthen(alloc, disk, file, count), "no room"),
-        Step::Change(file, sought, further, bytes) => {
-            sure(
-                rt,
-                change(alloc, disk, file, (sought, further), bytes),
-                "no change",
-            )
-        }
-        Step::Checkpoint => sure(rt, keeps_its_listing(alloc, disk), "the listing"),
+        _ => take_file(rt, alloc, disk, step),
     }
 }
 

@@ -7,32 +7,29 @@ use ix_disk::{MemDisk, OneFail, StopDisk};
 use std::alloc::Global;
 use std::process::Abort;
 
-const CHANGED: Files<'static> = &[(
-    "props",
-    "[default]\nSHOULD_LINEMERGE = false\nTRUNCATE = 2\n",
-)];
+const CHANGED: Files<'static> = "props:[default]\nSHOULD_LINEMERGE = false\nTRUNCATE = 2\n";
 
 /// A run that is hindered, behind so many others. The store is known by two runs, and by what they say, one behind the other, behind each number
-/// of runs.
+/// of runs, with `¶` between.
+#[derive(Clone, Copy)]
 struct Trial {
     done: usize,
     task: Task,
     asks: (Task, Task),
-    shown: &'static [&'static str],
+    shown: &'static str,
 }
 
 /// `X` stands for the three events of the first run.
 const X: &str =
     "main\t1700000000.000000\th\ts\tunknown\t\tx\nmain\t1700000000.000000\th\ts\tunknown\t\ty\nmain\t1700000000.000000\th\ts\tunknown\t\tz\n";
 
-const SHOWN: &[&str] = &[
-    "0: 0: index main stored 0 bytes 0 frozen 0\nevents settled 0 nulled 0 dropped 0\n",
-    "0: X0: index main stored 3 bytes 174 frozen 0\nbucket main hot_v1_0 hot 3 174\nevents settled 3 nulled 0 dropped 0\n",
-    "0: X0: index main stored 3 bytes 174 frozen 0\nbucket main db_1700000000_1700000000_0 warm 3 174\nevents settled 3 nulled 0 dropped 0\n",
-    "0: 0: index main stored 0 bytes 0 frozen 3\nfrozen main db_1700000000_1700000000_0 age 1700000101 3 archived\nevents settled 3 nulled 0 dropped 0\n",
-    "0: X0: index main stored 0 bytes 0 frozen 3\nbucket main db_1700000000_1700000000_0 thawed 3 174\nfrozen main db_1700000000_1700000000_0 age 1700000101 3 archived\nevents settled 3 nulled 0 dropped 0\n",
-    "0: Xmain\t1700000101.000000\th\ts\tunknown\t\tw\n0: index main stored 1 bytes 58 frozen 3\nbucket main db_1700000000_1700000000_0 thawed 3 174\nbucket main hot_v1_1 hot 1 58\nfrozen main db_1700000000_1700000000_0 age 1700000101 3 archived\nevents settled 4 nulled 0 dropped 0\n",
-];
+const SHOWN: &str = "\
+    0: 0: index main stored 0 bytes 0 frozen 0\nevents settled 0 nulled 0 dropped 0\n¶\
+    0: X0: index main stored 3 bytes 174 frozen 0\nbucket main hot_v1_0 hot 3 174\nevents settled 3 nulled 0 dropped 0\n¶\
+    0: X0: index main stored 3 bytes 174 frozen 0\nbucket main db_1700000000_1700000000_0 warm 3 174\nevents settled 3 nulled 0 dropped 0\n¶\
+    0: 0: index main stored 0 bytes 0 frozen 3\nfrozen main db_1700000000_1700000000_0 age 1700000101 3 archived\nevents settled 3 nulled 0 dropped 0\n¶\
+    0: X0: index main stored 0 bytes 0 frozen 3\nbucket main db_1700000000_1700000000_0 thawed 3 174\nfrozen main db_1700000000_1700000000_0 age 1700000101 3 archived\nevents settled 3 nulled 0 dropped 0\n¶\
+    0: Xmain\t1700000101.000000\th\ts\tunknown\t\tw\n0: index main stored 1 bytes 58 frozen 3\nbucket main db_1700000000_1700000000_0 thawed 3 174\nbucket main hot_v1_1 hot 1 58\nfrozen main db_1700000000_1700000000_0 age 1700000101 3 archived\nevents settled 4 nulled 0 dropped 0\n";
 
 fn add(text: &mut String, more: String) {
     let _ = text.push_str(more.as_str());
@@ -53,7 +50,7 @@ fn is_wanted(alloc: Global, text: &str, want: &str) -> bool {
 
 /// Behind how many runs a store shows this.
 fn runs_of(alloc: Global, text: &str, trial: &Trial) -> Option<usize> {
-    for (runs, want) in trial.shown.iter().enumerate() {
+    for (runs, want) in trial.shown.split('¶').enumerate() {
         if is_wanted(alloc, text, want) {
             return Some(runs);
         }
@@ -200,48 +197,43 @@ const SCRIPT_ASKS: (Task, Task) = (
 );
 
 /// A bucket is filled, rolled, frozen with an archive, and brought back, and another one is filled.
-static SCRIPT: [Trial; 5] = [
-    Trial {
-        done: 0,
-        task: (NOON, STORE, KEPT, "x\ny\nz"),
-        asks: SCRIPT_ASKS,
-        shown: SHOWN,
-    },
-    Trial {
-        done: 1,
-        task: (NOON, "roll main", KEPT, ""),
-        asks: SCRIPT_ASKS,
-        shown: SHOWN,
-    },
-    Trial {
-        done: 2,
-        task: (LATER, "tick", KEPT, ""),
-        asks: SCRIPT_ASKS,
-        shown: SHOWN,
-    },
-    Trial {
-        done: 3,
-        task: (LATER, "thaw main 0", KEPT, ""),
-        asks: SCRIPT_ASKS,
-        shown: SHOWN,
-    },
-    Trial {
-        done: 4,
-        task: (LATER, STORE, KEPT, "w"),
-        asks: SCRIPT_ASKS,
-        shown: SHOWN,
-    },
+static SCRIPT: [Task; 5] = [
+    (NOON, STORE, KEPT, "x\ny\nz"),
+    (NOON, "roll main", KEPT, ""),
+    (LATER, "tick", KEPT, ""),
+    (LATER, "thaw main 0", KEPT, ""),
+    (LATER, STORE, KEPT, "w"),
 ];
 
-/// Does so to these runs of the script, each on what the ones before left.
-fn check_script(rt: &impl Abort, alloc: Global, numbers: &[usize], hindrance: Hindrance) {
-    let mut disk = disk_of(alloc);
-    for trial in &SCRIPT {
-        if numbers.contains(&trial.done) {
-            hinder(rt, alloc, &disk, trial, hindrance);
-        }
-        drop(told(alloc, trial.task, &mut disk));
+/// A run of the script.
+fn trial_of(done: usize, task: Task) -> Trial {
+    Trial {
+        done,
+        task,
+        asks: SCRIPT_ASKS,
+        shown: SHOWN,
     }
+}
+
+/// Does so to these runs of the script, each on what the ones before left.
+fn check_tasks(
+    rt: &impl Abort,
+    alloc: Global,
+    tasks: &[Task],
+    numbers: &[usize],
+    hindrance: Hindrance,
+) {
+    let mut disk = disk_of(alloc);
+    for (done, task) in tasks.iter().enumerate() {
+        if numbers.contains(&done) {
+            hinder(rt, alloc, &disk, &trial_of(done, *task), hindrance);
+        }
+        drop(told(alloc, *task, &mut disk));
+    }
+}
+
+fn check_script(rt: &impl Abort, alloc: Global, numbers: &[usize], hindrance: Hindrance) {
+    check_tasks(rt, alloc, &SCRIPT, numbers, hindrance);
 }
 
 const ALL: Hindrance = Hindrance::Stops(0, u64::MAX);
@@ -296,10 +288,9 @@ fn a_call_that_fails_while_events_are_stored(rt: HostRuntime) {
 }
 
 /// Two events, of which the second is still open while the first settings are in force.
-const OPEN: &[&str] = &[
-    "0: index main stored 1 bytes 58 frozen 0\nbucket main hot_v1_0 hot 1 58\nevents settled 1 nulled 0 dropped 0\n0: main\t1700000000.000000\th\ts\tunknown\t\tx\nmain\t1700000000.000000\th\ts\tunknown\t\tyyyy\n",
-    "0: index main stored 2 bytes 119 frozen 0\nbucket main hot_v1_0 hot 2 119\nevents settled 2 nulled 0 dropped 0\n0: main\t1700000000.000000\th\ts\tunknown\t\tx\nmain\t1700000000.000000\th\ts\tunknown\t\tyyyy\n",
-];
+const OPEN: &str = "\
+    0: index main stored 1 bytes 58 frozen 0\nbucket main hot_v1_0 hot 1 58\nevents settled 1 nulled 0 dropped 0\n0: main\t1700000000.000000\th\ts\tunknown\t\tx\nmain\t1700000000.000000\th\ts\tunknown\t\tyyyy\n¶\
+    0: index main stored 2 bytes 119 frozen 0\nbucket main hot_v1_0 hot 2 119\nevents settled 2 nulled 0 dropped 0\n0: main\t1700000000.000000\th\ts\tunknown\t\tx\nmain\t1700000000.000000\th\ts\tunknown\t\tyyyy\n";
 
 static OPENED: [Step; 1] = [Step::Cut(STORE, PLAIN, "x\nyyyy", "4: indexd: input fault\n")];
 
@@ -337,10 +328,9 @@ fn a_stop_while_settings_change(rt: HostRuntime) {
 const REQUESTS: &str =
     "PUT /channels/c HTTP/1.1\r\nContent-Length: 25\r\n\r\n{\"host\":\"h\",\"source\":\"s\"}POST /channels/c/blocks HTTP/1.1\r\nContent-Length: 5\r\n\r\nx\ny\nz";
 
-const SERVED: &[&str] = &[
-    "0: 0: index main stored 0 bytes 0 frozen 0\nevents settled 0 nulled 0 dropped 0\n",
-    "0: main\t1700000000.000000\th\ts\tunknown\t\tx\nmain\t1700000000.000000\th\ts\tunknown\t\ty\n0: index main stored 2 bytes 116 frozen 0\nbucket main hot_v1_0 hot 2 116\nevents settled 2 nulled 0 dropped 0\n",
-];
+const SERVED: &str = "\
+    0: 0: index main stored 0 bytes 0 frozen 0\nevents settled 0 nulled 0 dropped 0\n¶\
+    0: main\t1700000000.000000\th\ts\tunknown\t\tx\nmain\t1700000000.000000\th\ts\tunknown\t\ty\n0: index main stored 2 bytes 116 frozen 0\nbucket main hot_v1_0 hot 2 116\nevents settled 2 nulled 0 dropped 0\n";
 
 static SERVE: Trial = Trial {
     done: 0,
@@ -365,10 +355,9 @@ static LONG_LOG: [Step; 2] = [
 ];
 
 /// Behind every stop and every fault the store shows the same.
-const SHORTENED: &[&str] = &[
-    "",
-    "0: X0: index main stored 3 bytes 174 frozen 0\nbucket main hot_v1_0 hot 3 174\nevents settled 3 nulled 0 dropped 0\n",
-];
+const SHORTENED: &str = "\
+    ¶\
+    0: X0: index main stored 3 bytes 174 frozen 0\nbucket main hot_v1_0 hot 3 174\nevents settled 3 nulled 0 dropped 0\n";
 
 static SHORTENING: Trial = Trial {
     done: 0,
