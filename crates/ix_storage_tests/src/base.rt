@@ -25,7 +25,9 @@ fn event(alloc: Global, time: i64, raw: &[u8]) -> Event {
 }
 
 /// Times, raw texts, and their lines.
-static LINES: [(i64, &[u8], &[u8]); 5] = [
+type LineRow = (i64, &'static [u8], &'static [u8]);
+
+static LINES: [LineRow; 5] = [
     (
         1_700_000_000_000_000,
         b"a",
@@ -62,15 +64,23 @@ fn is_written(alloc: Global, writer: &mut LineWriter, event: &Event, want: &[u8]
     wrote.is_ok() && out.into_bytes().as_slice() == want
 }
 
+/// Writes whether both ways put the line of a row.
+fn note_lines(text: &mut String, alloc: Global, writer: &mut LineWriter, row: LineRow) {
+    let (time, raw, want) = row;
+    let event = event(alloc, time, raw);
+    let is_line = is_line(alloc, &event, want);
+    let is_written = is_written(alloc, writer, &event, want);
+    drop(event);
+    note(text, is_line);
+    note(text, is_written);
+}
+
 /// Whether both ways put the lines of all.
-fn lines_put(alloc: Global) -> String {
+fn lines_put(alloc: Global, rows: &[LineRow]) -> String {
     let mut text = String::new(alloc);
     let mut writer = LineWriter::new(alloc);
-    for (time, raw, want) in &LINES {
-        let event = event(alloc, *time, raw);
-        note(&mut text, is_line(alloc, &event, want));
-        note(&mut text, is_written(alloc, &mut writer, &event, want));
-        drop(event);
+    for row in rows {
+        note_lines(&mut text, alloc, &mut writer, *row);
     }
     drop(writer);
     text
@@ -80,7 +90,7 @@ fn lines_put(alloc: Global) -> String {
 fn events_have_lines(rt: HostRuntime) {
     compare(
         &rt,
-        lines_put(rt.alloc()),
+        lines_put(rt.alloc(), &LINES),
         "true true true true true true true true true true ",
     );
 }
@@ -399,9 +409,9 @@ static IN_MEMORY: [(Ask<'static>, &str); 14] = [
     ),
 ];
 
-fn files(alloc: Global) -> TreeFileList {
+fn files(alloc: Global, rows: &[(&[u8], &[u8])]) -> TreeFileList {
     let mut list = TreeFileList::new(alloc);
-    for (path, bytes) in &FILES {
+    for (path, bytes) in rows {
         let _ = list.push(TreeFile {
             path: bytes_of(alloc, path),
             bytes: bytes_of(alloc, bytes),
@@ -412,7 +422,7 @@ fn files(alloc: Global) -> TreeFileList {
 
 fn memory_asked(alloc: Global) -> String {
     let mut text = String::new(alloc);
-    let mut tree = MemTree::new(files(alloc), failing(alloc, &[8, 10, 11]));
+    let mut tree = MemTree::new(files(alloc, &FILES), failing(alloc, &[8, 10, 11]));
     note_unlike(&mut text, alloc, &mut tree, &IN_MEMORY);
     note(&mut text, tree.plan.faults);
     note(&mut text, tree.missing);
@@ -440,20 +450,12 @@ static REAL: [(Ask<'static>, &str); 10] = [
     (Ask::Size(b"real/\xFF"), "Err(Failed) "),
 ];
 
-/// Folders to make.
-static FOLDERS: [&str; 2] = ["real/apps/b", "real/none"];
-
-/// Files to make in them, and what these hold.
-static MADE: [(&str, &str); 2] = [("real/apps/10", "ten ten"), ("real/apps/9", "")];
-
-/// Makes the files, and writes what that answered.
+/// Makes folders and files in them, and writes what that answered.
 fn note_making(rt: &HostRuntime, text: &mut String) {
-    for path in FOLDERS {
-        note(text, fs::create_dir_all(rt, path).is_ok());
-    }
-    for (path, bytes) in MADE {
-        note(text, fs::write(rt, path, bytes).is_ok());
-    }
+    note(text, fs::create_dir_all(rt, "real/apps/b").is_ok());
+    note(text, fs::create_dir_all(rt, "real/none").is_ok());
+    note(text, fs::write(rt, "real/apps/10", "ten ten").is_ok());
+    note(text, fs::write(rt, "real/apps/9", "").is_ok());
 }
 
 fn real_asked(rt: &HostRuntime) -> String {

@@ -7,6 +7,7 @@ use ix_disk::{Disk, MemDisk, OneFail};
 use ix_export::export_buckets;
 use ix_items::{Bucket, State};
 use std::alloc::Global;
+use std::process::Abort;
 
 const HOME: File = File {
     area: Area::Home,
@@ -17,15 +18,6 @@ const COLD: File = File {
     area: Area::Cold,
     number: 1,
 };
-
-/// The events of two files: where, when in microseconds, and the text. The record of each has 58 bytes.
-static STORED: [(File, i64, &[u8]); 5] = [
-    (HOME, 1_000_000, b"a"),
-    (HOME, 2_000_000, b"b"),
-    (COLD, 1_999_999, b"c"),
-    (COLD, -1, b"d"),
-    (COLD, 3_000_000, b"e"),
-];
 
 /// The bucket in a file, of which so many bytes count.
 fn bucket(file: File, bytes: u64) -> Bucket {
@@ -55,12 +47,14 @@ const ALL: Range = Range {
     latest: None,
 };
 
-/// A disk with the events.
+/// A disk with the events of two files. The record of each has 58 bytes.
 fn stored(alloc: Global) -> MemDisk {
     let mut disk = empty(alloc);
-    for (file, time, raw) in &STORED {
-        let _ = put_record(alloc, &mut disk, *file, *time, raw);
-    }
+    let _ = put_record(alloc, &mut disk, HOME, 1_000_000, b"a");
+    let _ = put_record(alloc, &mut disk, HOME, 2_000_000, b"b");
+    let _ = put_record(alloc, &mut disk, COLD, 1_999_999, b"c");
+    let _ = put_record(alloc, &mut disk, COLD, -1, b"d");
+    let _ = put_record(alloc, &mut disk, COLD, 3_000_000, b"e");
     disk
 }
 
@@ -103,7 +97,10 @@ fn the_lines_of_two_buckets_are_written_without_what_does_not_count(rt: HostRunt
     compare(&rt, lines_said(rt.alloc()), "Ok(4) true ");
 }
 
-static RANGES: [(Option<i64>, Option<i64>, &str); 9] = [
+/// The first second, the second behind the last one, and what an export answers.
+type RangeRow = (Option<i64>, Option<i64>, &'static str);
+
+static RANGES: [RangeRow; 9] = [
     (None, None, "Ok(4) abcd"),
     (Some(2), None, "Ok(1) b"),
     (None, Some(2), "Ok(3) acd"),
@@ -122,15 +119,21 @@ fn range_said(alloc: Global, range: Range) -> String {
     said
 }
 
+fn check_range(rt: &impl Abort, alloc: Global, row: RangeRow) {
+    let (earliest, latest, wanted) = row;
+    let range = Range { earliest, latest };
+    compare(rt, range_said(alloc, range), wanted);
+}
+
+fn check_ranges(rt: &impl Abort, alloc: Global, rows: &[RangeRow]) {
+    for row in rows {
+        check_range(rt, alloc, *row);
+    }
+}
+
 #[test]
 fn a_range_has_its_first_second_and_not_its_last(rt: HostRuntime) {
-    for (earliest, latest, wanted) in &RANGES {
-        let range = Range {
-            earliest: *earliest,
-            latest: *latest,
-        };
-        compare(&rt, range_said(rt.alloc(), range), wanted);
-    }
+    check_ranges(&rt, rt.alloc(), &RANGES);
 }
 
 /// A disk with an event, and the first 42 bytes of a second one's record behind it.
@@ -144,7 +147,9 @@ fn cut(alloc: Global) -> MemDisk {
 }
 
 /// Files and the bytes that count in each: a file that is cut, one that is missing, and records that go on behind these bytes.
-static CUT: [(&[(File, u64)], &str); 5] = [
+type CutRow = (&'static [(File, u64)], &'static str);
+
+static CUT: [CutRow; 5] = [
     (
         &[(HOME, 116)],
         "Err(Damaged { file: File { area: Home, number: 1 }, at: 58 }) a",
@@ -176,20 +181,16 @@ fn cut_said(alloc: Global, files: &[(File, u64)]) -> String {
     said
 }
 
-#[test]
-fn what_is_cut_is_told_behind_the_lines_before_it(rt: HostRuntime) {
-    for (files, wanted) in &CUT {
-        compare(&rt, cut_said(rt.alloc(), files), wanted);
+fn check_cuts(rt: &impl Abort, alloc: Global, rows: &[CutRow]) {
+    for (files, wanted) in rows {
+        compare(rt, cut_said(alloc, files), wanted);
     }
 }
 
-/// The export makes three calls for a bucket: one for the length of its file and two reads.
-static FAILED: [(u64, &str); 4] = [
-    (0, "Err(Disk) "),
-    (2, "Err(Disk) "),
-    (5, "Err(Disk) ab"),
-    (6, "Ok(4) abcd"),
-];
+#[test]
+fn what_is_cut_is_told_behind_the_lines_before_it(rt: HostRuntime) {
+    check_cuts(&rt, rt.alloc(), &CUT);
+}
 
 fn failed_said(alloc: Global, number: u64) -> String {
     let mut disk = OneFail::new(stored(alloc), number);
@@ -198,11 +199,13 @@ fn failed_said(alloc: Global, number: u64) -> String {
     said
 }
 
+/// The export makes three calls for a bucket: one for the length of its file and two reads.
 #[test]
 fn a_read_that_fails_is_told_behind_the_lines_before_it(rt: HostRuntime) {
-    for (number, wanted) in &FAILED {
-        compare(&rt, failed_said(rt.alloc(), *number), wanted);
-    }
+    compare(&rt, failed_said(rt.alloc(), 0), "Err(Disk) ");
+    compare(&rt, failed_said(rt.alloc(), 2), "Err(Disk) ");
+    compare(&rt, failed_said(rt.alloc(), 5), "Err(Disk) ab");
+    compare(&rt, failed_said(rt.alloc(), 6), "Ok(4) abcd");
 }
 
 /// Whether a front of the lines that is not all of them is left.

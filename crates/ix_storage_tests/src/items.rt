@@ -3,10 +3,11 @@
 ghost use Rattle.ix_items.specs.Spelling.{IsWritable};
 
 use crate::made::bytes_of;
-use crate::said::{compare, note, say, shown};
+use crate::said::{compare, compare_none, note, say, shown};
 use ix_base::{Bytes, ChannelMeta, Spot};
 use ix_items::{Entry, Item, ItemFault, KeptList, one_item, one_list, read_item, write_item};
 use std::alloc::Global;
+use std::process::Abort;
 
 /// Items of each kind, and what they say.
 static ROWS: [(&[u8], &str); 15] = [
@@ -227,11 +228,15 @@ fn item_said(alloc: Global, row: &[u8]) -> String {
     text
 }
 
+fn check_items(rt: &impl Abort, alloc: Global, rows: &[(&[u8], &str)]) {
+    for (row, wanted) in rows {
+        compare(rt, item_said(alloc, row), wanted);
+    }
+}
+
 #[test]
 fn each_kind_is_read_and_written_and_no_prefix_is_an_item(rt: HostRuntime) {
-    for (row, wanted) in &ROWS {
-        compare(&rt, item_said(rt.alloc(), row), wanted);
-    }
+    check_items(&rt, rt.alloc(), &ROWS);
 }
 
 /// No prefix of these is an item.
@@ -261,9 +266,9 @@ static BAD: [&[u8]; 15] = [
 ];
 
 /// Which of the bytes are an item, counted from 0.
-fn items_said(alloc: Global) -> String {
+fn items_said(alloc: Global, rows: &[&[u8]]) -> String {
     let mut text = String::new(alloc);
-    for (number, bytes) in BAD.iter().enumerate() {
+    for (number, bytes) in rows.iter().enumerate() {
         if !is_bad(alloc, bytes) {
             note(&mut text, number);
         }
@@ -273,7 +278,7 @@ fn items_said(alloc: Global) -> String {
 
 #[test]
 fn bytes_that_are_no_item_are_refused(rt: HostRuntime) {
-    compare(&rt, items_said(rt.alloc()), "");
+    compare_none(&rt, items_said(rt.alloc(), &BAD));
 }
 
 fn first_body(alloc: Global) -> String {

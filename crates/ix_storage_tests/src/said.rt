@@ -20,6 +20,12 @@ pub fn compare(rt: &impl Abort, found: String, wanted: &str) {
     assert_eq!(rt; found.as_str(), wanted);
 }
 
+/// Nothing was found that is unlike what is wanted. A mark that is written behind it tells that there was memory for it.
+pub fn compare_none(rt: &impl Abort, mut unlike: String) {
+    say(&mut unlike, "no other");
+    compare(rt, unlike, "no other ");
+}
+
 pub fn shown(bytes: &[u8]) -> &str {
     str::from_utf8(bytes).unwrap_or("?")
 }
