@@ -62,21 +62,30 @@ const COPIED: &str =
 
 static CHECKS: [(File, u64); 5] = [(FROM, 0), (FROM, 10), (FROM, 11), (TO, 12), (TO, u64::MAX)];
 
-/// What the files hold first.
-static HELD: [(File, &[u8]); 2] = [(FROM, TEXT), (TO, b"0123456789!?")];
+/// Removes a file, and puts bytes in its place.
+fn note_anew<D: Disk>(text: &mut String, disk: &mut D, file: File, bytes: &[u8]) {
+    note(text, disk.remove(file));
+    note(text, put(disk, file, bytes));
+}
+
+fn note_all_copies<D: Disk>(text: &mut String, disk: &mut D, rows: &[(File, u64, usize)]) {
+    for (to, len, size) in rows {
+        note_copy(text, disk, *to, *len, *size);
+    }
+}
+
+fn note_all_checks<D: Disk>(text: &mut String, disk: &mut D, rows: &[(File, u64)]) {
+    for (file, len) in rows {
+        note(text, check(disk, *file, *len));
+    }
+}
 
 /// Writes what calls answer on a disk from which the files are removed first.
 pub fn note_run<D: Disk>(text: &mut String, disk: &mut D) {
-    for (file, bytes) in &HELD {
-        note(text, disk.remove(*file));
-        note(text, put(disk, *file, bytes));
-    }
-    for (to, len, size) in &COPIES {
-        note_copy(text, disk, *to, *len, *size);
-    }
-    for (file, len) in &CHECKS {
-        note(text, check(disk, *file, *len));
-    }
+    note_anew(text, disk, FROM, TEXT);
+    note_anew(text, disk, TO, b"0123456789!?");
+    note_all_copies(text, disk, &COPIES);
+    note_all_checks(text, disk, &CHECKS);
 }
 
 #[test]

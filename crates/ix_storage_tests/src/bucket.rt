@@ -95,9 +95,9 @@ fn forged(place: usize, byte: u8) -> [u8; 59] {
     bytes
 }
 
-fn forged_said(alloc: Global) -> String {
+fn forged_said(alloc: Global, rows: &[(usize, u8)]) -> String {
     let mut said = String::new(alloc);
-    for (place, byte) in &FORGED {
+    for (place, byte) in rows {
         note(&mut said, is_record(&forged(*place, *byte)));
     }
     said
@@ -106,7 +106,7 @@ fn forged_said(alloc: Global) -> String {
 #[test]
 fn a_record_with_a_forged_length_is_none(rt: HostRuntime) {
     let wanted = "false false false false false false false true ";
-    compare(&rt, forged_said(rt.alloc()), wanted);
+    compare(&rt, forged_said(rt.alloc(), &FORGED), wanted);
 }
 
 /// The moment that a record has.
@@ -131,9 +131,9 @@ fn note_moment(said: &mut String, record: &[u8], time: i64, bytes: &[u8]) {
     note(said, time_of(record) == Some(time));
 }
 
-fn moments_said(alloc: Global) -> String {
+fn moments_said(alloc: Global, rows: &[(i64, &[u8])]) -> String {
     let mut said = String::new(alloc);
-    for (time, bytes) in &MOMENTS {
+    for (time, bytes) in rows {
         let record = record(alloc, *time, b"");
         note_moment(&mut said, record.as_slice(), *time, bytes);
         drop(record);
@@ -144,7 +144,7 @@ fn moments_said(alloc: Global) -> String {
 #[test]
 fn moments_before_1970_are_in_twos_complement(rt: HostRuntime) {
     let wanted = "57 true true 57 true true 57 true true ";
-    compare(&rt, moments_said(rt.alloc()), wanted);
+    compare(&rt, moments_said(rt.alloc(), &MOMENTS), wanted);
 }
 
 /// Puts a record where one stands that is as long.
@@ -179,9 +179,6 @@ fn note_all<D: Disk>(
         note_next(said, reader, disk, *ask);
     }
 }
-
-/// Records of 60 bytes, two in the one file and one in the other.
-static PUT: [(File, &[u8]); 3] = [(HOME, b"one"), (HOME, b"two"), (COLD, b"six")];
 
 /// Where records are asked for. In the last six rows the record ends past the place, the place is no record's, is behind the
 /// end or the file ends before it.
@@ -231,19 +228,24 @@ fn note_new<D: Disk>(said: &mut String, alloc: Global, reader: &mut Reader, disk
     note_next(said, reader, disk, (HOME, 120, 180));
 }
 
-/// Puts the records on a disk from which the files are removed first, and writes what that answered.
+/// Puts records of 60 bytes, two in the one file and one in the other, on a disk from which the files are removed first, and writes what
+/// that answered.
 fn note_records<D: Disk>(said: &mut String, alloc: Global, disk: &mut D) {
-    for file in [HOME, COLD] {
-        note(said, disk.remove(file));
-    }
-    for (file, raw) in &PUT {
-        note(said, put_record(alloc, disk, *file, MOMENT, raw));
-    }
+    note(said, disk.remove(HOME));
+    note(said, disk.remove(COLD));
+    note(said, put_record(alloc, disk, HOME, MOMENT, b"one"));
+    note(said, put_record(alloc, disk, HOME, MOMENT, b"two"));
+    note(said, put_record(alloc, disk, COLD, MOMENT, b"six"));
 }
 
 /// Writes how many records a reader counts in a file up to a place.
-fn note_counts<D: Disk>(said: &mut String, reader: &mut Reader, disk: &mut D) {
-    for (file, until) in &COUNTED {
+fn note_counts<D: Disk>(
+    said: &mut String,
+    reader: &mut Reader,
+    disk: &mut D,
+    rows: &[(File, u64)],
+) {
+    for (file, until) in rows {
         note(said, count_records(reader, disk, *file, *until));
     }
 }
@@ -253,7 +255,7 @@ pub fn note_run<D: Disk>(said: &mut String, alloc: Global, disk: &mut D) {
     note_records(said, alloc, disk);
     if let Ok(mut reader) = Reader::new(alloc) {
         note_all(said, &mut reader, disk, &ASKED);
-        note_counts(said, &mut reader, disk);
+        note_counts(said, &mut reader, disk, &COUNTED);
         note_new(said, alloc, &mut reader, disk);
         drop(reader);
     }

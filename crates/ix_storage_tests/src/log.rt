@@ -6,7 +6,7 @@ ghost use Rattle.ix_log.specs.Log.{IsMounted, IsUsable, put_so_far};
 
 use crate::machine::{Work, machine_said};
 use crate::made::{bytes_of, empty};
-use crate::said::{compare, note};
+use crate::said::{compare, compare_none, note};
 use ix_base::{Area, Bytes, Failed, File, NoMemory};
 use ix_disk::{Disk, MemDisk, OneFail, StopDisk};
 use ix_log::{Log, LogFault, one_list};
@@ -167,13 +167,18 @@ static CUT: [(usize, usize, &[u8]); 5] = [
     (19, 19, THREE_SAID),
 ];
 
-fn cuts_unlike(alloc: Global) -> String {
+fn note_cuts(text: &mut String, alloc: Global, row: (usize, usize, &[u8])) {
+    let (from, to, want) = row;
+    for n in from..=to {
+        let found = said_of(alloc, THREE.get(..n).unwrap_or(THREE));
+        note_unlike(text, n, found, want);
+    }
+}
+
+fn cuts_unlike(alloc: Global, rows: &[(usize, usize, &[u8])]) -> String {
     let mut text = String::new(alloc);
-    for (from, to, want) in &CUT {
-        for n in *from..=*to {
-            let found = said_of(alloc, THREE.get(..n).unwrap_or(THREE));
-            note_unlike(&mut text, n, found, want);
-        }
+    for row in rows {
+        note_cuts(&mut text, alloc, *row);
     }
     text
 }
@@ -181,11 +186,13 @@ fn cuts_unlike(alloc: Global) -> String {
 #[test]
 fn a_log_that_is_cut_says_what_is_left(rt: HostRuntime) {
     one_list();
-    compare(&rt, cuts_unlike(rt.alloc()), "");
+    compare_none(&rt, cuts_unlike(rt.alloc(), &CUT));
 }
 
 /// The first and the last place of `THREE` where another byte is put, these bytes, and what the log says then.
-static CHANGED: [(usize, usize, &[u8], &[u8]); 30] = [
+type Changed = (usize, usize, &'static [u8], &'static [u8]);
+
+static CHANGED: [Changed; 30] = [
     (0, 0, b"\x00\x05\xff", b" None 0"),
     // the length of the first body
     (1, 3, b"\x01\x05\xff", b" Some(0) 0"),
@@ -241,39 +248,49 @@ fn note_changes(text: &mut String, alloc: Global, place: usize, bytes: &[u8], wa
     }
 }
 
-fn changes_unlike(alloc: Global) -> String {
+fn note_changed(text: &mut String, alloc: Global, row: Changed) {
+    let (from, to, bytes, want) = row;
+    for place in from..=to {
+        note_changes(text, alloc, place, bytes, want);
+    }
+}
+
+fn changes_unlike(alloc: Global, rows: &[Changed]) -> String {
     let mut text = String::new(alloc);
-    for (from, to, bytes, want) in &CHANGED {
-        for place in *from..=*to {
-            note_changes(&mut text, alloc, place, bytes, want);
-        }
+    for row in rows {
+        note_changed(&mut text, alloc, *row);
     }
     text
 }
 
 #[test]
 fn a_log_that_is_changed_says_what_its_bytes_say(rt: HostRuntime) {
-    compare(&rt, changes_unlike(rt.alloc()), "");
+    compare_none(&rt, changes_unlike(rt.alloc(), &CHANGED));
 }
 
-/// Lengths that pass the end.
-static LONG: [&[u8]; 3] = [
-    b"\x01\xff\xff\xff\xffab\x00",
-    b"\x01\x00\x00\x00\x03ab\x00",
-    b"\x01\xff",
-];
-
+/// What logs with lengths that pass the end say otherwise than that this is damage.
 fn long_unlike(alloc: Global) -> String {
     let mut text = String::new(alloc);
-    for file in &LONG {
-        note_unlike(&mut text, 0, said_of(alloc, file), b" Some(0) 0");
-    }
+    let want = b" Some(0) 0";
+    note_unlike(
+        &mut text,
+        0,
+        said_of(alloc, b"\x01\xff\xff\xff\xffab\x00"),
+        want,
+    );
+    note_unlike(
+        &mut text,
+        1,
+        said_of(alloc, b"\x01\x00\x00\x00\x03ab\x00"),
+        want,
+    );
+    note_unlike(&mut text, 2, said_of(alloc, b"\x01\xff"), want);
     text
 }
 
 #[test]
 fn a_length_that_passes_the_end_is_damage(rt: HostRuntime) {
-    compare(&rt, long_unlike(rt.alloc()), "");
+    compare_none(&rt, long_unlike(rt.alloc()));
 }
 
 /// The first 24 bytes of the log's file.
@@ -457,7 +474,7 @@ fn stops_said(alloc: Global) -> String {
 
 #[test]
 fn a_stop_leaves_the_old_bodies_or_one_more(rt: HostRuntime) {
-    compare(&rt, stops_said(rt.alloc()), "");
+    compare_none(&rt, stops_said(rt.alloc()));
 }
 
 fn is_old<D: Disk>(alloc: Global, disk: &mut D) -> bool {
