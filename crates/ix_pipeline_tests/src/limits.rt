@@ -1,7 +1,7 @@
 //! In which part of a text a time is read, and which time an event takes.
 
 use crate::rows::{put_time, settings};
-use crate::said::{compare, put};
+use crate::said::{compare, compare_none, put, shown};
 use ix_base::{Bytes, NoMemory};
 use ix_pattern::Pattern;
 use ix_props::TimeSettings;
@@ -47,9 +47,9 @@ fn put_found(text: &mut String, alloc: Global, line: &[u8], arrival: i64, last: 
     }
 }
 
-fn ages_said(alloc: Global) -> String {
+fn ages_said(alloc: Global, rows: &[(&str, Option<i64>)]) -> String {
     let mut text = String::new(alloc);
-    for (line, last) in &AGES {
+    for (line, last) in rows {
         put_found(&mut text, alloc, line.as_bytes(), MOMENT, *last);
     }
     text
@@ -59,7 +59,7 @@ fn ages_said(alloc: Global) -> String {
 fn ages_have_limits(rt: HostRuntime) {
     let wanted =
         "-; last 1730000000000000; 1557820000000000; last 5; 1730792800000000; -; last -5; last 7; -; ";
-    compare(&rt, ages_said(rt.alloc()), wanted);
+    compare(&rt, ages_said(rt.alloc(), &AGES), wanted);
 }
 
 /// Writes the moment that the time of a text is, which arrived at this one.
@@ -120,7 +120,10 @@ fn dated(
     }
 }
 
-static WINDOWS: [(&str, Option<u32>, &[u8], bool); 13] = [
+/// A prefix, how far ahead is looked, a text, and whether a date reads there.
+type Window = (&'static str, Option<u32>, &'static [u8], bool);
+
+static WINDOWS: [Window; 13] = [
     ("", Some(19), b"2023-11-14 22:13:20", true),
     ("", Some(18), b"2023-11-14 22:13:20", false),
     ("", Some(20), b" 2023-11-14 22:13:20", true),
@@ -136,21 +139,27 @@ static WINDOWS: [(&str, Option<u32>, &[u8], bool); 13] = [
     ("$", Some(128), b"2023-11-14 22:13:20", false),
 ];
 
-/// The texts of which something else is found.
-fn windows_unlike(alloc: Global) -> String {
-    let mut text = String::new(alloc);
-    for (number, (prefix, lookahead, line, wanted)) in WINDOWS.iter().enumerate() {
-        if dated(alloc, prefix, *lookahead, line) != Ok(*wanted) {
-            put(&mut text, number);
-            put(&mut text, "; ");
-        }
+/// Writes a text of which something else is found.
+fn note_window(unlike: &mut String, alloc: Global, row: Window) {
+    let (prefix, lookahead, line, wanted) = row;
+    if dated(alloc, prefix, lookahead, line) != Ok(wanted) {
+        put(unlike, prefix);
+        put(unlike, shown(line));
+        put(unlike, "; ");
     }
-    text
+}
+
+fn windows_unlike(alloc: Global, rows: &[Window]) -> String {
+    let mut unlike = String::new(alloc);
+    for row in rows {
+        note_window(&mut unlike, alloc, *row);
+    }
+    unlike
 }
 
 #[test]
 fn windows_bound_the_search(rt: HostRuntime) {
-    compare(&rt, windows_unlike(rt.alloc()), "");
+    compare_none(&rt, windows_unlike(rt.alloc(), &WINDOWS));
 }
 
 fn put_dated(text: &mut String, alloc: Global, lookahead: Option<u32>, line: &Bytes) {

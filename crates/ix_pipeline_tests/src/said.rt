@@ -29,6 +29,12 @@ pub(crate) fn compare(rt: &impl Abort, found: String, wanted: &str) {
     assert_eq!(rt; found.as_str(), wanted);
 }
 
+/// Nothing was found that is unlike what is wanted. A mark that is written behind it tells that there was memory for it.
+pub(crate) fn compare_none(rt: &impl Abort, mut unlike: String) {
+    put(&mut unlike, "no other");
+    compare(rt, unlike, "no other");
+}
+
 /// The bytes as a text.
 pub(crate) fn shown(bytes: &[u8]) -> &str {
     str::from_utf8(bytes).unwrap_or("?")
