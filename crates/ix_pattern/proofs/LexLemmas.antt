@@ -1,5 +1,6 @@
 -- Rounds of readers.
-use Rattle.std.proofs.Common.{◌≡◌, ℕ, suc, ◌+◌, ◌-◌, ◌<◌, ◌≤◌, zero, length, [], ◌∷◌, Bool, List, Option, Some, None, if◌then◌else◌, refl, sym, ◌∙◌, ap, ◌++◌, append_assoc, append-nil, arith}
+use Rattle.std.proofs.Common.{◌≡◌, ℕ, suc, ◌+◌, ◌-◌, ◌<◌, ◌≤◌, zero, length, [], ◌∷◌, Bool, true, false, ◌==◌, List, Option, Some, None, if◌then◌else◌, refl, sym, ◌∙◌, ap, ◌++◌, append_assoc, append-nil, arith}
+use Rattle.std.proofs.lemmas.Bool.{false≢true}
 use Rattle.ix_pattern.specs.Tokens.{turn, members, modifier, modifiers, behind_modifier, token_front, tokens, ◌>>=◌}
 use Rattle.ix_pattern.specs.declared.tokens.Flags.{Flags}
 use Rattle.ix_pattern.specs.declared.tokens.Token.{Token}
@@ -67,4 +68,30 @@ pub tokens_finished : (front : List Token) (n : ℕ) (flags : Flags) (bytes : Li
 tokens_finished front n flags bytes whole is e =
     ap Some (sym (append-nil front)) ∙ ap (with_front front) (sym (tokens_end n flags bytes e)) ∙ is
 
-pub ruleset token_rounds = (tokens_turn, tokens_end, tokens_done, with_front-turn)
+-- where a token is at the front, the rest is found behind it
+pub tokens_step : (front more : List Token) (n m : ℕ) (flags : Flags) (bytes behind : List ℕ) (t : Token) (whole : Option (List Token)) → m < n → 0 < length bytes →
+    Some (t, behind) ≡ token_front flags bytes → more ≡ front ++ t ∷ [] → with_front front (tokens (n - m) flags bytes) ≡ whole → with_front more (tokens (n - (m + 1)) flags behind) ≡ whole
+tokens_step front more n m flags bytes behind t whole lt some found grown is =
+    let others : Token × List ℕ → Option (List Token) = λ t. tokens (n - (m + 1)) flags t.1 >>= λ others. Some (t.0 ∷ others) in
+    ap (λ f. with_front f (tokens (n - (m + 1)) flags behind)) grown ∙ sym (with_front-turn front (t, behind) (tokens (n - (m + 1)) flags behind))
+        ∙ ap (λ o. with_front front (o >>= others)) found ∙ ap (with_front front) (sym (tokens_turn n m flags bytes lt some)) ∙ is
+
+-- where none is, there are no tokens
+pub tokens_failed : (front : List Token) (n m : ℕ) (flags : Flags) (bytes : List ℕ) (whole : Option (List Token)) → m < n → 0 < length bytes →
+    None ≡ token_front flags bytes → with_front front (tokens (n - m) flags bytes) ≡ whole → None ≡ whole
+tokens_failed front n m flags bytes whole lt some none is =
+    let others : Token × List ℕ → Option (List Token) = λ t. tokens (n - (m + 1)) flags t.1 >>= λ others. Some (t.0 ∷ others) in
+    ap (λ o. with_front front (o >>= others)) none ∙ ap (with_front front) (sym (tokens_turn n m flags bytes lt some)) ∙ is
+
+-- nor where there are more than so many
+pub tokens_over : (front : List Token) (n m : ℕ) (flags : Flags) (bytes : List ℕ) (whole : Option (List Token)) → n ≤ m → 0 < length bytes →
+    with_front front (tokens (n - m) flags bytes) ≡ whole → None ≡ whole
+tokens_over front n m flags bytes whole le some is = ap (with_front front) (sym (tokens_done n m flags bytes le some)) ∙ is
+
+-- what the test of a length means
+pub none_of : (bytes : List ℕ) → true ≡ (length bytes == 0) → length bytes ≡ 0
+none_of bytes e = grind arith
+
+pub some_of : (bytes : List ℕ) → false ≡ (length bytes == 0) → 0 < length bytes
+some_of [] e = absurd (false≢true e)
+some_of (b ∷ bytes) e = omega arith

@@ -124,7 +124,6 @@ fn token_front(flags: Flags, bytes: &[u8]) -> Option<(Token, &[u8])>
 }
 
 /// All tokens, of which there are at most so many.
-#[tactic(auto, using(crate::proofs::LexLemmas::token_rounds))]
 fn tokens(
     alloc: Global,
     most: usize,
