@@ -19,6 +19,7 @@ pub mod AskLemmas
 pub mod TableLemmas
 pub mod TestLemmas
 pub mod ChainLemmas
+pub mod EmitLemmas
 pub mod AttemptLemmas
 pub mod FinderLemmas
 pub mod SeekLemmas

@@ -56,30 +56,12 @@ pub fn write_piece(
 {
     match p.node(piece) {
         Node::Nothing => Ok(next),
-        Node::Bytes => {
-            let pc = emit(code, Instr::Byte { set: piece, next })?;
-            Ok(pc)
-        }
-        Node::Start { lines } => {
-            let pc = emit(code, Instr::TextStart { lines, next })?;
-            Ok(pc)
-        }
-        Node::Finish { lines } => {
-            let pc = emit(code, Instr::TextEnd { lines, next })?;
-            Ok(pc)
-        }
-        Node::Word => {
-            let pc = emit(code, Instr::Word { next })?;
-            Ok(pc)
-        }
-        Node::Seq { first, rest } => {
-            let begin = write_sequence(p, first, rest, next, code)?;
-            Ok(begin)
-        }
-        Node::Either { first, other } => {
-            let begin = write_alternatives(p, first, other, next, code)?;
-            Ok(begin)
-        }
+        Node::Bytes => emit(code, Instr::Byte { set: piece, next }),
+        Node::Start { lines } => emit(code, Instr::TextStart { lines, next }),
+        Node::Finish { lines } => emit(code, Instr::TextEnd { lines, next }),
+        Node::Word => emit(code, Instr::Word { next }),
+        Node::Seq { first, rest } => write_sequence(p, first, rest, next, code),
+        Node::Either { first, other } => write_alternatives(p, first, other, next, code),
         Node::Count {
             inside,
             least,
@@ -88,28 +70,22 @@ pub fn write_piece(
         } => match most {
             None => {
                 let further = write_star(p, inside, lazy, next, code)?;
-                let begin = write_turns(p, inside, least, further, code)?;
-                Ok(begin)
+                write_turns(p, inside, least, further, code)
             }
             Some(most) => {
                 let further = write_maybe(p, inside, most.saturating_sub(least), lazy, next, code)?;
-                let begin = write_turns(p, inside, least, further, code)?;
-                Ok(begin)
+                write_turns(p, inside, least, further, code)
             }
         },
         Node::Group { number, inside } => {
             let end = emit(code, Instr::Finish { number, next })?;
             let start = write_piece(p, inside, end, code)?;
-            let pc = emit(code, Instr::Begin { next: start })?;
-            Ok(pc)
+            emit(code, Instr::Begin { next: start })
         }
         Node::Ahead {
             inside: _inside,
             wanted: _wanted,
-        } => {
-            let pc = emit(code, Instr::Look { piece, next })?;
-            Ok(pc)
-        }
+        } => emit(code, Instr::Look { piece, next }),
     }
 }
 

@@ -1,55 +1,277 @@
-use Rattle.std.proofs.Common.{◌≡◌, max, true, false, [], ◌∷◌, ◌++◌, set, length-append, sym, ◌∙◌, ap, subst, arith}
+use Rattle.std.proofs.Common.{◌≡◌, ◌<◌, ◌≤◌, IfOk, OnOk, max, length, true, false, [], ◌∷◌, ◌++◌, set, length-append, sym, ◌∙◌, ap, subst, arith}
+use Rattle.std.proofs.Math.Nat.{le_refl, le_trans}
+use Rattle.std.proofs.lemmas.Result.{IfOk-from_err, IfOk-weaker}
 use Rattle.ix_pattern.specs.Piece.{seq, either, count, group, ahead, IsPlain}
 use Rattle.ix_pattern.specs.Rows.{piece_at}
-use Rattle.ix_threads.specs.declared.code.Instr.TheVariants.{Jump, Byte, TextStart, TextEnd, Word}
+use Rattle.ix_threads.specs.declared.code.Instr.TheVariants.{Jump, Byte, Begin, Finish, TextStart, TextEnd, Word, Look}
+use Rattle.ix_threads.specs.Looks.{HasNoLook}
 use Rattle.ix_threads.specs.Aims.{Writes, pre, pre_maybe, pre_turns}
 use Rattle.ix_threads.proofs.WriteLemmas.{writes-nothing, writes-byte, writes-start, writes-finish, writes-word, writes-group, writes-look}
 use Rattle.ix_threads.proofs.ChainLemmas.{chaining-first, chaining-seq, chaining-either, chaining-end, part-fits}
+use Rattle.ix_threads.proofs.EmitLemmas.{emitted, put-within, put-longer, in-any, byte-no-look, start-no-look, end-no-look, word-no-look, jump-no-look}
 use Rattle.ix_threads.proofs.SettleLemmas.{none-left}
 use Rattle.ix_threads.proofs.PlainLemmas.{IsNoLook, no-look-push, no-look-set, choice-no-look}
 use Rattle.ix_threads.proofs.CountLemmas.{writes-turns-none, writes-turn, writes-maybe-none, writes-maybe, writes-star, writes-count-some, writes-count-none}
 use Rattle.ix_threads.proofs.compile.+writing.Goals as goal
 
-pub write_piece-returns-in-Nothing-clause-writes : goal.write_piece-returns-in-Nothing-clause-writes
-write_piece-returns-in-Nothing-clause-writes t c =
-    subst (λ q. Writes c.args.p.now.rows (pre q) c.args.next c.args.code.now.items c.args.code.now.items c.args.next) (sym c.in-Nothing.ensures.is)
-    (writes-nothing c.args.p.now.rows c.args.next c.args.code.now.items)
+pub write_piece-returns-in-Nothing : goal.write_piece-returns-in-Nothing
+write_piece-returns-in-Nothing t c = record {
+  writes = subst (λ q. Writes c.args.p.now.rows (pre q) c.args.next c.args.code.now.items c.args.code.now.items c.args.next) (sym c.in-Nothing.ensures.is) (writes-nothing c.args.p.now.rows c.args.next c.args.code.now.items);
+  within = c.requires.next;
+  grown = le_refl (length c.args.code.now.items);
+  plain = λ pl free. free;
+}
 
-pub write_piece-returns-in_ok-pc-in-Bytes-clause-writes : goal.write_piece-returns-in_ok-pc-in-Bytes-clause-writes
-write_piece-returns-in_ok-pc-in-Bytes-clause-writes t c =
-    subst (λ q. Writes c.args.p.now.rows (pre q) c.args.next c.args.code.now.items c.emit.new.code.items c.in_ok-pc-in-Bytes.pc) (sym c.in-Bytes.ensures.is)
-    (writes-byte c.args.p.now.rows c.args.piece c.args.next c.args.code.now.items c.emit.new.code.items c.in_ok-pc-in-Bytes.pc c.in_ok-pc-in-Bytes.ensures.code c.in_ok-pc-in-Bytes.ensures.pc c.requires.piece c.in-Bytes.ensures.node)
+pub write_piece-returns-in-Bytes : goal.write_piece-returns-in-Bytes
+write_piece-returns-in-Bytes t c = record {
+  writes = emitted c.args.code.now.items c.emit.new.code.items (Byte c.args.piece c.args.next) (λ begin. Writes c.args.p.now.rows (pre (piece_at c.args.p.now.rows c.args.piece)) c.args.next c.args.code.now.items c.emit.new.code.items begin) c.emit.result (λ begin code here. subst (λ q. Writes c.args.p.now.rows (pre q) c.args.next c.args.code.now.items c.emit.new.code.items begin) (sym c.in-Bytes.ensures.is) (writes-byte c.args.p.now.rows c.args.piece c.args.next c.args.code.now.items c.emit.new.code.items begin code here c.requires.piece c.in-Bytes.ensures.node)) c.emit.ensures.code c.emit.ensures.pc;
+  within = emitted c.args.code.now.items c.emit.new.code.items (Byte c.args.piece c.args.next) (λ begin. begin < length c.emit.new.code.items) c.emit.result (put-within c.args.code.now.items c.emit.new.code.items (Byte c.args.piece c.args.next)) c.emit.ensures.code c.emit.ensures.pc;
+  grown = emitted c.args.code.now.items c.emit.new.code.items (Byte c.args.piece c.args.next) (λ _. length c.args.code.now.items ≤ length c.emit.new.code.items) c.emit.result (λ pc code here. put-longer c.args.code.now.items c.emit.new.code.items (Byte c.args.piece c.args.next) code) c.emit.ensures.code c.emit.ensures.pc;
+  plain = emitted c.args.code.now.items c.emit.new.code.items (Byte c.args.piece c.args.next) (λ _. IsPlain (piece_at c.args.p.now.rows c.args.piece) → HasNoLook c.args.code.now.items → HasNoLook c.emit.new.code.items) c.emit.result (λ pc code here pl free. no-look-push c.args.code.now.items c.emit.new.code.items (Byte c.args.piece c.args.next) code (byte-no-look c.args.piece c.args.next) free) c.emit.ensures.code c.emit.ensures.pc;
+}
 
-pub write_piece-returns-in_ok-pc-in-Start-clause-writes : goal.write_piece-returns-in_ok-pc-in-Start-clause-writes
-write_piece-returns-in_ok-pc-in-Start-clause-writes t c =
-    subst (λ q. Writes c.args.p.now.rows (pre q) c.args.next c.args.code.now.items c.emit-in-Start.new.code.items c.in_ok-pc-in-Start.pc) (sym c.in-Start.ensures.is)
-    (writes-start c.args.p.now.rows c.in-Start.lines c.args.next c.args.code.now.items c.emit-in-Start.new.code.items c.in_ok-pc-in-Start.pc c.in_ok-pc-in-Start.ensures.code c.in_ok-pc-in-Start.ensures.pc)
+pub write_piece-returns-in-Start : goal.write_piece-returns-in-Start
+write_piece-returns-in-Start t c = record {
+  writes = emitted c.args.code.now.items c.emit-in-Start.new.code.items (TextStart c.in-Start.lines c.args.next) (λ begin. Writes c.args.p.now.rows (pre (piece_at c.args.p.now.rows c.args.piece)) c.args.next c.args.code.now.items c.emit-in-Start.new.code.items begin) c.emit-in-Start.result (λ begin code here. subst (λ q. Writes c.args.p.now.rows (pre q) c.args.next c.args.code.now.items c.emit-in-Start.new.code.items begin) (sym c.in-Start.ensures.is) (writes-start c.args.p.now.rows c.in-Start.lines c.args.next c.args.code.now.items c.emit-in-Start.new.code.items begin code here)) c.emit-in-Start.ensures.code c.emit-in-Start.ensures.pc;
+  within = emitted c.args.code.now.items c.emit-in-Start.new.code.items (TextStart c.in-Start.lines c.args.next) (λ begin. begin < length c.emit-in-Start.new.code.items) c.emit-in-Start.result (put-within c.args.code.now.items c.emit-in-Start.new.code.items (TextStart c.in-Start.lines c.args.next)) c.emit-in-Start.ensures.code c.emit-in-Start.ensures.pc;
+  grown = emitted c.args.code.now.items c.emit-in-Start.new.code.items (TextStart c.in-Start.lines c.args.next) (λ _. length c.args.code.now.items ≤ length c.emit-in-Start.new.code.items) c.emit-in-Start.result (λ pc code here. put-longer c.args.code.now.items c.emit-in-Start.new.code.items (TextStart c.in-Start.lines c.args.next) code) c.emit-in-Start.ensures.code c.emit-in-Start.ensures.pc;
+  plain = emitted c.args.code.now.items c.emit-in-Start.new.code.items (TextStart c.in-Start.lines c.args.next) (λ _. IsPlain (piece_at c.args.p.now.rows c.args.piece) → HasNoLook c.args.code.now.items → HasNoLook c.emit-in-Start.new.code.items) c.emit-in-Start.result (λ pc code here pl free. no-look-push c.args.code.now.items c.emit-in-Start.new.code.items (TextStart c.in-Start.lines c.args.next) code (start-no-look c.in-Start.lines c.args.next) free) c.emit-in-Start.ensures.code c.emit-in-Start.ensures.pc;
+}
 
-pub write_piece-returns-in_ok-pc-in-Finish-clause-writes : goal.write_piece-returns-in_ok-pc-in-Finish-clause-writes
-write_piece-returns-in_ok-pc-in-Finish-clause-writes t c =
-    subst (λ q. Writes c.args.p.now.rows (pre q) c.args.next c.args.code.now.items c.emit-in-Finish.new.code.items c.in_ok-pc-in-Finish.pc) (sym c.in-Finish.ensures.is)
-    (writes-finish c.args.p.now.rows c.in-Finish.lines c.args.next c.args.code.now.items c.emit-in-Finish.new.code.items c.in_ok-pc-in-Finish.pc c.in_ok-pc-in-Finish.ensures.code c.in_ok-pc-in-Finish.ensures.pc)
+pub write_piece-returns-in-Finish : goal.write_piece-returns-in-Finish
+write_piece-returns-in-Finish t c = record {
+  writes = emitted c.args.code.now.items c.emit-in-Finish.new.code.items (TextEnd c.in-Finish.lines c.args.next) (λ begin. Writes c.args.p.now.rows (pre (piece_at c.args.p.now.rows c.args.piece)) c.args.next c.args.code.now.items c.emit-in-Finish.new.code.items begin) c.emit-in-Finish.result (λ begin code here. subst (λ q. Writes c.args.p.now.rows (pre q) c.args.next c.args.code.now.items c.emit-in-Finish.new.code.items begin) (sym c.in-Finish.ensures.is) (writes-finish c.args.p.now.rows c.in-Finish.lines c.args.next c.args.code.now.items c.emit-in-Finish.new.code.items begin code here)) c.emit-in-Finish.ensures.code c.emit-in-Finish.ensures.pc;
+  within = emitted c.args.code.now.items c.emit-in-Finish.new.code.items (TextEnd c.in-Finish.lines c.args.next) (λ begin. begin < length c.emit-in-Finish.new.code.items) c.emit-in-Finish.result (put-within c.args.code.now.items c.emit-in-Finish.new.code.items (TextEnd c.in-Finish.lines c.args.next)) c.emit-in-Finish.ensures.code c.emit-in-Finish.ensures.pc;
+  grown = emitted c.args.code.now.items c.emit-in-Finish.new.code.items (TextEnd c.in-Finish.lines c.args.next) (λ _. length c.args.code.now.items ≤ length c.emit-in-Finish.new.code.items) c.emit-in-Finish.result (λ pc code here. put-longer c.args.code.now.items c.emit-in-Finish.new.code.items (TextEnd c.in-Finish.lines c.args.next) code) c.emit-in-Finish.ensures.code c.emit-in-Finish.ensures.pc;
+  plain = emitted c.args.code.now.items c.emit-in-Finish.new.code.items (TextEnd c.in-Finish.lines c.args.next) (λ _. IsPlain (piece_at c.args.p.now.rows c.args.piece) → HasNoLook c.args.code.now.items → HasNoLook c.emit-in-Finish.new.code.items) c.emit-in-Finish.result (λ pc code here pl free. no-look-push c.args.code.now.items c.emit-in-Finish.new.code.items (TextEnd c.in-Finish.lines c.args.next) code (end-no-look c.in-Finish.lines c.args.next) free) c.emit-in-Finish.ensures.code c.emit-in-Finish.ensures.pc;
+}
 
-pub write_piece-returns-in_ok-pc-in-Word-clause-writes : goal.write_piece-returns-in_ok-pc-in-Word-clause-writes
-write_piece-returns-in_ok-pc-in-Word-clause-writes t c =
-    subst (λ q. Writes c.args.p.now.rows (pre q) c.args.next c.args.code.now.items c.emit-in-Word.new.code.items c.in_ok-pc-in-Word.pc) (sym c.in-Word.ensures.is)
-    (writes-word c.args.p.now.rows c.args.next c.args.code.now.items c.emit-in-Word.new.code.items c.in_ok-pc-in-Word.pc c.in_ok-pc-in-Word.ensures.code c.in_ok-pc-in-Word.ensures.pc)
+pub write_piece-returns-in-Word : goal.write_piece-returns-in-Word
+write_piece-returns-in-Word t c = record {
+  writes = emitted c.args.code.now.items c.emit-in-Word.new.code.items (Word c.args.next) (λ begin. Writes c.args.p.now.rows (pre (piece_at c.args.p.now.rows c.args.piece)) c.args.next c.args.code.now.items c.emit-in-Word.new.code.items begin) c.emit-in-Word.result (λ begin code here. subst (λ q. Writes c.args.p.now.rows (pre q) c.args.next c.args.code.now.items c.emit-in-Word.new.code.items begin) (sym c.in-Word.ensures.is) (writes-word c.args.p.now.rows c.args.next c.args.code.now.items c.emit-in-Word.new.code.items begin code here)) c.emit-in-Word.ensures.code c.emit-in-Word.ensures.pc;
+  within = emitted c.args.code.now.items c.emit-in-Word.new.code.items (Word c.args.next) (λ begin. begin < length c.emit-in-Word.new.code.items) c.emit-in-Word.result (put-within c.args.code.now.items c.emit-in-Word.new.code.items (Word c.args.next)) c.emit-in-Word.ensures.code c.emit-in-Word.ensures.pc;
+  grown = emitted c.args.code.now.items c.emit-in-Word.new.code.items (Word c.args.next) (λ _. length c.args.code.now.items ≤ length c.emit-in-Word.new.code.items) c.emit-in-Word.result (λ pc code here. put-longer c.args.code.now.items c.emit-in-Word.new.code.items (Word c.args.next) code) c.emit-in-Word.ensures.code c.emit-in-Word.ensures.pc;
+  plain = emitted c.args.code.now.items c.emit-in-Word.new.code.items (Word c.args.next) (λ _. IsPlain (piece_at c.args.p.now.rows c.args.piece) → HasNoLook c.args.code.now.items → HasNoLook c.emit-in-Word.new.code.items) c.emit-in-Word.result (λ pc code here pl free. no-look-push c.args.code.now.items c.emit-in-Word.new.code.items (Word c.args.next) code (word-no-look c.args.next) free) c.emit-in-Word.ensures.code c.emit-in-Word.ensures.pc;
+}
 
-pub write_piece-returns-in_ok-begin-in-None-clause-writes : goal.write_piece-returns-in_ok-begin-in-None-clause-writes
-write_piece-returns-in_ok-begin-in-None-clause-writes t c =
-    subst (λ q. Writes c.args.p.now.rows (pre q) c.args.next c.args.code.now.items c.write_turns.new.code.items c.in_ok-begin-in-None.begin) (ap (λ m. count (piece_at c.args.p.now.rows c.in-Count.inside) c.in-Count.least m c.in-Count.lazy) (sym c.in-None.is) ∙ sym c.in-Count.ensures.is)
-    (writes-count-none c.args.p.now.rows (piece_at c.args.p.now.rows c.in-Count.inside) c.in-Count.least c.in-Count.lazy c.args.next c.args.code.now.items c.write_star.new.code.items c.write_turns.new.code.items c.in_ok-further-in-None.further c.in_ok-begin-in-None.begin c.in_ok-further-in-None.ensures.writes c.in_ok-begin-in-None.ensures.writes)
+pub write_piece-returns-in-Ahead : goal.write_piece-returns-in-Ahead
+write_piece-returns-in-Ahead t c = record {
+  writes = emitted c.args.code.now.items c.emit-in-Ahead.new.code.items (Look c.args.piece c.args.next) (λ begin. Writes c.args.p.now.rows (pre (piece_at c.args.p.now.rows c.args.piece)) c.args.next c.args.code.now.items c.emit-in-Ahead.new.code.items begin) c.emit-in-Ahead.result (λ begin code here. (writes-look c.args.p.now.rows c.args.piece (piece_at c.args.p.now.rows c.in-Ahead._inside) c.in-Ahead._wanted c.args.next c.args.code.now.items c.emit-in-Ahead.new.code.items begin code here c.in-Ahead.ensures.is
+      (record { below = c.requires.piece; sound = c.requires.sound; inside = piece_at c.args.p.now.rows c.in-Ahead._inside; wanted = c.in-Ahead._wanted; is = c.in-Ahead.ensures.is }))) c.emit-in-Ahead.ensures.code c.emit-in-Ahead.ensures.pc;
+  within = emitted c.args.code.now.items c.emit-in-Ahead.new.code.items (Look c.args.piece c.args.next) (λ begin. begin < length c.emit-in-Ahead.new.code.items) c.emit-in-Ahead.result (put-within c.args.code.now.items c.emit-in-Ahead.new.code.items (Look c.args.piece c.args.next)) c.emit-in-Ahead.ensures.code c.emit-in-Ahead.ensures.pc;
+  grown = emitted c.args.code.now.items c.emit-in-Ahead.new.code.items (Look c.args.piece c.args.next) (λ _. length c.args.code.now.items ≤ length c.emit-in-Ahead.new.code.items) c.emit-in-Ahead.result (λ pc code here. put-longer c.args.code.now.items c.emit-in-Ahead.new.code.items (Look c.args.piece c.args.next) code) c.emit-in-Ahead.ensures.code c.emit-in-Ahead.ensures.pc;
+  plain = in-any (IsPlain (piece_at c.args.p.now.rows c.args.piece) → HasNoLook c.args.code.now.items → HasNoLook c.emit-in-Ahead.new.code.items) c.emit-in-Ahead.result (λ pl free. absurd (let q : IsPlain (ahead (piece_at c.args.p.now.rows c.in-Ahead._inside) c.in-Ahead._wanted) = subst IsPlain c.in-Ahead.ensures.is pl in q));
+}
 
-pub write_piece-returns-in_ok-begin-in-Some-clause-writes : goal.write_piece-returns-in_ok-begin-in-Some-clause-writes
-write_piece-returns-in_ok-begin-in-Some-clause-writes t c =
-    subst (λ q. Writes c.args.p.now.rows (pre q) c.args.next c.args.code.now.items c.write_turns-in-Some.new.code.items c.in_ok-begin-in-Some.begin) (ap (λ m. count (piece_at c.args.p.now.rows c.in-Count.inside) c.in-Count.least m c.in-Count.lazy) (sym c.in-Some.is) ∙ sym c.in-Count.ensures.is)
-    (writes-count-some c.args.p.now.rows (piece_at c.args.p.now.rows c.in-Count.inside) c.in-Count.least c.in-Some.most c.in-Count.lazy c.args.next c.args.code.now.items c.write_maybe.new.code.items c.write_turns-in-Some.new.code.items c.in_ok-further-in-Some.further c.in_ok-begin-in-Some.begin
-    (subst (λ k. Writes c.args.p.now.rows (pre_maybe (piece_at c.args.p.now.rows c.in-Count.inside) c.in-Count.lazy k) c.args.next c.args.code.now.items c.write_maybe.new.code.items c.in_ok-further-in-Some.further) c.saturating_sub.ensures c.in_ok-further-in-Some.ensures.writes) c.in_ok-begin-in-Some.ensures.writes)
+pub write_piece-returns-in-Seq : goal.write_piece-returns-in-Seq
+write_piece-returns-in-Seq t c = record {
+  writes = subst (λ q. IfOk c.write_sequence.result (λ begin. Writes c.args.p.now.rows (pre q) c.args.next c.args.code.now.items c.write_sequence.new.code.items begin)) (sym c.in-Seq.ensures.is) c.write_sequence.ensures.writes;
+  within = c.write_sequence.ensures.within;
+  grown = c.write_sequence.ensures.grown;
+  plain = subst (λ q. OnOk c.write_sequence.result (IsPlain q → HasNoLook c.args.code.now.items → HasNoLook c.write_sequence.new.code.items)) (sym c.in-Seq.ensures.is) c.write_sequence.ensures.plain;
+}
 
-pub write_piece-returns-in_ok-pc-in-Group-clause-writes : goal.write_piece-returns-in_ok-pc-in-Group-clause-writes
-write_piece-returns-in_ok-pc-in-Group-clause-writes t c =
-    subst (λ q. Writes c.args.p.now.rows (pre q) c.args.next c.args.code.now.items c.emit-in-Group-2.new.code.items c.in_ok-pc-in-Group.pc) (sym c.in-Group.ensures.is)
-    (writes-group c.args.p.now.rows c.in-Group.number (piece_at c.args.p.now.rows c.in-Group.inside) c.args.next c.args.code.now.items c.emit-in-Group.new.code.items c.write_piece.new.code.items c.emit-in-Group-2.new.code.items c.in_ok-end-in-Group.end c.in_ok-start-in-Group.start c.in_ok-pc-in-Group.pc c.in_ok-end-in-Group.ensures.code c.in_ok-end-in-Group.ensures.pc c.in_ok-start-in-Group.ensures.writes c.in_ok-pc-in-Group.ensures.code c.in_ok-pc-in-Group.ensures.pc)
+pub write_piece-returns-in-Either : goal.write_piece-returns-in-Either
+write_piece-returns-in-Either t c = record {
+  writes = subst (λ q. IfOk c.write_alternatives.result (λ begin. Writes c.args.p.now.rows (pre q) c.args.next c.args.code.now.items c.write_alternatives.new.code.items begin)) (sym c.in-Either.ensures.is) c.write_alternatives.ensures.writes;
+  within = c.write_alternatives.ensures.within;
+  grown = c.write_alternatives.ensures.grown;
+  plain = subst (λ q. OnOk c.write_alternatives.result (IsPlain q → HasNoLook c.args.code.now.items → HasNoLook c.write_alternatives.new.code.items)) (sym c.in-Either.ensures.is) c.write_alternatives.ensures.plain;
+}
+
+pub write_piece-returns-in_ok-further-in-None : goal.write_piece-returns-in_ok-further-in-None
+write_piece-returns-in_ok-further-in-None t c = record {
+  writes = IfOk-weaker c.write_turns.result (λ begin. Writes c.args.p.now.rows (pre_turns (piece_at c.args.p.now.rows c.in-Count.inside) c.in-Count.least) c.in_ok-further-in-None.further c.write_star.new.code.items c.write_turns.new.code.items begin) (λ begin. Writes c.args.p.now.rows (pre (piece_at c.args.p.now.rows c.args.piece)) c.args.next c.args.code.now.items c.write_turns.new.code.items begin) (λ begin turns. subst (λ q. Writes c.args.p.now.rows (pre q) c.args.next c.args.code.now.items c.write_turns.new.code.items begin) (ap (λ m. count (piece_at c.args.p.now.rows c.in-Count.inside) c.in-Count.least m c.in-Count.lazy) (sym c.in-None.is) ∙ sym c.in-Count.ensures.is)
+      (writes-count-none c.args.p.now.rows (piece_at c.args.p.now.rows c.in-Count.inside) c.in-Count.least c.in-Count.lazy c.args.next c.args.code.now.items c.write_star.new.code.items c.write_turns.new.code.items c.in_ok-further-in-None.further begin c.in_ok-further-in-None.ensures.writes turns)) c.write_turns.ensures.writes;
+  within = c.write_turns.ensures.within;
+  grown = IfOk-weaker c.write_turns.result (λ _. length c.write_star.new.code.items ≤ length c.write_turns.new.code.items) (λ _. length c.args.code.now.items ≤ length c.write_turns.new.code.items) (λ _ longer. le_trans c.in_ok-further-in-None.ensures.grown longer) c.write_turns.ensures.grown;
+  plain = IfOk-weaker c.write_turns.result (λ _. IsPlain (piece_at c.args.p.now.rows c.in-Count.inside) → HasNoLook c.write_star.new.code.items → HasNoLook c.write_turns.new.code.items) (λ _. IsPlain (piece_at c.args.p.now.rows c.args.piece) → HasNoLook c.args.code.now.items → HasNoLook c.write_turns.new.code.items) (λ _ turns pl free.
+      let q : IsPlain (piece_at c.args.p.now.rows c.in-Count.inside) = subst IsPlain c.in-Count.ensures.is pl in turns q (c.in_ok-further-in-None.ensures.plain q free)) c.write_turns.ensures.plain;
+}
+
+pub write_piece-returns-in_ok-further-in-Some : goal.write_piece-returns-in_ok-further-in-Some
+write_piece-returns-in_ok-further-in-Some t c = record {
+  writes = IfOk-weaker c.write_turns-in-Some.result (λ begin. Writes c.args.p.now.rows (pre_turns (piece_at c.args.p.now.rows c.in-Count.inside) c.in-Count.least) c.in_ok-further-in-Some.further c.write_maybe.new.code.items c.write_turns-in-Some.new.code.items begin) (λ begin. Writes c.args.p.now.rows (pre (piece_at c.args.p.now.rows c.args.piece)) c.args.next c.args.code.now.items c.write_turns-in-Some.new.code.items begin) (λ begin turns. subst (λ q. Writes c.args.p.now.rows (pre q) c.args.next c.args.code.now.items c.write_turns-in-Some.new.code.items begin) (ap (λ m. count (piece_at c.args.p.now.rows c.in-Count.inside) c.in-Count.least m c.in-Count.lazy) (sym c.in-Some.is) ∙ sym c.in-Count.ensures.is)
+      (writes-count-some c.args.p.now.rows (piece_at c.args.p.now.rows c.in-Count.inside) c.in-Count.least c.in-Some.most c.in-Count.lazy c.args.next c.args.code.now.items c.write_maybe.new.code.items c.write_turns-in-Some.new.code.items c.in_ok-further-in-Some.further begin
+      (subst (λ k. Writes c.args.p.now.rows (pre_maybe (piece_at c.args.p.now.rows c.in-Count.inside) c.in-Count.lazy k) c.args.next c.args.code.now.items c.write_maybe.new.code.items c.in_ok-further-in-Some.further) c.saturating_sub.ensures c.in_ok-further-in-Some.ensures.writes) turns)) c.write_turns-in-Some.ensures.writes;
+  within = c.write_turns-in-Some.ensures.within;
+  grown = IfOk-weaker c.write_turns-in-Some.result (λ _. length c.write_maybe.new.code.items ≤ length c.write_turns-in-Some.new.code.items) (λ _. length c.args.code.now.items ≤ length c.write_turns-in-Some.new.code.items) (λ _ longer. le_trans c.in_ok-further-in-Some.ensures.grown longer) c.write_turns-in-Some.ensures.grown;
+  plain = IfOk-weaker c.write_turns-in-Some.result (λ _. IsPlain (piece_at c.args.p.now.rows c.in-Count.inside) → HasNoLook c.write_maybe.new.code.items → HasNoLook c.write_turns-in-Some.new.code.items) (λ _. IsPlain (piece_at c.args.p.now.rows c.args.piece) → HasNoLook c.args.code.now.items → HasNoLook c.write_turns-in-Some.new.code.items) (λ _ turns pl free.
+      let q : IsPlain (piece_at c.args.p.now.rows c.in-Count.inside) = subst IsPlain c.in-Count.ensures.is pl in turns q (c.in_ok-further-in-Some.ensures.plain q free)) c.write_turns-in-Some.ensures.plain;
+}
+
+pub write_piece-returns-in_ok-start-in-Group : goal.write_piece-returns-in_ok-start-in-Group
+write_piece-returns-in_ok-start-in-Group t c = record {
+  writes = emitted c.write_piece.new.code.items c.emit-in-Group-2.new.code.items (Begin c.in_ok-start-in-Group.start) (λ begin. Writes c.args.p.now.rows (pre (piece_at c.args.p.now.rows c.args.piece)) c.args.next c.args.code.now.items c.emit-in-Group-2.new.code.items begin) c.emit-in-Group-2.result (λ begin code here. subst (λ q. Writes c.args.p.now.rows (pre q) c.args.next c.args.code.now.items c.emit-in-Group-2.new.code.items begin) (sym c.in-Group.ensures.is)
+      (writes-group c.args.p.now.rows c.in-Group.number (piece_at c.args.p.now.rows c.in-Group.inside) c.args.next c.args.code.now.items c.emit-in-Group.new.code.items c.write_piece.new.code.items c.emit-in-Group-2.new.code.items c.in_ok-end-in-Group.end c.in_ok-start-in-Group.start begin c.in_ok-end-in-Group.ensures.code c.in_ok-end-in-Group.ensures.pc c.in_ok-start-in-Group.ensures.writes code here)) c.emit-in-Group-2.ensures.code c.emit-in-Group-2.ensures.pc;
+  within = emitted c.write_piece.new.code.items c.emit-in-Group-2.new.code.items (Begin c.in_ok-start-in-Group.start) (λ begin. begin < length c.emit-in-Group-2.new.code.items) c.emit-in-Group-2.result (put-within c.write_piece.new.code.items c.emit-in-Group-2.new.code.items (Begin c.in_ok-start-in-Group.start)) c.emit-in-Group-2.ensures.code c.emit-in-Group-2.ensures.pc;
+  grown = emitted c.write_piece.new.code.items c.emit-in-Group-2.new.code.items (Begin c.in_ok-start-in-Group.start) (λ _. length c.args.code.now.items ≤ length c.emit-in-Group-2.new.code.items) c.emit-in-Group-2.result (λ pc code here. le_trans (le_trans (put-longer c.args.code.now.items c.emit-in-Group.new.code.items (Finish c.in-Group.number c.args.next) c.in_ok-end-in-Group.ensures.code) c.in_ok-start-in-Group.ensures.grown) (put-longer c.write_piece.new.code.items c.emit-in-Group-2.new.code.items (Begin c.in_ok-start-in-Group.start) code)) c.emit-in-Group-2.ensures.code c.emit-in-Group-2.ensures.pc;
+  plain = in-any (IsPlain (piece_at c.args.p.now.rows c.args.piece) → HasNoLook c.args.code.now.items → HasNoLook c.emit-in-Group-2.new.code.items) c.emit-in-Group-2.result (λ pl free. absurd (let q : IsPlain (group c.in-Group.number (piece_at c.args.p.now.rows c.in-Group.inside)) = subst IsPlain c.in-Group.ensures.is pl in q));
+}
+
+pub write_piece-returns-in_err-further-in-None : goal.write_piece-returns-in_err-further-in-None
+write_piece-returns-in_err-further-in-None t c = record {
+  writes = IfOk-from_err c.from_residual.result _ c.from_residual.ensures.0;
+  within = IfOk-from_err c.from_residual.result _ c.from_residual.ensures.0;
+  grown = IfOk-from_err c.from_residual.result _ c.from_residual.ensures.0;
+  plain = IfOk-from_err c.from_residual.result _ c.from_residual.ensures.0;
+}
+
+pub write_piece-returns-in_err-further-in-Some : goal.write_piece-returns-in_err-further-in-Some
+write_piece-returns-in_err-further-in-Some t c = record {
+  writes = IfOk-from_err c.from_residual-in_err-further-in-Some.result _ c.from_residual-in_err-further-in-Some.ensures.0;
+  within = IfOk-from_err c.from_residual-in_err-further-in-Some.result _ c.from_residual-in_err-further-in-Some.ensures.0;
+  grown = IfOk-from_err c.from_residual-in_err-further-in-Some.result _ c.from_residual-in_err-further-in-Some.ensures.0;
+  plain = IfOk-from_err c.from_residual-in_err-further-in-Some.result _ c.from_residual-in_err-further-in-Some.ensures.0;
+}
+
+pub write_piece-returns-in_err-end-in-Group : goal.write_piece-returns-in_err-end-in-Group
+write_piece-returns-in_err-end-in-Group t c = record {
+  writes = IfOk-from_err c.from_residual-in_err-end-in-Group.result _ c.from_residual-in_err-end-in-Group.ensures.0;
+  within = IfOk-from_err c.from_residual-in_err-end-in-Group.result _ c.from_residual-in_err-end-in-Group.ensures.0;
+  grown = IfOk-from_err c.from_residual-in_err-end-in-Group.result _ c.from_residual-in_err-end-in-Group.ensures.0;
+  plain = IfOk-from_err c.from_residual-in_err-end-in-Group.result _ c.from_residual-in_err-end-in-Group.ensures.0;
+}
+
+pub write_piece-returns-in_err-start-in-Group : goal.write_piece-returns-in_err-start-in-Group
+write_piece-returns-in_err-start-in-Group t c = record {
+  writes = IfOk-from_err c.from_residual-in_err-start-in-Group.result _ c.from_residual-in_err-start-in-Group.ensures.0;
+  within = IfOk-from_err c.from_residual-in_err-start-in-Group.result _ c.from_residual-in_err-start-in-Group.ensures.0;
+  grown = IfOk-from_err c.from_residual-in_err-start-in-Group.result _ c.from_residual-in_err-start-in-Group.ensures.0;
+  plain = IfOk-from_err c.from_residual-in_err-start-in-Group.result _ c.from_residual-in_err-start-in-Group.ensures.0;
+}
+
+pub write_sequence-returns-in_err-last : goal.write_sequence-returns-in_err-last
+write_sequence-returns-in_err-last t c = record {
+  writes = IfOk-from_err c.from_residual.result _ c.from_residual.ensures.0;
+  within = IfOk-from_err c.from_residual.result _ c.from_residual.ensures.0;
+  grown = IfOk-from_err c.from_residual.result _ c.from_residual.ensures.0;
+  plain = IfOk-from_err c.from_residual.result _ c.from_residual.ensures.0;
+}
+
+pub write_sequence-returns-in_err-now : goal.write_sequence-returns-in_err-now
+write_sequence-returns-in_err-now t c = record {
+  writes = IfOk-from_err c.from_residual-in_err-now.result _ c.from_residual-in_err-now.ensures.0;
+  within = IfOk-from_err c.from_residual-in_err-now.result _ c.from_residual-in_err-now.ensures.0;
+  grown = IfOk-from_err c.from_residual-in_err-now.result _ c.from_residual-in_err-now.ensures.0;
+  plain = IfOk-from_err c.from_residual-in_err-now.result _ c.from_residual-in_err-now.ensures.0;
+}
+
+pub write_alternatives-returns-in_err-last : goal.write_alternatives-returns-in_err-last
+write_alternatives-returns-in_err-last t c = record {
+  writes = IfOk-from_err c.from_residual.result _ c.from_residual.ensures.0;
+  within = IfOk-from_err c.from_residual.result _ c.from_residual.ensures.0;
+  grown = IfOk-from_err c.from_residual.result _ c.from_residual.ensures.0;
+  plain = IfOk-from_err c.from_residual.result _ c.from_residual.ensures.0;
+}
+
+pub write_alternatives-returns-in_err-now : goal.write_alternatives-returns-in_err-now
+write_alternatives-returns-in_err-now t c = record {
+  writes = IfOk-from_err c.from_residual-in_err-now.result _ c.from_residual-in_err-now.ensures.0;
+  within = IfOk-from_err c.from_residual-in_err-now.result _ c.from_residual-in_err-now.ensures.0;
+  grown = IfOk-from_err c.from_residual-in_err-now.result _ c.from_residual-in_err-now.ensures.0;
+  plain = IfOk-from_err c.from_residual-in_err-now.result _ c.from_residual-in_err-now.ensures.0;
+}
+
+pub write_sequence-returns-in_err-now-2 : goal.write_sequence-returns-in_err-now-2
+write_sequence-returns-in_err-now-2 t c = record {
+  writes = IfOk-from_err c.from_residual-in_err-now-2.result _ c.from_residual-in_err-now-2.ensures.0;
+  within = IfOk-from_err c.from_residual-in_err-now-2.result _ c.from_residual-in_err-now-2.ensures.0;
+  grown = IfOk-from_err c.from_residual-in_err-now-2.result _ c.from_residual-in_err-now-2.ensures.0;
+  plain = IfOk-from_err c.from_residual-in_err-now-2.result _ c.from_residual-in_err-now-2.ensures.0;
+}
+
+pub write_alternatives-returns-in_err-turn : goal.write_alternatives-returns-in_err-turn
+write_alternatives-returns-in_err-turn t c = record {
+  writes = IfOk-from_err c.from_residual-in_err-turn.result _ c.from_residual-in_err-turn.ensures.0;
+  within = IfOk-from_err c.from_residual-in_err-turn.result _ c.from_residual-in_err-turn.ensures.0;
+  grown = IfOk-from_err c.from_residual-in_err-turn.result _ c.from_residual-in_err-turn.ensures.0;
+  plain = IfOk-from_err c.from_residual-in_err-turn.result _ c.from_residual-in_err-turn.ensures.0;
+}
+
+pub write_alternatives-returns-in_err-now-2 : goal.write_alternatives-returns-in_err-now-2
+write_alternatives-returns-in_err-now-2 t c = record {
+  writes = IfOk-from_err c.from_residual-in_err-now-2.result _ c.from_residual-in_err-now-2.ensures.0;
+  within = IfOk-from_err c.from_residual-in_err-now-2.result _ c.from_residual-in_err-now-2.ensures.0;
+  grown = IfOk-from_err c.from_residual-in_err-now-2.result _ c.from_residual-in_err-now-2.ensures.0;
+  plain = IfOk-from_err c.from_residual-in_err-now-2.result _ c.from_residual-in_err-now-2.ensures.0;
+}
+
+pub write_star-returns-in_err-pc : goal.write_star-returns-in_err-pc
+write_star-returns-in_err-pc t c = record {
+  writes = IfOk-from_err c.from_residual.result _ c.from_residual.ensures.0;
+  within = IfOk-from_err c.from_residual.result _ c.from_residual.ensures.0;
+  grown = IfOk-from_err c.from_residual.result _ c.from_residual.ensures.0;
+  plain = IfOk-from_err c.from_residual.result _ c.from_residual.ensures.0;
+}
+
+pub write_star-returns-in_err-turn : goal.write_star-returns-in_err-turn
+write_star-returns-in_err-turn t c = record {
+  writes = IfOk-from_err c.from_residual-in_err-turn.result _ c.from_residual-in_err-turn.ensures.0;
+  within = IfOk-from_err c.from_residual-in_err-turn.result _ c.from_residual-in_err-turn.ensures.0;
+  grown = IfOk-from_err c.from_residual-in_err-turn.result _ c.from_residual-in_err-turn.ensures.0;
+  plain = IfOk-from_err c.from_residual-in_err-turn.result _ c.from_residual-in_err-turn.ensures.0;
+}
+
+pub write_maybe-returns-in_err-turn : goal.write_maybe-returns-in_err-turn
+write_maybe-returns-in_err-turn t c = record {
+  writes = IfOk-from_err c.from_residual.result _ c.from_residual.ensures.0;
+  within = IfOk-from_err c.from_residual.result _ c.from_residual.ensures.0;
+  grown = IfOk-from_err c.from_residual.result _ c.from_residual.ensures.0;
+  plain = IfOk-from_err c.from_residual.result _ c.from_residual.ensures.0;
+}
+
+pub write_maybe-returns-in_err-now : goal.write_maybe-returns-in_err-now
+write_maybe-returns-in_err-now t c = record {
+  writes = IfOk-from_err c.from_residual-in_err-now.result _ c.from_residual-in_err-now.ensures.0;
+  within = IfOk-from_err c.from_residual-in_err-now.result _ c.from_residual-in_err-now.ensures.0;
+  grown = IfOk-from_err c.from_residual-in_err-now.result _ c.from_residual-in_err-now.ensures.0;
+  plain = IfOk-from_err c.from_residual-in_err-now.result _ c.from_residual-in_err-now.ensures.0;
+}
+
+pub write_turns-returns-in_err-now : goal.write_turns-returns-in_err-now
+write_turns-returns-in_err-now t c = record {
+  writes = IfOk-from_err c.from_residual.result _ c.from_residual.ensures.0;
+  within = IfOk-from_err c.from_residual.result _ c.from_residual.ensures.0;
+  grown = IfOk-from_err c.from_residual.result _ c.from_residual.ensures.0;
+  plain = IfOk-from_err c.from_residual.result _ c.from_residual.ensures.0;
+}
+
+pub write_sequence-returns : goal.write_sequence-returns
+write_sequence-returns t c = record {
+  writes = chaining-end c.args.p.now.rows true (max c.args.first c.args.rest) (seq (piece_at c.args.p.now.rows c.args.first) (piece_at c.args.p.now.rows c.args.rest)) c.args.next c.args.code.now.items c.loop-part.parts.items c.loop-part.code.items c.loop-part.now
+    (none-left c.loop-part.parts.items c.pop.new.self.items _ c.in_default.ensures.items c.in_default.ensures.rest c.in_default.ensures.cases.0) c.loop-part.invariant;
+  within = c.loop-part.invariant.within;
+  grown = c.loop-part.invariant.grown;
+  plain = c.loop-part.invariant.plain;
+}
+
+pub write_alternatives-returns : goal.write_alternatives-returns
+write_alternatives-returns t c = record {
+  writes = chaining-end c.args.p.now.rows false (max c.args.first c.args.rest) (either (piece_at c.args.p.now.rows c.args.first) (piece_at c.args.p.now.rows c.args.rest)) c.args.next c.args.code.now.items c.loop-part.parts.items c.loop-part.code.items c.loop-part.now
+    (none-left c.loop-part.parts.items c.pop.new.self.items _ c.in_default.ensures.items c.in_default.ensures.rest c.in_default.ensures.cases.0) c.loop-part.invariant;
+  within = c.loop-part.invariant.within;
+  grown = c.loop-part.invariant.grown;
+  plain = c.loop-part.invariant.plain;
+}
+
+pub write_maybe-returns : goal.write_maybe-returns
+write_maybe-returns t c = record {
+  writes = let e : c.loop-i._i ≡ c.args.times = omega arith in
+    subst (λ k. Writes c.args.p.now.rows (pre_maybe (piece_at c.args.p.now.rows c.args.inside) c.args.lazy k) c.args.next c.args.code.now.items c.loop-i.code.items c.loop-i.now) e c.loop-i.invariant.writes;
+  within = c.loop-i.invariant.within;
+  grown = c.loop-i.invariant.grown;
+  plain = c.loop-i.invariant.plain;
+}
+
+pub write_turns-returns : goal.write_turns-returns
+write_turns-returns t c = record {
+  writes = let e : c.loop-i._i ≡ c.args.times = omega arith in
+    subst (λ k. Writes c.args.p.now.rows (pre_turns (piece_at c.args.p.now.rows c.args.inside) k) c.args.next c.args.code.now.items c.loop-i.code.items c.loop-i.now) e c.loop-i.invariant.writes;
+  within = c.loop-i.invariant.within;
+  grown = c.loop-i.invariant.grown;
+  plain = c.loop-i.invariant.plain;
+}
 
 pub write_star-returns-clause-writes : goal.write_star-returns-clause-writes
 write_star-returns-clause-writes t c =
@@ -84,72 +306,10 @@ write_turns-loop-i-preserved t c =
       plain = λ pl free. c.in_ok-now.ensures.plain pl (c.loop-i.invariant.plain pl free);
     }
 
-pub write_maybe-returns-clause-writes : goal.write_maybe-returns-clause-writes
-write_maybe-returns-clause-writes t c =
-    let e : c.loop-i._i ≡ c.args.times = omega arith in
-    subst (λ k. Writes c.args.p.now.rows (pre_maybe (piece_at c.args.p.now.rows c.args.inside) c.args.lazy k) c.args.next c.args.code.now.items c.loop-i.code.items c.loop-i.now) e c.loop-i.invariant.writes
-
-pub write_turns-returns-clause-writes : goal.write_turns-returns-clause-writes
-write_turns-returns-clause-writes t c =
-    let e : c.loop-i._i ≡ c.args.times = omega arith in
-    subst (λ k. Writes c.args.p.now.rows (pre_turns (piece_at c.args.p.now.rows c.args.inside) k) c.args.next c.args.code.now.items c.loop-i.code.items c.loop-i.now) e c.loop-i.invariant.writes
-
-pub write_piece-returns-in_ok-pc-in-Bytes-clause-plain : goal.write_piece-returns-in_ok-pc-in-Bytes-clause-plain
-write_piece-returns-in_ok-pc-in-Bytes-clause-plain t c = λ pl free.
-    no-look-push c.args.code.now.items c.emit.new.code.items (Byte c.args.piece c.args.next) c.in_ok-pc-in-Bytes.ensures.code (λ piece next e. grind (arith, e)) free
-
-pub write_piece-returns-in_ok-pc-in-Start-clause-plain : goal.write_piece-returns-in_ok-pc-in-Start-clause-plain
-write_piece-returns-in_ok-pc-in-Start-clause-plain t c = λ pl free.
-    no-look-push c.args.code.now.items c.emit-in-Start.new.code.items (TextStart c.in-Start.lines c.args.next) c.in_ok-pc-in-Start.ensures.code (λ piece next e. grind (arith, e)) free
-
-pub write_piece-returns-in_ok-pc-in-Finish-clause-plain : goal.write_piece-returns-in_ok-pc-in-Finish-clause-plain
-write_piece-returns-in_ok-pc-in-Finish-clause-plain t c = λ pl free.
-    no-look-push c.args.code.now.items c.emit-in-Finish.new.code.items (TextEnd c.in-Finish.lines c.args.next) c.in_ok-pc-in-Finish.ensures.code (λ piece next e. grind (arith, e)) free
-
-pub write_piece-returns-in_ok-pc-in-Word-clause-plain : goal.write_piece-returns-in_ok-pc-in-Word-clause-plain
-write_piece-returns-in_ok-pc-in-Word-clause-plain t c = λ pl free.
-    no-look-push c.args.code.now.items c.emit-in-Word.new.code.items (Word c.args.next) c.in_ok-pc-in-Word.ensures.code (λ piece next e. grind (arith, e)) free
-
-pub write_piece-returns-in_ok-begin-in-None-clause-plain : goal.write_piece-returns-in_ok-begin-in-None-clause-plain
-write_piece-returns-in_ok-begin-in-None-clause-plain t c = λ pl free.
-    let q : IsPlain (piece_at c.args.p.now.rows c.in-Count.inside) = subst IsPlain c.in-Count.ensures.is pl in
-    c.in_ok-begin-in-None.ensures.plain q (c.in_ok-further-in-None.ensures.plain q free)
-
-pub write_piece-returns-in_ok-begin-in-Some-clause-plain : goal.write_piece-returns-in_ok-begin-in-Some-clause-plain
-write_piece-returns-in_ok-begin-in-Some-clause-plain t c = λ pl free.
-    let q : IsPlain (piece_at c.args.p.now.rows c.in-Count.inside) = subst IsPlain c.in-Count.ensures.is pl in
-    c.in_ok-begin-in-Some.ensures.plain q (c.in_ok-further-in-Some.ensures.plain q free)
-
-pub write_piece-returns-in_ok-pc-in-Group-clause-plain : goal.write_piece-returns-in_ok-pc-in-Group-clause-plain
-write_piece-returns-in_ok-pc-in-Group-clause-plain t c = λ pl free. absurd (let q : IsPlain (group c.in-Group.number (piece_at c.args.p.now.rows c.in-Group.inside)) = subst IsPlain c.in-Group.ensures.is pl in q)
-
-pub write_piece-returns-in_ok-pc-in-Ahead-clause-plain : goal.write_piece-returns-in_ok-pc-in-Ahead-clause-plain
-write_piece-returns-in_ok-pc-in-Ahead-clause-plain t c = λ pl free. absurd (let q : IsPlain (ahead (piece_at c.args.p.now.rows c.in-Ahead._inside) c.in-Ahead._wanted) = subst IsPlain c.in-Ahead.ensures.is pl in q)
-
-pub write_piece-returns-in_ok-pc-in-Ahead-clause-writes : goal.write_piece-returns-in_ok-pc-in-Ahead-clause-writes
-write_piece-returns-in_ok-pc-in-Ahead-clause-writes t c =
-    writes-look c.args.p.now.rows c.args.piece (piece_at c.args.p.now.rows c.in-Ahead._inside) c.in-Ahead._wanted c.args.next c.args.code.now.items c.emit-in-Ahead.new.code.items c.in_ok-pc-in-Ahead.pc
-    c.in_ok-pc-in-Ahead.ensures.code c.in_ok-pc-in-Ahead.ensures.pc c.in-Ahead.ensures.is
-    (record { below = c.requires.piece; sound = c.requires.sound; inside = piece_at c.args.p.now.rows c.in-Ahead._inside; wanted = c.in-Ahead._wanted; is = c.in-Ahead.ensures.is })
-
 pub write_star-returns-clause-plain : goal.write_star-returns-clause-plain
 write_star-returns-clause-plain t c = λ pl free.
     no-look-set c.write_piece.new.code.items c.in_ok-pc.pc c.choice.result (subst IsNoLook (sym c.choice.ensures) (choice-no-look c.args.lazy c.in_ok-turn.turn c.args.next))
-    (c.in_ok-turn.ensures.plain pl (no-look-push c.args.code.now.items c.emit.new.code.items (Jump c.args.next) c.in_ok-pc.ensures.code (λ piece next e. grind (arith, e)) free))
-
-pub write_piece-returns-in_ok-begin-in-Seq-clause-writes : goal.write_piece-returns-in_ok-begin-in-Seq-clause-writes
-write_piece-returns-in_ok-begin-in-Seq-clause-writes t c =
-    subst (λ q. Writes c.args.p.now.rows (pre q) c.args.next c.args.code.now.items c.write_sequence.new.code.items c.in_ok-begin-in-Seq.begin) (sym c.in-Seq.ensures.is) c.in_ok-begin-in-Seq.ensures.writes
-
-pub write_piece-returns-in_ok-begin-in-Seq-clause-plain : goal.write_piece-returns-in_ok-begin-in-Seq-clause-plain
-write_piece-returns-in_ok-begin-in-Seq-clause-plain t c = λ pl free. c.in_ok-begin-in-Seq.ensures.plain (subst IsPlain c.in-Seq.ensures.is pl) free
-
-pub write_piece-returns-in_ok-begin-in-Either-clause-writes : goal.write_piece-returns-in_ok-begin-in-Either-clause-writes
-write_piece-returns-in_ok-begin-in-Either-clause-writes t c =
-    subst (λ q. Writes c.args.p.now.rows (pre q) c.args.next c.args.code.now.items c.write_alternatives.new.code.items c.in_ok-begin-in-Either.begin) (sym c.in-Either.ensures.is) c.in_ok-begin-in-Either.ensures.writes
-
-pub write_piece-returns-in_ok-begin-in-Either-clause-plain : goal.write_piece-returns-in_ok-begin-in-Either-clause-plain
-write_piece-returns-in_ok-begin-in-Either-clause-plain t c = λ pl free. c.in_ok-begin-in-Either.ensures.plain (subst IsPlain c.in-Either.ensures.is pl) free
+    (c.in_ok-turn.ensures.plain pl (no-look-push c.args.code.now.items c.emit.new.code.items (Jump c.args.next) c.in_ok-pc.ensures.code (jump-no-look c.args.next) free))
 
 pub write_sequence-loop-part-init : goal.write_sequence-loop-part-init
 write_sequence-loop-part-init t c =
@@ -161,11 +321,6 @@ write_sequence-loop-part-preserved t c =
     chaining-seq c.args.p.now.rows (max c.args.first c.args.rest) (seq (piece_at c.args.p.now.rows c.args.first) (piece_at c.args.p.now.rows c.args.rest)) c.args.next c.args.code.now.items c.loop-part.parts.items c.pop.new.self.items c.in-Some.part c.loop-part.code.items c.write_piece-in-Some.new.code.items c.loop-part.now c.in_ok-now-2.now
     c.in-Some.ensures.items c.in_ok-now-2.ensures.writes c.in_ok-now-2.ensures.within c.in_ok-now-2.ensures.grown c.in_ok-now-2.ensures.plain c.loop-part.invariant
 
-pub write_sequence-returns-clause-writes : goal.write_sequence-returns-clause-writes
-write_sequence-returns-clause-writes t c =
-    chaining-end c.args.p.now.rows true (max c.args.first c.args.rest) (seq (piece_at c.args.p.now.rows c.args.first) (piece_at c.args.p.now.rows c.args.rest)) c.args.next c.args.code.now.items c.loop-part.parts.items c.loop-part.code.items c.loop-part.now
-    (none-left c.loop-part.parts.items c.pop.new.self.items _ c.in_default.ensures.items c.in_default.ensures.rest c.in_default.ensures.cases.0) c.loop-part.invariant
-
 pub write_alternatives-loop-part-init : goal.write_alternatives-loop-part-init
 write_alternatives-loop-part-init t c =
     chaining-first c.args.p.now.rows false (max c.args.first c.args.rest) (either (piece_at c.args.p.now.rows c.args.first) (piece_at c.args.p.now.rows c.args.rest)) c.args.next c.args.code.now.items c.chain_of.new.parts.items c.in_ok-last.last c.write_piece.new.code.items c.in_ok-now.now
@@ -176,11 +331,6 @@ write_alternatives-loop-part-preserved t c =
     chaining-either c.args.p.now.rows (max c.args.first c.args.rest) (either (piece_at c.args.p.now.rows c.args.first) (piece_at c.args.p.now.rows c.args.rest)) c.args.next c.args.code.now.items c.loop-part.parts.items c.pop.new.self.items c.in-Some.part c.loop-part.code.items c.write_piece-in-Some.new.code.items c.emit.new.code.items c.loop-part.now c.in_ok-turn.turn c.in_ok-now-2.now
     c.in-Some.ensures.items c.in_ok-turn.ensures.writes c.in_ok-turn.ensures.grown c.in_ok-turn.ensures.plain c.in_ok-now-2.ensures.code c.in_ok-now-2.ensures.pc
     (rw (c.in_ok-now-2.ensures.code, c.in_ok-now-2.ensures.pc, length-append) (omega arith)) (rw (c.in_ok-now-2.ensures.code, length-append) (omega arith)) c.loop-part.invariant
-
-pub write_alternatives-returns-clause-writes : goal.write_alternatives-returns-clause-writes
-write_alternatives-returns-clause-writes t c =
-    chaining-end c.args.p.now.rows false (max c.args.first c.args.rest) (either (piece_at c.args.p.now.rows c.args.first) (piece_at c.args.p.now.rows c.args.rest)) c.args.next c.args.code.now.items c.loop-part.parts.items c.loop-part.code.items c.loop-part.now
-    (none-left c.loop-part.parts.items c.pop.new.self.items _ c.in_default.ensures.items c.in_default.ensures.rest c.in_default.ensures.cases.0) c.loop-part.invariant
 
 pub write_sequence-write_piece-requires-in-Some : goal.write_sequence-write_piece-requires-in-Some
 write_sequence-write_piece-requires-in-Some t c =
