@@ -60,6 +60,67 @@ pub fn round<L: Ledger>(
     Ok(after)
 }
 
+/// Goes on from the threads of a place to those behind its byte. That holds for each text of which what is seen decides the
+/// tests there, and which has that byte.
+fn onward<L: Ledger>(
+    plan: Plan<'_>,
+    input: Input<'_>,
+    at: usize,
+    best: Best,
+    room: &mut Room,
+    steps: &mut Steps<L>,
+) -> Result<Best, NoMemory>
+    requires plan { IsPlan plan }
+    requires room { IsRoom plan room.old }
+    requires known { AllKnown (length plan.code.now) (length room.old.main.cells.items) room.old.main.stack.items }
+    requires within { at < length input.bytes.now }
+    ensures moves { IfOk result (λ after. (real : Text) → Agrees (text_of input.entry) real at → SightsAgree plan.entry.asks.now (text_of input.entry) real at →
+        slice_get real.bytes at ≡ slice_get input.entry.bytes.now at → (start place : ℕ) →
+        Goes (Knows plan.entry) plan.entry.code.now real start place at room.old.main.cells.items room.old.main.stack.items best →
+        Goes (Knows plan.entry) plan.entry.code.now real start place (at + 1) room.new.main.cells.items room.new.main.stack.items after) }
+    ensures known { OnOk result (AllKnown (length plan.entry.code.now) (length room.new.main.cells.items) room.new.main.stack.items) }
+    ensures room { OnOk result (IsRoom plan.entry room.new) }
+    ensures counts { Counts plan.entry.tests steps.old steps.new }
+    ensures grown { OnOk result (Grown room.old.main.cells.items room.new.main.cells.items) }
+{
+    let after = round(plan, input, at, best, room, steps)?;
+    step(
+        plan.code,
+        plan.tests,
+        input.bytes[at],
+        &room.main.ready,
+        &mut room.main.stack,
+        steps,
+    )?;
+    Ok(after)
+}
+
+/// Follows the threads at the end of what is seen of a text. Those that wait there for a byte stand for an edge where the text
+/// may go on.
+fn last_round<L: Ledger>(
+    plan: Plan<'_>,
+    input: Input<'_>,
+    best: Best,
+    room: &mut Room,
+    steps: &mut Steps<L>,
+) -> Result<Best, NoMemory>
+    requires plan { IsPlan plan }
+    requires room { IsRoom plan room.old }
+    requires known { AllKnown (length plan.code.now) (length room.old.main.cells.items) room.old.main.stack.items }
+    ensures head { IfOk result (λ after. (start place : ℕ) →
+        Goes (Knows plan.entry) plan.entry.code.now (text_of input.entry) start place (length input.entry.bytes.now) room.old.main.cells.items room.old.main.stack.items best →
+        Ends (Knows plan.entry) plan.entry.code.now (text_of input.entry) start place room.new.main.cells.items after) }
+    ensures room { OnOk result (IsRoom plan.entry room.new) }
+    ensures counts { Counts plan.entry.tests steps.old steps.new }
+    ensures grown { OnOk result (Grown room.old.main.cells.items room.new.main.cells.items) }
+{
+    let after = round(plan, input, input.bytes.len(), best, room, steps)?;
+    if input.unfinished && !room.main.ready.is_empty() {
+        return Ok(Best::More);
+    }
+    Ok(after)
+}
+
 /// Goes on from the threads of a place to the end of the text. The answer stands for the head of the ways.
 pub fn walk<L: Ledger>(
     plan: Plan<'_>,
@@ -84,21 +145,9 @@ pub fn walk<L: Ledger>(
         if room.main.stack.is_empty() {
             return Ok(best);
         }
-        best = round(plan, input, at, best, room, steps)?;
-        step(
-            plan.code,
-            plan.tests,
-            input.bytes[at],
-            &room.main.ready,
-            &mut room.main.stack,
-            steps,
-        )?;
+        best = onward(plan, input, at, best, room, steps)?;
     }
-    best = round(plan, input, input.bytes.len(), best, room, steps)?;
-    if input.unfinished && !room.main.ready.is_empty() {
-        return Ok(Best::More);
-    }
-    Ok(best)
+    last_round(plan, input, best, room, steps)
 }
 
 /// Goes on from the threads of a place to those of a later one. That holds for each text of which what is seen decides the
@@ -126,15 +175,7 @@ pub fn move_on<L: Ledger>(
 {
     let mut best = first;
     for at in from..to {
-        best = round(plan, input, at, best, room, steps)?;
-        step(
-            plan.code,
-            plan.tests,
-            input.bytes[at],
-            &room.main.ready,
-            &mut room.main.stack,
-            steps,
-        )?;
+        best = onward(plan, input, at, best, room, steps)?;
     }
     Ok(best)
 }
@@ -193,22 +234,10 @@ fn sweep<L: Ledger>(
         if room.main.stack.is_empty() {
             return Ok(best);
         }
-        best = round(plan, input, at, best, room, steps)?;
-        step(
-            plan.code,
-            plan.tests,
-            input.bytes[at],
-            &room.main.ready,
-            &mut room.main.stack,
-            steps,
-        )?;
+        best = onward(plan, input, at, best, room, steps)?;
         best = keep_short(&mut room.main, best, &mut limit)?;
     }
-    best = round(plan, input, input.bytes.len(), best, room, steps)?;
-    if input.unfinished && !room.main.ready.is_empty() {
-        return Ok(Best::More);
-    }
-    Ok(best)
+    last_round(plan, input, best, room, steps)
 }
 
 /// The head of the ways of an instruction at a place of a text.

@@ -240,7 +240,7 @@ write_turns-returns-in_err-now t c = record {
 pub write_sequence-returns : goal.write_sequence-returns
 write_sequence-returns t c = record {
   writes = chaining-end c.args.p.now.rows true (max c.args.first c.args.rest) (seq (piece_at c.args.p.now.rows c.args.first) (piece_at c.args.p.now.rows c.args.rest)) c.args.next c.args.code.now.items c.loop-part.parts.items c.loop-part.code.items c.loop-part.now
-    (none-left c.loop-part.parts.items c.pop.new.self.items _ c.in_default.ensures.items c.in_default.ensures.rest c.in_default.ensures.cases.0) c.loop-part.invariant;
+      (none-left c.loop-part.parts.items c.pop.new.self.items _ c.in_default.ensures.items c.in_default.ensures.rest c.in_default.ensures.cases.0) c.loop-part.invariant;
   within = c.loop-part.invariant.within;
   grown = c.loop-part.invariant.grown;
   plain = c.loop-part.invariant.plain;
@@ -249,7 +249,7 @@ write_sequence-returns t c = record {
 pub write_alternatives-returns : goal.write_alternatives-returns
 write_alternatives-returns t c = record {
   writes = chaining-end c.args.p.now.rows false (max c.args.first c.args.rest) (either (piece_at c.args.p.now.rows c.args.first) (piece_at c.args.p.now.rows c.args.rest)) c.args.next c.args.code.now.items c.loop-part.parts.items c.loop-part.code.items c.loop-part.now
-    (none-left c.loop-part.parts.items c.pop.new.self.items _ c.in_default.ensures.items c.in_default.ensures.rest c.in_default.ensures.cases.0) c.loop-part.invariant;
+      (none-left c.loop-part.parts.items c.pop.new.self.items _ c.in_default.ensures.items c.in_default.ensures.rest c.in_default.ensures.cases.0) c.loop-part.invariant;
   within = c.loop-part.invariant.within;
   grown = c.loop-part.invariant.grown;
   plain = c.loop-part.invariant.plain;
@@ -258,7 +258,7 @@ write_alternatives-returns t c = record {
 pub write_maybe-returns : goal.write_maybe-returns
 write_maybe-returns t c = record {
   writes = let e : c.loop-i._i ≡ c.args.times = omega arith in
-    subst (λ k. Writes c.args.p.now.rows (pre_maybe (piece_at c.args.p.now.rows c.args.inside) c.args.lazy k) c.args.next c.args.code.now.items c.loop-i.code.items c.loop-i.now) e c.loop-i.invariant.writes;
+      subst (λ k. Writes c.args.p.now.rows (pre_maybe (piece_at c.args.p.now.rows c.args.inside) c.args.lazy k) c.args.next c.args.code.now.items c.loop-i.code.items c.loop-i.now) e c.loop-i.invariant.writes;
   within = c.loop-i.invariant.within;
   grown = c.loop-i.invariant.grown;
   plain = c.loop-i.invariant.plain;
@@ -267,7 +267,7 @@ write_maybe-returns t c = record {
 pub write_turns-returns : goal.write_turns-returns
 write_turns-returns t c = record {
   writes = let e : c.loop-i._i ≡ c.args.times = omega arith in
-    subst (λ k. Writes c.args.p.now.rows (pre_turns (piece_at c.args.p.now.rows c.args.inside) k) c.args.next c.args.code.now.items c.loop-i.code.items c.loop-i.now) e c.loop-i.invariant.writes;
+      subst (λ k. Writes c.args.p.now.rows (pre_turns (piece_at c.args.p.now.rows c.args.inside) k) c.args.next c.args.code.now.items c.loop-i.code.items c.loop-i.now) e c.loop-i.invariant.writes;
   within = c.loop-i.invariant.within;
   grown = c.loop-i.invariant.grown;
   plain = c.loop-i.invariant.plain;
