@@ -14,7 +14,7 @@ use Rattle.ix_threads.specs.Acts.{AllKnown}
 use Rattle.ix_threads.specs.Settled.{AllBytes}
 use Rattle.ix_threads.specs.Stepped.{AreAnswers, Steps}
 use Rattle.ix_threads.specs.Ran.{Rounds}
-use Rattle.ix_threads.specs.Seeks.{NoneFrom, NoneHas, Carry, Lack, Turned, is_way, begun, forgotten, begun_at}
+use Rattle.ix_threads.specs.Seeks.{NoneFrom, NoneHas, Carry, Have, Lack, Turned, Sought, is_way, begun, forgotten, begun_at}
 use Rattle.ix_threads.proofs.CoverLemmas.{cons-nil, nil-left, nil-right, nil-both, list_ways-append}
 use Rattle.ix_threads.proofs.HistoryLemmas.{history-stays}
 use Rattle.ix_threads.proofs.SettleLemmas.{reverse-snoc, AllKnown-push}
@@ -196,3 +196,15 @@ lack-closed known code text start from to all ready bytes closed whole c rows bl
     subst (NoneFrom mean start from) whole
     ((c rows blank mean rank m t).back
     (list-none code rows text blank mean rank m [] (length text.bytes) ready (closed-ways code rows text blank mean rank m closed [] ready bytes)))
+
+-- one has a way before that place
+pub found-before : (known : Rows → Type 0) (code : List Instr) (text : Text) (start from to at end : ℕ) (ready : List Thread) → end ≡ min (at + 1) to → Turned known code text start from (min (at + 1) to) at ready true →
+    Sought known code text start from to (Some end)
+found-before known code text start from to at end ready is found = (omega (arith, is), subst (Have known code text start from) (sym is) found)
+
+-- no thread waits, and no place is left
+pub lack-before : (known : Rows → Type 0) (code : List Instr) (text : Text) (start from to at : ℕ) (ready : List Thread) → ready ≡ [] → to ≤ at + 1 → Carry known code text start from (min (at + 1) to) at ready →
+    Lack known code text start from to
+lack-before known code text start from to at ready none last c rows blank mean rank m t =
+    let all : min (at + 1) to ≡ to = omega (arith, last) in
+    subst (NoneFrom mean start from) all ((c rows blank mean rank m t).back (subst (NoneHas mean at) (sym none) tt))

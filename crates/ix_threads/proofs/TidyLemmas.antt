@@ -268,3 +268,11 @@ pub goes-tidied : (known : Rows → Type 0) (code : List Instr) (text : Text) (s
     Tidies code old ts before new us after → Goes known code text start place p old ts before → Goes known code text start place p new us after
 goes-tidied known code text start place p old ts before new us after d g rows blank mean rank m kn =
     d rows text blank mean rank m p (slice_get (mean start [] place) 0) (g rows blank mean rank m kn)
+
+-- ---- cells that are added
+
+pub room-both : (old mid new groups began made nested : ℕ) → groups ≡ made → began ≡ nested → mid ≤ old + 2 * groups → new ≤ mid + began → new ≤ old + (2 * made + nested)
+room-both old mid new groups began made nested g b first more = omega arith
+
+pub room-less : (old new few many : ℕ) → new ≤ old + few → few ≤ many → new ≤ old + many
+room-less old new few many fits less = omega arith

@@ -1,6 +1,6 @@
 //! Searching by code without lookaheads.
 
-ghost use Rattle.std.specs.Prelude.{◌≡◌, ℕ, ◌<◌, ◌≤◌, [], length, IfOk, OnOk};
+ghost use Rattle.std.specs.Prelude.{◌≡◌, ℕ, ◌+◌, ◌<◌, ◌≤◌, [], length, IfOk, OnOk};
 ghost use Rattle.ix_pattern.specs.Rows.{Rows};
 ghost use Rattle.ix_threads.specs.Leaf.{text_of};
 ghost use Rattle.ix_threads.specs.Code.{IsCode, HasSets};
@@ -46,6 +46,68 @@ fn round(
     Ok(after)
 }
 
+/// Goes on from the threads of a place to those behind its byte.
+fn onward<L: Ledger>(
+    code: &[Instr],
+    tests: Tests<'_>,
+    input: Input<'_>,
+    at: usize,
+    best: Best,
+    work: &mut Work,
+    steps: &mut Steps<L>,
+) -> Result<Best, NoMemory>
+    requires known { AllKnown (length code.now) (length work.old.cells.items) work.old.stack.items }
+    requires code { IsCode code.now }
+    requires plain { HasNoLook code.now }
+    requires sets { HasSets (length tests.pattern.now.rows) code.now }
+    requires tests { AreTests tests }
+    requires within { at < length input.bytes.now }
+    requires marks { AreMarks work.old.marks.items (length code.now) work.old.stamp }
+    ensures moves { IfOk result (λ after. (start place : ℕ) →
+        Goes (IsOf tests.entry.pattern.now.rows) code.now (text_of input.entry) start place at work.old.cells.items work.old.stack.items best →
+        Goes (IsOf tests.entry.pattern.now.rows) code.now (text_of input.entry) start place (at + 1) work.new.cells.items work.new.stack.items after) }
+    ensures known { OnOk result (AllKnown (length code.now) (length work.new.cells.items) work.new.stack.items) }
+    ensures marks { OnOk result (AreMarks work.new.marks.items (length code.now) work.new.stamp) }
+    ensures grown { OnOk result (Grown work.old.cells.items work.new.cells.items) }
+    ensures counts { Counts tests.entry steps.old steps.new }
+{
+    let after = round(code, input, at, best, work)?;
+    step(
+        code,
+        tests,
+        input.bytes[at],
+        &work.ready,
+        &mut work.stack,
+        steps,
+    )?;
+    Ok(after)
+}
+
+/// Follows the threads at the end of what is seen of a text. Those that wait there for a byte stand for an edge where the text
+/// may go on.
+fn last_round(
+    code: &[Instr],
+    input: Input<'_>,
+    best: Best,
+    work: &mut Work,
+) -> Result<Best, NoMemory>
+    requires known { AllKnown (length code.now) (length work.old.cells.items) work.old.stack.items }
+    requires code { IsCode code.now }
+    requires plain { HasNoLook code.now }
+    requires marks { AreMarks work.old.marks.items (length code.now) work.old.stamp }
+    ensures head { IfOk result (λ after. (pattern : Rows) (start place : ℕ) →
+        Goes (IsOf pattern) code.now (text_of input.entry) start place (length input.entry.bytes.now) work.old.cells.items work.old.stack.items best →
+        Ends (IsOf pattern) code.now (text_of input.entry) start place work.new.cells.items after) }
+    ensures marks { OnOk result (AreMarks work.new.marks.items (length code.now) work.new.stamp) }
+    ensures grown { OnOk result (Grown work.old.cells.items work.new.cells.items) }
+{
+    let after = round(code, input, input.bytes.len(), best, work)?;
+    if input.unfinished && !work.ready.is_empty() {
+        return Ok(Best::More);
+    }
+    Ok(after)
+}
+
 /// Goes on from the threads of a place to the end of the text. The answer stands for the head of the ways.
 pub fn walk<L: Ledger>(
     code: &[Instr],
@@ -74,21 +136,9 @@ pub fn walk<L: Ledger>(
         if work.stack.is_empty() {
             return Ok(best);
         }
-        best = round(code, input, at, best, work)?;
-        step(
-            code,
-            tests,
-            input.bytes[at],
-            &work.ready,
-            &mut work.stack,
-            steps,
-        )?;
+        best = onward(code, tests, input, at, best, work, steps)?;
     }
-    best = round(code, input, input.bytes.len(), best, work)?;
-    if input.unfinished && !work.ready.is_empty() {
-        return Ok(Best::More);
-    }
-    Ok(best)
+    last_round(code, input, best, work)
 }
 
 /// The head of the ways of an instruction at a place of a text.
@@ -118,6 +168,5 @@ pub fn run<L: Ledger>(
         pc: start,
         trail: 0,
     })?;
-    let best = walk(code, tests, input, place, Best::No, work, steps)?;
-    Ok(best)
+    walk(code, tests, input, place, Best::No, work, steps)
 }

@@ -263,6 +263,5 @@ pub fn run<L: Ledger>(
         pc: start,
         trail: 0,
     })?;
-    let best = sweep(plan, input, place, Best::No, room, steps)?;
-    Ok(best)
+    sweep(plan, input, place, Best::No, room, steps)
 }

@@ -10,7 +10,7 @@ ghost use Rattle.ix_threads.specs.Tidied.{Groups, AllFit, over, ComesTo, comes, 
 ghost use Rattle.ix_threads.specs.declared.code.Instr.{Instr};
 
 use crate::cells::{Best, Cell, Event, Thread};
-use crate::groups::{event_at, events_of, turns_of};
+use crate::groups::{Turns, event_at, events_of, turns_of};
 use crate::step::thread_at;
 use crate::work::Work;
 use ix_base::NoMemory;
@@ -64,8 +64,7 @@ fn add_group(
         None => Ok(earlier),
         Some((from, place)) => {
             let began = add(Event::Began { place: from }, earlier, cells)?;
-            let ended = add(Event::Ended { number, place }, began, cells)?;
-            Ok(ended)
+            add(Event::Ended { number, place }, began, cells)
         }
     }
 }
@@ -104,8 +103,27 @@ fn add_open(began: &[usize], earlier: usize, cells: &mut Vec<Cell>) -> Result<us
     Ok(trail)
 }
 
-/// A trail in the new cells that comes to the same, in its shortest form: each group that has taken part by its last turn, and
-/// then those that are open.
+/// What a trail comes to: the last turn of each group that has taken part, and where those that are open began.
+fn turns_at(alloc: Global, cells: &[Cell], trail: usize) -> Result<Turns, NoMemory>
+    ensures comes { IfOk result (λ t. (before : Groups) → record { began = reverse t.began.items; groups = over before t.groups.items } ≡ comes cells.now trail before) }
+    ensures short { IfOk result (λ t. (groups nested : ℕ) → IsNarrow groups nested (history cells.now trail) → 2 * length t.groups.items + length t.began.items ≤ 2 * groups + nested) }
+{
+    let events = events_of(alloc, cells, trail)?;
+    let count = groups_in(&events);
+    turns_of(alloc, &events, count)
+}
+
+/// A trail that comes to these turns: each group that has taken part by its last turn, and then those that are open.
+fn add_turns(turns: &Turns, cells: &mut Vec<Cell>) -> Result<usize, NoMemory>
+    ensures trail { IfOk result (λ t. ComesTo cells.new.items t (λ before. record { began = reverse turns.now.began.items; groups = over before turns.now.groups.items })) }
+    ensures grown { OnOk result (Grown cells.old.items cells.new.items) }
+    ensures short { OnOk result (length cells.new.items ≤ length cells.old.items + (2 * length turns.now.groups.items + length turns.now.began.items)) }
+{
+    let closed = add_groups(&turns.groups, cells)?;
+    add_open(&turns.began, closed, cells)
+}
+
+/// A trail in the new cells that comes to the same, in its shortest form.
 fn trail_anew(
     alloc: Global,
     old: &[Cell],
@@ -116,12 +134,8 @@ fn trail_anew(
     ensures grown { OnOk result (Grown cells.old.items cells.new.items) }
     ensures short { OnOk result ((groups nested : ℕ) → IsNarrow groups nested (history old.now trail) → length cells.new.items ≤ length cells.old.items + (2 * groups + nested)) }
 {
-    let events = events_of(alloc, old, trail)?;
-    let count = groups_in(&events);
-    let turns = turns_of(alloc, &events, count)?;
-    let closed = add_groups(&turns.groups, cells)?;
-    let open = add_open(&turns.began, closed, cells)?;
-    Ok(open)
+    let turns = turns_at(alloc, old, trail)?;
+    add_turns(&turns, cells)
 }
 
 /// The threads, by trails in the new cells.

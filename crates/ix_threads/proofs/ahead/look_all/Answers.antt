@@ -1,4 +1,5 @@
 use Rattle.std.proofs.Common.{◌≡◌, ◌<◌, length, refl, ◌∙◌, subst, arith, length-set}
+use Rattle.std.proofs.lemmas.Result.{IfOk-from_err}
 use Rattle.ix_threads.specs.Leaf.{text_of}
 use Rattle.ix_threads.specs.Programs.{AllLooked}
 use Rattle.ix_threads.proofs.TestLemmas.{counts-none, counts-more}
@@ -23,7 +24,20 @@ loop-k-preserved g c =
       counts = counts-more c.loop-k.invariant.counts c.look_one.ensures.counts;
     }
 
-pub returns-clause-looks : goal.returns-clause-looks
-returns-clause-looks g c = λ rows a t.
-    let e : c.loop-k.k ≡ length c.args.asks.now = omega arith in
-    subst (λ n. AllLooked n c.args.asks.now c.loop-k.looks.items rows (text_of c.args.input) c.args.place) e (c.loop-k.invariant.looks rows a t)
+pub returns-in_err-leaf : goal.returns-in_err-leaf
+returns-in_err-leaf g c = record {
+  looks = IfOk-from_err c.from_residual.result _ c.from_residual.ensures.0;
+  all = IfOk-from_err c.from_residual.result _ c.from_residual.ensures.0;
+  marks = IfOk-from_err c.from_residual.result _ c.from_residual.ensures.0;
+  counts = counts-more c.loop-k.invariant.counts c.look_one.ensures.counts;
+}
+
+pub returns : goal.returns
+returns g c = record {
+  looks = λ rows a t.
+      let e : c.loop-k.k ≡ length c.args.asks.now = omega arith in
+      subst (λ n. AllLooked n c.args.asks.now c.loop-k.looks.items rows (text_of c.args.input) c.args.place) e (c.loop-k.invariant.looks rows a t);
+  all = c.loop-k.invariant.all;
+  marks = c.loop-k.invariant.marks;
+  counts = c.loop-k.invariant.counts;
+}

@@ -1,11 +1,13 @@
 use Rattle.std.proofs.Common.{rules, ◌≡◌, length, sym, ◌∙◌, ap, subst}
 use Rattle.std.specs.Prelude.{replicate, None, slice_get}
+use Rattle.std.proofs.lemmas.Result.{IfOk-from_err}
 use Rattle.ix_threads.specs.Leaf.{text_of}
 use Rattle.ix_threads.specs.Acts.{AllKnown}
 use Rattle.ix_threads.specs.Code.{best_ways}
 use Rattle.ix_threads.specs.Plans.{Knows}
 use Rattle.ix_threads.specs.Ran.{AreMarks}
 use Rattle.ix_threads.specs.Attempts.{so_far}
+use Rattle.ix_threads.proofs.TestLemmas.{counts-none}
 use Rattle.ix_threads.proofs.AttemptLemmas.{continues-self, lasts-same}
 use Rattle.ix_threads.proofs.RunLemmas.{take-grown}
 use Rattle.ix_threads.proofs.attempt.looked_at.Goals as goal
@@ -44,3 +46,36 @@ walk-requires-clause-known g c =
 
 pub returns-clause-room : goal.returns-clause-room
 returns-clause-room g c = c.in_ok-best.ensures.room
+
+pub returns-in_err-take_up : goal.returns-in_err-take_up
+returns-in_err-take_up g c = record {
+  head = IfOk-from_err c.from_residual.result _ c.from_residual.ensures.0;
+  place = c.take_up.ensures.place;
+  cells = IfOk-from_err c.from_residual.result _ c.from_residual.ensures.0;
+  threads = c.take_up.ensures.threads;
+  best = c.take_up.ensures.best;
+  room = IfOk-from_err c.from_residual.result _ c.from_residual.ensures.0;
+  counts = counts-none;
+}
+
+pub returns-in_err-best : goal.returns-in_err-best
+returns-in_err-best g c = record {
+  head = IfOk-from_err c.from_residual-in_err-best.result _ c.from_residual-in_err-best.ensures.0;
+  place = c.take_up.ensures.place;
+  cells = IfOk-from_err c.from_residual-in_err-best.result _ c.from_residual-in_err-best.ensures.0;
+  threads = c.take_up.ensures.threads;
+  best = c.take_up.ensures.best;
+  room = IfOk-from_err c.from_residual-in_err-best.result _ c.from_residual-in_err-best.ensures.0;
+  counts = c.walk.ensures.counts;
+}
+
+pub returns-in_err-outcome : goal.returns-in_err-outcome
+returns-in_err-outcome g c = record {
+  head = IfOk-from_err c.from_residual-in_err-outcome.result _ c.from_residual-in_err-outcome.ensures.0;
+  place = c.take_up.ensures.place;
+  cells = IfOk-from_err c.from_residual-in_err-outcome.result _ c.from_residual-in_err-outcome.ensures.0;
+  threads = c.take_up.ensures.threads;
+  best = c.take_up.ensures.best;
+  room = IfOk-from_err c.from_residual-in_err-outcome.result _ c.from_residual-in_err-outcome.ensures.0;
+  counts = c.walk.ensures.counts;
+}

@@ -1,5 +1,6 @@
-use Rattle.std.proofs.Common.{◌≡◌, ℕ, ◌+◌, ◌-◌, ◌/◌, ◌∙◌, ap, subst, arith}
+use Rattle.std.proofs.Common.{◌≡◌, ℕ, ◌+◌, ◌-◌, ◌/◌, ◌∙◌, length, ap, subst, arith}
 use Rattle.std.proofs.Math.Nat.{le_trans}
+use Rattle.std.proofs.lemmas.Result.{IfOk-from_err}
 use Rattle.ix_threads.specs.Places.{whole, ways_at, IsBefore}
 use Rattle.ix_threads.proofs.PlaceLemmas.{no-ways-joined}
 use Rattle.ix_threads.proofs.place.first_place.Goals as goal
@@ -23,12 +24,41 @@ loop-high-preserved g c =
       tabled = λ whole. c.way_before-in-loop-high.ensures.tabled whole ∙ inv.tabled whole;
     }
 
-pub returns-clause-place : goal.returns-clause-place
-returns-clause-place g c =
-    let inv = c.loop-high.invariant in (
-      inv.later,
-      omega (arith, inv.order, inv.within),
-      inv.none,
-      λ e. inv.some (λ q low high.
-          let same : q ≡ c.loop-high.low = omega (arith, low, high, c.loop-high-test.false) in ap (ways_at c.args.p.now (whole c.args.text.now)) same ∙ e),
-    )
+pub returns-in_err-end : goal.returns-in_err-end
+returns-in_err-end g c = record {
+  place = IfOk-from_err c.from_residual.result _ c.from_residual.ensures.0;
+  room = IfOk-from_err c.from_residual.result _ c.from_residual.ensures.0;
+  later = c.way_before.ensures.later;
+  tabled = c.way_before.ensures.tabled;
+}
+
+pub returns-in_default : goal.returns-in_default
+returns-in_default g c = record {
+  place = subst (IsBefore c.args.p.now (whole c.args.text.now) c.args.from (length c.args.text.now + 1)) c.in_default.is c.in_ok-end.ensures.before;
+  room = c.in_ok-end.ensures.room;
+  later = c.way_before.ensures.later;
+  tabled = c.way_before.ensures.tabled;
+}
+
+pub returns-in_err-end-2 : goal.returns-in_err-end-2
+returns-in_err-end-2 g c = record {
+  place = IfOk-from_err c.from_residual-in_err-end-2.result _ c.from_residual-in_err-end-2.ensures.0;
+  room = IfOk-from_err c.from_residual-in_err-end-2.result _ c.from_residual-in_err-end-2.ensures.0;
+  later = le_trans c.loop-high.invariant.steps c.way_before-in-loop-high.ensures.later;
+  tabled = λ whole. c.way_before-in-loop-high.ensures.tabled whole ∙ c.loop-high.invariant.tabled whole;
+}
+
+pub returns : goal.returns
+returns g c = record {
+  place =
+      let inv = c.loop-high.invariant in (
+        inv.later,
+        omega (arith, inv.order, inv.within),
+        inv.none,
+        λ e. inv.some (λ q low high.
+            let same : q ≡ c.loop-high.low = omega (arith, low, high, c.loop-high-test.false) in ap (ways_at c.args.p.now (whole c.args.text.now)) same ∙ e),
+      );
+  room = c.loop-high.invariant.room;
+  later = c.loop-high.invariant.steps;
+  tabled = c.loop-high.invariant.tabled;
+}

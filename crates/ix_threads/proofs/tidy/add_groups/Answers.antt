@@ -1,4 +1,6 @@
-use Rattle.std.proofs.Common.{rules, ◌≡◌, ◌+◌, [], length, sym, ap, subst, arith, take}
+use Rattle.std.proofs.Common.{rules, ◌≡◌, ◌+◌, ◌*◌, ◌≤◌, le_of_eq, [], length, sym, ap, subst, arith, take}
+use lib.Seq.{take_all}
+use Rattle.std.proofs.lemmas.Result.{IfOk-from_err}
 use Rattle.ix_threads.specs.Tidied.{ComesTo, over}
 use Rattle.ix_threads.proofs.RunLemmas.{grown-none, grown-both}
 use Rattle.ix_threads.proofs.TidyLemmas.{comes-nothing, take-next}
@@ -14,4 +16,20 @@ loop-at-preserved c =
           (c.in_ok-trail.ensures.trail (take c.loop-at.at c.args.groups.now) (let l : length (take c.loop-at.at c.args.groups.now) ≡ c.loop-at.at = search rules in ap (λ n. n + 1) (sym l)) c.loop-at.invariant.trail);
       short = omega (arith, c.loop-at.invariant.short, c.in_ok-trail.ensures.short);
       grown = grown-both c.loop-at.invariant.grown c.in_ok-trail.ensures.grown;
+    }
+
+pub returns-in_err-trail : goal.returns-in_err-trail
+returns-in_err-trail c = record {
+  trail = IfOk-from_err c.from_residual.result _ c.from_residual.ensures.0;
+  grown = IfOk-from_err c.from_residual.result _ c.from_residual.ensures.0;
+  short = IfOk-from_err c.from_residual.result _ c.from_residual.ensures.0;
+}
+
+pub returns : goal.returns
+returns c =
+    let last : c.loop-at.at ≡ length c.args.groups.now = omega arith in
+    record {
+      trail = subst (λ g. ComesTo c.loop-at.cells.items c.loop-at.trail (λ before. record { began = []; groups = over before g })) (take_all c.loop-at.at c.args.groups.now (le_of_eq (sym last))) c.loop-at.invariant.trail;
+      grown = c.loop-at.invariant.grown;
+      short = subst (λ n. length c.loop-at.cells.items ≤ length c.args.cells.now.items + 2 * n) last c.loop-at.invariant.short;
     }

@@ -1,4 +1,6 @@
-use Rattle.std.proofs.Common.{◌≡◌, ◌+◌, ◌*◌, ◌≤◌, length, refl, sym, subst, arith, take}
+use Rattle.std.proofs.Common.{◌≡◌, ◌+◌, ◌*◌, ◌≤◌, le_of_eq, length, refl, sym, subst, arith, take}
+use lib.Seq.{take_all}
+use Rattle.std.proofs.lemmas.Result.{IfOk-from_err}
 use Rattle.ix_threads.specs.Tidied.{AreAnew}
 use Rattle.ix_threads.proofs.TidyLemmas.{anew-grown, anew-push, narrow-at, take-next, times-more}
 use Rattle.ix_threads.proofs.tidy.threads_anew.Goals as goal
@@ -18,7 +20,23 @@ loop-at-preserved c =
           omega (arith, old, one, on);
     }
 
-pub returns-clause-short : goal.returns-clause-short
-returns-clause-short c = λ groups nested narrow.
+pub returns-in_err-trail : goal.returns-in_err-trail
+returns-in_err-trail c = record {
+  threads = IfOk-from_err c.from_residual.result _ c.from_residual.ensures.0;
+  short = IfOk-from_err c.from_residual.result _ c.from_residual.ensures.0;
+}
+
+pub returns-in_err-push : goal.returns-in_err-push
+returns-in_err-push c = record {
+  threads = IfOk-from_err c.from_residual-in_err-push.result _ c.from_residual-in_err-push.ensures.0;
+  short = IfOk-from_err c.from_residual-in_err-push.result _ c.from_residual-in_err-push.ensures.0;
+}
+
+pub returns : goal.returns
+returns c =
     let last : c.loop-at.at ≡ length c.args.threads.now = omega arith in
-    subst (λ n. length c.loop-at.cells.items ≤ length c.args.cells.now.items + n * (2 * groups + nested)) last (c.loop-at.invariant.short groups nested narrow)
+    record {
+      threads = subst (λ l. AreAnew c.args.old.now l c.loop-at.cells.items c.loop-at.anew.items) (take_all c.loop-at.at c.args.threads.now (le_of_eq (sym last))) c.loop-at.invariant.threads;
+      short = λ groups nested narrow.
+          subst (λ n. length c.loop-at.cells.items ≤ length c.args.cells.now.items + n * (2 * groups + nested)) last (c.loop-at.invariant.short groups nested narrow);
+    }
