@@ -9,3 +9,11 @@ pub returns-clause-ways : goal.returns-clause-ways
 returns-clause-ways g c =
     λ mean blank cells. byte-here (mean c.args.next (history cells c.args.frame.trail)) (set_in (sets_of c.args.p.now.rows) c.args.set) (text_of c.args.input) c.args.frame.place (get_or c.args.input.bytes.now c.args.frame.place 0) _
     (slice_get-get_or c.args.input.bytes.now c.args.frame.place 0 (omega arith)) (sym c.if-not-takes.false ∙ c.takes.ensures)
+
+pub returns-then-not-takes : goal.returns-then-not-takes
+returns-then-not-takes g c = record {
+  ways =
+      λ mean blank cells. byte-here (mean c.args.next (history cells c.args.frame.trail)) (set_in (sets_of c.args.p.now.rows) c.args.set) (text_of c.args.input) c.args.frame.place (get_or c.args.input.bytes.now c.args.frame.place 0) _
+      (slice_get-get_or c.args.input.bytes.now c.args.frame.place 0 (omega arith)) (sym c.if-not-takes.true ∙ c.takes.ensures);
+  known = λ n count next frame. tt;
+}

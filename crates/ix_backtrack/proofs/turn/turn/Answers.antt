@@ -1,9 +1,11 @@
 use Rattle.std.proofs.Common.{[], ◌++◌, length, length-append, sym, ◌∙◌, ap, subst, arith}
+use Rattle.std.proofs.lemmas.Result.{IfOk-from_err}
 use Rattle.ix_pattern.specs.Ways.{here, is_start}
 use Rattle.ix_threads.specs.Code.{history, tested}
 use Rattle.ix_threads.specs.Leaf.{at}
 use Rattle.ix_threads.specs.declared.code.Instr.TheVariants.{Match, Byte, Split, Jump, Begin, Finish, TextStart, TextEnd, Word}
 use Rattle.ix_threads.specs.declared.cells.Event.TheVariants.{Began, Ended}
+use Rattle.ix_threads.proofs.RunLemmas.{grown-none}
 use Rattle.ix_backtrack.specs.Frames.{IsFrame}
 use Rattle.ix_backtrack.proofs.FrameLemmas.{event-ways}
 use Rattle.ix_backtrack.proofs.turn.turn.Goals as goal
@@ -109,3 +111,47 @@ returns-in-Word-clause-turns g c =
 pub returns-in-Word-clause-known : goal.returns-in-Word-clause-known
 returns-in-Word-clause-known g c =
     c.behind_leaf-in-Word.ensures.known _ _ _ (c.requires.code.targets c.args.frame.pc (Word c.in-Word.next) c.in-Word.ensures) c.requires.known
+
+pub returns-in_err-f-in-Begin : goal.returns-in_err-f-in-Begin
+returns-in_err-f-in-Begin g c = record {
+  turns = IfOk-from_err c.from_residual.result _ c.from_residual.ensures.0;
+  known = IfOk-from_err c.from_residual.result _ c.from_residual.ensures.0;
+  grown = IfOk-from_err c.from_residual.result _ c.from_residual.ensures.0;
+}
+
+pub returns-in_err-f-in-Finish : goal.returns-in_err-f-in-Finish
+returns-in_err-f-in-Finish g c = record {
+  turns = IfOk-from_err c.from_residual-in_err-f-in-Finish.result _ c.from_residual-in_err-f-in-Finish.ensures.0;
+  known = IfOk-from_err c.from_residual-in_err-f-in-Finish.result _ c.from_residual-in_err-f-in-Finish.ensures.0;
+  grown = IfOk-from_err c.from_residual-in_err-f-in-Finish.result _ c.from_residual-in_err-f-in-Finish.ensures.0;
+}
+
+pub returns-in-Match-clause-grown : goal.returns-in-Match-clause-grown
+returns-in-Match-clause-grown g c = grown-none c.args.cells.now.items
+
+pub returns-in-Byte-clause-grown : goal.returns-in-Byte-clause-grown
+returns-in-Byte-clause-grown g c = grown-none c.args.cells.now.items
+
+pub returns-in-Split-clause-grown : goal.returns-in-Split-clause-grown
+returns-in-Split-clause-grown g c = grown-none c.args.cells.now.items
+
+pub returns-in-Jump-clause-grown : goal.returns-in-Jump-clause-grown
+returns-in-Jump-clause-grown g c = grown-none c.args.cells.now.items
+
+pub returns-in-TextStart-clause-grown : goal.returns-in-TextStart-clause-grown
+returns-in-TextStart-clause-grown g c = grown-none c.args.cells.now.items
+
+pub returns-in-TextEnd-clause-grown : goal.returns-in-TextEnd-clause-grown
+returns-in-TextEnd-clause-grown g c = grown-none c.args.cells.now.items
+
+pub returns-in-Word-clause-grown : goal.returns-in-Word-clause-grown
+returns-in-Word-clause-grown g c = grown-none c.args.cells.now.items
+
+pub returns-in-Look-clause-grown : goal.returns-in-Look-clause-grown
+returns-in-Look-clause-grown g c = grown-none c.args.cells.now.items
+
+pub returns-in_ok-f-in-Begin-clause-grown : goal.returns-in_ok-f-in-Begin-clause-grown
+returns-in_ok-f-in-Begin-clause-grown g c = record { added = _; is = c.in_ok-f-in-Begin.ensures.cells }
+
+pub returns-in_ok-f-in-Finish-clause-grown : goal.returns-in_ok-f-in-Finish-clause-grown
+returns-in_ok-f-in-Finish-clause-grown g c = record { added = _; is = c.in_ok-f-in-Finish.ensures.cells }
