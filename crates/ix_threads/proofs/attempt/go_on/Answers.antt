@@ -1,5 +1,6 @@
 use Rattle.std.proofs.Common.{length, sym, ◌∙◌, ap, subst, arith}
 use Rattle.std.specs.Prelude.{replicate, None}
+use Rattle.std.proofs.lemmas.Result.{IfOk-from_err}
 use Rattle.ix_pattern.specs.Rows.{Shape, tree}
 use Rattle.ix_threads.specs.Leaf.{text_of}
 use Rattle.ix_threads.specs.Acts.{AllKnown}
@@ -45,3 +46,12 @@ returns-clause-stands g c =
           (lasts-of (Knows plan) (IsOf rows) plan.code.now seen program.start b.place b.cells.items b.threads.items b.best
           (λ r e. subst (Knows plan) (sym e) c.plan_of-plan.ensures.knows) (c.in_ok-outcome.ensures.lasts program.start known));
     }
+
+pub returns-in_err-outcome : goal.returns-in_err-outcome
+returns-in_err-outcome g c = record {
+  head = IfOk-from_err c.from_residual.result _ c.from_residual.ensures.0;
+  stands = IfOk-from_err c.from_residual.result _ c.from_residual.ensures.0;
+  room = IfOk-from_err c.from_residual.result _ c.from_residual.ensures.0;
+  later = c.advance.ensures.counts.later;
+  tabled = λ whole. c.advance.ensures.counts.none (c.plan_of-plan.ensures.width ∙ whole ∙ ap (λ (q : Shape). length q.rows) (sym c.plan_of-plan.ensures.pattern));
+}

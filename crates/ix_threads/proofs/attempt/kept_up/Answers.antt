@@ -1,8 +1,10 @@
 use Rattle.std.proofs.Common.{length, refl, sym, ap, subst}
+use Rattle.std.proofs.lemmas.Result.{IfOk-from_err}
 use Rattle.ix_threads.specs.Acts.{AllKnown}
 use Rattle.ix_threads.specs.Plans.{Knows}
 use Rattle.ix_threads.specs.Ran.{AreMarks}
 use Rattle.ix_threads.specs.Attempts.{so_far}
+use Rattle.ix_threads.proofs.TestLemmas.{counts-none}
 use Rattle.ix_threads.proofs.AttemptLemmas.{lasts-same}
 use Rattle.ix_threads.proofs.attempt.kept_up.Goals as goal
 
@@ -29,3 +31,21 @@ keep_up-requires-clause-known g c =
     let n = length c.args.plan.code.now in
     subst (λ cells. AllKnown n (length cells.items) work.stack.items) (sym c.take_up.ensures.cells)
     (subst (AllKnown n (length c.args.attempt.now.cells.items)) (sym c.in_ok-take_up.ensures.stack) c.requires.known)
+
+pub returns-in_err-take_up : goal.returns-in_err-take_up
+returns-in_err-take_up g c = record {
+  lasts = IfOk-from_err c.from_residual.result _ c.from_residual.ensures.0;
+  known = IfOk-from_err c.from_residual.result _ c.from_residual.ensures.0;
+  within = IfOk-from_err c.from_residual.result _ c.from_residual.ensures.0;
+  room = IfOk-from_err c.from_residual.result _ c.from_residual.ensures.0;
+  counts = counts-none;
+}
+
+pub returns-in_err-keep_up : goal.returns-in_err-keep_up
+returns-in_err-keep_up g c = record {
+  lasts = IfOk-from_err c.from_residual-in_err-keep_up.result _ c.from_residual-in_err-keep_up.ensures.0;
+  known = IfOk-from_err c.from_residual-in_err-keep_up.result _ c.from_residual-in_err-keep_up.ensures.0;
+  within = IfOk-from_err c.from_residual-in_err-keep_up.result _ c.from_residual-in_err-keep_up.ensures.0;
+  room = IfOk-from_err c.from_residual-in_err-keep_up.result _ c.from_residual-in_err-keep_up.ensures.0;
+  counts = c.keep_up.ensures.counts;
+}

@@ -1,4 +1,5 @@
 use Rattle.std.proofs.Common.{length, sym, subst}
+use Rattle.std.proofs.lemmas.Result.{IfOk-from_err}
 use Rattle.ix_threads.specs.Leaf.{text_of}
 use Rattle.ix_threads.specs.Looks.{AreLooks}
 use Rattle.ix_threads.specs.Programs.{AsksFit}
@@ -18,3 +19,25 @@ returns-clause-room g c = (
   c.in_ok-look_all.ensures.marks,
   subst (AsksFit c.args.plan.asks.now (length c.args.plan.inner.now)) (sym c.in_ok-look_all.ensures.all) c.requires.room.2,
 )
+
+pub returns-in_err-look_all : goal.returns-in_err-look_all
+returns-in_err-look_all g c = record {
+  rounds = IfOk-from_err c.from_residual.result _ c.from_residual.ensures.0;
+  bytes = IfOk-from_err c.from_residual.result _ c.from_residual.ensures.0;
+  known = IfOk-from_err c.from_residual.result _ c.from_residual.ensures.0;
+  empty = IfOk-from_err c.from_residual.result _ c.from_residual.ensures.0;
+  room = IfOk-from_err c.from_residual.result _ c.from_residual.ensures.0;
+  grown = IfOk-from_err c.from_residual.result _ c.from_residual.ensures.0;
+  counts = c.look_all.ensures.counts;
+}
+
+pub returns-in_err-after : goal.returns-in_err-after
+returns-in_err-after g c = record {
+  rounds = IfOk-from_err c.from_residual-in_err-after.result _ c.from_residual-in_err-after.ensures.0;
+  bytes = IfOk-from_err c.from_residual-in_err-after.result _ c.from_residual-in_err-after.ensures.0;
+  known = IfOk-from_err c.from_residual-in_err-after.result _ c.from_residual-in_err-after.ensures.0;
+  empty = IfOk-from_err c.from_residual-in_err-after.result _ c.from_residual-in_err-after.ensures.0;
+  room = IfOk-from_err c.from_residual-in_err-after.result _ c.from_residual-in_err-after.ensures.0;
+  grown = IfOk-from_err c.from_residual-in_err-after.result _ c.from_residual-in_err-after.ensures.0;
+  counts = c.look_all.ensures.counts;
+}

@@ -1,4 +1,5 @@
 use Rattle.std.proofs.Common.{◌≡◌, length, sym, ◌∙◌, subst, map}
+use Rattle.std.proofs.lemmas.Result.{IfOk-from_err}
 use Rattle.ix_threads.specs.Acts.{AllKnown}
 use Rattle.ix_threads.specs.Settled.{AllBytes}
 use Rattle.ix_threads.specs.Stepped.{Steps}
@@ -27,3 +28,11 @@ returns-clause-known g c =
     c.in_ok-step.ensures.known (length c.clear.new.self.items)
     (subst (AllKnown (length c.args.plan.code.now) (length c.clear.new.self.items)) (sym ready)
     (known-forgot (length c.args.plan.code.now) (length c.args.room.now.main.cells.items) (length c.clear.new.self.items) c.args.room.now.main.ready.items c.requires.known))
+
+pub returns-in_err-step : goal.returns-in_err-step
+returns-in_err-step g c = record {
+  passed = IfOk-from_err c.from_residual.result _ c.from_residual.ensures.0;
+  known = IfOk-from_err c.from_residual.result _ c.from_residual.ensures.0;
+  room = IfOk-from_err c.from_residual.result _ c.from_residual.ensures.0;
+  counts = c.step.ensures.counts;
+}

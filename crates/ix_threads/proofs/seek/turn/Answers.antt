@@ -1,7 +1,9 @@
 use Rattle.std.proofs.Common.{length, refl, sym, subst, ◌+◌, min}
+use Rattle.std.proofs.lemmas.Result.{IfOk-from_err}
 use Rattle.ix_threads.specs.Leaf.{text_of}
 use Rattle.ix_threads.specs.Plans.{Knows}
 use Rattle.ix_threads.specs.Seeks.{Turned}
+use Rattle.ix_threads.proofs.TestLemmas.{counts-none}
 use Rattle.ix_threads.proofs.AgreeLemmas.{agrees-refl}
 use Rattle.ix_threads.proofs.SeekLemmas.{known-begun, carry-begun, turned}
 use Rattle.ix_threads.proofs.seek.turn.Goals as goal
@@ -20,3 +22,23 @@ returns-clause-turned g c = λ from low carry.
     (known-begun (length c.args.plan.code.now) (length c.args.room.now.main.cells.items) c.args.start c.args.place c.args.to c.args.room.now.main.stack.items c.begin.new.stack.items
     c.in_ok-begin.ensures c.requires.start c.requires.known)
     (carry-begun (Knows c.args.plan) c.args.plan.code.now (text_of c.args.input) c.args.start from c.args.to c.args.place c.args.room.now.main.stack.items c.begin.new.stack.items c.in_ok-begin.ensures low carry))
+
+pub returns-in_err-begin : goal.returns-in_err-begin
+returns-in_err-begin g c = record {
+  turned = IfOk-from_err c.from_residual.result _ c.from_residual.ensures.0;
+  bytes = IfOk-from_err c.from_residual.result _ c.from_residual.ensures.0;
+  known = IfOk-from_err c.from_residual.result _ c.from_residual.ensures.0;
+  empty = IfOk-from_err c.from_residual.result _ c.from_residual.ensures.0;
+  room = IfOk-from_err c.from_residual.result _ c.from_residual.ensures.0;
+  counts = counts-none;
+}
+
+pub returns-in_err-best : goal.returns-in_err-best
+returns-in_err-best g c = record {
+  turned = IfOk-from_err c.from_residual-in_err-best.result _ c.from_residual-in_err-best.ensures.0;
+  bytes = IfOk-from_err c.from_residual-in_err-best.result _ c.from_residual-in_err-best.ensures.0;
+  known = IfOk-from_err c.from_residual-in_err-best.result _ c.from_residual-in_err-best.ensures.0;
+  empty = IfOk-from_err c.from_residual-in_err-best.result _ c.from_residual-in_err-best.ensures.0;
+  room = IfOk-from_err c.from_residual-in_err-best.result _ c.from_residual-in_err-best.ensures.0;
+  counts = c.round.ensures.counts;
+}
