@@ -74,7 +74,7 @@ pub tokens_step : (front more : List Token) (n m : ℕ) (flags : Flags) (bytes b
 tokens_step front more n m flags bytes behind t whole lt some found grown is =
     let others : Token × List ℕ → Option (List Token) = λ t. tokens (n - (m + 1)) flags t.1 >>= λ others. Some (t.0 ∷ others) in
     ap (λ f. with_front f (tokens (n - (m + 1)) flags behind)) grown ∙ sym (with_front-turn front (t, behind) (tokens (n - (m + 1)) flags behind))
-        ∙ ap (λ o. with_front front (o >>= others)) found ∙ ap (with_front front) (sym (tokens_turn n m flags bytes lt some)) ∙ is
+    ∙ ap (λ o. with_front front (o >>= others)) found ∙ ap (with_front front) (sym (tokens_turn n m flags bytes lt some)) ∙ is
 
 -- where none is, there are no tokens
 pub tokens_failed : (front : List Token) (n m : ℕ) (flags : Flags) (bytes : List ℕ) (whole : Option (List Token)) → m < n → 0 < length bytes →

@@ -1,4 +1,4 @@
-use Rattle.std.proofs.Common.{◌≡◌, length, sym, ◌∙◌, subst, get_or}
+use Rattle.std.proofs.Common.{length, sym, ◌∙◌, subst, get_or}
 use Rattle.std.proofs.lemmas.Option.{slice_get-get_or}
 use Rattle.std.proofs.lemmas.Result.{IfOk-from_err}
 use Rattle.ix_threads.specs.Acts.{AllKnown}
