@@ -1,5 +1,6 @@
 -- What a window gives of its file.
-use Rattle.std.proofs.Common.{◌≡◌, ◌≢◌, ◌≤◌, ◌+◌, ◌-◌, ℕ, min, List, [], ◌++◌, length, take, drop, refl, sym, ◌∙◌, ap, arith, append_assoc, length-append, length-take, length-drop, take-append-drop}
+use Rattle.std.proofs.Common.{◌≡◌, ◌≢◌, ◌≤◌, ◌<◌, ◌+◌, ◌-◌, ◌^◌, ℕ, min, Bool, false, Result, List, [], ◌++◌, length, take, drop, refl, sym, ◌∙◌, ap, arith, append_assoc, length-append, length-take, length-drop, take-append-drop}
+use Rattle.std.specs.Prelude.{if◌then◌else◌, is_ok, not}
 use Rattle.std.proofs.lemmas.List.{take_at, take_rest, take-append-le, drop_at, drop-drop, drop-append-le, append-nil, drop_all}
 use Rattle.std.proofs.Math.Seq.{take-add}
 use Rattle.ix_base.specs.Told.{IsFrontOf}
@@ -81,3 +82,27 @@ module _ (at room : ℕ) (file buf none : List ℕ) (five : length none ≡ 5) w
     ap (λ (l : List ℕ). l ++ drop room none) read.1 ∙ append_assoc (take n (drop at file)) (drop n (take room none)) (drop room none),
     omega (arith, read.0, room_is, left_is, five, length-take room none, length-drop at file),
   )
+
+-- a vector that was filled up to a length has it
+pub filled_up : {T E : Type 0} (result : Result T E) (failed : Bool) (now len before : ℕ) → now ≡ (if is_ok result then len else before) → is_ok result ≡ not failed → failed ≡ false → now ≡ len
+filled_up result failed now len before is by filled = is ∙ ap (λ (b : Bool). if b then len else before) (by ∙ ap not filled)
+
+-- what was read into the whole of a vector's bytes
+module _ (len room : ℕ) (before buf : List ℕ) (is_room : room ≡ len) (long : length before ≡ room) where
+  pub body_fits : (at : ℕ) → at < 2 ^ 63 → len < 2 ^ 32 → at + 5 + length before < 2 ^ 64
+  body_fits at place fits = omega (arith, place, fits, long, is_room)
+
+  module _ (size : length buf ≡ length before) where
+    pub body_size : (rest out : List ℕ) → out ≡ take room (buf ++ rest) → length out ≡ len
+    body_size rest out is = ap length (is ∙ take_at buf rest room (size ∙ long)) ∙ size ∙ long ∙ is_room
+
+    module _ (file : List ℕ) (at n : ℕ) (read : (n ≡ min (length before) (length file - at)) × (buf ≡ take n (drop at file) ++ drop n before)) where
+      pub body_cut : n < len → length file < at + len
+      body_cut lt = omega (arith, read.0, long, is_room)
+
+      pub body_whole : len ≤ n → (rest out : List ℕ) → out ≡ take room (buf ++ rest) → out ≡ take len (drop at file)
+      body_whole le rest out is =
+          let all : n ≡ len = omega (arith, read.0, long, is_room) in
+          let none : drop n before ≡ [] = drop_all n before (omega (arith, all, long, is_room)) in
+          is ∙ take_at buf rest room (size ∙ long)
+              ∙ read.1 ∙ ap (λ (l : List ℕ). take n (drop at file) ++ l) none ∙ append-nil (take n (drop at file)) ∙ ap (λ (k : ℕ). take k (drop at file)) all
