@@ -58,10 +58,7 @@ fn commit_due<M: Listing + Drop, D: Disk>(
     if !due {
         return Ok(());
     }
-    match store.commit(disk) {
-        Ok(()) => {}
-        Err(fault) => return Err(fault),
-    }
+    store.commit(disk)?;
     match shorten(store, disk) {
         Ok(()) => Ok(()),
         // What is committed stays so, and the long log is still the current one.

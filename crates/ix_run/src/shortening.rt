@@ -52,8 +52,5 @@ pub fn shorten<M: Listing + Drop, D: Disk>(
     if !long {
         return Ok(());
     }
-    match store.checkpoint(disk) {
-        Ok(()) => Ok(()),
-        Err(fault) => Err(fault),
-    }
+    store.checkpoint(disk)
 }

@@ -50,10 +50,7 @@ pub fn give_last<M: Listing + Drop, D: Disk>(
     ensures later { D.Disk.faults disk.old ≤ D.Disk.faults disk.new }
     ensures cause { IfErr result (λ fault. fault ≡ GiveFault.Commit CommitFault.Disk → Rose (D.Disk.faults disk.old) (D.Disk.faults disk.new)) }
 {
-    let answer = match give(store, disk, command, moment) {
-        Ok(answer) => answer,
-        Err(fault) => return Err(fault),
-    };
+    let answer = give(store, disk, command, moment)?;
     match commit_all(store, disk) {
         Ok(()) => Ok(answer),
         Err(fault) => Err(GiveFault::Commit(fault)),

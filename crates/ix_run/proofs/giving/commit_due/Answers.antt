@@ -1,5 +1,6 @@
 use Rattle.std.proofs.Common.{◌≡◌, ◌∙◌, ℕ, arith, refl, sym, ap}
 use Rattle.std.specs.Prelude.{Result, Ok, Err}
+use Rattle.std.proofs.lemmas.Result.{err_from_is_err_and}
 use Rattle.ix_book.specs.declared.fault.CheckpointFault.{CheckpointFault}
 use Rattle.ix_base.specs.declared.files.File.{File}
 use Rattle.ix_disk.proofs.Runs.{rose_later}
@@ -30,31 +31,33 @@ returns-then-not-due g c = record {
   cause = tt;
 }
 
-pub returns-in-Err : goal.returns-in-Err
-returns-in-Err g c = record {
-  gone = tt;
-  stood = λ choose h base k chooser taken hold.
-      stood_either g.D.Disk _ g.M.Memory.holds choose h c.args.store.now.run k c.args.disk.now c.commit.new.disk hold.staged.within (c.commit.ensures.images choose h base k hold);
-  over = tt;
-  measured = λ measured. tt;
-  closed = c.in-Err.ensures.closed;
-  undamaged = c.in-Err.ensures.undamaged;
-  told = c.commit.ensures.told;
-  later = c.commit.ensures.later;
-  cause = λ is. c.commit.ensures.cause (c.in-Err.is ∙ ap (λ (f : CommitFault). Err f) is);
-}
+pub returns-in_err-commit : goal.returns-in_err-commit
+returns-in_err-commit g c =
+    let p = err_from_is_err_and c.from_residual.result c.from_residual.ensures.1 in
+    rw (p.1, p.2) (record {
+      gone = tt;
+      stood = λ choose h base k chooser taken hold.
+          stood_either g.D.Disk _ g.M.Memory.holds choose h c.args.store.now.run k c.args.disk.now c.commit.new.disk hold.staged.within (c.commit.ensures.images choose h base k hold);
+      over = tt;
+      measured = λ measured. tt;
+      closed = c.in_err-commit.ensures.closed;
+      undamaged = c.in_err-commit.ensures.undamaged;
+      told = c.commit.ensures.told;
+      later = c.commit.ensures.later;
+      cause = λ is. c.commit.ensures.cause (c.in_err-commit.was ∙ ap (λ (f : CommitFault). Err f) is);
+    })
 
-pub returns-in-Ok-shorten : goal.returns-in-Ok-shorten
-returns-in-Ok-shorten g c = record {
+pub returns-in-Ok : goal.returns-in-Ok
+returns-in-Ok g c = record {
   gone = λ choose h base k chooser taken hold.
-      let all = c.in-Ok.ensures.done choose h base k hold in
+      let all = c.in_ok-commit.ensures.done choose h base k hold in
       settled_short g.D.Disk _ g.M.Memory.holds choose h c.args.store.now.run _ base k _ c.args.disk.now c.commit.new.disk c.shorten.new.disk hold.staged.within
-      (c.in-Ok-shorten.ensures.held refl choose h base chooser taken all) (c.commit.ensures.images choose h base k hold) (c.shorten.ensures.images choose h base chooser taken all);
+      (c.in-Ok.ensures.held refl choose h base chooser taken all) (c.commit.ensures.images choose h base k hold) (c.shorten.ensures.images choose h base chooser taken all);
   stood = λ choose h base k chooser taken hold.
       stood_short g.D.Disk _ g.M.Memory.holds choose h c.args.store.now.run _ k c.args.disk.now c.commit.new.disk c.shorten.new.disk hold.staged.within
-      (c.commit.ensures.images choose h base k hold) (c.shorten.ensures.images choose h base chooser taken (c.in-Ok.ensures.done choose h base k hold));
-  over = c.in-Ok-shorten.ensures.over refl;
-  measured = λ measured. (c.in-Ok-shorten.ensures.rest refl (record { over = c.in-Ok.ensures.over; idle = c.in-Ok.ensures.idle; measured = c.in-Ok.ensures.measured (λ idle. measured) })).measured;
+      (c.commit.ensures.images choose h base k hold) (c.shorten.ensures.images choose h base chooser taken (c.in_ok-commit.ensures.done choose h base k hold));
+  over = c.in-Ok.ensures.over refl;
+  measured = λ measured. (c.in-Ok.ensures.rest refl (record { over = c.in_ok-commit.ensures.over; idle = c.in_ok-commit.ensures.idle; measured = c.in_ok-commit.ensures.measured (λ idle. measured) })).measured;
   closed = tt;
   undamaged = λ file at is. absurd (not_ok is);
   told = anyhow_through (g.D.Disk.seen c.args.disk.now) (g.D.Disk.seen c.commit.new.disk) (g.D.Disk.seen c.shorten.new.disk) c.commit.ensures.told c.shorten.ensures.told;
@@ -65,16 +68,16 @@ returns-in-Ok-shorten g c = record {
 pub returns-in-Err-NoMemory : goal.returns-in-Err-NoMemory
 returns-in-Err-NoMemory g c = record {
   gone = λ choose h base k chooser taken hold.
-      let all = c.in-Ok.ensures.done choose h base k hold in
+      let all = c.in_ok-commit.ensures.done choose h base k hold in
       settled_short g.D.Disk _ g.M.Memory.holds choose h c.args.store.now.run _ base k _ c.args.disk.now c.commit.new.disk c.shorten.new.disk hold.staged.within
       (c.in-Err-NoMemory.ensures.held (ap (λ (f : CheckpointFault). is_failed (Err f)) c.in-Err-NoMemory.field-0-is) choose h base chooser taken all) (c.commit.ensures.images choose h base k hold)
       (c.shorten.ensures.images choose h base chooser taken all);
   stood = λ choose h base k chooser taken hold.
       stood_short g.D.Disk _ g.M.Memory.holds choose h c.args.store.now.run _ k c.args.disk.now c.commit.new.disk c.shorten.new.disk hold.staged.within
-      (c.commit.ensures.images choose h base k hold) (c.shorten.ensures.images choose h base chooser taken (c.in-Ok.ensures.done choose h base k hold));
+      (c.commit.ensures.images choose h base k hold) (c.shorten.ensures.images choose h base chooser taken (c.in_ok-commit.ensures.done choose h base k hold));
   over = c.in-Err-NoMemory.ensures.over (ap (λ (f : CheckpointFault). is_failed (Err f)) c.in-Err-NoMemory.field-0-is);
   measured = λ measured.
-      (c.in-Err-NoMemory.ensures.rest (ap (λ (f : CheckpointFault). is_failed (Err f)) c.in-Err-NoMemory.field-0-is) (record { over = c.in-Ok.ensures.over; idle = c.in-Ok.ensures.idle; measured = c.in-Ok.ensures.measured (λ idle. measured) })).measured;
+      (c.in-Err-NoMemory.ensures.rest (ap (λ (f : CheckpointFault). is_failed (Err f)) c.in-Err-NoMemory.field-0-is) (record { over = c.in_ok-commit.ensures.over; idle = c.in_ok-commit.ensures.idle; measured = c.in_ok-commit.ensures.measured (λ idle. measured) })).measured;
   closed = tt;
   undamaged = λ file at is. absurd (not_ok is);
   told = anyhow_through (g.D.Disk.seen c.args.disk.now) (g.D.Disk.seen c.commit.new.disk) (g.D.Disk.seen c.shorten.new.disk) c.commit.ensures.told c.shorten.ensures.told;
@@ -87,7 +90,7 @@ returns-in-Err-Disk g c = record {
   gone = tt;
   stood = λ choose h base k chooser taken hold.
       stood_short g.D.Disk _ g.M.Memory.holds choose h c.args.store.now.run _ k c.args.disk.now c.commit.new.disk c.shorten.new.disk hold.staged.within
-      (c.commit.ensures.images choose h base k hold) (c.shorten.ensures.images choose h base chooser taken (c.in-Ok.ensures.done choose h base k hold));
+      (c.commit.ensures.images choose h base k hold) (c.shorten.ensures.images choose h base chooser taken (c.in_ok-commit.ensures.done choose h base k hold));
   over = tt;
   measured = λ measured. tt;
   closed = c.shorten.ensures.closed (c.in-Err-Disk.is ∙ ap (λ (f : CheckpointFault). Err f) c.in-Err-Disk.field-0-is);

@@ -1,5 +1,5 @@
-use Rattle.std.proofs.Common.{◌≡◌, ◌∙◌, Bool, true, false, refl, sym, ap, subst, arith}
-use Rattle.std.specs.Prelude.{Result, Ok, Err}
+use Rattle.std.proofs.Common.{◌≡◌, Bool, true, false, refl, sym, subst, arith}
+use Rattle.std.specs.Prelude.{Result, Ok, Err, OnOk, IsErrOf}
 use Rattle.std.proofs.lemmas.Bool.{true≢false}
 use Rattle.ix_book.specs.declared.fault.CheckpointFault.{CheckpointFault}
 use Rattle.ix_book.specs.declared.fault.CheckpointFault.TheVariants as faults
@@ -20,11 +20,16 @@ not_err is = cc
 idle_still : {M : Type 0} (store later : Store M) → later ≡ store → IsIdle store.keeper → IsIdle later.keeper
 idle_still {M} store later same is = subst (λ (x : Store M). IsIdle x.keeper) (sym same) is
 
--- where the disk has not failed there was no room
+-- where the disk has not failed all was done, or there was no room
 
-no_room : (fault : CheckpointFault) → (let result : Result Unit CheckpointFault = Err fault in is_failed result ≡ false) → fault ≡ faults.NoMemory
-no_room faults.Disk fine = absurd (true≢false fine)
-no_room faults.NoMemory fine = refl
+by_result : (result : Result Unit CheckpointFault) (P : Type 0) → OnOk result P → (IsErrOf result faults.NoMemory → P) → is_failed result ≡ false → P
+by_result (Ok done) P ok still fine = ok
+by_result (Err faults.NoMemory) P ok still fine = still refl
+by_result (Err faults.Disk) P ok still fine = absurd (true≢false fine)
+
+by_both : (result : Result Unit CheckpointFault) (P Q R : Type 0) → (P → Q → R) → OnOk result P → OnOk result Q → OnOk result R
+by_both (Ok done) P Q R so p q = so p q
+by_both (Err fault) P Q R so p q = tt
 
 pub returns-then-not-long : goal.returns-then-not-long
 returns-then-not-long g c = record {
@@ -46,47 +51,35 @@ returns-then-not-long g c = record {
   cause = λ is. absurd (not_err is);
 }
 
-pub returns-in-Ok : goal.returns-in-Ok
-returns-in-Ok g c = record {
-  images = c.checkpoint.ensures.images;
-  held = λ fine. c.in-Ok.ensures.done;
-  over = λ fine. c.in-Ok.ensures.over;
-  idle = λ fine. c.in-Ok.ensures.idle;
-  rest = λ fine rest. record { over = c.in-Ok.ensures.over; idle = c.in-Ok.ensures.idle; measured = c.in-Ok.ensures.measured };
-  short = λ measured.
-      short_made g.D.Disk (λ image disk told. g.met.D.Disk.seen_may_stay disk image told) c.checkpoint.new.self.keeper c.checkpoint.new.disk c.in-Ok.ensures.over c.in-Ok.ensures.shortest;
-  none = λ short. absurd (short (c.wants_checkpoint-long.ensures.0 c.if-not-long.false));
-  memory = λ is. absurd (not_err is);
-  run = c.checkpoint.ensures.run;
-  closed = λ is. absurd (not_err is);
-  told = c.checkpoint.ensures.told;
-  later = c.checkpoint.ensures.later;
-  cause = λ is. absurd (not_err is);
-}
-
 pub checkpoint-requires-clause-over : goal.checkpoint-requires-clause-over
 checkpoint-requires-clause-over g c = c.requires.over
 
 pub checkpoint-requires-clause-idle : goal.checkpoint-requires-clause-idle
 checkpoint-requires-clause-idle g c = c.requires.idle
 
-pub returns-in-Err : goal.returns-in-Err
-returns-in-Err g c = record {
-  images = c.checkpoint.ensures.images;
-  held = λ fine. c.checkpoint.ensures.held_still (c.in-Err.is ∙ ap (λ (f : CheckpointFault). Err f) (no_room c.in-Err.fault fine));
-  over = λ fine. c.checkpoint.ensures.over_still (c.in-Err.is ∙ ap (λ (f : CheckpointFault). Err f) (no_room c.in-Err.fault fine));
-  idle = λ fine. idle_still c.args.store.now c.checkpoint.new.self (c.checkpoint.ensures.memory (c.in-Err.is ∙ ap (λ (f : CheckpointFault). Err f) (no_room c.in-Err.fault fine))) c.requires.idle;
-  rest = λ fine rest. record {
-    over = c.checkpoint.ensures.over_still (c.in-Err.is ∙ ap (λ (f : CheckpointFault). Err f) (no_room c.in-Err.fault fine));
-    idle = idle_still c.args.store.now c.checkpoint.new.self (c.checkpoint.ensures.memory (c.in-Err.is ∙ ap (λ (f : CheckpointFault). Err f) (no_room c.in-Err.fault fine))) c.requires.idle;
-    measured = c.checkpoint.ensures.measured_still (c.in-Err.is ∙ ap (λ (f : CheckpointFault). Err f) (no_room c.in-Err.fault fine)) rest.measured;
-  };
-  short = tt;
-  none = λ short. absurd (short (c.wants_checkpoint-long.ensures.0 c.if-not-long.false));
-  memory = c.in-Err.ensures.memory;
-  run = c.checkpoint.ensures.run;
-  closed = c.in-Err.ensures.closed;
-  told = c.checkpoint.ensures.told;
-  later = c.checkpoint.ensures.later;
-  cause = c.in-Err.ensures.cause;
-}
+pub returns : goal.returns
+returns g c =
+    let result = c.checkpoint.result in
+    let is = c.checkpoint.ensures in
+    let still : IsErrOf result faults.NoMemory → IsIdle c.checkpoint.new.self.keeper = λ want. idle_still c.args.store.now c.checkpoint.new.self (is.memory want) c.requires.idle in
+    record {
+      images = is.images;
+      held = λ fine choose h base chooser taken hold. by_result result _ (is.done choose h base chooser taken hold) (λ want. is.held_still want choose h base chooser taken hold) fine;
+      over = by_result result _ is.over is.over_still;
+      idle = by_result result _ is.idle still;
+      rest = λ fine rest. record {
+        over = by_result result _ is.over is.over_still fine;
+        idle = by_result result _ is.idle still fine;
+        measured = by_result result _ is.measured (λ want. is.measured_still want rest.measured) fine;
+      };
+      short =
+          by_both result _ _ _ (λ over shortest measured. short_made g.D.Disk (λ image disk told. g.met.D.Disk.seen_may_stay disk image told) c.checkpoint.new.self.keeper c.checkpoint.new.disk over shortest)
+          is.over is.shortest;
+      none = λ short. absurd (short (c.wants_checkpoint-long.ensures.0 c.if-not-long.false));
+      memory = is.memory;
+      run = is.run;
+      closed = is.closed;
+      told = is.told;
+      later = is.later;
+      cause = is.cause;
+    }
