@@ -86,16 +86,16 @@ pub is_open : (choose : Chooser) (m : State) (held : Held) (name : List ℕ) (me
 is_open choose m held name meta o is sees stated conf b = record {
   name = b.name_is;
   meta = b.meta_is ∙ resolved_is m held meta sees;
-  settings = b.settings;
-  same = chosen_same choose m held meta b.settings is sees b.chosen;
-  usable = b.usable;
+  settings = b.started.settings;
+  same = chosen_same choose m held meta b.started.settings is sees b.started.chosen;
+  usable = b.started.usable;
   limits = record {
     host = stated.host;
     source = stated.source;
-    sourcetype = source_type_of m held meta b.settings sees stated b.chosen;
+    sourcetype = source_type_of m held meta b.started.settings sees stated b.started.chosen;
     index = configured_brief m.force (unwrap_or meta.index (default_index m.force)) (briefs m held sees) conf;
   };
-  stands = subst (λ (w : ChannelMeta). StandsFor b.settings w [] o.channel) (resolved_is m held meta sees) b.stands;
+  stands = subst (λ (w : ChannelMeta). StandsFor b.started.settings w [] o.channel) (resolved_is m held meta sees) b.started.stands;
   moments = tt;
 }
 

@@ -29,7 +29,4 @@ pub record IsStarted (entries : List PropsEntry) (meta : ChannelMeta) (channel :
 pub record IsBegun (entries : List PropsEntry) (name : List ℕ) (meta : ChannelMeta) (o : Open) : Type 0 where
   pub name_is : o.name ≡ name
   pub meta_is : o.meta ≡ meta
-  pub settings : Settings
-  pub chosen : AreSettings entries meta settings
-  pub usable : AreUsable settings
-  pub stands : StandsFor settings meta [] o.channel
+  pub started : IsStarted entries meta o.channel

@@ -59,8 +59,7 @@ fn started(alloc: Global, props: &Props, meta: &ChannelMeta) -> Result<Channel, 
 {
     let settings = props.settings(alloc, meta)?;
     let stated = meta.copy()?;
-    let channel = Channel::start(alloc, settings, stated)?;
-    Ok(channel)
+    Channel::start(alloc, settings, stated)
 }
 
 /// An open channel that has no byte yet.
