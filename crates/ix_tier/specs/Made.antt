@@ -2,6 +2,7 @@
 use Rattle.std.specs.Prelude.{◌≡◌, ◌++◌, ◌∷◌, [], ℤ, Bool, List, Some, None, is_some, Result, Ok, Err, MatchResult}
 use Rattle.ix_bounds.specs.Parts.{IsPartsOf}
 use Rattle.ix_keep.specs.Snapshot.{Snapshot}
+use Rattle.ix_keep.specs.declared.piece.Draft.{Draft}
 use Rattle.ix_kept.specs.Configs.{IsChooser}
 use Rattle.ix_kept.specs.Taken.{IsTakenCommand, AreGiven}
 use Rattle.ix_machine.specs.Bounds.{KeepsBounds, come_to}
@@ -85,6 +86,11 @@ GoesOn (Err fault) files result = result ≡ Err fault
 -- the one behind the other, done with the files of both
 abbrev pub pair_with : Step → Step → Pair
 pair_with first second = record { first = Some first.draft; step = done_with_more second first.done_with }
+
+-- a draft, and the step behind it where there is one
+abbrev pub paired : Draft → Result Step StepFault → Result Pair StepFault
+paired first (Ok step) = Ok (record { first = Some first; step = step })
+paired first (Err fault) = Err fault
 
 -- the storage with which it begins, the moment that it has, and whether a Tick is due
 pub record Begins (choose : Chooser) (history : List Order) (order : Order) (held : Held) (begun : Storage) (moment : ℤ) (is_due : Bool) : Type 0 where

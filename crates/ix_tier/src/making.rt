@@ -4,6 +4,8 @@ ghost use Rattle.std.specs.Prelude.{◌≡◌, ◌++◌, true, false, IfOk, OnOk
 ghost use Rattle.std.specs.List.{AllByRecursion};
 ghost use Rattle.ix_items.specs.Spelling.{HasSpelling};
 ghost use Rattle.ix_kept.specs.Taken.{IsTakenCommand};
+ghost use Rattle.ix_kept.specs.declared.held.Storage.{Storage};
+ghost use Rattle.ix_tier.specs.Made as defs;
 ghost use Rattle.ix_tier.specs.Made.{Pairs, PairsWithin, PairsWhere, IsOver, IsOverWhere, IsUsablePair, GoesOn, TickSteps, TickIsOver};
 
 use crate::copying::storage_of;
@@ -30,18 +32,14 @@ fn add_files(list: &mut FileList, files: &[File]) -> Result<(), NoMemory>
 fn with_files(made: Result<Step, StepFault>, files: &[File]) -> Result<Step, StepFault>
     ensures { GoesOn made files.now result }
 {
-    match made {
-        Ok(step) => {
-            let mut step = step;
-            match add_files(&mut step.done_with, files) {
-                Ok(()) => Ok(step),
-                Err(_) => {
-                    drop(step);
-                    Err(StepFault::NoMemory)
-                }
-            }
+    let mut step = made?;
+    match add_files(&mut step.done_with, files) {
+        Ok(()) => Ok(step),
+        Err(_) => {
+            // It is let go by a call, in place of each of its fields here.
+            drop(step);
+            Err(StepFault::NoMemory)
         }
-        Err(fault) => Err(fault),
     }
 }
 
@@ -74,6 +72,45 @@ fn tick<'a>(
     })
 }
 
+/// What a Tick and the command behind it add, where there is a step of the command.
+fn paired(first: Ticked, made: Result<Step, StepFault>) -> Result<Pair, StepFault>
+    ensures { result ≡ defs.paired first.draft made }
+{
+    match made {
+        Ok(step) => Ok(Pair {
+            first: Some(first.draft),
+            step,
+        }),
+        Err(fault) => {
+            drop(first);
+            Err(fault)
+        }
+    }
+}
+
+/// A command behind a Tick.
+fn behind_tick(
+    alloc: Global,
+    held: &Held,
+    first: Ticked,
+    command: Command,
+    moment: i64,
+) -> Result<Pair, StepFault>
+    requires { IsTakenCommand command }
+    ensures done { (begun : Storage) → TickSteps held.now begun moment first → IfOk result (λ pair. PairsWhere true command held.now begun moment pair) }
+    ensures usable { AllByRecursion HasSpelling first.draft.items → IfOk result (λ pair. IsUsablePair held.now pair) }
+    ensures full { (begun : Storage) → TickSteps held.now begun moment first → IsErrOf result StepFault.Full → IsOverWhere true command held.now begun moment }
+{
+    let work = Working {
+        alloc,
+        held,
+        storage: &first.storage,
+        moment,
+    };
+    let made = with_files(work.work(command), first.done_with.as_slice());
+    paired(first, made)
+}
+
 /// A Tick, and a command behind it.
 fn with_tick(
     alloc: Global,
@@ -88,27 +125,7 @@ fn with_tick(
     ensures full { IsErrOf result StepFault.Full → IsOverWhere true command held.now begun.now moment }
 {
     match tick(alloc, held, begun, moment) {
-        Ok(first) => {
-            let made = {
-                let work = Working {
-                    alloc,
-                    held,
-                    storage: &first.storage,
-                    moment,
-                };
-                with_files(work.work(command), first.done_with.as_slice())
-            };
-            match made {
-                Ok(step) => Ok(Pair {
-                    first: Some(first.draft),
-                    step,
-                }),
-                Err(fault) => {
-                    drop(first);
-                    Err(fault)
-                }
-            }
-        }
+        Ok(first) => behind_tick(alloc, held, first, command, moment),
         Err(fault) => {
             drop(command);
             Err(fault)
