@@ -83,10 +83,7 @@ fn serve_next<L: Listener, M: Listing + Drop, C: Clock, D: Disk>(
     ensures handed { OnErr result (L.handed listener.new ≡ L.handed listener.old) }
     ensures cause { HasCause (L.faults listener.old) (L.faults listener.new) result }
 {
-    let mut conn = match listener.accept() {
-        Ok(conn) => conn,
-        Err(failed) => return Err(failed),
-    };
+    let mut conn = listener.accept()?;
     let moment = clock.now();
     let came = serve_one(alloc, store, &mut conn, moment, disk);
     listener.done(conn);

@@ -3,6 +3,7 @@ use Rattle.std.proofs.lemmas.Bool.{false≢true}
 use mir.Val.{SFits}
 use Rattle.std.specs.Int.{w64}
 use Rattle.std.proofs.lemmas.Int.{to_z-of_z}
+use Rattle.std.proofs.lemmas.Result.{err_from_is_err_and}
 use Rattle.ix_base.specs.Told.{Told}
 use Rattle.ix_link.specs.Listeners.{Handed, TakesFirst, Adds, handed_back}
 use Rattle.ix_serve.specs.Entries.{entry}
@@ -14,7 +15,7 @@ use Rattle.ix_feed.proofs.serve.serve_next.Goals as goal
 pub returns : goal.returns
 returns g c = record {
   attends = λ choose h base k chooser taken hold.
-      let conn = c.in-Ok.conn in
+      let conn = c.in_ok-conn.conn in
       let last = c.serve_one-came.new.link in
       let moment : ℤ = c.now-moment.result in
       let fits : SFits w64 moment = search rules in
@@ -26,10 +27,10 @@ returns g c = record {
       (g.L.Conn.Link.standing conn) (g.L.Conn.Link.standing last) (g.L.Conn.Link.faults conn) (g.L.Conn.Link.faults last)
       (g.L.Conn.Link.left conn) (g.L.Conn.Link.left last) (g.L.Conn.Link.given conn) (g.L.Conn.Link.given last)
       c.serve_one-came.new.store c.args.disk.now c.serve_one-came.new.disk moment
-      hold.staged.within c.in-Ok.ensures.begins c.serve_one-came.ensures.goes
-      (subst (λ (x : Option (List (Option (List ℕ)))). Told (TakesFirst (g.L.Conn.Link.left conn)) (g.L.Listener.waiting c.args.listener.now) x) (sym c.done.ensures.waiting) c.in-Ok.ensures.taken)
+      hold.staged.within c.in_ok-conn.ensures.begins c.serve_one-came.ensures.goes
+      (subst (λ (x : Option (List (Option (List ℕ)))). Told (TakesFirst (g.L.Conn.Link.left conn)) (g.L.Listener.waiting c.args.listener.now) x) (sym c.done.ensures.waiting) c.in_ok-conn.ensures.taken)
       (subst (λ (x : Option (List Handed)). Told (Adds (handed_back (g.L.Conn.Link.standing last) (g.L.Conn.Link.given last) (g.L.Conn.Link.faults last))) x (g.L.Listener.handed c.done.new.self))
-      c.in-Ok.ensures.handed (c.done.ensures.handed (omega (arith, c.in-Ok.ensures.out))))
+      c.in_ok-conn.ensures.handed (c.done.ensures.handed (omega (arith, c.in_ok-conn.ensures.out))))
       c.now-moment.ensures serves c.serve_one-came.ensures.comes.by_link
       (says_taken g.M.Memory.takes g.met.M.Memory.ticks_are_taken c.requires.takes e taken (IsTold g.D.Disk c.serve_one-came.new.disk) serves.read c.serve_one-came.result serves.answers.answer serves.within serves.answers.may_be);
   over = c.serve_one-came.ensures.over;
@@ -38,7 +39,7 @@ returns g c = record {
   failed = c.serve_one-came.ensures.comes.by_disk;
   run = c.serve_one-came.ensures.run;
   told = c.serve_one-came.ensures.told;
-  out = omega (arith, c.done.ensures.out, c.in-Ok.ensures.out);
+  out = omega (arith, c.done.ensures.out, c.in_ok-conn.ensures.out);
   store = tt;
   left = tt;
   unasked = tt;
@@ -47,20 +48,22 @@ returns g c = record {
   cause = record { later = omega (arith, c.done.ensures.faults, c.accept.ensures.cause.later); failed = λ is. absurd (false≢true is) };
 }
 
-pub returns-in-Err : goal.returns-in-Err
-returns-in-Err g c = record {
-  attends = tt;
-  over = tt;
-  measured = tt;
-  later = omega arith;
-  failed = tt;
-  run = refl;
-  told = λ told. told;
-  out = c.in-Err.ensures.out;
-  store = refl;
-  left = refl;
-  unasked = refl;
-  waiting = c.in-Err.ensures.stays;
-  handed = c.accept.ensures.handed;
-  cause = record { later = c.accept.ensures.cause.later; failed = λ is. c.in-Err.ensures.cause.failed refl };
-}
+pub returns-in_err-conn : goal.returns-in_err-conn
+returns-in_err-conn g c =
+    let p = err_from_is_err_and c.from_residual.result c.from_residual.ensures.1 in
+    rw (p.1, p.2) (record {
+      attends = tt;
+      over = tt;
+      measured = tt;
+      later = omega arith;
+      failed = tt;
+      run = refl;
+      told = λ told. told;
+      out = c.in_err-conn.ensures.out;
+      store = refl;
+      left = refl;
+      unasked = refl;
+      waiting = c.in_err-conn.ensures.stays;
+      handed = c.accept.ensures.handed;
+      cause = record { later = c.accept.ensures.cause.later; failed = λ is. c.in_err-conn.ensures.cause.failed refl };
+    })
