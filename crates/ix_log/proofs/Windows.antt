@@ -105,4 +105,4 @@ module _ (len room : ℕ) (before buf : List ℕ) (is_room : room ≡ len) (long
           let all : n ≡ len = omega (arith, read.0, long, is_room) in
           let none : drop n before ≡ [] = drop_all n before (omega (arith, all, long, is_room)) in
           is ∙ take_at buf rest room (size ∙ long)
-              ∙ read.1 ∙ ap (λ (l : List ℕ). take n (drop at file) ++ l) none ∙ append-nil (take n (drop at file)) ∙ ap (λ (k : ℕ). take k (drop at file)) all
+          ∙ read.1 ∙ ap (λ (l : List ℕ). take n (drop at file) ++ l) none ∙ append-nil (take n (drop at file)) ∙ ap (λ (k : ℕ). take k (drop at file)) all

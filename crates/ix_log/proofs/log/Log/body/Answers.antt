@@ -1,8 +1,8 @@
 use Rattle.std.proofs.Common.{◌+◌, [], length, refl, ap, ◌∙◌, sym, arith}
+use Rattle.std.proofs.lemmas.Result.{err_from_is_err_and}
 use Rattle.ix_disk.specs.Image.{bytes_in}
 use Rattle.ix_disk.proofs.Runs.{nowhere}
-use Rattle.ix_log.specs.declared.log.LogFault.TheVariants as faults
-use Rattle.ix_log.proofs.Exits.{exit_is, no_fault, disk_no_damage, memory_no_damage, memory_no_disk, damage_no_disk}
+use Rattle.ix_log.proofs.Exits.{no_fault, disk_no_damage, memory_no_damage, memory_no_disk, damage_no_disk}
 use Rattle.ix_log.proofs.Windows.{filled_up, body_fits, body_size, body_cut, body_whole}
 use Rattle.ix_log.proofs.log.Log.body.Goals as goal
 
@@ -24,7 +24,8 @@ read-requires g c =
 
 pub returns-in_err-n : goal.returns-in_err-n
 returns-in_err-n g c =
-    rw (exit_is c.from_residual.result faults.Disk c.from_residual.ensures.1) (record {
+    let p = err_from_is_err_and c.from_residual.result c.from_residual.ensures.1 in
+    rw (p.1, p.2) (record {
       read = λ reads image told. tt;
       sized = tt;
       damaged = λ reads image told at is. absurd (disk_no_damage at is);
