@@ -57,10 +57,7 @@ impl<M: Memory + Drop> Store<M> {
         ensures later { D.Disk.faults disk.old ≤ D.Disk.faults disk.new }
         ensures cause { IsErrOf result CommitFault.Disk → Rose (D.Disk.faults disk.old) (D.Disk.faults disk.new) }
     {
-        match commit::<D, M::Book>(&mut self.keeper, disk) {
-            Ok(()) => {}
-            Err(fault) => return Err(fault),
-        }
+        commit::<D, M::Book>(&mut self.keeper, disk)?;
         self.committed = self.drawn;
         self.group = Group::none(self.alloc);
         Ok(())

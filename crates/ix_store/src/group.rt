@@ -95,4 +95,24 @@ impl Group {
             waiting: true,
         })
     }
+
+    /// With a further command, and the item that names the files for removal then.
+    pub(crate) fn with_removals(
+        &self,
+        alloc: Global,
+        files: &[File],
+        weight: u64,
+        turned: bool,
+    ) -> Result<(Group, Item), NoMemory>
+        ensures done { IfOk result (λ both. both.0.done_with ≡ self.now.done_with ++ files.now) }
+        ensures weight { IfOk result (λ both. both.0.weight ≡ capped (self.now.weight + weight)) }
+        ensures turned { IfOk result (λ both. both.0.turned ≡ (self.now.turned || turned)) }
+        ensures waiting { IfOk result (λ both. both.0.waiting ≡ true) }
+        ensures item { IfOk result (λ both. both.1 ≡ items.Removals (self.now.done_with ++ files.now)) }
+        ensures proper { IfOk result (λ both. HasSpelling both.1) }
+    {
+        let group = self.with(alloc, files, weight, turned)?;
+        let last = group.removals(alloc)?;
+        Ok((group, last))
+    }
 }

@@ -152,7 +152,6 @@ impl<M: Listing + Drop> Store<M> {
             walk,
             run: Some(self.run),
         };
-        checkpoint::<D, M::Book, Telling<'_, M>>(&mut self.keeper, self.alloc, disk, &mut telling)?;
-        Ok(())
+        checkpoint::<D, M::Book, Telling<'_, M>>(&mut self.keeper, self.alloc, disk, &mut telling)
     }
 }

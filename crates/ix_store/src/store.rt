@@ -131,10 +131,7 @@ fn stage_last(
     ensures logs { HasSameLogs keeper.old keeper.new }
     ensures bytes { keeper.new.bytes ≡ keeper.old.bytes }
 {
-    let second = match with_last(second, last) {
-        Ok(second) => second,
-        Err(fault) => return Err(fault),
-    };
+    let second = with_last(second, last)?;
     match stage_drafts(keeper, alloc, first, second) {
         Ok(()) => Ok(()),
         Err(_) => Err(NoMemory),
@@ -162,24 +159,16 @@ impl<M: Memory + Drop> Store<M> {
     {
         let turned = turned || made.first.is_some();
         let files = made.done_with.as_slice();
-        // `made` is let go by a call: where a function ends early with it, each of its fields is let go there.
-        let group = match self.group.with(self.alloc, files, made.weight, turned) {
-            Ok(group) => group,
+        match self
+            .group
+            .with_removals(self.alloc, files, made.weight, turned)
+        {
+            Ok((group, last)) => self.take_with(made, group, last),
             Err(fault) => {
+                // It is let go by a call: where a function ends early with it, each of its fields is let go there.
                 drop(made);
-                return Err(fault);
+                Err(fault)
             }
-        };
-        let last = match group.removals(self.alloc) {
-            Ok(last) => last,
-            Err(fault) => {
-                drop(made);
-                return Err(fault);
-            }
-        };
-        match self.take_with(made, group, last) {
-            Ok(()) => Ok(()),
-            Err(fault) => Err(fault),
         }
     }
 
@@ -195,10 +184,7 @@ impl<M: Memory + Drop> Store<M> {
         ensures bytes { self.new.keeper.bytes ≡ self.old.keeper.bytes }
         ensures err { OnErr result (IsUnchanged self.old self.new) }
     {
-        match stage_last(&mut self.keeper, self.alloc, made.first, made.second, last) {
-            Ok(()) => {}
-            Err(fault) => return Err(fault),
-        }
+        stage_last(&mut self.keeper, self.alloc, made.first, made.second, last)?;
         self.memory.install(made.next);
         self.group = group;
         Ok(())

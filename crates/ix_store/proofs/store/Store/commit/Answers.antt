@@ -1,5 +1,6 @@
 use Rattle.std.proofs.Common.{◌≡◌, ◌∙◌, refl, sym}
 use Rattle.std.specs.Prelude.{Result, Ok, Err}
+use Rattle.std.proofs.lemmas.Result.{err_from_is_err_and}
 use Rattle.ix_disk.proofs.Runs.{always_weaker, seen_before}
 use Rattle.ix_keep.specs.declared.fault.CommitFault.{CommitFault}
 use Rattle.ix_store.proofs.Committed.{held_of, stands_either, holds_all}
@@ -15,12 +16,12 @@ returns g c = record {
       (c.commit.ensures.images hold.old hold.staged.new (held_of g.D.Disk _ g.M.Memory.holds choose h base k c.args.self.now c.args.disk.now hold));
   done = λ choose h base k hold.
       holds_all g.D.Disk _ g.M.Memory.holds choose h base k c.args.self.now _ c.args.disk.now c.commit.new.disk hold
-      (c.in-Ok.ensures.done hold.old hold.staged.new (held_of g.D.Disk _ g.M.Memory.holds choose h base k c.args.self.now c.args.disk.now hold)) c.in-Ok.ensures.idle
+      (c.in_ok-commit.ensures.done hold.old hold.staged.new (held_of g.D.Disk _ g.M.Memory.holds choose h base k c.args.self.now c.args.disk.now hold)) c.in_ok-commit.ensures.idle
       refl refl refl refl refl c.none.ensures.done c.none.ensures.weight c.none.ensures.turned c.none.ensures.waiting;
   none = λ idle. (refl, (c.commit.ensures.none idle).1.1);
-  over = c.in-Ok.ensures.over;
-  idle = c.in-Ok.ensures.idle;
-  measured = c.in-Ok.ensures.measured;
+  over = c.in_ok-commit.ensures.over;
+  idle = c.in_ok-commit.ensures.idle;
+  measured = c.in_ok-commit.ensures.measured;
   run = refl;
   closed = tt;
   damaged = λ file at is. absurd (not_err is);
@@ -30,23 +31,25 @@ returns g c = record {
   cause = λ is. absurd (not_err is);
 }
 
-pub returns-in-Err : goal.returns-in-Err
-returns-in-Err g c = record {
-  images = λ choose h base k hold.
-      always_weaker g.D.Disk c.args.disk.now c.commit.new.disk _ _ (stands_either g.D.Disk _ g.M.Memory.holds choose h base k c.args.self.now c.args.disk.now hold)
-      (c.commit.ensures.images hold.old hold.staged.new (held_of g.D.Disk _ g.M.Memory.holds choose h base k c.args.self.now c.args.disk.now hold));
-  done = λ choose h base k hold. tt;
-  none = λ idle. absurd (not_err (sym (c.commit.ensures.none idle).0 ∙ c.in-Err.is));
-  over = tt;
-  idle = tt;
-  measured = λ measured. tt;
-  run = refl;
-  closed = c.in-Err.ensures.closed;
-  damaged = c.in-Err.ensures.damaged;
-  undamaged = λ file at is choose h base k hold image seen.
-      let before = seen_before _ (g.D.Disk.seen c.args.disk.now) (g.D.Disk.seen c.commit.new.disk) c.commit.ensures.told image seen in
-      c.in-Err.ensures.sound hold.old hold.staged.new (held_of g.D.Disk _ g.M.Memory.holds choose h base k c.args.self.now c.args.disk.now hold) before.0 before.1 file at is;
-  told = c.commit.ensures.told;
-  later = c.commit.ensures.later;
-  cause = c.in-Err.ensures.cause;
-}
+pub returns-in_err-commit : goal.returns-in_err-commit
+returns-in_err-commit g c =
+    let p = err_from_is_err_and c.from_residual.result c.from_residual.ensures.1 in
+    rw (p.1, p.2) (record {
+      images = λ choose h base k hold.
+          always_weaker g.D.Disk c.args.disk.now c.commit.new.disk _ _ (stands_either g.D.Disk _ g.M.Memory.holds choose h base k c.args.self.now c.args.disk.now hold)
+          (c.commit.ensures.images hold.old hold.staged.new (held_of g.D.Disk _ g.M.Memory.holds choose h base k c.args.self.now c.args.disk.now hold));
+      done = λ choose h base k hold. tt;
+      none = λ idle. absurd (not_err (sym (c.commit.ensures.none idle).0 ∙ c.in_err-commit.was));
+      over = tt;
+      idle = tt;
+      measured = λ measured. tt;
+      run = refl;
+      closed = c.in_err-commit.ensures.closed;
+      damaged = c.in_err-commit.ensures.damaged;
+      undamaged = λ file at is choose h base k hold image seen.
+          let before = seen_before _ (g.D.Disk.seen c.args.disk.now) (g.D.Disk.seen c.commit.new.disk) c.commit.ensures.told image seen in
+          c.in_err-commit.ensures.sound hold.old hold.staged.new (held_of g.D.Disk _ g.M.Memory.holds choose h base k c.args.self.now c.args.disk.now hold) before.0 before.1 file at is;
+      told = c.commit.ensures.told;
+      later = c.commit.ensures.later;
+      cause = c.in_err-commit.ensures.cause;
+    })
