@@ -7,3 +7,4 @@ pub mod NamedLemmas
 pub mod MissedLemmas
 pub mod ShortLemmas
 pub mod ServeLemmas
+pub mod CarriedLemmas

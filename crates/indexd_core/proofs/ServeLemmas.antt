@@ -1,23 +1,18 @@
 -- The statuses of runs of connections.
-use Rattle.std.proofs.Common.{◌≡◌, ◌∙◌, ℕ, inl, inr, refl, sym, ap}
-use Rattle.std.specs.Prelude.{List, Option, Some}
+use Rattle.std.proofs.Common.{◌≡◌, ◌∙◌, ℕ, inl, inr, refl, sym}
+use Rattle.std.specs.Prelude.{List, Option}
 use Rattle.ix_base.specs.Faults.{Rose}
 use Rattle.ix_base.specs.declared.files.File.{File}
 use Rattle.ix_link.specs.Listeners.{Handed}
 use Rattle.indexd_feed.specs.declared.end.ServeEnd.{ServeEnd}
 use Rattle.indexd_feed.specs.declared.end.ServeEnd.TheVariants as ends
-use Rattle.indexd_words.specs.Orders.{Asked, serve}
-use Rattle.indexd_core.specs.Serves.{Listened, listened, EndsServing}
+use Rattle.indexd_core.specs.Serves.{listened, EndsServing}
 use Rattle.indexd_core.specs.Sides.{Side}
 use Rattle.indexd_core.specs.declared.status.Status.{Status}
 use Rattle.indexd_core.specs.declared.status.Status.TheVariants as statuses
 
 pub same_listened : (a a' : Option (List (Option (List ℕ)))) (b b' : Option (List Handed)) → a' ≡ a → b' ≡ b → listened a' b' ≡ listened a b
 same_listened a a' b b' first second = λ i. record { waiting = first i; handed = second i }
-
--- so many connections are asked for
-pub same_count : (o : Option Asked) (port port' requests requests' : ℕ) → o ≡ Some (serve port requests) → o ≡ Some (serve port' requests') → requests ≡ requests'
-same_count o port port' requests requests' is other = let same : Some (serve port requests) ≡ Some (serve port' requests') = sym is ∙ other in cc
 
 module _ (ended : Status) (requests : ℕ) (output output' : Side) where
   pub output_served : (end : ServeEnd) → EndsServing ended requests end output output' → ended ≡ statuses.Output → Rose output.faults output'.faults

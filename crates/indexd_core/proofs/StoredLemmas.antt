@@ -1,6 +1,6 @@
 -- Runs over a store: their lines, what tasks are given, and a run that misses its index once the store is open.
-use Rattle.std.proofs.Common.{◌≡◌, ◌≤◌, ◌⊎◌, ◌++◌, inl, inr, ℕ, ℤ, Bool, true, false, List, [], ◌∷◌, length, refl, sym, ap, ◌∙◌, subst, append_assoc, arith}
-use Rattle.std.specs.Prelude.{Option, Some, None, Result, Err, IfSome, nat_lt}
+use Rattle.std.proofs.Common.{◌≡◌, ◌≤◌, ◌++◌, inl, inr, ℕ, ℤ, Bool, true, false, List, [], ◌∷◌, length, refl, sym, ap, ◌∙◌, subst, append_assoc, arith}
+use Rattle.std.specs.Prelude.{Option, Some, None, Result, Err, IfSome, nat_lt, ◌==◌}
 use Rattle.std.specs.List.{AllByRecursion}
 use Rattle.ix_base.specs.Faults.{Rose}
 use Rattle.ix_base.specs.Told.{HasWritten, HasBegun}
@@ -22,13 +22,12 @@ use Rattle.indexd_store.specs.declared.stop.Stop.TheVariants as stops
 use Rattle.indexd_store.specs.Tasks.{orders_in}
 use Rattle.indexd_store.specs.declared.task.Task.{Task}
 use Rattle.indexd_store.specs.declared.task.Task.TheVariants as tasks
-use Rattle.indexd_words.specs.Orders.{Asked, preview, btool, feed, serve, monitor, buckets, export, roll, thaw, tick, selftest}
-use Rattle.indexd_core.specs.Commands.{asked_for, is_task, is_stored}
+use Rattle.indexd_core.specs.Commands.{asked_for, is_stored}
 use Rattle.indexd_core.specs.Sides.{Side}
 use Rattle.indexd_core.specs.Stored.{status_of, named_by, tail_of, is_long, WroteUnread}
 use Rattle.indexd_core.specs.declared.status.Status.{Status}
 use Rattle.indexd_core.specs.declared.status.Status.TheVariants as statuses
-use Rattle.indexd_core.specs.Texts.{Said}
+use Rattle.indexd_core.specs.Texts.{Said, status_code}
 
 -- ---- lines
 
@@ -71,26 +70,6 @@ task_taken (tasks.Roll index) moment = (tt, tt)
 task_taken (tasks.Thaw index id) moment = (tt, tt)
 task_taken tasks.Tick moment = (tt, tt)
 
--- some task is asked for
-pub some_task : (o : Option Asked) → is_task o ≡ true → (task : Task) × (o ≡ Some (asked_for task))
-some_task None is = absurd (cc)
-some_task (Some (preview host source sourcetype index store)) is = absurd (cc)
-some_task (Some (btool file)) is = absurd (cc)
-some_task (Some feed) is = absurd (cc)
-some_task (Some (serve port requests)) is = absurd (cc)
-some_task (Some (monitor close)) is = absurd (cc)
-some_task (Some buckets) is = (tasks.Buckets, refl)
-some_task (Some (export index range)) is = (tasks.Export (record { ref_ptr = (0, 0); now = index }) range, refl)
-some_task (Some (roll index)) is = (tasks.Roll (record { ref_ptr = (0, 0); now = index }), refl)
-some_task (Some (thaw index id)) is = (tasks.Thaw (record { ref_ptr = (0, 0); now = index }) id, refl)
-some_task (Some tick) is = (tasks.Tick, refl)
-some_task (Some (selftest seed count)) is = absurd (cc)
-
-pub no_task : (o o' : Option Asked) → o ≡ o' → is_task o' ≡ false → is_task o ≡ true → ⊥
-no_task o o' same other is =
-    let both : true ≡ false = sym is ∙ (ap is_task same ∙ other) in
-    cc
-
 pub task_is_stored : (task : Task) → is_stored (Some (asked_for task)) ≡ true
 task_is_stored tasks.Buckets = refl
 task_is_stored (tasks.Export index range) = refl
@@ -98,12 +77,14 @@ task_is_stored (tasks.Roll index) = refl
 task_is_stored (tasks.Thaw index id) = refl
 task_is_stored tasks.Tick = refl
 
-pub touched : (o o' : Option Asked) → o ≡ o' → is_stored o' ≡ true → is_stored o ≡ false → ⊥
-touched o o' same is other =
-    let both : true ≡ false = sym is ∙ (sym (ap is_stored same) ∙ other) in
-    cc
-
 -- ---- statuses of stops
+
+differs : (n : ℕ) → (n == n) ≡ false → ⊥
+differs n e = grind arith
+
+-- two statuses with other codes
+pub apart : (a b : Status) → (status_code a == status_code b) ≡ false → a ≡ b → ⊥
+apart a b other is = differs (status_code a) (subst (λ (s : Status). (status_code a == status_code s) ≡ false) (sym is) other)
 
 of_disk : (stop : Stop) → statuses.DiskFault ≡ status_of stop → stop ≡ stops.Disk
 of_disk stops.Memory is = absurd (cc)
@@ -210,6 +191,9 @@ by_blame stops.Endless P is unsound damaged = absurd (cc)
 
 pub yes_no : (b : Bool) → b ≡ true → b ≡ false → ⊥
 yes_no b is other = cc
+
+pub same_stop : {T : Type 0} {stop other : Stop} → ◌≡◌ {A = Result T Stop} (Err stop) (Err other) → stop ≡ other
+same_stop is = cc
 
 pub err_as : {T E : Type 0} (a b : E) → a ≡ b → ◌≡◌ {A = Result T E} (Err a) (Err b)
 err_as a b same = ap (λ x. Err x) same

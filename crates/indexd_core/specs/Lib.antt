@@ -11,3 +11,4 @@ pub mod Shortened
 pub mod Feeds
 pub mod Serves
 pub mod Btool
+pub mod Carried

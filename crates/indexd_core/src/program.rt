@@ -8,13 +8,14 @@ ghost use Rattle.indexd_settings.specs.declared.layers.SettingsFile.{SettingsFil
 ghost use Rattle.indexd_words.specs.Orders.{asked};
 ghost use Rattle.indexd_words.specs.Shown.{shown};
 ghost use Rattle.indexd_core.specs.Btool.{Tells};
-ghost use Rattle.indexd_core.specs.Commands.{is_command, is_stored, is_task, is_heard, AskPreview, AskBtool, AskTask, AskStore, AskFeed, AskServe};
+ghost use Rattle.indexd_core.specs.Carried.{Carries, around};
+ghost use Rattle.indexd_core.specs.Commands.{asked_for, is_command, is_stored, is_task, is_heard, AskPreview, AskBtool, AskTask, AskStore, AskFeed, AskServe};
 ghost use Rattle.indexd_core.specs.Feeds.{Feeds};
 ghost use Rattle.indexd_core.specs.Prepared.{Stated};
 ghost use Rattle.indexd_core.specs.Runs.{Previews, Refuses};
-ghost use Rattle.indexd_core.specs.Serves.{Serves, listened};
+ghost use Rattle.indexd_core.specs.Serves.{Listened, Serves, listened};
 ghost use Rattle.indexd_core.specs.Shortened.{LeavesShort};
-ghost use Rattle.indexd_core.specs.Sides.{side};
+ghost use Rattle.indexd_core.specs.Sides.{Side, side};
 ghost use Rattle.indexd_core.specs.Stored.{FromStart, Tasked, Stored};
 ghost use Rattle.indexd_core.specs.Texts.{Said, status_text};
 
@@ -41,6 +42,102 @@ fn stop<W: Sink>(status: Status, output: &mut W) -> Status
 {
     say(status, output);
     status
+}
+
+/// Runs a task. Whatever else the program works over, it leaves alone.
+fn do_task<W: Sink, C: Clock, T: Tree, D: Disk>(
+    alloc: Global,
+    task: Task<'_>,
+    output: &mut W,
+    clock: &mut C,
+    tree: &mut T,
+    disk: &mut D,
+) -> Status
+    ensures { (input : Side) (heard : Listened) (deaf left : ℕ) → Carries (Some (asked_for task.entry)) result D.Disk
+        (around (T.files tree.old) (T.faults tree.old) (T.missing tree.old) (C.ahead clock.old) input (side (W.faults output.old) (W.given output.old)) heard deaf left disk.old)
+        (around (T.files tree.new) (T.faults tree.new) (T.missing tree.new) (C.ahead clock.new) input (side (W.faults output.new) (W.given output.new)) heard deaf left disk.new) }
+{
+    run_stored(alloc, task, output, clock, tree, disk)
+}
+
+/// Carries out what words ask for.
+fn carry_out<S: Source, W: Sink, C: Clock, T: Tree, D: Disk, L: Listener>(
+    alloc: Global,
+    order: Order<'_>,
+    input: &mut S,
+    output: &mut W,
+    clock: &mut C,
+    tree: &mut T,
+    disk: &mut D,
+    listener: &mut L,
+) -> Status
+    requires { (words : List (List ℕ)) × (asked words ≡ Some (shown order)) }
+    ensures carried { Carries (Some (shown order.entry)) result D.Disk
+        (around (T.files tree.old) (T.faults tree.old) (T.missing tree.old) (C.ahead clock.old) (side (S.faults input.old) (S.left input.old)) (side (W.faults output.old) (W.given output.old))
+        (listened (L.waiting listener.old) (L.handed listener.old)) (L.faults listener.old) (L.out listener.old) disk.old)
+        (around (T.files tree.new) (T.faults tree.new) (T.missing tree.new) (C.ahead clock.new) (side (S.faults input.new) (S.left input.new)) (side (W.faults output.new) (W.given output.new))
+        (listened (L.waiting listener.new) (L.handed listener.new)) (L.faults listener.new) (L.out listener.new) disk.new) }
+    ensures unheard { is_heard (Some (shown order.entry)) ≡ false → listener.new ≡ listener.old }
+{
+    match order {
+        Order::Preview { origin, store } => {
+            if store {
+                store_preview(alloc, origin, input, output, clock, tree, disk)
+            } else {
+                run_preview(alloc, origin, input, output, clock, tree)
+            }
+        }
+        Order::Btool { file } => match SettingsFile::named(file) {
+            Some(file) => btool(alloc, file, tree, output),
+            None => stop(Status::Usage, output),
+        },
+        Order::Buckets => do_task(alloc, Task::Buckets, output, clock, tree, disk),
+        Order::Export { index, range } => {
+            let task = Task::Export { index, range };
+            do_task(alloc, task, output, clock, tree, disk)
+        }
+        Order::Roll { index } => do_task(alloc, Task::Roll { index }, output, clock, tree, disk),
+        Order::Thaw { index, id } => {
+            do_task(alloc, Task::Thaw { index, id }, output, clock, tree, disk)
+        }
+        Order::Tick => do_task(alloc, Task::Tick, output, clock, tree, disk),
+        Order::Feed => feed(alloc, input, output, clock, tree, disk),
+        Order::Serve { port, requests } => {
+            let serving = Serving { port, requests };
+            serve(alloc, serving, output, clock, tree, disk, listener)
+        }
+        // these are not built yet
+        Order::Monitor { .. } => stop(Status::Usage, output),
+        Order::Selftest { .. } => stop(Status::Usage, output),
+    }
+}
+
+/// Does what the words ask for. Its contract says as one fact what the clauses of `top` say one by one, so that they are proved at one place.
+fn answer<S: Source, W: Sink, C: Clock, T: Tree, D: Disk, L: Listener>(
+    alloc: Global,
+    words: &[Text],
+    input: &mut S,
+    output: &mut W,
+    clock: &mut C,
+    tree: &mut T,
+    disk: &mut D,
+    listener: &mut L,
+) -> Status
+    ensures carried { Carries (asked words.now) result D.Disk
+        (around (T.files tree.old) (T.faults tree.old) (T.missing tree.old) (C.ahead clock.old) (side (S.faults input.old) (S.left input.old)) (side (W.faults output.old) (W.given output.old))
+        (listened (L.waiting listener.old) (L.handed listener.old)) (L.faults listener.old) (L.out listener.old) disk.old)
+        (around (T.files tree.new) (T.faults tree.new) (T.missing tree.new) (C.ahead clock.new) (side (S.faults input.new) (S.left input.new)) (side (W.faults output.new) (W.given output.new))
+        (listened (L.waiting listener.new) (L.handed listener.new)) (L.faults listener.new) (L.out listener.new) disk.new) }
+    ensures unheard { is_heard (asked words.now) ≡ false → listener.new ≡ listener.old }
+{
+    let Ok(lent) = lend_words(alloc, words) else {
+        return stop(Status::Memory, output);
+    };
+    match read_words(alloc, &lent) {
+        Ok(order) => carry_out(alloc, order, input, output, clock, tree, disk, listener),
+        Err(Refusal::NoMemory) => stop(Status::Memory, output),
+        Err(Refusal::Usage) => stop(Status::Usage, output),
+    }
 }
 
 /// Does all that the program does, and answers its status. `words` are those of the command line behind the program's name, `input` and
@@ -153,46 +250,5 @@ pub fn top<S: Source, W: Sink, C: Clock, T: Tree, D: Disk, L: Listener>(
     ensures tree_later { T.faults tree.old ≤ T.faults tree.new }
     ensures missing_later { T.missing tree.old ≤ T.missing tree.new }
 {
-    let Ok(lent) = lend_words(alloc, words) else {
-        return stop(Status::Memory, output);
-    };
-    match read_words(alloc, &lent) {
-        Err(Refusal::NoMemory) => stop(Status::Memory, output),
-        Err(Refusal::Usage) => stop(Status::Usage, output),
-        Ok(
-            Order::Preview {
-                origin,
-                store: false,
-            },
-        ) => run_preview(alloc, origin, input, output, clock, tree),
-        Ok(
-            Order::Preview {
-                origin,
-                store: true,
-            },
-        ) => store_preview(alloc, origin, input, output, clock, tree, disk),
-        Ok(Order::Btool { file }) => match SettingsFile::named(file) {
-            Some(file) => btool(alloc, file, tree, output),
-            None => stop(Status::Usage, output),
-        },
-        Ok(Order::Buckets) => run_stored(alloc, Task::Buckets, output, clock, tree, disk),
-        Ok(Order::Export { index, range }) => {
-            let task = Task::Export { index, range };
-            run_stored(alloc, task, output, clock, tree, disk)
-        }
-        Ok(Order::Roll { index }) => {
-            run_stored(alloc, Task::Roll { index }, output, clock, tree, disk)
-        }
-        Ok(Order::Thaw { index, id }) => {
-            run_stored(alloc, Task::Thaw { index, id }, output, clock, tree, disk)
-        }
-        Ok(Order::Tick) => run_stored(alloc, Task::Tick, output, clock, tree, disk),
-        Ok(Order::Feed) => feed(alloc, input, output, clock, tree, disk),
-        Ok(Order::Serve { port, requests }) => {
-            let serving = Serving { port, requests };
-            serve(alloc, serving, output, clock, tree, disk, listener)
-        }
-        // these are not built yet
-        Ok(Order::Monitor { .. } | Order::Selftest { .. }) => stop(Status::Usage, output),
-    }
+    answer(alloc, words, input, output, clock, tree, disk, listener)
 }

@@ -1,6 +1,5 @@
-use Rattle.std.proofs.Common.{◌≡◌, ◌∙◌, List, ℕ, [], refl, sym, ap, subst, inl}
+use Rattle.std.proofs.Common.{◌≡◌, ◌∙◌, List, ℕ, [], sym, ap, subst, inl, le_trans}
 use Rattle.std.specs.Prelude.{Ok}
-use Rattle.ix_replay.specs.Fits.{fits}
 use Rattle.indexd_store.specs.declared.stop.Stop.TheVariants as stops
 use Rattle.indexd_core.specs.Feeds.{shut, served}
 use Rattle.indexd_core.specs.Sides.{Side, side}
@@ -18,66 +17,48 @@ run_streams-requires-clause-settings g c = λ moment. c.requires
 pub run_streams-requires-clause-asks : goal.run_streams-requires-clause-asks
 run_streams-requires-clause-asks g c = asks_taken
 
-pub returns-in-Ok-clause-comes : goal.returns-in-Ok-clause-comes
-returns-in-Ok-clause-comes g c =
-    served c.in-Ok.end (side (g.W.Sink.faults c.run_streams.new.output) (g.W.Sink.given c.run_streams.new.output)) c.say_end.ensures.status
-    c.run_streams.ensures.written_later c.say_end.ensures.later c.in-Ok.ensures.served c.say_end.ensures.said
+pub returns-in-Ok : goal.returns-in-Ok
+returns-in-Ok g c = record {
+  comes = served c.in-Ok.end (side (g.W.Sink.faults c.run_streams.new.output) (g.W.Sink.given c.run_streams.new.output)) c.say_end.ensures.status
+      c.run_streams.ensures.written_later c.say_end.ensures.later c.in-Ok.ensures.served c.say_end.ensures.said;
+  short = λ ok. inl (c.in-Ok.ensures.short (end_short c.say_end.result c.in-Ok.end c.say_end.ensures.status ok));
+  output = λ is.
+      rose-until (g.W.Sink.faults c.args.output.now) (g.W.Sink.faults c.run_streams.new.output) (g.W.Sink.faults c.say_end.new.output)
+      (c.run_streams.ensures.output (c.in-Ok.is ∙ ap (λ e. Ok e) (output_end c.say_end.result c.in-Ok.end c.say_end.ensures.status is))) c.say_end.ensures.later;
+  input = λ is. c.run_streams.ensures.input (c.in-Ok.is ∙ ap (λ e. Ok e) (input_end c.say_end.result c.in-Ok.end c.say_end.ensures.status is));
+  read_later = c.run_streams.ensures.read_later;
+  written_later = le_trans c.run_streams.ensures.written_later c.say_end.ensures.later;
+  told = c.run_streams.ensures.told;
+  disk_later = c.run_streams.ensures.later;
+  disk = λ is. c.run_streams.ensures.disk (c.in-Ok.is ∙ ap (λ e. Ok e) (disk_end c.say_end.result c.in-Ok.end c.say_end.ensures.status is));
+  undamaged = λ is. damaged_end c.say_end.result c.in-Ok.end _ c.say_end.ensures.status is
+      (λ file at damaged. c.run_streams.ensures.unbroken file at (c.in-Ok.is ∙ ap (λ e. Ok e) damaged));
+  usage = λ is. usage_end c.say_end.result c.in-Ok.end c.say_end.ensures.status is;
+  listener = λ is. listener_end c.say_end.result c.in-Ok.end c.say_end.ensures.status is;
+}
 
-pub returns-in-Ok-clause-output : goal.returns-in-Ok-clause-output
-returns-in-Ok-clause-output g c = λ is.
-    rose-until (g.W.Sink.faults c.args.output.now) (g.W.Sink.faults c.run_streams.new.output) (g.W.Sink.faults c.say_end.new.output)
-    (c.run_streams.ensures.output (c.in-Ok.is ∙ ap (λ e. Ok e) (output_end c.say_end.result c.in-Ok.end c.say_end.ensures.status is))) c.say_end.ensures.later
-
-pub returns-in-Ok-clause-input : goal.returns-in-Ok-clause-input
-returns-in-Ok-clause-input g c = λ is. c.run_streams.ensures.input (c.in-Ok.is ∙ ap (λ e. Ok e) (input_end c.say_end.result c.in-Ok.end c.say_end.ensures.status is))
-
-pub returns-in-Ok-clause-disk : goal.returns-in-Ok-clause-disk
-returns-in-Ok-clause-disk g c = λ is. c.run_streams.ensures.disk (c.in-Ok.is ∙ ap (λ e. Ok e) (disk_end c.say_end.result c.in-Ok.end c.say_end.ensures.status is))
-
-pub returns-in-Ok-clause-undamaged : goal.returns-in-Ok-clause-undamaged
-returns-in-Ok-clause-undamaged g c = λ is. damaged_end c.say_end.result c.in-Ok.end _ c.say_end.ensures.status is
-    (λ file at damaged. c.run_streams.ensures.unbroken file at (c.in-Ok.is ∙ ap (λ e. Ok e) damaged))
-
-pub returns-in-Ok-clause-usage : goal.returns-in-Ok-clause-usage
-returns-in-Ok-clause-usage g c = λ is. usage_end c.say_end.result c.in-Ok.end c.say_end.ensures.status is
-
-pub returns-in-Ok-clause-listener : goal.returns-in-Ok-clause-listener
-returns-in-Ok-clause-listener g c = λ is. listener_end c.say_end.result c.in-Ok.end c.say_end.ensures.status is
-
-pub returns-in-Err-clause-comes : goal.returns-in-Err-clause-comes
-returns-in-Err-clause-comes g c =
-    let named : named_of c.of_index.result ≡ [] = cc (c.of_index.ensures) in
-    let read : side (g.S.Source.faults c.run_streams.new.input) (g.S.Source.left c.run_streams.new.input) ≡ side (g.S.Source.faults c.args.input.now) (g.S.Source.left c.args.input.now) =
-    ap (λ s. side (g.S.Source.faults s) (g.S.Source.left s)) c.in-Err.ensures.unread in
-    let wrote : side (g.W.Sink.faults c.run_streams.new.output) (g.W.Sink.given c.run_streams.new.output) ≡ side (g.W.Sink.faults c.args.output.now) (g.W.Sink.given c.args.output.now) =
-    ap (λ w. side (g.W.Sink.faults w) (g.W.Sink.given w)) c.in-Err.ensures.unwritten in
-    shut c.in-Err.stop c.say_stop.ensures.status c.in-Err.ensures.shut read
-    (subst (λ (before : Side). Said (line_of [] c.in-Err.stop) before (side (g.W.Sink.faults c.say_stop.new.output) (g.W.Sink.given c.say_stop.new.output))) wrote
-    (subst (λ (name : List ℕ). Said (line_of name c.in-Err.stop) (side (g.W.Sink.faults c.run_streams.new.output) (g.W.Sink.given c.run_streams.new.output))
-    (side (g.W.Sink.faults c.say_stop.new.output) (g.W.Sink.given c.say_stop.new.output))) named c.say_stop.ensures.said))
-
-pub returns-in-Err-clause-disk : goal.returns-in-Err-clause-disk
-returns-in-Err-clause-disk g c = λ is. c.in-Err.ensures.cause (err_as c.in-Err.stop stops.Disk (disk_stop c.say_stop.result c.in-Err.stop c.say_stop.ensures.status is))
-
-pub returns-in-Err-clause-output : goal.returns-in-Err-clause-output
-returns-in-Err-clause-output g c = λ is. absurd (yes_no _ (output_stop c.say_stop.result c.in-Err.stop c.say_stop.ensures.status is).0 c.in-Err.ensures.quiet)
-
-pub returns-in-Err-clause-input : goal.returns-in-Err-clause-input
-returns-in-Err-clause-input g c = λ is. absurd (yes_no _ (input_stop c.say_stop.result c.in-Err.stop c.say_stop.ensures.status is).0 c.in-Err.ensures.still)
-
-pub returns-in-Err-clause-undamaged : goal.returns-in-Err-clause-undamaged
-returns-in-Err-clause-undamaged g c = λ is. by_blame c.in-Err.stop _ (sym c.say_stop.ensures.status ∙ is)
-    (λ unsound. λ choose history k chooser taken begins image seen. c.run_streams.ensures.sound (c.in-Err.is ∙ err_as c.in-Err.stop _ unsound) choose history k chooser taken begins image seen)
-    (λ file at damaged. c.run_streams.ensures.undamaged file at (c.in-Err.is ∙ err_as c.in-Err.stop _ damaged))
-
-pub returns-in-Err-clause-usage : goal.returns-in-Err-clause-usage
-returns-in-Err-clause-usage g c = λ is. usage_stop c.say_stop.result c.in-Err.stop c.say_stop.ensures.status is
-
-pub returns-in-Err-clause-listener : goal.returns-in-Err-clause-listener
-returns-in-Err-clause-listener g c = λ is. listener_stop c.say_stop.result c.in-Err.stop c.say_stop.ensures.status is
-
-pub returns-in-Ok-clause-short : goal.returns-in-Ok-clause-short
-returns-in-Ok-clause-short g c = λ ok. inl (c.in-Ok.ensures.short (end_short c.say_end.result c.in-Ok.end c.say_end.ensures.status ok))
-
-pub returns-in-Err-clause-short : goal.returns-in-Err-clause-short
-returns-in-Err-clause-short g c = left_at_stop g.D.Disk c.args.disk.now c.run_streams.new.disk c.say_stop.result c.in-Err.stop c.say_stop.ensures.status c.in-Err.ensures.stopped_short
+pub returns-in-Err : goal.returns-in-Err
+returns-in-Err g c = record {
+  comes = let named : named_of c.of_index.result ≡ [] = cc (c.of_index.ensures) in
+      let read : side (g.S.Source.faults c.run_streams.new.input) (g.S.Source.left c.run_streams.new.input) ≡ side (g.S.Source.faults c.args.input.now) (g.S.Source.left c.args.input.now) =
+      ap (λ s. side (g.S.Source.faults s) (g.S.Source.left s)) c.in-Err.ensures.unread in
+      let wrote : side (g.W.Sink.faults c.run_streams.new.output) (g.W.Sink.given c.run_streams.new.output) ≡ side (g.W.Sink.faults c.args.output.now) (g.W.Sink.given c.args.output.now) =
+      ap (λ w. side (g.W.Sink.faults w) (g.W.Sink.given w)) c.in-Err.ensures.unwritten in
+      shut c.in-Err.stop c.say_stop.ensures.status c.in-Err.ensures.shut read
+      (subst (λ (before : Side). Said (line_of [] c.in-Err.stop) before (side (g.W.Sink.faults c.say_stop.new.output) (g.W.Sink.given c.say_stop.new.output))) wrote
+      (subst (λ (name : List ℕ). Said (line_of name c.in-Err.stop) (side (g.W.Sink.faults c.run_streams.new.output) (g.W.Sink.given c.run_streams.new.output))
+      (side (g.W.Sink.faults c.say_stop.new.output) (g.W.Sink.given c.say_stop.new.output))) named c.say_stop.ensures.said));
+  short = left_at_stop g.D.Disk c.args.disk.now c.run_streams.new.disk c.say_stop.result c.in-Err.stop c.say_stop.ensures.status c.in-Err.ensures.stopped_short;
+  output = λ is. absurd (yes_no _ (output_stop c.say_stop.result c.in-Err.stop c.say_stop.ensures.status is).0 c.in-Err.ensures.quiet);
+  input = λ is. absurd (yes_no _ (input_stop c.say_stop.result c.in-Err.stop c.say_stop.ensures.status is).0 c.in-Err.ensures.still);
+  read_later = c.run_streams.ensures.read_later;
+  written_later = le_trans c.run_streams.ensures.written_later c.say_stop.ensures.later;
+  told = c.run_streams.ensures.told;
+  disk_later = c.run_streams.ensures.later;
+  disk = λ is. c.in-Err.ensures.cause (err_as c.in-Err.stop stops.Disk (disk_stop c.say_stop.result c.in-Err.stop c.say_stop.ensures.status is));
+  undamaged = λ is. by_blame c.in-Err.stop _ (sym c.say_stop.ensures.status ∙ is)
+      (λ unsound. λ choose history k chooser taken begins image seen. c.run_streams.ensures.sound (c.in-Err.is ∙ err_as c.in-Err.stop _ unsound) choose history k chooser taken begins image seen)
+      (λ file at damaged. c.run_streams.ensures.undamaged file at (c.in-Err.is ∙ err_as c.in-Err.stop _ damaged));
+  usage = λ is. usage_stop c.say_stop.result c.in-Err.stop c.say_stop.ensures.status is;
+  listener = λ is. listener_stop c.say_stop.result c.in-Err.stop c.say_stop.ensures.status is;
+}

@@ -1,7 +1,4 @@
-use Rattle.std.proofs.Common.{rules, ◌≡◌, ◌∙◌, false, refl, inl, w64}
-use Rattle.std.specs.Prelude.{Err}
-use Rattle.std.proofs.lemmas.Int.{to_z-of_z}
-use mir.Val.{SFits}
+use Rattle.std.proofs.Common.{◌≡◌, ◌∙◌, false, refl, inl, le_trans}
 use Rattle.ix_disk.proofs.Runs.{rose_later}
 use Rattle.indexd_store.specs.Stops.{is_output, is_input}
 use Rattle.indexd_store.specs.declared.stop.Stop.{Stop}
@@ -18,39 +15,33 @@ use Rattle.indexd_core.proofs.stored.miss.Goals as goal
 pub open-requires : goal.open-requires
 open-requires g c = λ moment. c.requires.settings
 
-pub returns-in-Err-clause-stopped : goal.returns-in-Err-clause-stopped
-returns-in-Err-clause-stopped g c = λ left choose history k chooser taken begins image seen. inl (c.in-Err.ensures.stopped choose history k chooser taken begins image seen, refl)
+pub returns-in-Err : goal.returns-in-Err
+returns-in-Err g c = record {
+  stopped = λ left choose history k chooser taken begins image seen. inl (c.in-Err.ensures.stopped choose history k chooser taken begins image seen, refl);
+  short = c.in-Err.ensures.short;
+  told = tells_on g.D.Disk _ c.args.disk.now c.open.new.disk c.open.ensures.told;
+  later = c.open.ensures.later;
+  cause = λ is. c.open.ensures.cause (c.in-Err.is ∙ err_as c.in-Err.stop _ is);
+  undamaged = λ is. by_blame c.in-Err.stop _ is
+      (λ unsound. λ choose history k chooser taken begins image seen.
+      shut_sound c.in-Err.stop g.D.Disk _ choose history k c.args.config _ _ c.args.disk.now c.open.new.disk unsound (c.in-Err.ensures.stopped choose history k chooser taken begins image seen))
+      (λ file at damaged. c.open.ensures.undamaged file at (c.in-Err.is ∙ err_as c.in-Err.stop _ damaged));
+  quiet = c.in-Err.ensures.quiet;
+  unread = c.in-Err.ensures.unread;
+}
 
-pub returns-clause-stopped : goal.returns-clause-stopped
-returns-clause-stopped g c = λ left choose history k chooser taken begins image seen.
-    missed g.D.Disk _ _ choose history k c.args.config c.in-Ok.store c.stop_run.new.store (g.C.Clock.ahead c.args.clock.now) (g.C.Clock.ahead c.open.new.clock) (g.C.Clock.ahead c.now-moment.new.self)
-    c.args.disk.now c.open.new.disk c.stop_run.new.disk c.args.origin.now left c.now-moment.result c.stop_run.result c.requires.settings c.requires.long taken
-    (c.in-Ok.ensures.opened choose history k chooser taken begins image seen) c.now-moment.ensures c.stop_run.ensures.why
-    (λ now base all hold. c.stop_run.ensures.images refl choose now base chooser all hold) (λ kept now base all hold. c.stop_run.ensures.held refl kept choose now base chooser all hold)
-
-pub returns-clause-short : goal.returns-clause-short
-returns-clause-short g c = λ ok. inl (c.stop_run.ensures.short ok)
-
-pub returns-clause-cause : goal.returns-clause-cause
-returns-clause-cause g c = λ is. rose_later (g.D.Disk.faults c.args.disk.now) (g.D.Disk.faults c.open.new.disk) (g.D.Disk.faults c.stop_run.new.disk) c.open.ensures.later (by_disk _ (c.stop_run.ensures.cause is))
-
-pub returns-clause-undamaged : goal.returns-clause-undamaged
-returns-clause-undamaged g c = λ is. absurd (by_end (λ (s : Stop). status_of s ≡ statuses.Damaged → ⊥) stops.NotFound c.stop_run.result (λ e. cc) (λ e. cc) (λ e. cc) c.stop_run.ensures.why is)
-
-pub returns-clause-quiet : goal.returns-clause-quiet
-returns-clause-quiet g c = by_end (λ (s : Stop). is_output s ≡ false) stops.NotFound c.stop_run.result refl refl refl c.stop_run.ensures.why
-
-pub returns-clause-unread : goal.returns-clause-unread
-returns-clause-unread g c = by_end (λ (s : Stop). is_input s ≡ false) stops.NotFound c.stop_run.result refl refl refl c.stop_run.ensures.why
-
-pub returns-in-Err-clause-undamaged : goal.returns-in-Err-clause-undamaged
-returns-in-Err-clause-undamaged g c = λ is. by_blame c.in-Err.stop _ is
-    (λ unsound. λ choose history k chooser taken begins image seen.
-    shut_sound c.in-Err.stop g.D.Disk _ choose history k c.args.config _ _ c.args.disk.now c.open.new.disk unsound (c.in-Err.ensures.stopped choose history k chooser taken begins image seen))
-    (λ file at damaged. c.open.ensures.undamaged file at (c.in-Err.is ∙ err_as c.in-Err.stop _ damaged))
-
-pub returns-clause-told : goal.returns-clause-told
-returns-clause-told g c = λ is. tells_on g.D.Disk _ c.open.new.disk c.stop_run.new.disk c.stop_run.ensures.told (tells_on g.D.Disk _ c.args.disk.now c.open.new.disk c.open.ensures.told is)
-
-pub returns-in-Err-clause-told : goal.returns-in-Err-clause-told
-returns-in-Err-clause-told g c = tells_on g.D.Disk _ c.args.disk.now c.open.new.disk c.open.ensures.told
+pub returns : goal.returns
+returns g c = record {
+  stopped = λ left choose history k chooser taken begins image seen.
+      missed g.D.Disk _ _ choose history k c.args.config c.in-Ok.store c.stop_run.new.store (g.C.Clock.ahead c.args.clock.now) (g.C.Clock.ahead c.open.new.clock) (g.C.Clock.ahead c.now-moment.new.self)
+      c.args.disk.now c.open.new.disk c.stop_run.new.disk c.args.origin.now left c.now-moment.result c.stop_run.result c.requires.settings c.requires.long taken
+      (c.in-Ok.ensures.opened choose history k chooser taken begins image seen) c.now-moment.ensures c.stop_run.ensures.why
+      (λ now base all hold. c.stop_run.ensures.images refl choose now base chooser all hold) (λ kept now base all hold. c.stop_run.ensures.held refl kept choose now base chooser all hold);
+  short = λ ok. inl (c.stop_run.ensures.short ok);
+  told = λ is. tells_on g.D.Disk _ c.open.new.disk c.stop_run.new.disk c.stop_run.ensures.told (tells_on g.D.Disk _ c.args.disk.now c.open.new.disk c.open.ensures.told is);
+  later = le_trans c.open.ensures.later c.stop_run.ensures.later;
+  cause = λ is. rose_later (g.D.Disk.faults c.args.disk.now) (g.D.Disk.faults c.open.new.disk) (g.D.Disk.faults c.stop_run.new.disk) c.open.ensures.later (by_disk _ (c.stop_run.ensures.cause is));
+  undamaged = λ is. absurd (by_end (λ (s : Stop). status_of s ≡ statuses.Damaged → ⊥) stops.NotFound c.stop_run.result (λ e. cc) (λ e. cc) (λ e. cc) c.stop_run.ensures.why is);
+  quiet = by_end (λ (s : Stop). is_output s ≡ false) stops.NotFound c.stop_run.result refl refl refl c.stop_run.ensures.why;
+  unread = by_end (λ (s : Stop). is_input s ≡ false) stops.NotFound c.stop_run.result refl refl refl c.stop_run.ensures.why;
+}

@@ -1,10 +1,10 @@
-use Rattle.std.proofs.Common.{List, ℕ, ◌∙◌, refl, sym, subst, arith}
+use Rattle.std.proofs.Common.{List, ℕ, ◌∙◌, refl, sym, subst, le_trans}
 use Rattle.indexd_core.specs.Sides.{side}
 use Rattle.indexd_store.specs.declared.stop.Stop.TheVariants as stops
 use Rattle.indexd_core.specs.Stored.{line_of, done, stopped}
 use Rattle.indexd_core.specs.Texts.{Said}
 use Rattle.indexd_core.proofs.PreviewLemmas.{rose-until}
-use Rattle.indexd_core.proofs.StoredLemmas.{task_taken, disk_stop, output_stop, input_stop, usage_stop, listener_stop, yes_no, err_as, by_blame}
+use Rattle.indexd_core.proofs.StoredLemmas.{apart, task_taken, disk_stop, output_stop, input_stop, usage_stop, listener_stop, yes_no, err_as, by_blame}
 use Rattle.indexd_core.specs.declared.status.Status.TheVariants as statuses
 use Rattle.indexd_core.proofs.ShortLemmas.{left_at_ok, left_at_err}
 use Rattle.ix_serve.proofs.Standing.{tells_on}
@@ -16,46 +16,39 @@ run_task-requires-clause-settings g c = λ moment. c.requires
 pub run_task-requires-clause-takes : goal.run_task-requires-clause-takes
 run_task-requires-clause-takes g c = λ moment. task_taken c.args.task moment
 
-pub returns-in-Ok-clause-comes : goal.returns-in-Ok-clause-comes
-returns-in-Ok-clause-comes g c = done refl c.in-Ok.ensures.done
+pub returns-in-Ok : goal.returns-in-Ok
+returns-in-Ok g c = record {
+  comes = done refl c.in-Ok.ensures.done;
+  short = left_at_ok g.D.Disk c.args.disk.now c.run_task.new.disk c.run_task.result statuses.Done tt c.in-Ok.is c.run_task.ensures.short;
+  output = λ is. absurd (apart statuses.Done statuses.Output refl is);
+  input = λ is. apart statuses.Done statuses.Input refl is;
+  written_later = c.run_task.ensures.grown;
+  told = tells_on g.D.Disk _ c.args.disk.now c.run_task.new.disk c.run_task.ensures.told;
+  disk_later = c.run_task.ensures.later;
+  disk = λ is. absurd (apart statuses.Done statuses.DiskFault refl is);
+  undamaged = λ is. absurd (apart statuses.Done statuses.Damaged refl is);
+  usage = λ is. apart statuses.Done statuses.Usage refl is;
+  listener = λ is. apart statuses.Done statuses.ListenerFault refl is;
+}
 
-pub returns-in-Err-clause-comes : goal.returns-in-Err-clause-comes
-returns-in-Err-clause-comes g c =
-    stopped c.in-Err.stop (side (g.W.Sink.faults c.run_task.new.output) (g.W.Sink.given c.run_task.new.output)) c.say_stop.ensures.status
-    c.in-Err.ensures.stopped c.in-Err.ensures.quiet
-    (subst (λ (named : List ℕ). Said (line_of named c.in-Err.stop) (side (g.W.Sink.faults c.run_task.new.output) (g.W.Sink.given c.run_task.new.output))
-    (side (g.W.Sink.faults c.say_stop.new.output) (g.W.Sink.given c.say_stop.new.output))) c.named_in.ensures c.say_stop.ensures.said)
-
-pub returns-in-Err-clause-output : goal.returns-in-Err-clause-output
-returns-in-Err-clause-output g c = λ is.
-    rose-until (g.W.Sink.faults c.args.output.now) (g.W.Sink.faults c.run_task.new.output) (g.W.Sink.faults c.say_stop.new.output)
-    (c.in-Err.ensures.output (err_as c.in-Err.stop stops.Output (output_stop c.say_stop.result c.in-Err.stop c.say_stop.ensures.status is).1)) c.say_stop.ensures.later
-
-pub returns-in-Err-clause-input : goal.returns-in-Err-clause-input
-returns-in-Err-clause-input g c = λ is. yes_no _ (input_stop c.say_stop.result c.in-Err.stop c.say_stop.ensures.status is).0 c.in-Err.ensures.unread
-
-pub returns-in-Err-clause-disk : goal.returns-in-Err-clause-disk
-returns-in-Err-clause-disk g c = λ is. c.in-Err.ensures.cause (err_as c.in-Err.stop stops.Disk (disk_stop c.say_stop.result c.in-Err.stop c.say_stop.ensures.status is))
-
-pub returns-in-Err-clause-usage : goal.returns-in-Err-clause-usage
-returns-in-Err-clause-usage g c = λ is. usage_stop c.say_stop.result c.in-Err.stop c.say_stop.ensures.status is
-
-pub returns-in-Err-clause-listener : goal.returns-in-Err-clause-listener
-returns-in-Err-clause-listener g c = λ is. listener_stop c.say_stop.result c.in-Err.stop c.say_stop.ensures.status is
-
-pub returns-in-Err-clause-undamaged : goal.returns-in-Err-clause-undamaged
-returns-in-Err-clause-undamaged g c = λ is. by_blame c.in-Err.stop _ (sym c.say_stop.ensures.status ∙ is)
-    (λ unsound. λ choose history k chooser taken begins image seen. c.run_task.ensures.sound (c.in-Err.is ∙ err_as c.in-Err.stop _ unsound) choose history k chooser taken begins image seen)
-    (λ file at damaged. c.run_task.ensures.undamaged file at (c.in-Err.is ∙ err_as c.in-Err.stop _ damaged))
-
-pub returns-in-Ok-clause-short : goal.returns-in-Ok-clause-short
-returns-in-Ok-clause-short g c = left_at_ok g.D.Disk c.args.disk.now c.run_task.new.disk c.run_task.result statuses.Done tt c.in-Ok.is c.run_task.ensures.short
-
-pub returns-in-Err-clause-short : goal.returns-in-Err-clause-short
-returns-in-Err-clause-short g c = left_at_err g.D.Disk c.args.disk.now c.run_task.new.disk c.run_task.result c.say_stop.result c.in-Err.stop c.in-Err.is c.say_stop.ensures.status c.run_task.ensures.short
-
-pub returns-in-Ok-clause-told : goal.returns-in-Ok-clause-told
-returns-in-Ok-clause-told g c = tells_on g.D.Disk _ c.args.disk.now c.run_task.new.disk c.run_task.ensures.told
-
-pub returns-in-Err-clause-told : goal.returns-in-Err-clause-told
-returns-in-Err-clause-told g c = tells_on g.D.Disk _ c.args.disk.now c.run_task.new.disk c.run_task.ensures.told
+pub returns-in-Err : goal.returns-in-Err
+returns-in-Err g c = record {
+  comes = stopped c.in-Err.stop (side (g.W.Sink.faults c.run_task.new.output) (g.W.Sink.given c.run_task.new.output)) c.say_stop.ensures.status
+      c.in-Err.ensures.stopped c.in-Err.ensures.quiet
+      (subst (λ (named : List ℕ). Said (line_of named c.in-Err.stop) (side (g.W.Sink.faults c.run_task.new.output) (g.W.Sink.given c.run_task.new.output))
+      (side (g.W.Sink.faults c.say_stop.new.output) (g.W.Sink.given c.say_stop.new.output))) c.named_in.ensures c.say_stop.ensures.said);
+  short = left_at_err g.D.Disk c.args.disk.now c.run_task.new.disk c.run_task.result c.say_stop.result c.in-Err.stop c.in-Err.is c.say_stop.ensures.status c.run_task.ensures.short;
+  output = λ is.
+      rose-until (g.W.Sink.faults c.args.output.now) (g.W.Sink.faults c.run_task.new.output) (g.W.Sink.faults c.say_stop.new.output)
+      (c.in-Err.ensures.output (err_as c.in-Err.stop stops.Output (output_stop c.say_stop.result c.in-Err.stop c.say_stop.ensures.status is).1)) c.say_stop.ensures.later;
+  input = λ is. yes_no _ (input_stop c.say_stop.result c.in-Err.stop c.say_stop.ensures.status is).0 c.in-Err.ensures.unread;
+  written_later = le_trans c.run_task.ensures.grown c.say_stop.ensures.later;
+  told = tells_on g.D.Disk _ c.args.disk.now c.run_task.new.disk c.run_task.ensures.told;
+  disk_later = c.run_task.ensures.later;
+  disk = λ is. c.in-Err.ensures.cause (err_as c.in-Err.stop stops.Disk (disk_stop c.say_stop.result c.in-Err.stop c.say_stop.ensures.status is));
+  undamaged = λ is. by_blame c.in-Err.stop _ (sym c.say_stop.ensures.status ∙ is)
+      (λ unsound. λ choose history k chooser taken begins image seen. c.run_task.ensures.sound (c.in-Err.is ∙ err_as c.in-Err.stop _ unsound) choose history k chooser taken begins image seen)
+      (λ file at damaged. c.run_task.ensures.undamaged file at (c.in-Err.is ∙ err_as c.in-Err.stop _ damaged));
+  usage = λ is. usage_stop c.say_stop.result c.in-Err.stop c.say_stop.ensures.status is;
+  listener = λ is. listener_stop c.say_stop.result c.in-Err.stop c.say_stop.ensures.status is;
+}

@@ -1,7 +1,8 @@
-use Rattle.std.proofs.Common.{◌≤◌, ◌∙◌, arith}
+use Rattle.std.proofs.Common.{◌≤◌, ◌∙◌, ap, arith, le_refl}
 use Rattle.indexd_store.proofs.Feeding.{none_taken}
 use Rattle.indexd_store.proofs.Tasks.{if_err_by}
-use Rattle.indexd_core.proofs.StoredLemmas.{brief_index, by_blame, err_as}
+use Rattle.indexd_store.specs.Stops.{is_input}
+use Rattle.indexd_core.proofs.StoredLemmas.{brief_index, by_blame, err_as, same_stop, yes_no}
 use Rattle.ix_serve.proofs.Standing.{tells_on}
 use Rattle.indexd_core.proofs.stored.store_input.Goals as goal
 
@@ -20,16 +21,34 @@ run_preview-requires-clause-begins g c = λ moment. (
 pub run_preview-requires-clause-adds : goal.run_preview-requires-clause-adds
 run_preview-requires-clause-adds g c = λ moment bytes is. ((let short : 1 ≤ 4097 = omega arith in short), is, tt)
 
-pub returns-then-is_long-clause-read : goal.returns-then-is_long-clause-read
-returns-then-is_long-clause-read g c = none_taken c.miss.result (g.S.Source.left c.args.input.now) c.miss.ensures.unread
+pub returns-then-is_long : goal.returns-then-is_long
+returns-then-is_long g c = record {
+  done = tt;
+  stopped = c.miss.ensures.stopped (g.S.Source.left c.args.input.now);
+  short = c.miss.ensures.short;
+  told = c.miss.ensures.told;
+  later = c.miss.ensures.later;
+  cause = λ is. c.miss.ensures.cause (same_stop is);
+  read_later = le_refl _;
+  input = λ is. absurd (yes_no _ (ap is_input (same_stop is)) c.miss.ensures.unread);
+  undamaged = c.miss.ensures.undamaged;
+  quiet = c.miss.ensures.quiet;
+  read = none_taken c.miss.result (g.S.Source.left c.args.input.now) c.miss.ensures.unread;
+}
 
-pub returns-then-is_long-clause-stopped : goal.returns-then-is_long-clause-stopped
-returns-then-is_long-clause-stopped g c = c.miss.ensures.stopped (g.S.Source.left c.args.input.now)
-
-pub returns-clause-undamaged : goal.returns-clause-undamaged
-returns-clause-undamaged g c = if_err_by c.run_preview.result _ (λ stop is. λ blamed. by_blame stop _ blamed
-    (λ unsound. λ choose history k chooser taken begins image seen. c.run_preview.ensures.sound (is ∙ err_as stop _ unsound) choose history k chooser taken begins image seen)
-    (λ file at damaged. c.run_preview.ensures.undamaged file at (is ∙ err_as stop _ damaged)))
-
-pub returns-clause-told : goal.returns-clause-told
-returns-clause-told g c = tells_on g.D.Disk _ c.args.disk.now c.run_preview.new.disk c.run_preview.ensures.told
+pub returns : goal.returns
+returns g c = record {
+  done = c.run_preview.ensures.done;
+  stopped = c.run_preview.ensures.stopped;
+  short = c.run_preview.ensures.short;
+  told = tells_on g.D.Disk _ c.args.disk.now c.run_preview.new.disk c.run_preview.ensures.told;
+  later = c.run_preview.ensures.later;
+  cause = c.run_preview.ensures.cause;
+  read_later = c.run_preview.ensures.read_later;
+  input = c.run_preview.ensures.input;
+  undamaged = if_err_by c.run_preview.result _ (λ stop is. λ blamed. by_blame stop _ blamed
+      (λ unsound. λ choose history k chooser taken begins image seen. c.run_preview.ensures.sound (is ∙ err_as stop _ unsound) choose history k chooser taken begins image seen)
+      (λ file at damaged. c.run_preview.ensures.undamaged file at (is ∙ err_as stop _ damaged)));
+  quiet = c.run_preview.ensures.quiet;
+  read = c.run_preview.ensures.read;
+}
