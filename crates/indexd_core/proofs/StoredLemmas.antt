@@ -87,107 +87,107 @@ pub apart : (a b : Status) → (status_code a == status_code b) ≡ false → a 
 apart a b other is = differs (status_code a) (subst (λ (s : Status). (status_code a == status_code s) ≡ false) (sym is) other)
 
 of_disk : (stop : Stop) → statuses.DiskFault ≡ status_of stop → stop ≡ stops.Disk
-of_disk stops.Memory is = absurd (cc)
+of_disk stops.Memory is = absurd (apart statuses.DiskFault statuses.Memory refl is)
 of_disk stops.Disk is = refl
-of_disk (stops.Damaged file at) is = absurd (cc)
-of_disk stops.Inconsistent is = absurd (cc)
-of_disk stops.NotFound is = absurd (cc)
-of_disk stops.TooManyChannels is = absurd (cc)
-of_disk stops.Full is = absurd (cc)
-of_disk stops.Output is = absurd (cc)
-of_disk stops.Input is = absurd (cc)
-of_disk stops.Endless is = absurd (cc)
+of_disk (stops.Damaged file at) is = absurd (apart statuses.DiskFault statuses.Damaged refl is)
+of_disk stops.Inconsistent is = absurd (apart statuses.DiskFault statuses.Damaged refl is)
+of_disk stops.NotFound is = absurd (apart statuses.DiskFault statuses.NotFound refl is)
+of_disk stops.TooManyChannels is = absurd (apart statuses.DiskFault statuses.TooManyChannels refl is)
+of_disk stops.Full is = absurd (apart statuses.DiskFault statuses.Full refl is)
+of_disk stops.Output is = absurd (apart statuses.DiskFault statuses.Output refl is)
+of_disk stops.Input is = absurd (apart statuses.DiskFault statuses.Input refl is)
+of_disk stops.Endless is = absurd (apart statuses.DiskFault statuses.Endless refl is)
 
 pub disk_stop : (ended : Status) (stop : Stop) → ended ≡ status_of stop → ended ≡ statuses.DiskFault → stop ≡ stops.Disk
 disk_stop ended stop is at = of_disk stop (sym at ∙ is)
 
 of_output : (stop : Stop) → statuses.Output ≡ status_of stop → (is_output stop ≡ true) × (stop ≡ stops.Output)
-of_output stops.Memory is = absurd (cc)
-of_output stops.Disk is = absurd (cc)
-of_output (stops.Damaged file at) is = absurd (cc)
-of_output stops.Inconsistent is = absurd (cc)
-of_output stops.NotFound is = absurd (cc)
-of_output stops.TooManyChannels is = absurd (cc)
-of_output stops.Full is = absurd (cc)
+of_output stops.Memory is = absurd (apart statuses.Output statuses.Memory refl is)
+of_output stops.Disk is = absurd (apart statuses.Output statuses.DiskFault refl is)
+of_output (stops.Damaged file at) is = absurd (apart statuses.Output statuses.Damaged refl is)
+of_output stops.Inconsistent is = absurd (apart statuses.Output statuses.Damaged refl is)
+of_output stops.NotFound is = absurd (apart statuses.Output statuses.NotFound refl is)
+of_output stops.TooManyChannels is = absurd (apart statuses.Output statuses.TooManyChannels refl is)
+of_output stops.Full is = absurd (apart statuses.Output statuses.Full refl is)
 of_output stops.Output is = (refl, refl)
-of_output stops.Input is = absurd (cc)
-of_output stops.Endless is = absurd (cc)
+of_output stops.Input is = absurd (apart statuses.Output statuses.Input refl is)
+of_output stops.Endless is = absurd (apart statuses.Output statuses.Endless refl is)
 
 pub output_stop : (ended : Status) (stop : Stop) → ended ≡ status_of stop → ended ≡ statuses.Output → (is_output stop ≡ true) × (stop ≡ stops.Output)
 output_stop ended stop is at = of_output stop (sym at ∙ is)
 
 of_input : (stop : Stop) → statuses.Input ≡ status_of stop → (is_input stop ≡ true) × (stop ≡ stops.Input)
-of_input stops.Memory is = absurd (cc)
-of_input stops.Disk is = absurd (cc)
-of_input (stops.Damaged file at) is = absurd (cc)
-of_input stops.Inconsistent is = absurd (cc)
-of_input stops.NotFound is = absurd (cc)
-of_input stops.TooManyChannels is = absurd (cc)
-of_input stops.Full is = absurd (cc)
-of_input stops.Output is = absurd (cc)
+of_input stops.Memory is = absurd (apart statuses.Input statuses.Memory refl is)
+of_input stops.Disk is = absurd (apart statuses.Input statuses.DiskFault refl is)
+of_input (stops.Damaged file at) is = absurd (apart statuses.Input statuses.Damaged refl is)
+of_input stops.Inconsistent is = absurd (apart statuses.Input statuses.Damaged refl is)
+of_input stops.NotFound is = absurd (apart statuses.Input statuses.NotFound refl is)
+of_input stops.TooManyChannels is = absurd (apart statuses.Input statuses.TooManyChannels refl is)
+of_input stops.Full is = absurd (apart statuses.Input statuses.Full refl is)
+of_input stops.Output is = absurd (apart statuses.Input statuses.Output refl is)
 of_input stops.Input is = (refl, refl)
-of_input stops.Endless is = absurd (cc)
+of_input stops.Endless is = absurd (apart statuses.Input statuses.Endless refl is)
 
 pub input_stop : (ended : Status) (stop : Stop) → ended ≡ status_of stop → ended ≡ statuses.Input → (is_input stop ≡ true) × (stop ≡ stops.Input)
 input_stop ended stop is at = of_input stop (sym at ∙ is)
 
 of_usage : (stop : Stop) → statuses.Usage ≡ status_of stop → ⊥
-of_usage stops.Memory is = cc
-of_usage stops.Disk is = cc
-of_usage (stops.Damaged file at) is = cc
-of_usage stops.Inconsistent is = cc
-of_usage stops.NotFound is = cc
-of_usage stops.TooManyChannels is = cc
-of_usage stops.Full is = cc
-of_usage stops.Output is = cc
-of_usage stops.Input is = cc
-of_usage stops.Endless is = cc
+of_usage stops.Memory is = apart statuses.Usage statuses.Memory refl is
+of_usage stops.Disk is = apart statuses.Usage statuses.DiskFault refl is
+of_usage (stops.Damaged file at) is = apart statuses.Usage statuses.Damaged refl is
+of_usage stops.Inconsistent is = apart statuses.Usage statuses.Damaged refl is
+of_usage stops.NotFound is = apart statuses.Usage statuses.NotFound refl is
+of_usage stops.TooManyChannels is = apart statuses.Usage statuses.TooManyChannels refl is
+of_usage stops.Full is = apart statuses.Usage statuses.Full refl is
+of_usage stops.Output is = apart statuses.Usage statuses.Output refl is
+of_usage stops.Input is = apart statuses.Usage statuses.Input refl is
+of_usage stops.Endless is = apart statuses.Usage statuses.Endless refl is
 
 pub usage_stop : (ended : Status) (stop : Stop) → ended ≡ status_of stop → ended ≡ statuses.Usage → ⊥
 usage_stop ended stop is at = of_usage stop (sym at ∙ is)
 
 of_listener : (stop : Stop) → statuses.ListenerFault ≡ status_of stop → ⊥
-of_listener stops.Memory is = cc
-of_listener stops.Disk is = cc
-of_listener (stops.Damaged file at) is = cc
-of_listener stops.Inconsistent is = cc
-of_listener stops.NotFound is = cc
-of_listener stops.TooManyChannels is = cc
-of_listener stops.Full is = cc
-of_listener stops.Output is = cc
-of_listener stops.Input is = cc
-of_listener stops.Endless is = cc
+of_listener stops.Memory is = apart statuses.ListenerFault statuses.Memory refl is
+of_listener stops.Disk is = apart statuses.ListenerFault statuses.DiskFault refl is
+of_listener (stops.Damaged file at) is = apart statuses.ListenerFault statuses.Damaged refl is
+of_listener stops.Inconsistent is = apart statuses.ListenerFault statuses.Damaged refl is
+of_listener stops.NotFound is = apart statuses.ListenerFault statuses.NotFound refl is
+of_listener stops.TooManyChannels is = apart statuses.ListenerFault statuses.TooManyChannels refl is
+of_listener stops.Full is = apart statuses.ListenerFault statuses.Full refl is
+of_listener stops.Output is = apart statuses.ListenerFault statuses.Output refl is
+of_listener stops.Input is = apart statuses.ListenerFault statuses.Input refl is
+of_listener stops.Endless is = apart statuses.ListenerFault statuses.Endless refl is
 
 pub listener_stop : (ended : Status) (stop : Stop) → ended ≡ status_of stop → ended ≡ statuses.ListenerFault → ⊥
 listener_stop ended stop is at = of_listener stop (sym at ∙ is)
 
 of_done : (stop : Stop) → statuses.Done ≡ status_of stop → ⊥
-of_done stops.Memory is = cc
-of_done stops.Disk is = cc
-of_done (stops.Damaged file at) is = cc
-of_done stops.Inconsistent is = cc
-of_done stops.NotFound is = cc
-of_done stops.TooManyChannels is = cc
-of_done stops.Full is = cc
-of_done stops.Output is = cc
-of_done stops.Input is = cc
-of_done stops.Endless is = cc
+of_done stops.Memory is = apart statuses.Done statuses.Memory refl is
+of_done stops.Disk is = apart statuses.Done statuses.DiskFault refl is
+of_done (stops.Damaged file at) is = apart statuses.Done statuses.Damaged refl is
+of_done stops.Inconsistent is = apart statuses.Done statuses.Damaged refl is
+of_done stops.NotFound is = apart statuses.Done statuses.NotFound refl is
+of_done stops.TooManyChannels is = apart statuses.Done statuses.TooManyChannels refl is
+of_done stops.Full is = apart statuses.Done statuses.Full refl is
+of_done stops.Output is = apart statuses.Done statuses.Output refl is
+of_done stops.Input is = apart statuses.Done statuses.Input refl is
+of_done stops.Endless is = apart statuses.Done statuses.Endless refl is
 
 pub done_stop : (ended : Status) (stop : Stop) → ended ≡ status_of stop → ended ≡ statuses.Done → ⊥
 done_stop ended stop is at = of_done stop (sym at ∙ is)
 
 -- the log has no history, or a file is blamed
 pub by_blame : (stop : Stop) (P : Type 0) → status_of stop ≡ statuses.Damaged → (stop ≡ stops.Inconsistent → P) → ((file : File) (at : ℕ) → stop ≡ stops.Damaged file at → P) → P
-by_blame stops.Memory P is unsound damaged = absurd (cc)
-by_blame stops.Disk P is unsound damaged = absurd (cc)
+by_blame stops.Memory P is unsound damaged = absurd (apart statuses.Memory statuses.Damaged refl is)
+by_blame stops.Disk P is unsound damaged = absurd (apart statuses.DiskFault statuses.Damaged refl is)
 by_blame (stops.Damaged file at) P is unsound damaged = damaged file at refl
 by_blame stops.Inconsistent P is unsound damaged = unsound refl
-by_blame stops.NotFound P is unsound damaged = absurd (cc)
-by_blame stops.TooManyChannels P is unsound damaged = absurd (cc)
-by_blame stops.Full P is unsound damaged = absurd (cc)
-by_blame stops.Output P is unsound damaged = absurd (cc)
-by_blame stops.Input P is unsound damaged = absurd (cc)
-by_blame stops.Endless P is unsound damaged = absurd (cc)
+by_blame stops.NotFound P is unsound damaged = absurd (apart statuses.NotFound statuses.Damaged refl is)
+by_blame stops.TooManyChannels P is unsound damaged = absurd (apart statuses.TooManyChannels statuses.Damaged refl is)
+by_blame stops.Full P is unsound damaged = absurd (apart statuses.Full statuses.Damaged refl is)
+by_blame stops.Output P is unsound damaged = absurd (apart statuses.Output statuses.Damaged refl is)
+by_blame stops.Input P is unsound damaged = absurd (apart statuses.Input statuses.Damaged refl is)
+by_blame stops.Endless P is unsound damaged = absurd (apart statuses.Endless statuses.Damaged refl is)
 
 pub yes_no : (b : Bool) → b ≡ true → b ≡ false → ⊥
 yes_no b is other = cc

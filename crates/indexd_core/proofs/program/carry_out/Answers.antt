@@ -1,5 +1,5 @@
 use Rattle.std.proofs.Common.{◌∙◌, Bool, ap, inr, le_refl, refl, sym, true≢false, true}
-use Rattle.std.specs.Prelude.{Some}
+use Rattle.std.specs.Prelude.{Some, is_some}
 use Rattle.indexd_words.specs.Shown.{shown}
 use Rattle.indexd_words.specs.declared.orders.Order.{Order}
 use Rattle.indexd_words.specs.declared.orders.Order.TheVariants.{Preview}
