@@ -1,6 +1,7 @@
 //! What may be wrong with the settings of a run, and the line that tells of it.
 
 ghost use Rattle.std.specs.Prelude.{◌≡◌, ◌++◌, [], ◌∷◌, codes, OnOk, IfOk, bytes_eq};
+ghost use Rattle.indexd_settings.specs.Layers.{file_name};
 ghost use Rattle.indexd_settings.specs.Texts.{is_key_of_change, is_key_of_place, file_of_key, value_line, stanza_line, setting_line, limit_line, fault_line};
 
 use crate::layers::{Refusal, SettingsFile};
@@ -91,6 +92,24 @@ fn file_of_key(key: &[u8]) -> SettingsFile
     }
 }
 
+/// Adds the name of a file, and a stanza of it.
+fn add_stanza(line: &mut Bytes, file: SettingsFile, stanza: &[u8]) -> Result<(), NoMemory>
+    ensures { OnOk result (line.new ≡ line.old ++ file_name file ++ codes " [" ++ stanza.now) }
+{
+    line.extend(file.name())?;
+    line.extend(b" [")?;
+    line.extend(stanza)
+}
+
+/// Adds the name of a fault behind what stands before it, and ends the line.
+fn add_fault(line: &mut Bytes, before: &[u8], fault: &[u8]) -> Result<(), NoMemory>
+    ensures { OnOk result (line.new ≡ line.old ++ before.now ++ fault.now ++ codes "\n") }
+{
+    line.extend(before)?;
+    line.extend(fault)?;
+    line.extend(b"\n")
+}
+
 /// The line of a fault in the name of a stanza.
 fn stanza_line(
     alloc: Global,
@@ -101,12 +120,8 @@ fn stanza_line(
     ensures { IfOk result (λ line. line ≡ stanza_line file stanza.now fault.now) }
 {
     let mut line = Bytes::copy_of(alloc, b"indexd: configuration: ")?;
-    line.extend(file.name())?;
-    line.extend(b" [")?;
-    line.extend(stanza)?;
-    line.extend(b"]: ")?;
-    line.extend(fault)?;
-    line.extend(b"\n")?;
+    add_stanza(&mut line, file, stanza)?;
+    add_fault(&mut line, b"]: ", fault)?;
     Ok(line)
 }
 
@@ -121,14 +136,10 @@ fn value_line(
     ensures { IfOk result (λ line. line ≡ value_line file stanza.now key.now fault.now) }
 {
     let mut line = Bytes::copy_of(alloc, b"indexd: configuration: ")?;
-    line.extend(file.name())?;
-    line.extend(b" [")?;
-    line.extend(stanza)?;
+    add_stanza(&mut line, file, stanza)?;
     line.extend(b"] ")?;
     line.extend(key)?;
-    line.extend(b": ")?;
-    line.extend(fault)?;
-    line.extend(b"\n")?;
+    add_fault(&mut line, b": ", fault)?;
     Ok(line)
 }
 
