@@ -1,5 +1,6 @@
 -- How a run over a store ends: what was given last.
 use Rattle.std.proofs.Common.{◌≡◌, ℕ, ℤ, Bool, true, false, List, [], ◌∷◌, ◌++◌, length, refl, sym, ap, ◌∙◌, subst, arith, inl, inr}
+use Rattle.std.specs.Prelude.{Result, Ok, Err}
 use Rattle.ix_disk.specs.declared.disk.Disk.{Ghosts}
 use Rattle.ix_book.specs.Book.{Book}
 use Rattle.ix_book.specs.declared.fault.CheckpointFault.{CheckpointFault}
@@ -35,6 +36,16 @@ use Rattle.indexd_store.specs.Opened.{configuring, IsUnset}
 use Rattle.indexd_store.specs.declared.stop.Stop.TheVariants as stops
 use Rattle.indexd_store.specs.Stops.{of_mount, of_refusal, of_commit, of_give, of_run, of_checkpoint, loses, is_output, is_input, Caused}
 use Rattle.indexd_store.specs.Shortened.{is_short_at}
+
+-- ---- what a run comes to
+
+pub not_err : {T : Type 0} {done : T} {stop : Stop} → ◌≡◌ {A = Result T Stop} (Ok done) (Err stop) → ⊥
+not_err is = cc
+
+pub same_stop : {T : Type 0} {stop other : Stop} → ◌≡◌ {A = Result T Stop} (Err stop) (Err other) → stop ≡ other
+same_stop is = cc
+
+-- ---- what was given last
 
 none_more : (h : List Order) → h ++ [] ≡ h
 none_more [] = refl
