@@ -2,7 +2,7 @@
 use Rattle.std.proofs.Common.{◌≡◌, ℕ, ◌+◌, ◌<◌, Bool, true, false, List, [], ◌∷◌, ◌++◌, refl, sym, ap, subst, ◌∙◌, drop, length, get_or, Option, Some, None, append_assoc, arith}
 use Rattle.std.specs.Prelude.{slice_get, is_some, bytes_eq, codes, ◌&&◌, ◌||◌, if◌then◌else◌, nat_eq}
 use Rattle.std.specs.List.{flat_map, starts_with}
-use Rattle.std.specs.Option.{option_or}
+use Rattle.std.specs.Option.{option_or, option_map}
 use Rattle.std.proofs.lemmas.List.{append-nil, drop_more}
 use Rattle.std.proofs.lemmas.Slice.Eq.{bytes_eq-Decides}
 use Rattle.ix_conf.specs.Value.{entry_at}
@@ -12,7 +12,7 @@ use Rattle.ix_life.specs.declared.faults.LimitFault.{LimitFault}
 use Rattle.ix_life.specs.declared.faults.LimitFault.TheVariants.{BadValue, BadIndexName, NoMemory}
 use Rattle.ix_life.specs.declared.limits.Limits.{Limits}
 use Rattle.ix_life.specs.Stanzas.{is_index_stanza, contains}
-use Rattle.ix_life.specs.Limits.{first_of, fault_at, fault_with, value_fault, Refuses, limits, limits_in, index_limits}
+use Rattle.ix_life.specs.Limits.{first_of, fault_at, fault_with, stanza_fault, value_fault, Refuses, limits, limits_in, index_limits}
 use Rattle.ix_life.specs.Listed.{named, listed_with, listed_at, main_of, listed}
 use Rattle.ix_life.proofs.ItemLemmas.{drop_at, drop_past}
 
@@ -22,6 +22,11 @@ use Rattle.ix_life.proofs.ItemLemmas.{drop_at, drop_past}
 pub fault_of_value : (entries : List MergedEntry) (e : MergedEntry) (key : List ℕ) → 0 < length key → fault_with entries e key ≡ value_fault entries e
 fault_of_value entries e [] some = absurd (omega arith)
 fault_of_value entries e (b ∷ key) some = refl
+
+-- the entry without a key by its stanza
+pub fault_of_stanza : (entries : List MergedEntry) (e : MergedEntry) (key : List ℕ) → length key < 1 → fault_with entries e key ≡ stanza_fault e.stanza
+fault_of_stanza entries e [] none = refl
+fault_of_stanza entries e (b ∷ key) none = absurd (omega arith)
 
 pub fault_free : (entries xs : List MergedEntry) (i : ℕ) (x : MergedEntry) → slice_get xs i ≡ Some x → fault_at entries x ≡ None
     → (whole : Option LimitFault) → first_of entries (drop i xs) ≡ whole → first_of entries (drop (i + 1) xs) ≡ whole
@@ -41,6 +46,42 @@ fault_here entries xs i x NoMemory e found whole known = tt
 
 pub fault_none : (entries xs : List MergedEntry) (i : ℕ) → slice_get xs i ≡ None → (whole : Option LimitFault) → first_of entries (drop i xs) ≡ whole → whole ≡ None
 fault_none entries xs i e whole known = sym known ∙ ap (first_of entries) (drop_past xs i e)
+
+-- ---- what an entry lists
+
+-- the own entry of an index lists that
+pub lists_one : (entries : List MergedEntry) (e : MergedEntry) (key : List ℕ) → length key < 1 → is_index_stanza e.stanza ≡ true
+    → listed_with entries e key ≡ named entries e.stanza ∷ []
+lists_one entries e [] none is = rw is refl
+lists_one entries e (b ∷ key) none is = absurd (omega arith)
+
+-- one of another stanza lists none
+pub lists_other : (entries : List MergedEntry) (e : MergedEntry) (key : List ℕ) → length key < 1 → is_index_stanza e.stanza ≡ false
+    → listed_with entries e key ≡ []
+lists_other entries e [] none is = rw is refl
+lists_other entries e (b ∷ key) none is = absurd (omega arith)
+
+-- nor does one with a key
+pub lists_none : (entries : List MergedEntry) (e : MergedEntry) (key : List ℕ) → 0 < length key → listed_with entries e key ≡ []
+lists_none entries e [] some = absurd (omega arith)
+lists_none entries e (b ∷ key) some = refl
+
+pub main_listed : (entries : List MergedEntry) → is_some (entry_at (codes "main") [] entries) ≡ true → main_of entries ≡ []
+main_listed entries is = rw is refl
+
+pub main_unlisted : (entries : List MergedEntry) → is_some (entry_at (codes "main") [] entries) ≡ false → main_of entries ≡ named entries (codes "main") ∷ []
+main_unlisted entries is = rw is refl
+
+-- lists to which more or nothing is added
+pub more_of : {X : Type 0} (now before more other : List X) → more ≡ other → now ≡ before ++ more → now ≡ before ++ other
+more_of now before more other same now_is = now_is ∙ ap (λ l. before ++ l) same
+
+pub none_of : {X : Type 0} (list other : List X) → other ≡ [] → list ≡ list ++ other
+none_of list other none = sym (append-nil list) ∙ ap (λ l. list ++ l) (sym none)
+
+pub is_some-map : {A B : Type 0} (f : A → B) (o : Option A) → is_some (option_map f o) ≡ is_some o
+is_some-map f None = refl
+is_some-map f (Some x) = refl
 
 -- ---- words in a text
 

@@ -8,6 +8,8 @@ use Rattle.ix_items.specs.declared.items.State.TheVariants as states
 use Rattle.ix_life.specs.declared.limits.Limits.{Limits}
 use Rattle.ix_life.specs.declared.caps.Cap.{Cap}
 use Rattle.ix_life.specs.declared.picks.Policy.{Policy}
+use Rattle.ix_life.specs.declared.picks.Pick.{Pick}
+use Rattle.ix_life.specs.declared.picks.Pick.TheVariants as picks
 use Rattle.ix_life.specs.declared.moves.Moves.{Moves}
 use Rattle.ix_life.specs.Times.{is_longer}
 use Rattle.ix_life.specs.Placing.{is_open}
@@ -52,6 +54,15 @@ is_old p b = is_longer b.newest p.moment p.limits.frozen_secs
 
 abbrev pub is_young : Policy → Bucket → Bool
 is_young p b = not (is_old p b)
+
+-- whether a bucket is one of those that a step takes
+abbrev pub is_picked : Policy → Pick → Bucket → Bool
+is_picked p picks.Idle = is_idle p
+is_picked p picks.StillHot = stays_hot p
+is_picked p picks.WarmOrIdle = λ b. is_warm b || is_idle p b
+is_picked p picks.Cold = is_cold
+is_picked p picks.Old = is_old p
+is_picked p picks.Young = is_young p
 
 -- ---- limits of size
 
@@ -131,6 +142,16 @@ moves p bs = record {
   cooled = ids (cooled p bs);
   frozen = frozen p (hot_bytes p bs) (cold p bs) (still_warm p bs);
 }
+
+-- the same, where the hot and quarantine buckets that are left have so many bytes, and these are the warm ones
+abbrev pub moves_with : Policy → List Bucket → ℕ → List Bucket → Moves
+moves_with p bs hot warm =
+    let n = going (home_cap p.limits hot) warm in
+    record {
+      warmed = ids (idle p bs);
+      cooled = ids (take n warm);
+      frozen = frozen p hot (ordered (filter is_cold bs ++ take n warm)) (drop n warm);
+    }
 
 -- the same under these limits at a moment
 abbrev pub house : List Bucket → Limits → ℤ → Moves

@@ -6,7 +6,7 @@ ghost use Rattle.ix_life.specs.Prefix as defs;
 use ix_items::Bucket;
 
 /// What buckets must stay within.
-#[derive(Clone, Copy, Debug, PartialEq, Eq)]
+#[derive(Clone, Copy)]
 pub struct Cap {
     /// The most buckets.
     pub most: Option<u64>,

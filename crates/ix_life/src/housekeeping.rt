@@ -8,7 +8,7 @@ use crate::caps::{Cap, shortest, sizes};
 use crate::limits::Limits;
 use crate::moves::{FreezeList, IdList, Moves};
 use crate::order::ordered;
-use crate::picks::{Policy, cold, idle, old, still_hot, warm_and_idle, young};
+use crate::picks::{Pick, Policy, picked};
 use crate::views::BucketList;
 use ix_base::NoMemory;
 use ix_items::{Bucket, Rule};
@@ -75,28 +75,13 @@ fn ids(alloc: Global, buckets: &[Bucket]) -> Result<IdList, NoMemory>
     Ok(IdList::from_vec(list))
 }
 
-/// The buckets, as frozen by the rule.
-fn by_rule(alloc: Global, buckets: &[Bucket], rule: Rule) -> Result<Vec<(u64, Rule)>, NoMemory>
-    ensures { IfOk result (λ list. list.items ≡ defs.by_rule rule buckets.now) }
-{
-    let list = buckets
-        .iter()
-        .map(|bucket| (bucket.id, rule))
-        .collect(alloc)?;
-    Ok(list)
-}
-
 /// Adds the buckets, as frozen by the rule.
-fn freeze(
-    alloc: Global,
-    list: &mut Vec<(u64, Rule)>,
-    buckets: &[Bucket],
-    rule: Rule,
-) -> Result<(), NoMemory>
+fn freeze(buckets: &[Bucket], rule: Rule, list: &mut Vec<(u64, Rule)>) -> Result<(), NoMemory>
     ensures { OnOk result (list.new.items ≡ list.old.items ++ defs.by_rule rule buckets.now) }
 {
-    let more = by_rule(alloc, buckets, rule)?;
-    list.extend_from_slice(&more)?;
+    for bucket in buckets {
+        list.push((bucket.id, rule))?;
+    }
     Ok(())
 }
 
@@ -106,12 +91,13 @@ fn freeze_by_age(
     policy: &Policy,
     cold: &[Bucket],
     warm: &[Bucket],
-) -> Result<Vec<(u64, Rule)>, NoMemory>
-    ensures { IfOk result (λ list. list.items ≡ defs.frozen_by_age policy.now cold.now warm.now) }
+    list: &mut Vec<(u64, Rule)>,
+) -> Result<(), NoMemory>
+    ensures { OnOk result (list.new.items ≡ list.old.items ++ defs.frozen_by_age policy.now cold.now warm.now) }
 {
     let all = joined(alloc, cold, warm)?;
-    let old = ordered(old(alloc, policy, &all)?)?;
-    by_rule(alloc, &old, Rule::Age)
+    let old = ordered(picked(alloc, policy, Pick::Old, &all)?)?;
+    freeze(&old, Rule::Age, list)
 }
 
 /// Steps 4 and 5: by the bytes of the cold buckets, and by those of all.
@@ -121,16 +107,33 @@ fn freeze_by_size(
     hot: u128,
     cold: &[Bucket],
     warm: &[Bucket],
-) -> Result<Vec<(u64, Rule)>, NoMemory>
+    list: &mut Vec<(u64, Rule)>,
+) -> Result<(), NoMemory>
     requires { hot < 2 ^ 127 }
-    ensures { IfOk result (λ list. list.items ≡ defs.frozen_by_size policy.now hot cold.now warm.now) }
+    ensures { OnOk result (list.new.items ≡ list.old.items ++ defs.frozen_by_size policy.now hot cold.now warm.now) }
 {
     let count = shortest(cold, &cold_cap(&policy.limits));
-    let mut list = by_rule(alloc, &cold[..count], Rule::Cold)?;
+    freeze(&cold[..count], Rule::Cold, list)?;
     let left = joined(alloc, &cold[count..], warm)?;
     let total = shortest(&left, &total_cap(&policy.limits, hot));
-    freeze(alloc, &mut list, &left[..total], Rule::Total)?;
-    Ok(list)
+    freeze(&left[..total], Rule::Total, list)
+}
+
+/// Steps 4 and 5 on those that are not too old.
+fn freeze_young(
+    alloc: Global,
+    policy: &Policy,
+    hot: u128,
+    cold: &[Bucket],
+    warm: &[Bucket],
+    list: &mut Vec<(u64, Rule)>,
+) -> Result<(), NoMemory>
+    requires { hot < 2 ^ 127 }
+    ensures { OnOk result (list.new.items ≡ list.old.items ++ defs.frozen_by_size policy.now hot (filter (defs.is_young policy.now) cold.now) (filter (defs.is_young policy.now) warm.now)) }
+{
+    let cold = picked(alloc, policy, Pick::Young, cold)?;
+    let warm = picked(alloc, policy, Pick::Young, warm)?;
+    freeze_by_size(alloc, policy, hot, &cold, &warm, list)
 }
 
 /// Steps 3 to 5.
@@ -144,11 +147,9 @@ fn frozen(
     requires { hot < 2 ^ 127 }
     ensures { IfOk result (λ list. list ≡ defs.frozen policy.now hot cold.now warm.now) }
 {
-    let mut list = freeze_by_age(alloc, policy, cold, warm)?;
-    let cold = young(alloc, policy, cold)?;
-    let warm = young(alloc, policy, warm)?;
-    let more = freeze_by_size(alloc, policy, hot, &cold, &warm)?;
-    list.extend_from_slice(&more)?;
+    let mut list = Vec::new(alloc);
+    freeze_by_age(alloc, policy, cold, warm, &mut list)?;
+    freeze_young(alloc, policy, hot, cold, warm, &mut list)?;
     Ok(FreezeList::from_vec(list))
 }
 
@@ -157,32 +158,76 @@ fn hot_bytes(alloc: Global, policy: &Policy, buckets: &[Bucket]) -> Result<u128,
     ensures value { IfOk result (λ n. n ≡ defs.hot_bytes policy.now buckets.now) }
     ensures short { IfOk result (λ n. n < 2 ^ 127) }
 {
-    let hot = still_hot(alloc, policy, buckets)?;
+    let hot = picked(alloc, policy, Pick::StillHot, buckets)?;
     Ok(sizes(&hot))
 }
 
+/// The numbers of the buckets that step 1 rolls to warm.
+fn warmed(alloc: Global, policy: &Policy, buckets: &[Bucket]) -> Result<IdList, NoMemory>
+    ensures { IfOk result (λ list. list ≡ defs.ids (defs.idle policy.now buckets.now)) }
+{
+    let idle = ordered(picked(alloc, policy, Pick::Idle, buckets)?)?;
+    ids(alloc, &idle)
+}
+
 /// The cold buckets after step 2, which cools these.
-fn cold_then(alloc: Global, buckets: &[Bucket], cooled: &[Bucket]) -> Result<Vec<Bucket>, NoMemory>
+fn cold_then(
+    alloc: Global,
+    policy: &Policy,
+    buckets: &[Bucket],
+    cooled: &[Bucket],
+) -> Result<Vec<Bucket>, NoMemory>
     ensures { IfOk result (λ list. list.items ≡ ordered (filter defs.is_cold buckets.now ++ cooled.now)) }
 {
-    let cold = cold(alloc, buckets)?;
+    let cold = picked(alloc, policy, Pick::Cold, buckets)?;
     ordered(joined(alloc, &cold, cooled)?)
+}
+
+/// What steps 3 to 5 freeze, where step 2 cools these buckets and leaves those warm.
+fn frozen_then(
+    alloc: Global,
+    policy: &Policy,
+    hot: u128,
+    buckets: &[Bucket],
+    cooled: &[Bucket],
+    left: &[Bucket],
+) -> Result<FreezeList, NoMemory>
+    requires { hot < 2 ^ 127 }
+    ensures { IfOk result (λ list. list
+        ≡ defs.frozen policy.now hot (ordered (filter defs.is_cold buckets.now ++ cooled.now)) left.now) }
+{
+    let cold = cold_then(alloc, policy, buckets, cooled)?;
+    frozen(alloc, policy, hot, &cold, left)
+}
+
+/// The five steps, where the hot and quarantine buckets that step 1 leaves have so many bytes, and these are the warm ones.
+fn moves_with(
+    alloc: Global,
+    policy: &Policy,
+    buckets: &[Bucket],
+    hot: u128,
+    warm: &[Bucket],
+) -> Result<Moves, NoMemory>
+    requires { hot < 2 ^ 127 }
+    ensures { IfOk result (λ moves. moves ≡ defs.moves_with policy.now buckets.now hot warm.now) }
+{
+    let count = shortest(warm, &home_cap(&policy.limits, hot));
+    let cooled = &warm[..count];
+    let left = &warm[count..];
+    Ok(Moves {
+        warmed: warmed(alloc, policy, buckets)?,
+        cooled: ids(alloc, cooled)?,
+        frozen: frozen_then(alloc, policy, hot, buckets, cooled, left)?,
+    })
 }
 
 /// The five steps on the buckets of one index.
 fn moves(alloc: Global, policy: &Policy, buckets: &[Bucket]) -> Result<Moves, NoMemory>
     ensures { IfOk result (λ moves. moves ≡ defs.moves policy.now buckets.now) }
 {
-    let idle = ordered(idle(alloc, policy, buckets)?)?;
     let hot = hot_bytes(alloc, policy, buckets)?;
-    let warm = ordered(warm_and_idle(alloc, policy, buckets)?)?;
-    let count = shortest(&warm, &home_cap(&policy.limits, hot));
-    let cold = cold_then(alloc, buckets, &warm[..count])?;
-    Ok(Moves {
-        warmed: ids(alloc, &idle)?,
-        cooled: ids(alloc, &warm[..count])?,
-        frozen: frozen(alloc, policy, hot, &cold, &warm[count..])?,
-    })
+    let warm = ordered(picked(alloc, policy, Pick::WarmOrIdle, buckets)?)?;
+    moves_with(alloc, policy, buckets, hot, &warm)
 }
 
 /// What housekeeping does at a moment, in microseconds since 1970-01-01T00:00:00Z, to the buckets of one index. Buckets are taken

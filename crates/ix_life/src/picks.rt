@@ -1,6 +1,6 @@
 //! Which buckets a step of housekeeping takes.
 
-ghost use Rattle.std.specs.Prelude.{◌≡◌, ◌||◌, filter, IfOk};
+ghost use Rattle.std.specs.Prelude.{◌≡◌, filter, IfOk};
 ghost use Rattle.ix_life.specs.Housekeeping as defs;
 
 use crate::limits::Limits;
@@ -11,11 +11,28 @@ use ix_items::{Bucket, State};
 use std::alloc::Global;
 
 /// The limits of an index at a moment.
-#[derive(Clone, Copy, Debug, PartialEq, Eq)]
+#[derive(Clone, Copy)]
 pub struct Policy {
     pub limits: Limits,
     /// In microseconds since 1970-01-01T00:00:00Z.
     pub moment: i64,
+}
+
+/// The buckets that a step of housekeeping takes.
+#[derive(Clone, Copy)]
+pub enum Pick {
+    /// The hot and quarantine buckets that are idle.
+    Idle,
+    /// The hot and quarantine buckets that are not idle.
+    StillHot,
+    /// The warm buckets, and those that are idle.
+    WarmOrIdle,
+    /// The cold buckets.
+    Cold,
+    /// The buckets that are too old.
+    Old,
+    /// The buckets that are not too old.
+    Young,
 }
 
 fn is_warm(bucket: &Bucket) -> bool
@@ -63,82 +80,33 @@ fn is_old(policy: &Policy, bucket: &Bucket) -> bool
     is_longer(bucket.newest, policy.moment, policy.limits.frozen_secs)
 }
 
-/// The hot and quarantine buckets that are idle.
-pub fn idle(alloc: Global, policy: &Policy, buckets: &[Bucket]) -> Result<Vec<Bucket>, NoMemory>
-    ensures { IfOk result (λ list. list.items ≡ filter (defs.is_idle policy.now) buckets.now) }
+/// Whether a bucket is one of these.
+fn is_picked(policy: &Policy, pick: Pick, bucket: &Bucket) -> bool
+    ensures { result ≡ defs.is_picked policy.now pick bucket.now }
 {
-    let list = buckets
-        .iter()
-        .copied()
-        .filter(|bucket| is_idle(policy, bucket))
-        .collect(alloc)?;
-    Ok(list)
+    match pick {
+        Pick::Idle => is_idle(policy, bucket),
+        Pick::StillHot => stays_hot(policy, bucket),
+        Pick::WarmOrIdle => is_warm(bucket) || is_idle(policy, bucket),
+        Pick::Cold => is_cold(bucket),
+        Pick::Old => is_old(policy, bucket),
+        Pick::Young => !is_old(policy, bucket),
+    }
 }
 
-/// The hot and quarantine buckets that are not idle.
-pub fn still_hot(
+/// Those of the buckets that a step takes.
+pub fn picked(
     alloc: Global,
     policy: &Policy,
+    pick: Pick,
     buckets: &[Bucket],
 ) -> Result<Vec<Bucket>, NoMemory>
-    ensures { IfOk result (λ list. list.items ≡ filter (defs.stays_hot policy.now) buckets.now) }
+    ensures { IfOk result (λ list. list.items ≡ filter (defs.is_picked policy.now pick) buckets.now) }
 {
     let list = buckets
         .iter()
         .copied()
-        .filter(|bucket| stays_hot(policy, bucket))
-        .collect(alloc)?;
-    Ok(list)
-}
-
-/// The warm buckets, and those that are idle.
-pub fn warm_and_idle(
-    alloc: Global,
-    policy: &Policy,
-    buckets: &[Bucket],
-) -> Result<Vec<Bucket>, NoMemory>
-    ensures { IfOk result (λ list. list.items ≡ filter (λ b. defs.is_warm b || defs.is_idle policy.now b) buckets.now) }
-{
-    let list = buckets
-        .iter()
-        .copied()
-        .filter(|bucket| is_warm(bucket) || is_idle(policy, bucket))
-        .collect(alloc)?;
-    Ok(list)
-}
-
-/// The cold buckets.
-pub fn cold(alloc: Global, buckets: &[Bucket]) -> Result<Vec<Bucket>, NoMemory>
-    ensures { IfOk result (λ list. list.items ≡ filter defs.is_cold buckets.now) }
-{
-    let list = buckets
-        .iter()
-        .copied()
-        .filter(|bucket| is_cold(bucket))
-        .collect(alloc)?;
-    Ok(list)
-}
-
-/// The buckets that are too old.
-pub fn old(alloc: Global, policy: &Policy, buckets: &[Bucket]) -> Result<Vec<Bucket>, NoMemory>
-    ensures { IfOk result (λ list. list.items ≡ filter (defs.is_old policy.now) buckets.now) }
-{
-    let list = buckets
-        .iter()
-        .copied()
-        .filter(|bucket| is_old(policy, bucket))
-        .collect(alloc)?;
-    Ok(list)
-}
-
-/// The buckets that are not too old.
-pub fn young(alloc: Global, policy: &Policy, buckets: &[Bucket]) -> Result<Vec<Bucket>, NoMemory>
-    ensures { IfOk result (λ list. list.items ≡ filter (defs.is_young policy.now) buckets.now) }
-{
-    let list = buckets
-        .iter()
-        .copied()
-        .filter(|bucket| !is_old(policy, bucket))
+        .filter(|bucket| is_picked(policy, pick, bucket))
         .collect(alloc)?;
     Ok(list)
 }

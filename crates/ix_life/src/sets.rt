@@ -1,6 +1,6 @@
 //! The limits of all indexes.
 
-ghost use Rattle.std.specs.Prelude.{◌≡◌, ◌++◌, None, IfErr, IfOk, OnOk, unwrap_or, codes};
+ghost use Rattle.std.specs.Prelude.{◌≡◌, ◌++◌, ◌∷◌, [], None, IfErr, IfOk, OnOk, unwrap_or, codes};
 ghost use Rattle.std.specs.Option.{option_copied};
 ghost use Rattle.std.specs.List.{flat_map};
 ghost use Rattle.ix_conf.specs.Lent.{item_entry};
@@ -127,6 +127,18 @@ fn named(alloc: Global, indexes: &Merged, index: &[u8]) -> Result<IndexLimits, N
     })
 }
 
+/// Adds an index.
+fn add_named(
+    alloc: Global,
+    indexes: &Merged,
+    index: &[u8],
+    list: &mut IndexLimitsList,
+) -> Result<(), NoMemory>
+    ensures { OnOk result (list.new ≡ list.old ++ named indexes.now index.now ∷ []) }
+{
+    list.push(named(alloc, indexes, index)?)
+}
+
 /// Adds the index of an entry, where it is the own entry of one.
 fn add_item(
     alloc: Global,
@@ -139,11 +151,23 @@ fn add_item(
     match item.key {
         [] => {
             if is_index_stanza(item.stanza) {
-                list.push(named(alloc, indexes, item.stanza)?)?;
+                add_named(alloc, indexes, item.stanza, list)
+            } else {
+                Ok(())
             }
-            Ok(())
         }
         [_, ..] => Ok(()),
+    }
+}
+
+/// Adds `main`, where it has no stanza.
+fn add_main(alloc: Global, indexes: &Merged, list: &mut IndexLimitsList) -> Result<(), NoMemory>
+    ensures { OnOk result (list.new ≡ list.old ++ main_of indexes.now) }
+{
+    if indexes.has(MAIN) {
+        Ok(())
+    } else {
+        add_named(alloc, indexes, MAIN, list)
     }
 }
 
@@ -167,9 +191,7 @@ fn list_indexes(alloc: Global, indexes: &Merged) -> Result<IndexLimitsList, NoMe
     ensures { IfOk result (λ list. list ≡ listed indexes.now) }
 {
     let mut list = list_stanzas(alloc, indexes)?;
-    if !indexes.has(MAIN) {
-        list.push(named(alloc, indexes, MAIN)?)?;
-    }
+    add_main(alloc, indexes, &mut list)?;
     Ok(list)
 }
 
@@ -203,6 +225,19 @@ fn find<'a>(indexes: &'a [IndexLimits], index: &[u8]) -> Option<&'a Limits>
     None
 }
 
+/// The limits of all indexes, and what `default` says for the whole store.
+fn read_all(alloc: Global, indexes: &Merged) -> Result<LimitSet, NoMemory>
+    ensures { IfOk result (λ set. defs.AreLimits indexes.now set) }
+{
+    Ok(LimitSet {
+        default_database: copy_or(alloc, value_of(indexes, DEFAULT, b"defaultDatabase"), MAIN)?,
+        last_chance: copy_value(alloc, value_of(indexes, DEFAULT, b"lastChanceIndex"))?,
+        rotate_secs: number(indexes, DEFAULT, b"rotatePeriodInSecs", Kind::FromOne, 60),
+        indexes: list_indexes(alloc, indexes)?,
+        retired: limits_of(indexes, DEFAULT),
+    })
+}
+
 impl LimitSet {
     /// Reads the settings of all indexes. An index is each stanza but `default` and those that begin with `volume:`, and
     /// `main`. A value that an index does not have is that of `default`, else the built-in one; an empty value is the
@@ -217,13 +252,7 @@ impl LimitSet {
         ensures err { IfErr result (λ fault. defs.Refuses (defs.first_fault indexes.now) fault) }
     {
         judge(alloc, indexes)?;
-        Ok(LimitSet {
-            default_database: copy_or(alloc, value_of(indexes, DEFAULT, b"defaultDatabase"), MAIN)?,
-            last_chance: copy_value(alloc, value_of(indexes, DEFAULT, b"lastChanceIndex"))?,
-            rotate_secs: number(indexes, DEFAULT, b"rotatePeriodInSecs", Kind::FromOne, 60),
-            indexes: list_indexes(alloc, indexes)?,
-            retired: limits_of(indexes, DEFAULT),
-        })
+        Ok(read_all(alloc, indexes)?)
     }
 
     /// The indexes that are configured, each with its limits. It takes no memory.
