@@ -15,3 +15,4 @@ pub mod Leading
 pub mod Finding
 pub mod LeadingAll
 pub mod LeadingShelves
+pub mod Failing

@@ -1,6 +1,7 @@
 -- Two lists of buckets are merged by their numbers.
-use Rattle.std.proofs.Common.{◌≡◌, ◌≢◌, ◌==◌, ◌<◌, ◌+◌, ℕ, List, [], ◌∷◌, ◌++◌, Bool, true, false, if◌then◌else◌, refl, sym, ap, subst, ◌∙◌, length, drop, get_or, nat_lt, arith, append-nil, append_assoc}
+use Rattle.std.proofs.Common.{◌≡◌, ◌≢◌, ◌==◌, ◌<◌, ◌≤◌, ◌+◌, ◌-◌, ℕ, List, [], ◌∷◌, ◌++◌, Bool, true, false, if◌then◌else◌, refl, sym, ap, subst, ◌∙◌, length, take, drop, get_or, nat_lt, arith, append-nil, append_assoc}
 use Rattle.std.proofs.lemmas.Bool.Decides.{nat_tests}
+use Rattle.std.proofs.lemmas.List.{length-drop, take_all}
 use Rattle.ix_items.specs.declared.items.Bucket.{Bucket}
 use Rattle.ix_items.specs.declared.items.Item.{Item}
 use Rattle.ix_items.specs.declared.items.Item.TheVariants as items
@@ -109,6 +110,29 @@ put_on {name} {a} {b} {c} {d} {e} {f} {x} {y} {z} p q = record {
   proper = all_behind HasSpelling p.done q.done p.proper q.proper;
   whole = p.whole ∙ ap (λ (l : List Item). p.done ++ l) q.whole ∙ sym (append_assoc p.done q.done (changed name e f));
 }
+
+-- what is left of a list behind its first so many elements
+rest_is : {X : Type 0} (xs : List X) (n : ℕ) → take (length xs - n) (drop n xs) ≡ drop n xs
+rest_is xs n = take_all (length xs - n) (drop n xs) (omega (arith, length-drop n xs))
+
+pub rest_short : {X : Type 0} (xs : List X) (n most : ℕ) → length xs ≤ most → length (take (length xs - n) (drop n xs)) ≤ most
+rest_short xs n most short = omega (arith, length-drop n xs, ap length (rest_is xs n))
+
+pub rest_put : (name : List ℕ) (old new olds news : List Bucket) (gone made : ℕ) (before now after : List Item) → HasPut name old new olds news before now
+    → HasPut name olds news (drop gone olds) (drop made news) now after
+    → HasPut name old new (take (length olds - gone) (drop gone olds)) (take (length news - made) (drop made news)) before after
+rest_put name old new olds news gone made before now after so_far more =
+    subst (λ (l : List Bucket). HasPut name old new l (take (length news - made) (drop made news)) before after) (sym (rest_is olds gone))
+    (subst (λ (l : List Bucket). HasPut name old new (drop gone olds) l before after) (sym (rest_is news made)) (put_on so_far more))
+
+pub rest_less : (olds news : List Bucket) (gone made : ℕ) → gone ≤ length olds → made ≤ length news → 0 < gone + made
+    → length (take (length olds - gone) (drop gone olds)) + length (take (length news - made) (drop made news)) < length olds + length news
+rest_less olds news gone made a b some =
+    omega (arith, length-drop gone olds, ap length (rest_is olds gone), length-drop made news, ap length (rest_is news made))
+
+-- a list that is seen to be empty
+pub none_of : {X : Type 0} (xs : List X) (is : Bool) → is ≡ (length xs == 0) → is ≡ true → length xs ≡ 0
+none_of xs is e empty = grind (arith, nat_tests)
 
 pub none_put : (name : List ℕ) (old new : List Bucket) (before : List Item) → HasPut name old new old new before before
 none_put name old new before = record { done = []; put = sym (append-nil before); proper = tt; whole = refl }

@@ -1,7 +1,7 @@
 //! What dealing does to the buckets of an index: one takes an event, one rolls, one is made.
 
 ghost use Rattle.std.specs.Prelude.{◌≡◌, ◌<◌, ◌+◌, ◌^◌, length, IfOk, IfSome, OnOk, IsErrOf};
-ghost use Rattle.std.specs.List.{AllByRecursion, count_by};
+ghost use Rattle.std.specs.List.{AllByRecursion};
 ghost use Rattle.ix_items.specs.declared.items.Bucket.{Bucket};
 ghost use Rattle.ix_shelves.specs.Buckets.{rolled, closed};
 ghost use Rattle.ix_shelves.specs.Dealing.{roll_id};
@@ -11,9 +11,10 @@ ghost use Rattle.ix_shelves.specs.Numbers.{KeepsBucket};
 ghost use Rattle.ix_shelves.specs.Shelves as defs;
 
 use crate::dealing::DealFault;
+use crate::index_turn::rolled;
 use ix_base::{Area, File};
-use ix_items::{Bucket, Entry, State};
-use ix_life::{BucketList, IndexView, Limits};
+use ix_items::{Bucket, State};
+use ix_life::{BucketList, Limits};
 
 /// What all numbers of a store stay below.
 pub const LIMIT: u64 = 1 << 63;
@@ -50,7 +51,7 @@ fn close(limits: &Limits, bucket: Bucket) -> Bucket
     ensures count { result.count ≡ bucket.count }
 {
     if u128::from(limits.max_data_mb) * 1_048_576 <= u128::from(bucket.bytes) {
-        warm(bucket)
+        rolled(bucket)
     } else {
         bucket
     }
@@ -159,16 +160,6 @@ pub fn grow_id(
     Ok(())
 }
 
-/// The bucket, rolled to warm.
-fn warm(bucket: Bucket) -> Bucket
-    ensures { result ≡ rolled bucket }
-{
-    Bucket {
-        state: State::Warm,
-        ..bucket
-    }
-}
-
 /// Rolls the bucket at a place to warm, where that has this number.
 fn roll_at(buckets: &mut BucketList, at: usize, id: u64)
     requires { at < length buckets.old }
@@ -178,7 +169,7 @@ fn roll_at(buckets: &mut BucketList, at: usize, id: u64)
     if bucket.id != id {
         return;
     }
-    buckets.replace(at, warm(bucket));
+    buckets.replace(at, rolled(bucket));
 }
 
 /// Rolls the bucket of this number to warm, where one is named.
@@ -198,40 +189,4 @@ fn roll(buckets: &mut BucketList, id: u64)
     for i in 0..buckets.len() {
         roll_at(buckets, i, id);
     }
-}
-
-/// Whether the bucket was never frozen.
-fn is_live(bucket: &Bucket) -> bool
-    ensures { result ≡ defs.is_live bucket.now }
-{
-    match bucket.state {
-        State::Hot | State::Quarantine | State::Warm | State::Cold => true,
-        State::Thawed => false,
-    }
-}
-
-fn count_live(buckets: &[Bucket]) -> usize
-    ensures value { result ≡ count_by defs.is_live buckets.now }
-    ensures small { result < 2 ^ 63 }
-{
-    buckets.iter().filter(|bucket| is_live(bucket)).count()
-}
-
-fn count_frozen(ledger: &[Entry], index: &[u8]) -> usize
-    ensures value { result ≡ count_by (defs.is_of index.now) ledger.now }
-    ensures small { result < 2 ^ 63 }
-{
-    ledger
-        .iter()
-        .filter(|entry| entry.index.as_slice() == index)
-        .count()
-}
-
-/// The number of the next bucket of an index.
-pub fn next_number(view: &IndexView, ledger: &[Entry]) -> u64
-    ensures { result ≡ defs.next_number view.now.name view.now.buckets ledger.now }
-{
-    let live = count_live(view.buckets.as_slice());
-    let frozen = count_frozen(ledger, view.name.as_slice());
-    (live + frozen) as u64
 }

@@ -55,6 +55,24 @@ fn gone(index: &Bytes, id: u64) -> Result<Item, NoMemory>
     })
 }
 
+/// Puts the item of a bucket that stands.
+fn put_standing(index: &Bytes, bucket: Bucket, items: &mut Sequence<Item>) -> Result<(), NoMemory>
+    requires { IsShort index.now }
+    ensures put { OnOk result (items.new ≡ items.old ++ Item.Bucket index.now bucket ∷ []) }
+    ensures proper { OnOk result (HasSpelling (Item.Bucket index.now bucket)) }
+{
+    items.push(standing(index, bucket)?)
+}
+
+/// Puts the item of a bucket that is gone.
+fn put_gone(index: &Bytes, id: u64, items: &mut Sequence<Item>) -> Result<(), NoMemory>
+    requires { IsShort index.now }
+    ensures put { OnOk result (items.new ≡ items.old ++ Item.Gone index.now id ∷ []) }
+    ensures proper { OnOk result (HasSpelling (Item.Gone index.now id)) }
+{
+    items.push(gone(index, id)?)
+}
+
 /// A copy of an entry.
 fn copied(entry: &Entry) -> Result<Entry, NoMemory>
     ensures { IfOk result (λ copy. copy ≡ entry.now) }
@@ -119,15 +137,15 @@ fn put_next(
     ensures some_taken { IfOk result (λ taken. 0 < taken.0 + taken.1) }
 {
     if comes_first(old, new) {
-        items.push(gone(index, old[0].id)?)?;
+        put_gone(index, old[0].id, items)?;
         return Ok((1, 0));
     }
     if comes_first(new, old) {
-        items.push(standing(index, new[0])?)?;
+        put_standing(index, new[0], items)?;
         return Ok((0, 1));
     }
     if !is_same(&old[0], &new[0]) {
-        items.push(standing(index, new[0])?)?;
+        put_standing(index, new[0], items)?;
     }
     Ok((1, 1))
 }

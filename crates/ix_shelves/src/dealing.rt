@@ -12,7 +12,8 @@ ghost use Rattle.ix_shelves.specs.Numbers.{KeepsIndex, KeepsNumbers, IsBalanced,
 ghost use Rattle.ix_shelves.specs.Shelves.{view_name};
 ghost use Rattle.ix_shelves.specs.declared.dealing.DealFault.TheVariants as faults;
 
-use crate::buckets::{Growth, LIMIT, begin, by_id, grow_id, next_number, roll_some};
+use crate::buckets::{Growth, LIMIT, begin, by_id, grow_id, roll_some};
+use crate::measures::next_number;
 use crate::pieces::{add_record, spot_of};
 use crate::shelves::{Shelves, place_of};
 use ix_base::{Bytes, Event, NoMemory as OutOfMemory, Routed, RoutedList, Sequence};
@@ -134,6 +135,19 @@ fn rename(event: Event, name: Bytes) -> Event
     }
 }
 
+/// The event under a copy of this name.
+fn renamed(event: Event, name: &Bytes) -> Result<Option<Event>, OutOfMemory>
+    ensures { IfOk result (λ sent. sent ≡ Some (named name.now event)) }
+{
+    match name.copy() {
+        Ok(name) => Ok(Some(rename(event, name))),
+        Err(fault) => {
+            drop(event);
+            Err(fault)
+        }
+    }
+}
+
 impl Dealing<'_> {
     /// The event under the name of the index that it goes to, if there is one.
     fn send(&self, event: Event) -> Result<Option<Event>, OutOfMemory>
@@ -142,10 +156,16 @@ impl Dealing<'_> {
         match self.set.route(event.index.as_slice()) {
             Route::Given => Ok(Some(event)),
             Route::LastChance => match &self.set.last_chance {
-                Some(name) => Ok(Some(rename(event, name.copy()?))),
-                None => Ok(None),
+                Some(name) => renamed(event, name),
+                None => {
+                    drop(event);
+                    Ok(None)
+                }
             },
-            Route::Nowhere => Ok(None),
+            Route::Nowhere => {
+                drop(event);
+                Ok(None)
+            }
         }
     }
 
@@ -202,7 +222,7 @@ impl Dealing<'_> {
         if placement.file + 1 >= LIMIT {
             return Err(DealFault::Full);
         }
-        let id = next_number(view, self.ledger);
+        let id = next_number(&view.name, view.buckets.as_slice(), self.ledger);
         roll_some(&mut view.buckets, target.rolls);
         let spot = spot_of(None, placement.file);
         let size = add_record(self.alloc, spot, placement.event, pieces)?;
@@ -305,7 +325,11 @@ impl Dealing<'_> {
             KeepsNumbers (defs.deal_to self.now.ledger.now self.now.moment event (defs.home self.now.set.now event.index) work.old).shelves → ⊥ }
     {
         match self.send(event)? {
-            Some(event) => self.put(&event, work),
+            Some(event) => {
+                let done = self.put(&event, work);
+                drop(event);
+                done
+            }
             None => count_dropped(&mut work.shelves),
         }
     }

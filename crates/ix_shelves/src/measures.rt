@@ -8,23 +8,14 @@ ghost use Rattle.ix_items.specs.declared.items.Bucket.{Bucket};
 ghost use Rattle.ix_items.specs.declared.items.Entry.{Entry};
 ghost use Rattle.ix_shelves.specs.Measures as defs;
 ghost use Rattle.ix_shelves.specs.Measures.{capped};
-ghost use Rattle.ix_shelves.specs.Shelves.{is_live, is_live_in, is_of};
+ghost use Rattle.ix_shelves.specs.Shelves.{is_live, is_of};
 ghost use Rattle.ix_shelves.specs.Shelves as shelf;
 
+use crate::index_turn::is_live;
 use crate::shelves::Shelves;
 use ix_base::Bytes;
-use ix_items::{Bucket, Entry, State};
+use ix_items::{Bucket, Entry};
 use ix_life::IndexView;
-
-/// Whether a bucket never froze.
-fn is_live(bucket: &Bucket) -> bool
-    ensures { result ≡ is_live bucket.now }
-{
-    match bucket.state {
-        State::Hot | State::Quarantine | State::Warm | State::Cold => true,
-        State::Thawed => false,
-    }
-}
 
 /// Whether an entry is of this index.
 fn is_of(index: &Bytes, entry: &Entry) -> bool

@@ -1,6 +1,7 @@
 //! Turns of housekeeping. The store calls `turn_all` for a Tick.
 
-ghost use Rattle.std.specs.Prelude.{◌≡◌, ◌<◌, ◌^◌, ◌++◌, IfOk, OnOk, option_to_list};
+ghost use Rattle.std.specs.Prelude.{◌≡◌, ◌<◌, ◌^◌, ◌++◌, ◌∷◌, [], IfOk, OnOk, option_to_list};
+ghost use Rattle.ix_shelves.specs.Shelves.{with_buckets};
 ghost use Rattle.ix_shelves.specs.Carried as carrying;
 ghost use Rattle.ix_shelves.specs.Turning as defs;
 
@@ -59,6 +60,22 @@ fn add(buckets: &mut BucketList, more: Option<Bucket>) -> Result<(), NoMemory>
         buckets.push(bucket)?;
     }
     Ok(())
+}
+
+/// Adds an index with other buckets.
+fn add_view(
+    view: &IndexView,
+    buckets: BucketList,
+    indexes: &mut IndexViewList,
+) -> Result<(), NoMemory>
+    ensures { OnOk result (indexes.new ≡ indexes.old ++ with_buckets buckets view.now ∷ []) }
+{
+    let name = view.name.copy()?;
+    indexes.push(IndexView {
+        name,
+        limits: view.limits,
+        buckets,
+    })
 }
 
 impl Turned {
@@ -192,12 +209,7 @@ impl Turned {
         let turn = IndexTurn::of(alloc, moment, view)?;
         let left = self.carry_out_all(alloc, &turn, view.buckets.as_slice())?;
         self.add_entries(&turn, &left.numbered)?;
-        self.indexes.push(IndexView {
-            name: view.name.copy()?,
-            limits: view.limits,
-            buckets: left.buckets,
-        })?;
-        Ok(())
+        add_view(view, left.buckets, &mut self.indexes)
     }
 }
 

@@ -11,5 +11,5 @@ returns-then-bucket-id c =
 pub returns : goal.returns
 returns c =
     let t = rw c.as_slice.ensures at c.if-bucket-id.false in
-    let g = rw c.as_slice.ensures at c.warm.ensures in
-    c.replace.ensures.items ∙ changed c.args.at c.args.id rolled c.args.buckets.now _ c.warm.result c.requires t g
+    let g = rw c.as_slice.ensures at c.rolled.ensures in
+    c.replace.ensures.items ∙ changed c.args.at c.args.id rolled c.args.buckets.now _ c.rolled.result c.requires t g
