@@ -142,6 +142,7 @@ fn renamed(event: Event, name: &Bytes) -> Result<Option<Event>, OutOfMemory>
     match name.copy() {
         Ok(name) => Ok(Some(rename(event, name))),
         Err(fault) => {
+            // all that an event has is let go in one call, here and below
             drop(event);
             Err(fault)
         }

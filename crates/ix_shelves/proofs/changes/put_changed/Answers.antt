@@ -1,4 +1,3 @@
-use Rattle.std.proofs.Common.{sym, ◌∙◌}
 use Rattle.ix_shelves.proofs.Merging.{rest_short, rest_put, rest_less, none_of, all_put}
 use Rattle.ix_shelves.proofs.changes.put_changed.Goals as goal
 
