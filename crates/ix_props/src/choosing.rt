@@ -1,9 +1,11 @@
 //! The value of each key that is the nearest to a channel, for `settling` and for the settings that are read of it.
 
-ghost use Rattle.std.specs.Prelude.{◌≡◌, List, ℕ, Some, IfOk, OnOk, bytes_eq};
+ghost use Rattle.std.specs.Prelude.{◌≡◌, List, ℕ, Option, Some, IfOk, OnOk, bytes_eq};
 ghost use Rattle.std.specs.Option.{option_map, option_copied};
 ghost use Rattle.std.specs.Map.{update};
 ghost use Rattle.ix_props.specs.Ranking.{found, rank_for, for_source, Ranked, lent_candidate, at_key, gives_way, nearer, nearest, lent, set_in, AreNearest};
+ghost use Rattle.ix_props.specs.declared.props.PropsEntry.{PropsEntry};
+ghost use Rattle.ix_props.specs.declared.ranks.Rank.{Rank};
 
 use crate::holding::Ranks;
 use crate::kinds::is_key;
@@ -111,6 +113,19 @@ fn find_nearest<'a>(
     Ok(nearest)
 }
 
+/// The entries that are nearest, in the order of their keys.
+fn list_of<'a>(alloc: Global, map: &Nearest<'a>) -> Result<Vec<&'a PropsEntry>, NoMemory>
+    ensures { (ranks : List ℕ → Option Rank) (entries : List PropsEntry)
+        → ((key : List ℕ) → option_map lent_candidate (found map.now key) ≡ nearest ranks key entries)
+        → IfOk result (λ list. AreNearest ranks entries (lent list.items)) }
+{
+    let mut list = Vec::new(alloc);
+    for (_, candidate) in map {
+        list.push(candidate.entry)?;
+    }
+    Ok(list)
+}
+
 /// The nearest entry of each key, in the order of the keys, for a channel of this source type; without one, for its source alone.
 pub(crate) fn choose<'a>(
     alloc: Global,
@@ -120,12 +135,8 @@ pub(crate) fn choose<'a>(
 ) -> Result<Vec<&'a PropsEntry>, NoMemory>
     ensures { IfOk result (λ list. AreNearest (rank_for (found ranks.now) (option_copied sourcetype.entry)) entries.now (lent list.items)) }
 {
-    let nearest = find_nearest(alloc, entries, ranks, sourcetype)?;
-    let mut list = Vec::new(alloc);
-    for (_, candidate) in &nearest {
-        list.push(candidate.entry)?;
-    }
-    Ok(list)
+    let map = find_nearest(alloc, entries, ranks, sourcetype)?;
+    list_of(alloc, &map)
 }
 
 /// The value of a key among entries of different keys.

@@ -1,13 +1,13 @@
 //! The classes of changes and of transforms that are set for a channel, in the order of their keys, for `settling`.
 
-ghost use Rattle.std.specs.Prelude.{◌≡◌, ◌++◌, ◌∷◌, [], IfOk, OnOk, codes};
+ghost use Rattle.std.specs.Prelude.{◌≡◌, ◌++◌, ◌∷◌, [], OnOk, codes};
 ghost use Rattle.ix_props.specs.Ranking.{lent, classes_in};
 ghost use Rattle.ix_props.specs.Settings.{changes, chain};
 
 use crate::kinds::begins_with;
 use crate::props::PropsEntry;
 use crate::values::Value;
-use ix_base::{NoMemory, Sequence};
+use ix_base::NoMemory;
 use ix_values::{SedList, Transform, TransformList};
 use std::alloc::Global;
 
@@ -22,18 +22,22 @@ fn add_change(alloc: Global, seds: &mut SedList, entry: &PropsEntry) -> Result<(
     Ok(())
 }
 
-/// What the `SEDCMD-` classes change.
-pub(crate) fn read_changes(alloc: Global, chosen: &[&PropsEntry]) -> Result<SedList, NoMemory>
-    ensures { IfOk result (λ seds. seds ≡ changes (classes_in (codes "SEDCMD-") (lent chosen.now))) }
+/// Adds what the `SEDCMD-` classes change.
+pub(crate) fn add_changes(
+    alloc: Global,
+    seds: &mut SedList,
+    chosen: &[&PropsEntry],
+) -> Result<(), NoMemory>
+    ensures { OnOk result (seds.new ≡ seds.old ++ changes (classes_in (codes "SEDCMD-") (lent chosen.now))) }
 {
-    let mut seds = Sequence::new(alloc);
     for entry in chosen {
-        add_change(alloc, &mut seds, entry)?;
+        add_change(alloc, seds, entry)?;
     }
-    Ok(seds)
+    Ok(())
 }
 
-fn add_all(
+/// Adds copies of transforms.
+pub(crate) fn add_transforms(
     alloc: Global,
     list: &mut TransformList,
     transforms: &[Transform],
@@ -46,28 +50,27 @@ fn add_all(
     Ok(())
 }
 
-fn add_transforms(
-    alloc: Global,
-    list: &mut TransformList,
-    entry: &PropsEntry,
-) -> Result<(), NoMemory>
+fn add_class(alloc: Global, list: &mut TransformList, entry: &PropsEntry) -> Result<(), NoMemory>
     ensures { OnOk result (list.new ≡ list.old ++ chain (classes_in (codes "TRANSFORMS-") (entry.now ∷ []))) }
 {
     if begins_with(entry.key.as_slice(), b"TRANSFORMS-") {
         if let Value::Transforms(transforms) = &entry.value {
-            return add_all(alloc, list, transforms.as_slice());
+            return add_transforms(alloc, list, transforms.as_slice());
         }
     }
     Ok(())
 }
 
-/// The transforms of the `TRANSFORMS-` classes.
-pub(crate) fn read_chain(alloc: Global, chosen: &[&PropsEntry]) -> Result<TransformList, NoMemory>
-    ensures { IfOk result (λ list. list ≡ chain (classes_in (codes "TRANSFORMS-") (lent chosen.now))) }
+/// Adds the transforms of the `TRANSFORMS-` classes.
+pub(crate) fn add_chain(
+    alloc: Global,
+    list: &mut TransformList,
+    chosen: &[&PropsEntry],
+) -> Result<(), NoMemory>
+    ensures { OnOk result (list.new ≡ list.old ++ chain (classes_in (codes "TRANSFORMS-") (lent chosen.now))) }
 {
-    let mut list = Sequence::new(alloc);
     for entry in chosen {
-        add_transforms(alloc, &mut list, entry)?;
+        add_class(alloc, list, entry)?;
     }
-    Ok(list)
+    Ok(())
 }

@@ -61,21 +61,21 @@ pub(crate) fn copy_breaker(alloc: Global, value: Option<&Value>) -> Result<Patte
     }
 }
 
-fn copy_pattern(value: Option<&Value>) -> Result<Option<Pattern>, NoMemory>
-    ensures { IfOk result (λ pattern. pattern ≡ pattern_of (option_copied value.entry)) }
+fn pattern_in<'a>(value: Option<&'a Value>) -> Option<&'a Pattern>
+    ensures { option_copied result ≡ pattern_of (option_copied value.entry) }
 {
     match value {
-        Some(Value::Pattern(pattern)) => Ok(Some(pattern.copy()?)),
-        _ => Ok(None),
+        Some(Value::Pattern(pattern)) => Some(pattern),
+        _ => None,
     }
 }
 
-fn copy_format(value: Option<&Value>) -> Result<Option<TimeFormat>, NoMemory>
-    ensures { IfOk result (λ format. format ≡ format_of (option_copied value.entry)) }
+fn format_in<'a>(value: Option<&'a Value>) -> Option<&'a TimeFormat>
+    ensures { option_copied result ≡ format_of (option_copied value.entry) }
 {
     match value {
-        Some(Value::Format(format)) => Ok(Some(format.copy()?)),
-        _ => Ok(None),
+        Some(Value::Format(format)) => Some(format),
+        _ => None,
     }
 }
 
@@ -108,15 +108,18 @@ fn lookahead_of(value: Option<&Value>) -> Option<u32>
 pub(crate) fn merge_settings(chosen: &[&PropsEntry]) -> Result<MergeSettings, NoMemory>
     ensures { IfOk result (λ merge. AreMergeSettings (set_in (lent chosen.now)) merge) }
 {
-    Ok(MergeSettings {
-        on: boolean_or(true, find(chosen, b"SHOULD_LINEMERGE")),
-        before_date: boolean_or(true, find(chosen, b"BREAK_ONLY_BEFORE_DATE")),
-        before: copy_pattern(find(chosen, b"BREAK_ONLY_BEFORE"))?,
-        break_after: copy_pattern(find(chosen, b"MUST_BREAK_AFTER"))?,
-        hold_after: copy_pattern(find(chosen, b"MUST_NOT_BREAK_AFTER"))?,
-        veto: copy_pattern(find(chosen, b"MUST_NOT_BREAK_BEFORE"))?,
-        max_lines: count_or(256, find(chosen, b"MAX_EVENTS")),
-    })
+    let mut merge = MergeSettings::plain(
+        boolean_or(true, find(chosen, b"SHOULD_LINEMERGE")),
+        boolean_or(true, find(chosen, b"BREAK_ONLY_BEFORE_DATE")),
+        count_or(256, find(chosen, b"MAX_EVENTS")),
+    );
+    merge.put_patterns(
+        pattern_in(find(chosen, b"BREAK_ONLY_BEFORE")),
+        pattern_in(find(chosen, b"MUST_BREAK_AFTER")),
+        pattern_in(find(chosen, b"MUST_NOT_BREAK_AFTER")),
+        pattern_in(find(chosen, b"MUST_NOT_BREAK_BEFORE")),
+    )?;
+    Ok(merge)
 }
 
 /// How the time of an event is read.
@@ -124,12 +127,18 @@ pub(crate) fn time_settings(alloc: Global, chosen: &[&PropsEntry]) -> Result<Tim
     requires { IsSmall (set_in (lent chosen.now) (codes "MAX_TIMESTAMP_LOOKAHEAD")) }
     ensures { IfOk result (λ time. AreTimeSettings (set_in (lent chosen.now)) time) }
 {
-    Ok(TimeSettings {
-        prefix: copy_pattern(find(chosen, b"TIME_PREFIX"))?,
-        format: copy_format(find(chosen, b"TIME_FORMAT"))?,
+    let zone = copy_zone(alloc, find(chosen, b"TZ"))?;
+    let mut time = TimeSettings {
+        prefix: None,
+        format: None,
         lookahead: lookahead_of(find(chosen, b"MAX_TIMESTAMP_LOOKAHEAD")),
-        zone: copy_zone(alloc, find(chosen, b"TZ"))?,
+        zone,
         days_ago: count_or(2000, find(chosen, b"MAX_DAYS_AGO")),
         days_hence: count_or(2, find(chosen, b"MAX_DAYS_HENCE")),
-    })
+    };
+    time.put_forms(
+        pattern_in(find(chosen, b"TIME_PREFIX")),
+        format_in(find(chosen, b"TIME_FORMAT")),
+    )?;
+    Ok(time)
 }

@@ -1,11 +1,13 @@
 //! The settings of one channel.
 
-ghost use Rattle.std.specs.Prelude.{◌≡◌, IfOk};
+ghost use Rattle.std.specs.Prelude.{◌≡◌, ◌++◌, None, IfOk, OnOk};
+ghost use Rattle.std.specs.Option.{option_copied};
 
+use crate::classes::add_transforms;
 use crate::zones::Zone;
 use ix_base::{Bytes, NoMemory, Sequence};
 use ix_pattern::Pattern;
-use ix_values::{Sed, SedList, TimeFormat, Transform, TransformList};
+use ix_values::{Sed, SedList, TimeFormat, TransformList};
 use std::alloc::Global;
 
 /// How lines are merged to events.
@@ -100,8 +102,8 @@ impl Drop for Settings {
     }
 }
 
-fn copy_pattern(pattern: &Option<Pattern>) -> Result<Option<Pattern>, NoMemory>
-    ensures { IfOk result (λ copy. copy ≡ pattern.now) }
+fn copy_pattern(pattern: Option<&Pattern>) -> Result<Option<Pattern>, NoMemory>
+    ensures { IfOk result (λ copy. copy ≡ option_copied pattern.entry) }
 {
     match pattern {
         Some(pattern) => Ok(Some(pattern.copy()?)),
@@ -109,8 +111,8 @@ fn copy_pattern(pattern: &Option<Pattern>) -> Result<Option<Pattern>, NoMemory>
     }
 }
 
-fn copy_format(format: &Option<TimeFormat>) -> Result<Option<TimeFormat>, NoMemory>
-    ensures { IfOk result (λ copy. copy ≡ format.now) }
+fn copy_format(format: Option<&TimeFormat>) -> Result<Option<TimeFormat>, NoMemory>
+    ensures { IfOk result (λ copy. copy ≡ option_copied format.entry) }
 {
     match format {
         Some(format) => Ok(Some(format.copy()?)),
@@ -118,60 +120,111 @@ fn copy_format(format: &Option<TimeFormat>) -> Result<Option<TimeFormat>, NoMemo
     }
 }
 
-fn copy_seds(alloc: Global, seds: &[Sed]) -> Result<SedList, NoMemory>
-    ensures { IfOk result (λ copy. copy ≡ seds.now) }
+/// Puts a copy of a pattern there, where there is one.
+fn put_pattern(place: &mut Option<Pattern>, pattern: Option<&Pattern>) -> Result<(), NoMemory>
+    ensures { OnOk result (place.new ≡ option_copied pattern.entry) }
 {
-    let mut copies = Sequence::new(alloc);
-    for sed in seds {
-        copies.push(sed.copy(alloc)?)?;
-    }
-    Ok(copies)
+    *place = copy_pattern(pattern)?;
+    Ok(())
 }
 
-/// A copy of transforms.
-pub(crate) fn copy_transforms(
-    alloc: Global,
-    transforms: &[Transform],
-) -> Result<TransformList, NoMemory>
-    ensures { IfOk result (λ copy. copy ≡ transforms.now) }
+fn put_format(place: &mut Option<TimeFormat>, format: Option<&TimeFormat>) -> Result<(), NoMemory>
+    ensures { OnOk result (place.new ≡ option_copied format.entry) }
 {
-    let mut copies = Sequence::new(alloc);
-    for transform in transforms {
-        copies.push(transform.copy(alloc)?)?;
+    *place = copy_format(format)?;
+    Ok(())
+}
+
+fn add_seds(alloc: Global, list: &mut SedList, seds: &[Sed]) -> Result<(), NoMemory>
+    ensures { OnOk result (list.new ≡ list.old ++ seds.now) }
+{
+    for sed in seds {
+        list.push(sed.copy(alloc)?)?;
     }
-    Ok(copies)
+    Ok(())
 }
 
 impl MergeSettings {
+    /// Settings without a pattern. The patterns are put there one by one, so that what was made so far is let go by one call.
+    pub(crate) fn plain(on: bool, before_date: bool, max_lines: u32) -> MergeSettings
+        ensures { result ≡ record { on = on; before_date = before_date; before = None; break_after = None; hold_after = None; veto = None; max_lines = max_lines } }
+    {
+        MergeSettings {
+            on,
+            before_date,
+            before: None,
+            break_after: None,
+            hold_after: None,
+            veto: None,
+            max_lines,
+        }
+    }
+
+    /// Puts copies of the patterns there that there are.
+    pub(crate) fn put_patterns(
+        &mut self,
+        before: Option<&Pattern>,
+        break_after: Option<&Pattern>,
+        hold_after: Option<&Pattern>,
+        veto: Option<&Pattern>,
+    ) -> Result<(), NoMemory>
+        ensures { OnOk result (self.new ≡ record self.old {
+          before = option_copied before.entry;
+          break_after = option_copied break_after.entry;
+          hold_after = option_copied hold_after.entry;
+          veto = option_copied veto.entry;
+        }) }
+    {
+        put_pattern(&mut self.before, before)?;
+        put_pattern(&mut self.break_after, break_after)?;
+        put_pattern(&mut self.hold_after, hold_after)?;
+        put_pattern(&mut self.veto, veto)?;
+        Ok(())
+    }
+
     /// A copy of them.
     pub fn copy(&self) -> Result<MergeSettings, NoMemory>
         ensures { IfOk result (λ copy. copy ≡ self.now) }
     {
-        Ok(MergeSettings {
-            on: self.on,
-            before_date: self.before_date,
-            before: copy_pattern(&self.before)?,
-            break_after: copy_pattern(&self.break_after)?,
-            hold_after: copy_pattern(&self.hold_after)?,
-            veto: copy_pattern(&self.veto)?,
-            max_lines: self.max_lines,
-        })
+        let mut copy = MergeSettings::plain(self.on, self.before_date, self.max_lines);
+        copy.put_patterns(
+            self.before.as_ref(),
+            self.break_after.as_ref(),
+            self.hold_after.as_ref(),
+            self.veto.as_ref(),
+        )?;
+        Ok(copy)
     }
 }
 
 impl TimeSettings {
+    /// Puts copies of this pattern and this format there, where there are some.
+    pub(crate) fn put_forms(
+        &mut self,
+        prefix: Option<&Pattern>,
+        format: Option<&TimeFormat>,
+    ) -> Result<(), NoMemory>
+        ensures { OnOk result (self.new ≡ record self.old { prefix = option_copied prefix.entry; format = option_copied format.entry }) }
+    {
+        put_pattern(&mut self.prefix, prefix)?;
+        put_format(&mut self.format, format)?;
+        Ok(())
+    }
+
     /// A copy of them.
     pub fn copy(&self) -> Result<TimeSettings, NoMemory>
         ensures { IfOk result (λ copy. copy ≡ self.now) }
     {
-        Ok(TimeSettings {
-            prefix: copy_pattern(&self.prefix)?,
-            format: copy_format(&self.format)?,
+        let mut copy = TimeSettings {
+            prefix: None,
+            format: None,
             lookahead: self.lookahead,
             zone: self.zone.copy()?,
             days_ago: self.days_ago,
             days_hence: self.days_hence,
-        })
+        };
+        copy.put_forms(self.prefix.as_ref(), self.format.as_ref())?;
+        Ok(copy)
     }
 }
 
@@ -180,14 +233,21 @@ impl Settings {
     pub fn copy(&self, alloc: Global) -> Result<Settings, NoMemory>
         ensures { IfOk result (λ copy. copy ≡ self.now) }
     {
-        Ok(Settings {
-            sourcetype: self.sourcetype.copy()?,
-            breaker: self.breaker.copy()?,
+        let merge = self.merge.copy()?;
+        let time = self.time.copy()?;
+        let sourcetype = self.sourcetype.copy()?;
+        let breaker = self.breaker.copy()?;
+        let mut copy = Settings {
+            sourcetype,
+            breaker,
             truncate: self.truncate,
-            merge: self.merge.copy()?,
-            time: self.time.copy()?,
-            seds: copy_seds(alloc, self.seds.as_slice())?,
-            transforms: copy_transforms(alloc, self.transforms.as_slice())?,
-        })
+            merge,
+            time,
+            seds: Sequence::new(alloc),
+            transforms: Sequence::new(alloc),
+        };
+        add_seds(alloc, &mut copy.seds, self.seds.as_slice())?;
+        add_transforms(alloc, &mut copy.transforms, self.transforms.as_slice())?;
+        Ok(copy)
     }
 }

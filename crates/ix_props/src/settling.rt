@@ -6,12 +6,12 @@ ghost use Rattle.ix_props.specs.Settings.{AreSettings, IsSourceType};
 ghost use Rattle.ix_props.specs.Sound.{AreSound};
 
 use crate::choosing::{choose, find};
-use crate::classes::{read_chain, read_changes};
+use crate::classes::{add_chain, add_changes};
 use crate::fields::{copy_breaker, copy_name, count_or, merge_settings, time_settings};
 use crate::holding::{Ranks, rank_patterns};
 use crate::props::PropsEntry;
 use crate::settings::Settings;
-use ix_base::{Bytes, ChannelMeta, NoMemory};
+use ix_base::{Bytes, ChannelMeta, NoMemory, Sequence};
 use std::alloc::Global;
 
 /// The source type that a channel states, or else that of the stanzas for its source, or else `unknown`.
@@ -37,15 +37,21 @@ fn settle(alloc: Global, chosen: &[&PropsEntry], sourcetype: Bytes) -> Result<Se
     requires { IsSmall (set_in (lent chosen.now) (codes "MAX_TIMESTAMP_LOOKAHEAD")) }
     ensures { IfOk result (λ settings. AreSet (lent chosen.now) sourcetype settings) }
 {
-    Ok(Settings {
+    let merge = merge_settings(chosen)?;
+    let time = time_settings(alloc, chosen)?;
+    let breaker = copy_breaker(alloc, find(chosen, b"LINE_BREAKER"))?;
+    let mut settings = Settings {
         sourcetype,
-        breaker: copy_breaker(alloc, find(chosen, b"LINE_BREAKER"))?,
+        breaker,
         truncate: count_or(10_000, find(chosen, b"TRUNCATE")),
-        merge: merge_settings(chosen)?,
-        time: time_settings(alloc, chosen)?,
-        seds: read_changes(alloc, chosen)?,
-        transforms: read_chain(alloc, chosen)?,
-    })
+        merge,
+        time,
+        seds: Sequence::new(alloc),
+        transforms: Sequence::new(alloc),
+    };
+    add_changes(alloc, &mut settings.seds, chosen)?;
+    add_chain(alloc, &mut settings.transforms, chosen)?;
+    Ok(settings)
 }
 
 /// The settings of a channel.

@@ -1,6 +1,6 @@
 //! Transforms: what routes or changes an event at index time.
 
-ghost use Rattle.std.specs.Prelude.{◌≡◌, None, Some, IfOk, IfErr, OnErr, OnOk, IsSome, [], false, bytes_eq};
+ghost use Rattle.std.specs.Prelude.{◌≡◌, None, Some, IfOk, IfErr, OnErr, OnOk, IsSome, [], ◌++◌, false, bytes_eq};
 ghost use Rattle.std.specs.Option.{option_copied};
 ghost use Rattle.ix_conf.specs.Value.{entry_at};
 ghost use Rattle.ix_values.specs.Transforms.{key_of, read_or, values_of, source_of, write_meta_of, lookahead_of, dest_from, format_from, RegexIs, RegexHasFault, IsTransformOf, HasDestination, RefusesTransform, IsBadValue, RefusesValue, no_dest};
@@ -192,19 +192,25 @@ fn dest_of(value: Option<&[u8]>, write_meta: Option<bool>) -> Option<Option<Key>
     }
 }
 
-/// What is written on a match: the name of the stanza, two colons and the first group where nothing else is said.
+/// Adds what is written on a match: the name of the stanza, two colons and the first group where nothing else is said.
+fn add_format(format: &mut PartList, stanza: &[u8], value: Option<&[u8]>) -> Result<(), NoMemory>
+    ensures { OnOk result (format.new ≡ format.old ++ format_from stanza.now (option_copied value.entry)) }
+{
+    match value {
+        Some(text) => add_numbered(format, text),
+        None => {
+            add_bytes(format, stanza)?;
+            add_bytes(format, b"::")?;
+            format.push(Part::Group(1))
+        }
+    }
+}
+
 fn format_of(alloc: Global, stanza: &[u8], value: Option<&[u8]>) -> Result<PartList, NoMemory>
     ensures { IfOk result (λ format. format ≡ format_from stanza.now (option_copied value.entry)) }
 {
     let mut format = Sequence::new(alloc);
-    match value {
-        Some(text) => add_numbered(&mut format, text)?,
-        None => {
-            add_bytes(&mut format, stanza)?;
-            add_bytes(&mut format, b"::")?;
-            format.push(Part::Group(1))?;
-        }
-    }
+    add_format(&mut format, stanza, value)?;
     Ok(format)
 }
 
@@ -234,6 +240,20 @@ fn copy_value(alloc: Global, value: Option<&[u8]>) -> Result<Option<Bytes>, NoMe
     }
 }
 
+/// What a transform writes on a match, and without one.
+fn copies_of(
+    alloc: Global,
+    stanza: &[u8],
+    values: &Values<'_>,
+) -> Result<(PartList, Option<Bytes>), NoMemory>
+    ensures format { IfOk result (λ copies. copies.0 ≡ format_from stanza.now (option_copied values.now.format)) }
+    ensures default_value { IfOk result (λ copies. copies.1 ≡ option_copied values.now.default_value) }
+{
+    let format = format_of(alloc, stanza, values.format)?;
+    let default_value = copy_value(alloc, values.default_value)?;
+    Ok((format, default_value))
+}
+
 /// Reads a transform of the values of its stanza.
 fn read_values(
     alloc: Global,
@@ -253,17 +273,23 @@ fn read_values(
     };
     let regex = regex_of(alloc, values.regex)?;
     let Some(source) = source_of(values.source_key) else {
+        drop(regex);
         return Err(bad_value(alloc, b"SOURCE_KEY"));
     };
     let Some(write_meta) = write_meta else {
+        drop(regex);
         return Err(bad_value(alloc, b"WRITE_META"));
+    };
+    let Ok((format, default_value)) = copies_of(alloc, stanza, values) else {
+        drop(regex);
+        return Err(TransformFault::NoMemory);
     };
     Ok(Transform {
         regex,
         source,
         dest,
-        format: format_of(alloc, stanza, values.format)?,
-        default_value: copy_value(alloc, values.default_value)?,
+        format,
+        default_value,
         write_meta,
         lookahead,
     })
