@@ -5,10 +5,12 @@ pub mod NameLemmas
 pub mod NearestLemmas
 pub mod OneLemmas
 pub mod OrderLemmas
+pub mod OwnLemmas
 pub mod PropLemmas
 pub mod RankLemmas
 pub mod RisingLemmas
 pub mod SameLemmas
 pub mod SettledLemmas
 pub mod UsableLemmas
+pub mod ValueLemmas
 pub mod ZoneLemmas

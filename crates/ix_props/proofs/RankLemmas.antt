@@ -21,7 +21,7 @@ use Rattle.ix_props.proofs.NearestLemmas.{same_bytes, bytes_same, AreRanksOf}
 use Rattle.ix_props.proofs.OrderLemmas.{itself}
 
 -- no name begins with both prefixes
-apart : (s t u : List ℕ) → behind (codes "source::") s ≡ Some t → behind (codes "host::") s ≡ Some u → ⊥
+pub apart : (s t u : List ℕ) → behind (codes "source::") s ≡ Some t → behind (codes "host::") s ≡ Some u → ⊥
 apart [] t u p q = absurd (cc)
 apart (b ∷ bs) t u p q = by (b == 115) (b == 104) refl refl
   where

@@ -1,11 +1,12 @@
 //! The values of props.conf, each read of the text of its entry.
 
-ghost use Rattle.std.specs.Prelude.{◌≡◌, IfOk, IfErr, None, Some, false};
+ghost use Rattle.std.specs.Prelude.{◌≡◌, ◌⊎◌, IfOk, IfErr, None, Some, false};
 ghost use Rattle.std.specs.Option.{option_map};
 ghost use Rattle.ix_conf.specs.Lent.{item_entry};
 ghost use Rattle.ix_values.specs.Formats.{format};
 ghost use Rattle.ix_props.specs.Values.{IsBad, plain_value, IsNamePattern, source_pattern, host_pattern, IsStanza, IsNoStanza, RefusesStanza, IsPattern, RefusesPattern, IsBreakerShape, IsBreaker, HasBreakFault, RefusesBreaks, RefusesBreaker, IsChange, RefusesChange, IsZoneNamed, RefusesZoneName, name};
 ghost use Rattle.ix_conf.specs.Names.{tokens, are_pattern};
+ghost use Rattle.ix_props.specs.declared.faults.SettingFault.TheVariants as fault;
 ghost use Rattle.ix_props.specs.declared.values.Value.TheVariants as value;
 
 use crate::faults::SettingFault;
@@ -73,6 +74,36 @@ pub(crate) fn read_stanza(alloc: Global, item: Item<'_>) -> Result<Value, Settin
     Ok(Value::Nothing)
 }
 
+/// A value that is none of its kind.
+fn bad_value(alloc: Global, stanza: &[u8], key: &[u8]) -> SettingFault
+    ensures { (result ≡ fault.BadValue stanza.now key.now) ⊎ (result ≡ fault.NoMemory) }
+{
+    let Ok(stanza) = Bytes::copy_of(alloc, stanza) else {
+        return SettingFault::NoMemory;
+    };
+    let Ok(key) = Bytes::copy_of(alloc, key) else {
+        return SettingFault::NoMemory;
+    };
+    SettingFault::BadValue { stanza, key }
+}
+
+/// A value that is no pattern.
+fn bad_pattern(alloc: Global, item: Item<'_>, why: BreakFault) -> SettingFault
+    ensures { (result ≡ fault.BadPattern item.entry.stanza.now item.entry.key.now why) ⊎ (result ≡ fault.NoMemory) }
+{
+    let Ok(stanza) = Bytes::copy_of(alloc, item.stanza) else {
+        return SettingFault::NoMemory;
+    };
+    let Ok(key) = Bytes::copy_of(alloc, item.key) else {
+        return SettingFault::NoMemory;
+    };
+    SettingFault::BadPattern {
+        stanza,
+        key,
+        fault: why,
+    }
+}
+
 /// Reads a pattern.
 pub(crate) fn read_plain(alloc: Global, item: Item<'_>) -> Result<Value, SettingFault>
     ensures ok { IfOk result (λ v. IsPattern (item_entry item.entry).value v) }
@@ -114,17 +145,11 @@ pub(crate) fn read_breaks(alloc: Global, text: &[u8]) -> Result<Pattern, BreakFa
 }
 
 /// The fault of a pattern for breaks.
-fn bad_breaker(alloc: Global, item: Item<'_>, fault: BreakFault) -> SettingFault
-    requires { HasBreakFault item.value.now fault }
+fn bad_breaker(alloc: Global, item: Item<'_>, why: BreakFault) -> SettingFault
+    requires { HasBreakFault item.value.now why }
     ensures { RefusesBreaker (item_entry item.entry) result }
 {
-    let Ok(stanza) = Bytes::copy_of(alloc, item.stanza) else {
-        return SettingFault::NoMemory;
-    };
-    let Ok(key) = Bytes::copy_of(alloc, item.key) else {
-        return SettingFault::NoMemory;
-    };
-    SettingFault::BadPattern { stanza, key, fault }
+    bad_pattern(alloc, item, why)
 }
 
 /// Reads a pattern for breaks.
@@ -162,15 +187,10 @@ pub(crate) fn read_change(alloc: Global, item: Item<'_>) -> Result<Value, Settin
 {
     match Sed::read(alloc, item.value) {
         Ok(sed) => Ok(Value::Change(sed)),
-        Err(SedFault::BadValue) => Err(SettingFault::BadValue {
-            stanza: Bytes::copy_of(alloc, item.stanza)?,
-            key: Bytes::copy_of(alloc, item.key)?,
-        }),
-        Err(SedFault::BadPattern { fault }) => Err(SettingFault::BadPattern {
-            stanza: Bytes::copy_of(alloc, item.stanza)?,
-            key: Bytes::copy_of(alloc, item.key)?,
-            fault: BreakFault::Pattern(fault),
-        }),
+        Err(SedFault::BadValue) => Err(bad_value(alloc, item.stanza, item.key)),
+        Err(SedFault::BadPattern { fault }) => {
+            Err(bad_pattern(alloc, item, BreakFault::Pattern(fault)))
+        }
         Err(SedFault::NoMemory) => Err(SettingFault::NoMemory),
     }
 }
@@ -182,12 +202,22 @@ pub(crate) fn read_format(alloc: Global, item: Item<'_>) -> Result<Value, Settin
 {
     match TimeFormat::read(alloc, item.value) {
         Ok(format) => Ok(Value::Format(format)),
-        Err(FormatFault::BadValue) => Err(SettingFault::BadValue {
-            stanza: Bytes::copy_of(alloc, item.stanza)?,
-            key: Bytes::copy_of(alloc, item.key)?,
-        }),
+        Err(FormatFault::BadValue) => Err(bad_value(alloc, item.stanza, item.key)),
         Err(FormatFault::NoMemory) => Err(SettingFault::NoMemory),
     }
+}
+
+/// A value that names no zone.
+fn unknown_zone(alloc: Global, item: Item<'_>) -> SettingFault
+    ensures { (result ≡ fault.UnknownZone item.entry.stanza.now item.entry.value.now) ⊎ (result ≡ fault.NoMemory) }
+{
+    let Ok(stanza) = Bytes::copy_of(alloc, item.stanza) else {
+        return SettingFault::NoMemory;
+    };
+    let Ok(name) = Bytes::copy_of(alloc, item.value) else {
+        return SettingFault::NoMemory;
+    };
+    SettingFault::UnknownZone { stanza, name }
 }
 
 /// Reads the name of a zone, and the rule of that zone.
@@ -201,14 +231,8 @@ pub(crate) fn read_zone(
 {
     match find_zone(alloc, zones, item.value) {
         Ok(zone) => Ok(Value::Zone(zone)),
-        Err(ZoneFault::Unknown) => Err(SettingFault::UnknownZone {
-            stanza: Bytes::copy_of(alloc, item.stanza)?,
-            name: Bytes::copy_of(alloc, item.value)?,
-        }),
-        Err(ZoneFault::BadRule) => Err(SettingFault::BadValue {
-            stanza: Bytes::copy_of(alloc, item.value)?,
-            key: Bytes::copy_of(alloc, b"RULE")?,
-        }),
+        Err(ZoneFault::Unknown) => Err(unknown_zone(alloc, item)),
+        Err(ZoneFault::BadRule) => Err(bad_value(alloc, item.value, b"RULE")),
         Err(ZoneFault::NoMemory) => Err(SettingFault::NoMemory),
     }
 }
@@ -248,9 +272,6 @@ pub(crate) fn read_small(alloc: Global, item: Item<'_>, kind: Kind) -> Result<Va
 {
     match plain_value(kind, item.value) {
         Some(value) => Ok(value),
-        None => Err(SettingFault::BadValue {
-            stanza: Bytes::copy_of(alloc, item.stanza)?,
-            key: Bytes::copy_of(alloc, item.key)?,
-        }),
+        None => Err(bad_value(alloc, item.stanza, item.key)),
     }
 }
