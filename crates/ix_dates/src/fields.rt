@@ -13,7 +13,7 @@ pub enum Hour {
 }
 
 /// What one piece of a format reads.
-#[derive(Clone, Copy, Debug, PartialEq, Eq)]
+#[derive(Clone, Copy)]
 pub(crate) enum Field {
     /// Nothing that counts: white space, a weekday, a byte of the format.
     Nothing,
