@@ -1,3 +1,4 @@
+pub mod AfterLemmas
 pub mod MatchLemmas
 pub mod TextLemmas
 pub mod ReplaceLemmas

@@ -3,9 +3,10 @@
 ghost use Rattle.std.specs.Prelude.{◌≡◌, ◌++◌, take, IfOk};
 ghost use Rattle.std.specs.Option.{option_map};
 ghost use Rattle.ix_match.specs.Matches.{LiesIn};
+ghost use Rattle.ix_transforms.specs.Matches.{first};
 ghost use Rattle.ix_transforms.specs.Writing.{written};
 ghost use Rattle.ix_transforms.specs.Queues.{limit_of, value_of};
-ghost use Rattle.ix_transforms.specs.Transforms.{destination, front, value_after, transformed, transformed_by};
+ghost use Rattle.ix_transforms.specs.Transforms.{destination, front, given_by, value_after, transformed, transformed_by};
 
 use crate::matches::next_match;
 use crate::queues::{Queued, limit_of};
@@ -130,25 +131,45 @@ impl<'a> PreparedTransform<'a> {
         Ok(PreparedTransform { transform, regex })
     }
 
+    /// The value that the destination then has, by the text that is searched; `None` where nothing is written.
+    fn value_given(
+        &self,
+        alloc: Global,
+        queued: &Queued,
+        text: &[u8],
+    ) -> Result<Option<Bytes>, NoMemory>
+        ensures { IfOk result (λ value. value ≡ option_map (λ given. take (limit_of (destination self.now)) (front self.now.write_meta queued.now.event.meta ++ given))
+            (given_by self.now (value_of (destination self.now) queued.now) text.now (first self.now.regex text.now 0))) }
+    {
+        match next_match(alloc, &self.regex, text, 0)? {
+            Some(found) => {
+                let value = value_at_match(alloc, self.transform, queued, text, &found);
+                drop(found);
+                Ok(Some(value?))
+            }
+            None => value_without(alloc, self.transform, queued),
+        }
+    }
+
     /// The value that the destination then has; `None` where nothing is written.
     fn value_after(&self, alloc: Global, queued: &Queued) -> Result<Option<Bytes>, NoMemory>
         ensures { IfOk result (λ value. value ≡ value_after self.now queued.now) }
     {
-        let transform = self.transform;
-        let source = queued.value(alloc, transform.source)?;
-        let text = first_bytes(source.as_slice(), transform.lookahead as usize);
-        match next_match(alloc, &self.regex, text, 0)? {
-            Some(found) => Ok(Some(value_at_match(alloc, transform, queued, text, &found)?)),
-            None => Ok(value_without(alloc, transform, queued)?),
-        }
+        let source = queued.value(alloc, self.transform.source)?;
+        let text = first_bytes(source.as_slice(), self.transform.lookahead as usize);
+        self.value_given(alloc, queued, text)
     }
 
     /// What the transform leaves.
     fn transform(&self, alloc: Global, queued: Queued) -> Result<Queued, NoMemory>
         ensures { IfOk result (λ next. next ≡ transformed queued self.now) }
     {
-        match self.value_after(alloc, &queued)? {
-            Some(value) => Ok(queued.with_value(destination(self.transform), value)?),
+        let Ok(value) = self.value_after(alloc, &queued) else {
+            drop(queued);
+            return Err(NoMemory);
+        };
+        match value {
+            Some(value) => queued.with_value(destination(self.transform), value),
             None => Ok(queued),
         }
     }
