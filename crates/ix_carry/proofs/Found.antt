@@ -1,4 +1,4 @@
--- What was read of bytes, part by part, is spelled at their front.
+-- What was read of bytes, part by part, is spelled at their front; and what was put behind bytes.
 use Rattle.std.proofs.Common.{◌≡◌, ℕ, ◌+◌, Bool, true, List, ◌++◌, Some, refl, sym, subst, append_assoc}
 use Rattle.std.specs.Option.{ForSome}
 use Rattle.ix_lines.specs.Lines.{effective}
@@ -41,3 +41,8 @@ pub carry_given : (rules : CarryRules) (carry : Carry) (most : ℕ) (bytes r1 r2
     merge_parts_at rules.merging rules.max_lines r1 ≡ Some (carry.merge, r2) → option_at time_at r2 ≡ Some (carry.latest, rest) → carry_at rules bytes ≡ Some (carry, rest)
 unfolding carry_at
 carry_given rules carry most bytes r1 r2 rest same h1 h2 h3 = rw (← same, h1, h2, h3) refl
+
+pub merge_put : (parts : MergeParts) (old a b new : List ℕ) → a ≡ old ++ option event_bytes parts.event → b ≡ a ++ flag parts.held → new ≡ b ++ flag parts.forced →
+    new ≡ old ++ merge_parts_bytes parts
+unfolding merge_parts_bytes
+merge_put parts old a b new h1 h2 h3 = rw (h3, h2, h1) (simp append_assoc)
