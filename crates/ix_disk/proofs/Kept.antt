@@ -161,6 +161,14 @@ removed_seen calls file = record {
 pub unremoved_seen : (calls : List Call) (file : File) → seen_after (calls ++ Removed file false ∷ []) ≡ seen_after calls
 unremoved_seen calls file = same_seen calls (Removed file false) (λ f. refl)
 
+-- what a read gives after a removal that is kept
+pub removed_sees : (calls now : List Call) (file : File) → now ≡ calls ++ Removed file true ∷ [] → Removes file (seen_after calls) (seen_after now)
+removed_sees calls now file is = subst (λ (l : List Call). Removes file (seen_after calls) (seen_after l)) (sym is) (removed_seen calls file)
+
+pub unremoved_sees : (calls now : List Call) (file : File) → now ≡ calls ++ Removed file false ∷ [] → MayRemove file (seen_after calls) (seen_after now)
+unremoved_sees calls now file is = subst (λ (l : List Call). MayRemove file (seen_after calls) (seen_after l)) (sym is)
+    (subst (λ (i : Image). MayRemove file (seen_after calls) i) (sym (unremoved_seen calls file)) (not_removed file (seen_after calls)))
+
 pub settled_seen : (calls : List Call) (file : File) (done : Bool) → seen_after (calls ++ Settled file done ∷ []) ≡ seen_after calls
 settled_seen calls file done = same_seen calls (Settled file done) (λ f. refl)
 
@@ -205,6 +213,13 @@ passes calls_of old new step k = record { later = k.later; now = k.now; since = 
 pub grown : (calls now later : List Call) (step : Image → Image → Type 0) → now ≡ later → Grows calls later step → Grows calls now step
 grown calls now later step is grows = subst (λ (l : List Call). Grows calls l step) (sym is) grows
 
+-- a call that is not kept leaves what a read gives
+pub still_written : (calls now : List Call) (file : File) (at n : ℕ) → now ≡ calls → MayWrite file at n (seen_after calls) (seen_after now)
+still_written calls now file at n is = subst (λ (l : List Call). MayWrite file at n (seen_after calls) (seen_after l)) (sym is) (as_it_was at n file (seen_after calls))
+
+pub still_removed : (calls now : List Call) (file : File) → now ≡ calls → MayRemove file (seen_after calls) (seen_after now)
+still_removed calls now file is = subst (λ (l : List Call). MayRemove file (seen_after calls) (seen_after l)) (sym is) (not_removed file (seen_after calls))
+
 pub seen_by : (now later : List Call) → now ≡ later → (f : File) → seen_after now f ≡ seen_after later f
 seen_by now later is f = ap (λ (l : List Call). seen_after l f) is
 
@@ -227,7 +242,7 @@ module _ (calls now : List Call) (file : File) (kept : (now ≡ calls ++ Asked f
   ask_torn f = either calls now (Asked file) (λ (l : List Call). torn_after l f ≡ torn_after calls f) (asked_torn calls file f) refl kept
 
 -- a write of a copy of the bytes, behind calls that are the same
-copied_write : (calls mid : List Call) (file : File) (at : ℕ) (copy bytes : List ℕ) (done : Bool) → mid ≡ calls → copy ≡ bytes → mid ++ Wrote file at copy done ∷ [] ≡ calls ++ Wrote file at bytes done ∷ []
+pub copied_write : (calls mid : List Call) (file : File) (at : ℕ) (copy bytes : List ℕ) (done : Bool) → mid ≡ calls → copy ≡ bytes → mid ++ Wrote file at copy done ∷ [] ≡ calls ++ Wrote file at bytes done ∷ []
 copied_write calls mid file at copy bytes done same copied =
     ap (λ (l : List Call). l ++ Wrote file at copy done ∷ []) same ∙ ap (λ (b : List ℕ). calls ++ Wrote file at b done ∷ []) copied
 

@@ -3,7 +3,7 @@
 ghost use Rattle.std.specs.Prelude.{◌<◌};
 
 use crate::paths::folder_of;
-use ix_base::Area;
+use ix_base::{Area, Failed};
 use std::fs::OpenFile;
 use std::io::ErrorKind;
 use std::rt::Files;
@@ -32,31 +32,69 @@ fn number_of(area: Area) -> usize
     }
 }
 
+/// What a call of the system gave, or that it failed: the disk tells nobody why.
+pub fn done<T: Drop>(given: io::Result<T>) -> Result<T, Failed> {
+    match given {
+        Ok(value) => Ok(value),
+        Err(_) => Err(Failed),
+    }
+}
+
+/// Nothing in place of the error that something is missing.
+pub fn if_there<T: Drop>(found: io::Result<T>) -> Result<Option<T>, Failed> {
+    match found {
+        Ok(value) => Ok(Some(value)),
+        Err(fault) if fault.kind() == ErrorKind::NotFound => Ok(None),
+        Err(_) => Err(Failed),
+    }
+}
+
 /// Makes a folder where it is missing, and tells whether it did.
-fn make_folder<R: Files>(rt: &R, path: &str) -> io::Result<bool> {
+fn make_folder<R: Files>(rt: &R, path: &str) -> Result<bool, Failed> {
     match fs::create_dir(rt, path) {
         Ok(()) => Ok(true),
         Err(fault) if fault.kind() == ErrorKind::AlreadyExists => Ok(false),
-        Err(fault) => Err(fault),
+        Err(_) => Err(Failed),
     }
 }
 
 /// Syncs what is open. Where that fails, bytes are lost.
-pub fn sync_open<H: OpenFile>(open: &H, lost: &mut bool) -> io::Result<()> {
-    let synced = open.sync_all();
+pub fn sync_open<H: OpenFile>(open: &H, lost: &mut bool) -> Result<(), Failed> {
+    let synced = done(open.sync_all());
     if synced.is_err() {
         *lost = true;
     }
     synced
 }
 
-/// Syncs a folder, where it is there.
-fn sync_folder<R: Files>(rt: &R, path: &str, lost: &mut bool) -> io::Result<()> {
+/// Syncs a file.
+pub fn sync_path<R: Files>(rt: &R, path: &str, lost: &mut bool) -> Result<(), Failed> {
     match fs::open(rt, path) {
-        Ok(folder) => sync_open(&folder, lost),
-        Err(fault) if fault.kind() == ErrorKind::NotFound => Ok(()),
-        Err(fault) => Err(fault),
+        Ok(file) => sync_open(&file, lost),
+        Err(_) => Err(Failed),
     }
+}
+
+/// Syncs a folder, where it is there.
+fn sync_folder<R: Files>(rt: &R, path: &str, lost: &mut bool) -> Result<(), Failed> {
+    match if_there(fs::open(rt, path))? {
+        Some(folder) => sync_open(&folder, lost),
+        None => Ok(()),
+    }
+}
+
+/// Syncs a folder, where names in it changed.
+fn settle_folder<R: Files>(
+    rt: &R,
+    path: &str,
+    changed: &mut bool,
+    lost: &mut bool,
+) -> Result<(), Failed> {
+    if *changed {
+        sync_folder(rt, path, lost)?;
+        *changed = false;
+    }
+    Ok(())
 }
 
 impl Folders {
@@ -75,7 +113,7 @@ impl Folders {
     }
 
     /// Makes the folder of the area, and `var`, where they are missing.
-    pub fn make<R: Files>(&mut self, rt: &R, area: Area) -> io::Result<()> {
+    pub fn make<R: Files>(&mut self, rt: &R, area: Area) -> Result<(), Failed> {
         if make_folder(rt, "var")? {
             self.current = true;
         }
@@ -86,20 +124,9 @@ impl Folders {
     }
 
     /// Syncs the folder of the area and those above it, where names in them changed.
-    pub fn settle<R: Files>(&mut self, rt: &R, area: Area, lost: &mut bool) -> io::Result<()> {
-        let place = number_of(area);
-        if self.areas[place] {
-            sync_folder(rt, folder_of(area), lost)?;
-            self.areas[place] = false;
-        }
-        if self.var {
-            sync_folder(rt, "var", lost)?;
-            self.var = false;
-        }
-        if self.current {
-            sync_folder(rt, ".", lost)?;
-            self.current = false;
-        }
-        Ok(())
+    pub fn settle<R: Files>(&mut self, rt: &R, area: Area, lost: &mut bool) -> Result<(), Failed> {
+        settle_folder(rt, folder_of(area), &mut self.areas[number_of(area)], lost)?;
+        settle_folder(rt, "var", &mut self.var, lost)?;
+        settle_folder(rt, ".", &mut self.current, lost)
     }
 }

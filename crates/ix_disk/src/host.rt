@@ -5,14 +5,14 @@ ghost use Rattle.ix_base.specs.Faults.{Rose};
 ghost use Rattle.ix_disk.specs.Untold.{none_told};
 
 use crate::Disk;
-use crate::folders::{Folders, sync_open};
+use crate::folders::{Folders, done, if_there, sync_open, sync_path};
 use crate::paths::FilePath;
 use ix_base::{Failed, File};
+use std::fs;
 use std::fs::{Metadata, OpenFile, OpenOptions};
-use std::io::{Error, ErrorKind, Read, Seek, SeekFrom, Write};
+use std::io::{ErrorKind, Read, Seek, SeekFrom, Write};
 use std::os::unix::fs::MetadataExt;
 use std::rt::Files;
-use std::{fs, io};
 
 /// The disk over the files `var/<area>/<number>` of the current folder. A folder that is missing is made with the first
 /// file in it. It tells nothing of what the files hold. It counts each call of the system that failed in the end. It takes
@@ -31,7 +31,6 @@ pub struct HostDisk<R: Files + Drop> {
 }
 
 /// A file that is open for writing.
-#[derive(Drop)]
 struct Written<H: Drop> {
     file: File,
     handle: H,
@@ -41,27 +40,48 @@ struct Written<H: Drop> {
     dirty: bool,
 }
 
-/// No file gets as long as this.
-const MAX_LENGTH: u64 = 1 << 63;
-
-/// Nothing in place of the error that something is missing.
-fn if_there<T: Drop>(found: io::Result<T>) -> io::Result<Option<T>> {
-    match found {
-        Ok(value) => Ok(Some(value)),
-        Err(fault) if fault.kind() == ErrorKind::NotFound => Ok(None),
-        Err(fault) => Err(fault),
+/// It is written out, so that each place where one is let go is a call of it, which is proved once.
+impl<H: Drop> Drop for Written<H> {
+    fn drop(self) {
+        let Written {
+            file: _,
+            handle: _,
+            node: _,
+            dirty: _,
+        } = self;
     }
 }
 
+/// Whether it is this file that is open for writing.
+fn is_of<H: Drop>(written: &Option<Written<H>>, file: File) -> bool {
+    match written {
+        Some(written) => written.file == file,
+        None => false,
+    }
+}
+
+/// No file gets as long as this.
+const MAX_LENGTH: u64 = 1 << 63;
+
+/// What the system knows of a plain file.
+#[derive(Clone, Copy)]
+struct Found {
+    length: u64,
+    node: (u64, u64),
+}
+
 /// What the system knows of a file, where it is there. It fails where the path is no plain file.
-fn find<R: Files>(rt: &R, path: &str) -> io::Result<Option<Metadata>> {
+fn find<R: Files>(rt: &R, path: &str) -> Result<Option<Found>, Failed> {
     let Some(found) = if_there(fs::metadata(rt, path))? else {
         return Ok(None);
     };
     if !found.is_file() {
-        return Err(Error::from(ErrorKind::InvalidData));
+        return Err(Failed);
     }
-    Ok(Some(found))
+    Ok(Some(Found {
+        length: found.len(),
+        node: node_of(&found),
+    }))
 }
 
 /// The device and the number by which the system knows a file.
@@ -70,25 +90,24 @@ fn node_of(found: &Metadata) -> (u64, u64) {
 }
 
 /// How many bytes a file has; a missing one has none.
-fn length_of<R: Files>(rt: &R, file: File) -> io::Result<u64>
+fn length_of<R: Files>(rt: &R, file: File) -> Result<u64, Failed>
     ensures { IfOk result (λ n. n < 2 ^ 63) }
 {
     let path = FilePath::of(file);
     let Some(found) = find(rt, path.as_str())? else {
         return Ok(0);
     };
-    let length = found.len();
-    if length >= MAX_LENGTH {
-        return Err(Error::from(ErrorKind::InvalidData));
+    if found.length >= MAX_LENGTH {
+        return Err(Failed);
     }
-    Ok(length)
+    Ok(found.length)
 }
 
 /// Reads from a place on until the buffer is full or the file ends.
-fn fill<F: Read + Seek>(file: &mut F, at: u64, buf: &mut [u8]) -> io::Result<usize>
+fn fill<F: Read + Seek>(file: &mut F, at: u64, buf: &mut [u8]) -> Result<usize, Failed>
     ensures { IfOk result (λ n. n ≤ length buf.old) }
 {
-    file.seek(SeekFrom::Start(at))?;
+    done(file.seek(SeekFrom::Start(at)))?;
     let mut done = 0;
     for _ in 0..u64::MAX {
         if done == buf.len() {
@@ -98,26 +117,28 @@ fn fill<F: Read + Seek>(file: &mut F, at: u64, buf: &mut [u8]) -> io::Result<usi
             Ok(0) => break,
             Ok(count) => done += count,
             Err(fault) if fault.kind() == ErrorKind::Interrupted => {}
-            Err(fault) => return Err(fault),
+            Err(_) => return Err(Failed),
         }
     }
     Ok(done)
 }
 
-fn read_file<R: Files>(rt: &R, file: File, at: u64, buf: &mut [u8]) -> io::Result<usize>
+fn read_file<R: Files>(rt: &R, file: File, at: u64, buf: &mut [u8]) -> Result<usize, Failed>
     ensures { IfOk result (λ n. n ≤ length buf.old) }
 {
     let path = FilePath::of(file);
     if find(rt, path.as_str())?.is_none() || at >= MAX_LENGTH {
         return Ok(0);
     }
-    let mut opened = fs::open(rt, path.as_str())?;
-    fill(&mut opened, at, buf)
+    match fs::open(rt, path.as_str()) {
+        Ok(mut opened) => fill(&mut opened, at, buf),
+        Err(_) => Err(Failed),
+    }
 }
 
 /// Writes all the bytes from a place on.
-fn put<F: Write + Seek>(file: &mut F, at: u64, bytes: &[u8]) -> io::Result<()> {
-    file.seek(SeekFrom::Start(at))?;
+fn put<F: Write + Seek>(file: &mut F, at: u64, bytes: &[u8]) -> Result<(), Failed> {
+    done(file.seek(SeekFrom::Start(at)))?;
     let mut rest = bytes;
     for _ in 0..u64::MAX {
         if rest.is_empty() {
@@ -127,17 +148,17 @@ fn put<F: Write + Seek>(file: &mut F, at: u64, bytes: &[u8]) -> io::Result<()> {
             Ok(0) => break,
             Ok(count) => rest = &rest[count..],
             Err(fault) if fault.kind() == ErrorKind::Interrupted => {}
-            Err(fault) => return Err(fault),
+            Err(_) => return Err(Failed),
         }
     }
-    Err(Error::from(ErrorKind::WriteZero))
+    Err(Failed)
 }
 
 /// Opens a file for writing that is there.
-fn open_there<R: Files>(rt: &R, path: &str) -> io::Result<R::File> {
+fn open_there<R: Files>(rt: &R, path: &str) -> Result<R::File, Failed> {
     let mut how = OpenOptions::new();
     how.write(true);
-    how.open(rt, path)
+    done(how.open(rt, path))
 }
 
 /// Makes a file and opens it for writing. It makes the folder of its area where that is missing.
@@ -146,17 +167,32 @@ fn open_made<R: Files>(
     folders: &mut Folders,
     file: File,
     path: &str,
-) -> io::Result<R::File> {
+) -> Result<R::File, Failed> {
     let mut how = OpenOptions::new();
     how.write(true).create_new(true);
     folders.change(file.area);
-    match how.open(rt, path) {
-        Err(fault) if fault.kind() == ErrorKind::NotFound => {
+    match if_there(how.open(rt, path))? {
+        Some(opened) => Ok(opened),
+        None => {
             folders.make(rt, file.area)?;
-            how.open(rt, path)
+            done(how.open(rt, path))
         }
-        opened => opened,
     }
+}
+
+/// A file that was opened for writing, to which nothing was written yet.
+fn opened_as<H: OpenFile + Drop>(
+    file: File,
+    opened: Result<H, Failed>,
+) -> Result<Written<H>, Failed> {
+    let handle = opened?;
+    let node = node_of(&done(handle.metadata())?);
+    Ok(Written {
+        file,
+        handle,
+        node,
+        dirty: false,
+    })
 }
 
 impl<R: Files + Drop> HostDisk<R> {
@@ -190,21 +226,18 @@ impl<R: Files + Drop> HostDisk<R> {
     }
 
     /// Closes the file that was written last, and syncs it first where it has to be.
-    fn close(&mut self) -> io::Result<()>
+    fn close(&mut self) -> Result<(), Failed>
         ensures { self.new.faults ≡ self.old.faults }
     {
-        let Some(written) = self.written.take() else {
-            return Ok(());
-        };
-        if written.dirty {
-            sync_open(&written.handle, &mut self.lost)?;
+        match self.written.take() {
+            Some(written) if written.dirty => sync_open(&written.handle, &mut self.lost),
+            _ => Ok(()),
         }
-        Ok(())
     }
 
     /// Whether the file that was written last is this one. Where another file has come into its place it is closed, and
     /// bytes are lost that no sync has settled.
-    fn is_open(&mut self, file: File, found: &Option<Metadata>) -> io::Result<bool>
+    fn is_open(&mut self, file: File, found: Option<Found>) -> Result<bool, Failed>
         ensures { self.new.faults ≡ self.old.faults }
     {
         let Some(written) = &self.written else {
@@ -213,76 +246,81 @@ impl<R: Files + Drop> HostDisk<R> {
         if written.file != file {
             return Ok(false);
         }
-        if found.as_ref().map(node_of) == Some(written.node) {
-            return Ok(true);
+        if let Some(found) = found {
+            if found.node == written.node {
+                return Ok(true);
+            }
         }
         let dirty = written.dirty;
         self.written = None;
         if dirty {
             self.lost = true;
-            return Err(Error::from(ErrorKind::InvalidData));
+            return Err(Failed);
         }
         Ok(false)
     }
 
     /// Opens the file for writing, where it is not open yet. It makes a missing one.
-    fn open(&mut self, file: File) -> io::Result<()>
+    fn open(&mut self, file: File) -> Result<(), Failed>
         ensures { self.new.faults ≡ self.old.faults }
     {
         let path = FilePath::of(file);
         let found = find(&self.rt, path.as_str())?;
-        if self.is_open(file, &found)? {
+        if self.is_open(file, found)? {
             return Ok(());
         }
         self.close()?;
-        let handle = match found {
-            Some(_) => open_there(&self.rt, path.as_str())?,
-            None => open_made(&self.rt, &mut self.folders, file, path.as_str())?,
+        let opened = match found {
+            Some(_) => open_there(&self.rt, path.as_str()),
+            None => open_made(&self.rt, &mut self.folders, file, path.as_str()),
         };
-        let node = node_of(&handle.metadata()?);
-        self.written = Some(Written {
-            file,
-            handle,
-            node,
-            dirty: false,
-        });
+        self.written = Some(opened_as(file, opened)?);
         Ok(())
     }
 
-    fn write_file(&mut self, file: File, at: u64, bytes: &[u8]) -> io::Result<()>
+    fn write_file(&mut self, file: File, at: u64, bytes: &[u8]) -> Result<(), Failed>
         ensures bounded { OnOk result (at + length bytes.now < 2 ^ 63) }
         ensures faults { self.new.faults ≡ self.old.faults }
     {
         if at >= MAX_LENGTH || bytes.len() as u64 >= MAX_LENGTH - at {
-            return Err(Error::from(ErrorKind::InvalidInput));
+            return Err(Failed);
         }
         self.open(file)?;
         let Some(written) = &mut self.written else {
-            return Err(Error::from(ErrorKind::NotFound));
+            return Err(Failed);
         };
         written.dirty = true;
         put(&mut written.handle, at, bytes)
     }
 
     /// Syncs the file, where it is there, and the folders that lead to it, where names in them changed.
-    fn sync_file(&mut self, file: File) -> io::Result<()>
+    fn sync_file(&mut self, file: File) -> Result<(), Failed>
         ensures { self.new.faults ≡ self.old.faults }
     {
         if self.lost {
-            return Err(Error::from(ErrorKind::InvalidData));
+            return Err(Failed);
         }
-        let path = FilePath::of(file);
-        let found = find(&self.rt, path.as_str())?;
-        if self.is_open(file, &found)? {
-            self.sync_written()?;
-        } else if found.is_some() {
-            sync_open(&fs::open(&self.rt, path.as_str())?, &mut self.lost)?;
-        }
+        self.sync_bytes(file)?;
         self.folders.settle(&self.rt, file.area, &mut self.lost)
     }
 
+    /// Syncs what the file holds, where it is there.
+    fn sync_bytes(&mut self, file: File) -> Result<(), Failed>
+        ensures { self.new.faults ≡ self.old.faults }
+    {
+        let path = FilePath::of(file);
+        let found = find(&self.rt, path.as_str())?;
+        if self.is_open(file, found)? {
+            return self.sync_written();
+        }
+        match found {
+            Some(_) => sync_path(&self.rt, path.as_str(), &mut self.lost),
+            None => Ok(()),
+        }
+    }
+
     /// Syncs the file that was written last, by the handle that it was written by.
-    fn sync_written(&mut self) -> io::Result<()>
+    fn sync_written(&mut self) -> Result<(), Failed>
         ensures { self.new.faults ≡ self.old.faults }
     {
         if let Some(written) = &mut self.written {
@@ -292,22 +330,18 @@ impl<R: Files + Drop> HostDisk<R> {
         Ok(())
     }
 
-    fn remove_file(&mut self, file: File) -> io::Result<()>
+    fn remove_file(&mut self, file: File) -> Result<(), Failed>
         ensures { self.new.faults ≡ self.old.faults }
     {
         let path = FilePath::of(file);
         if find(&self.rt, path.as_str())?.is_none() {
             return Ok(());
         }
-        if self
-            .written
-            .as_ref()
-            .is_some_and(|written| written.file == file)
-        {
+        if is_of(&self.written, file) {
             self.written = None;
         }
         self.folders.change(file.area);
-        fs::remove_file(&self.rt, path.as_str())
+        done(fs::remove_file(&self.rt, path.as_str()))
     }
 }
 

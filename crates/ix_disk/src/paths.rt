@@ -8,7 +8,7 @@ use itoa::Buffer;
 use ix_base::{Area, File};
 
 /// The path of a file, which has at most 31 bytes.
-#[derive(Drop)]
+#[derive(Clone, Copy)]
 pub struct FilePath {
     text: ArrayString<31>,
 }

@@ -1,0 +1,24 @@
+use Rattle.std.proofs.Common.{refl}
+use Rattle.std.proofs.lemmas.Result.{IfOk-from_err}
+use Rattle.ix_disk.proofs.Passing.{cause_own, passes_none, stops_here, cause_inner, stops_not}
+use Rattle.ix_disk.proofs.stop.StopDiskDisk.length.Goals as goal
+
+pub returns-in_err-pass : goal.returns-in_err-pass
+returns-in_err-pass g c = record {
+  length = IfOk-from_err c.from_residual.result _ c.from_residual.ensures.0;
+  bounded = IfOk-from_err c.from_residual.result _ c.from_residual.ensures.0;
+  same = refl;
+  images = passes_none g.D.Disk.may_leave g.D.Disk.moment g.D.Disk.left_since c.args.self.now.inner _ (λ image. refl);
+  cause = cause_own (g.D.Disk.faults c.args.self.now.inner) c.args.self.now.faults c.pass.new.faults c.from_residual.result c.pass.ensures.cause.later (c.in_err-pass.ensures.cause.failed refl);
+  stops = stops_here g.D.Disk.faults c.args.self.now.left c.pass.new.left c.args.self.now.inner c.from_residual.result c.pass.ensures.counted c.in_err-pass.ensures.stopped c.from_residual.ensures.0;
+}
+
+pub returns : goal.returns
+returns g c = record {
+  length = c.length.ensures.length;
+  bounded = c.length.ensures.bounded;
+  same = c.length.ensures.same;
+  images = c.length.ensures.images;
+  cause = cause_inner (g.D.Disk.faults c.args.self.now.inner) (g.D.Disk.faults c.length.new.self) c.args.self.now.faults c.pass.new.faults c.length.result c.in_ok-pass.ensures.passed.1 c.length.ensures.cause;
+  stops = stops_not g.D.Disk.faults c.args.self.now.left c.pass.new.left c.args.self.now.inner c.length.new.self c.length.result c.pass.ensures.counted c.in_ok-pass.ensures.passed.0 c.length.ensures.cause;
+}
