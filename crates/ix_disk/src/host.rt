@@ -67,6 +67,7 @@ const MAX_LENGTH: u64 = 1 << 63;
 #[derive(Clone, Copy)]
 struct Found {
     length: u64,
+    /// The device and the number by which the system knows it.
     node: (u64, u64),
 }
 
