@@ -2,7 +2,6 @@
 //! `ID STATE BYTES OLDEST NEWEST USED`, with `;` between.
 
 use crate::said::{bytes_of, compare, note, say, settings_of, shown};
-use crate::tables::{Asked, check_rows, halves};
 use ix_base::{Area, Bytes, File, Spot};
 use ix_items::{Bucket, Entry, Rule, State};
 use ix_life::{
@@ -12,6 +11,7 @@ use ix_life::{
 use ix_monitor::{Input, InputFault, Inputs, Seen, Step, plan};
 use ix_report::listing;
 use std::alloc::Global;
+use std::process::Abort;
 use std::str::SplitWhitespace;
 
 fn state(word: &str) -> Option<State> {
@@ -138,9 +138,8 @@ fn note_limit_fault(text: &mut String, fault: &LimitFault) {
     }
 }
 
-/// What settings come to for an index, which stands behind them.
-pub fn outcome(alloc: Global, asked: &str) -> String {
-    let (settings, index) = halves(asked);
+/// What settings come to for an index.
+fn outcome(alloc: Global, settings: &str, index: &str) -> String {
     let mut text = String::new(alloc);
     match load(alloc, settings) {
         Ok(set) => {
@@ -155,37 +154,116 @@ pub fn outcome(alloc: Global, asked: &str) -> String {
     text
 }
 
-/// Settings, an index, and what they come to for it.
-const LIMITS: &str = "\
-    ¦main¦main - 60 Given 750 3 7776000 0 300 188697600 500000 0 0 77760000 2592000 false¶\
-    ¦web¦main - 60 Nowhere none¶\
-    defaultDatabase = web\nlastChanceIndex = web\nrotatePeriodInSecs = 5\nmaxWarmDBCount = 7\n[web]\n[volume:x]\nmaxDataSize = no\n¦main¦web web 5 Given 750 3 7776000 0 7 188697600 500000 0 0 77760000 2592000 false¶\
-    defaultDatabase = web\nlastChanceIndex = web\nrotatePeriodInSecs = 5\nmaxWarmDBCount = 7\n[web]\n[volume:x]\nmaxDataSize = no\n¦other¦web web 5 LastChance none¶\
-    defaultDatabase = web\nlastChanceIndex = web\nrotatePeriodInSecs = 5\nmaxWarmDBCount = 7\n[web]\n[volume:x]\nmaxDataSize = no\n¦default¦web web 5 LastChance none¶\
-    defaultDatabase = web\nlastChanceIndex = web\nrotatePeriodInSecs = 5\nmaxWarmDBCount = 7\n[web]\n[volume:x]\nmaxDataSize = no\n¦volume:x¦web web 5 LastChance none¶\
-    maxHotBuckets = 9\nmaxDataSize = auto_high_volume\nmaxWarmDBCount = 7\n[web]\nmaxHotBuckets =\nmaxDataSize = 2\nmaxHotSpanSecs = 1\ncoldToFrozenDir = /x\n¦web¦main - 60 Given 2 3 3600 0 7 188697600 500000 0 0 77760000 2592000 true¶\
-    maxHotBuckets = 9\nmaxDataSize = auto_high_volume\nmaxWarmDBCount = 7\n[web]\nmaxHotBuckets =\nmaxDataSize = 2\nmaxHotSpanSecs = 1\ncoldToFrozenDir = /x\n¦main¦main - 60 Given 10240 9 7776000 0 7 188697600 500000 0 0 77760000 2592000 false¶\
-    [web]\nmaxDataSize = 1048576\nmaxHotBuckets = 1000\nmaxHotSpanSecs = 4294967295\nmaxHotIdleSecs = 1\nmaxWarmDBCount = 2\nfrozenTimePeriodInSecs = 3\nmaxTotalDataSizeMB = 4\nhomePath.maxDataSizeMB = 5\ncoldPath.maxDataSizeMB = 6\nquarantinePastSecs = 7\nquarantineFutureSecs = 8\ncoldToFrozenDir =\n¦web¦main - 60 Given 1048576 1000 4294967295 1 2 3 4 5 6 7 8 false¶\
-    [web]\nmaxDataSize = auto\nmaxHotBuckets = auto\nmaxHotSpanSecs = 3601\nmaxHotIdleSecs = -0\nmaxWarmDBCount = 00\ndefaultDatabase = none\nrotatePeriodInSecs = 0\nlastChanceIndex = ?\nother = x\n¦web¦main - 60 Given 750 3 3601 0 0 188697600 500000 0 0 77760000 2592000 false¶\
-    // a stanza before its keys, and stanzas and keys in the order of their bytes¶\
-    [Web]\nmaxDataSize = 0\n¦main¦BadIndexName Web¶\
-    defaultDatabase = x\n[Web]\n¦main¦BadIndexName Web¶\
-    [b]\nmaxHotBuckets = 0\n[a]\nmaxWarmDBCount = x\n¦main¦BadValue a maxWarmDBCount¶\
-    [a]\nmaxHotBuckets = 0\nfrozenTimePeriodInSecs = 0\n¦main¦BadValue a frozenTimePeriodInSecs¶\
-    [_web]\n¦main¦BadIndexName _web¶\
-    [-web]\n¦main¦BadIndexName -web¶\
-    [we.b]\n¦main¦BadIndexName we.b¶\
-    [my-kvstore1]\n¦main¦BadIndexName my-kvstore1¶\
-    maxDataSize = 1048577\n¦main¦BadValue default maxDataSize¶\
-    [main]\nmaxHotSpanSecs = 0\n¦main¦BadValue main maxHotSpanSecs¶\
-    rotatePeriodInSecs = 0\n¦main¦BadValue default rotatePeriodInSecs¶\
-    defaultDatabase = web\n¦main¦BadValue default defaultDatabase¶\
-    lastChanceIndex = default\n¦main¦BadValue default lastChanceIndex¶\
-    lastChanceIndex = volume:x\n[volume:x]\n¦main¦BadValue default lastChanceIndex";
+const WHOLE: &str =
+    "defaultDatabase = web\nlastChanceIndex = web\nrotatePeriodInSecs = 5\nmaxWarmDBCount = 7\n\
+    [web]\n[volume:x]\nmaxDataSize = no\n";
+
+const OWN: &str = "maxHotBuckets = 9\nmaxDataSize = auto_high_volume\nmaxWarmDBCount = 7\n\
+    [web]\nmaxHotBuckets =\nmaxDataSize = 2\nmaxHotSpanSecs = 1\ncoldToFrozenDir = /x\n";
+
+const ALL: &str =
+    "[web]\nmaxDataSize = 1048576\nmaxHotBuckets = 1000\nmaxHotSpanSecs = 4294967295\nmaxHotIdleSecs = 1\n\
+    maxWarmDBCount = 2\nfrozenTimePeriodInSecs = 3\nmaxTotalDataSizeMB = 4\nhomePath.maxDataSizeMB = 5\n\
+    coldPath.maxDataSizeMB = 6\nquarantinePastSecs = 7\nquarantineFutureSecs = 8\ncoldToFrozenDir =\n";
+
+const LEAST: &str =
+    "[web]\nmaxDataSize = auto\nmaxHotBuckets = auto\nmaxHotSpanSecs = 3601\nmaxHotIdleSecs = -0\n\
+    maxWarmDBCount = 00\ndefaultDatabase = none\nrotatePeriodInSecs = 0\nlastChanceIndex = ?\nother = x\n";
+
+static LIMITS: [(&str, &str, &str); 24] = [
+    (
+        "",
+        "main",
+        "main - 60 Given 750 3 7776000 0 300 188697600 500000 0 0 77760000 2592000 false",
+    ),
+    ("", "web", "main - 60 Nowhere none"),
+    (
+        WHOLE,
+        "main",
+        "web web 5 Given 750 3 7776000 0 7 188697600 500000 0 0 77760000 2592000 false",
+    ),
+    (WHOLE, "other", "web web 5 LastChance none"),
+    (WHOLE, "default", "web web 5 LastChance none"),
+    (WHOLE, "volume:x", "web web 5 LastChance none"),
+    (
+        OWN,
+        "web",
+        "main - 60 Given 2 3 3600 0 7 188697600 500000 0 0 77760000 2592000 true",
+    ),
+    (
+        OWN,
+        "main",
+        "main - 60 Given 10240 9 7776000 0 7 188697600 500000 0 0 77760000 2592000 false",
+    ),
+    (
+        ALL,
+        "web",
+        "main - 60 Given 1048576 1000 4294967295 1 2 3 4 5 6 7 8 false",
+    ),
+    (
+        LEAST,
+        "web",
+        "main - 60 Given 750 3 3601 0 0 188697600 500000 0 0 77760000 2592000 false",
+    ),
+    // a stanza before its keys, and stanzas and keys in the order of their bytes
+    ("[Web]\nmaxDataSize = 0\n", "main", "BadIndexName Web"),
+    ("defaultDatabase = x\n[Web]\n", "main", "BadIndexName Web"),
+    (
+        "[b]\nmaxHotBuckets = 0\n[a]\nmaxWarmDBCount = x\n",
+        "main",
+        "BadValue a maxWarmDBCount",
+    ),
+    (
+        "[a]\nmaxHotBuckets = 0\nfrozenTimePeriodInSecs = 0\n",
+        "main",
+        "BadValue a frozenTimePeriodInSecs",
+    ),
+    ("[_web]\n", "main", "BadIndexName _web"),
+    ("[-web]\n", "main", "BadIndexName -web"),
+    ("[we.b]\n", "main", "BadIndexName we.b"),
+    ("[my-kvstore1]\n", "main", "BadIndexName my-kvstore1"),
+    (
+        "maxDataSize = 1048577\n",
+        "main",
+        "BadValue default maxDataSize",
+    ),
+    (
+        "[main]\nmaxHotSpanSecs = 0\n",
+        "main",
+        "BadValue main maxHotSpanSecs",
+    ),
+    (
+        "rotatePeriodInSecs = 0\n",
+        "main",
+        "BadValue default rotatePeriodInSecs",
+    ),
+    (
+        "defaultDatabase = web\n",
+        "main",
+        "BadValue default defaultDatabase",
+    ),
+    (
+        "lastChanceIndex = default\n",
+        "main",
+        "BadValue default lastChanceIndex",
+    ),
+    (
+        "lastChanceIndex = volume:x\n[volume:x]\n",
+        "main",
+        "BadValue default lastChanceIndex",
+    ),
+];
+
+fn check_limits(rt: &impl Abort, alloc: Global, rows: &[(&str, &str, &str)]) {
+    for row in rows {
+        let (settings, index, wanted) = *row;
+        compare(rt, outcome(alloc, settings, index), wanted);
+    }
+}
 
 #[test]
 fn settings_give_limits(rt: HostRuntime) {
-    check_rows(&rt, rt.alloc(), Asked::Limits, LIMITS);
+    check_limits(&rt, rt.alloc(), &LIMITS);
 }
 
 /// Two buckets that take events at the most, each over an hour; a quarantine for what is 100 seconds late or 50 early.
@@ -210,14 +288,8 @@ fn main_limits(alloc: Global, settings: &str) -> Option<Limits> {
     }
 }
 
-/// A number; 0 where the text is none.
-fn moment_of(text: &str) -> i64 {
-    text.parse().unwrap_or(0)
-}
-
-/// Where an event of a time goes, which stands behind the buckets: the bucket, the one that rolls, and whether into quarantine.
-pub fn placed(alloc: Global, asked: &str) -> String {
-    let (listed, time) = halves(asked);
+/// Where an event goes: the bucket, the one that rolls, and whether into quarantine.
+fn placed(alloc: Global, listed: &str, time: i64) -> String {
     let mut text = String::new(alloc);
     if let Some(limits) = main_limits(alloc, TIGHT) {
         let list = buckets(alloc, listed);
@@ -225,7 +297,7 @@ pub fn placed(alloc: Global, asked: &str) -> String {
             into,
             rolls,
             quarantine,
-        } = place(&list, &limits, moment_of(time), MOMENT);
+        } = place(&list, &limits, time, MOMENT);
         drop(list);
         note(&mut text, into);
         note(&mut text, rolls);
@@ -234,33 +306,54 @@ pub fn placed(alloc: Global, asked: &str) -> String {
     text
 }
 
-/// Buckets, the time of an event, and where it goes.
-const PLACED: &str = "\
-    // nothing there: a new bucket, or a new quarantine¶\
-    ¦10000000000¦None None false¶\
-    ¦0¦None None true¶\
-    0 hot 1 9000000000 9500000000 1¦10000000000¦Some(0) None false¶\
-    // a span of an hour exactly, and of a microsecond more¶\
-    4 hot 1 6400000000 6500000000 1¦10000000000¦Some(4) None false¶\
-    4 hot 1 6399999999 6500000000 1¦10000000000¦None None false¶\
-    // two take events: the one that was used first makes room¶\
-    4 hot 1 0 6500000000 9; 6 hot 1 0 6500000000 7; 7 warm 1 0 10000000000 1¦10000000000¦None Some(6) false¶\
-    4 hot 1 0 6500000000 9; 6 hot 1 0 6500000000 7; 7 warm 1 0 10000000000 1¦0¦None Some(6) true¶\
-    // the first by number, whatever their order; warm, cold and thawed ones take nothing¶\
-    1 warm 1 10000000000 10000000000 1; 2 cold 1 10000000000 10000000000 1; 3 thawed 1 10000000000 10000000000 1; 9 hot 1 9000000000 9000000000 5; 8 hot 1 9000000000 9000000000 6; 5 quarantine 1 0 0 2¦10000000000¦Some(8) None false¶\
-    // 100 seconds before the arrival exactly, and a microsecond more¶\
-    1 warm 1 10000000000 10000000000 1; 2 cold 1 10000000000 10000000000 1; 3 thawed 1 10000000000 10000000000 1; 9 hot 1 9000000000 9000000000 5; 8 hot 1 9000000000 9000000000 6; 5 quarantine 1 0 0 2¦9900000000¦Some(8) None false¶\
-    1 warm 1 10000000000 10000000000 1; 2 cold 1 10000000000 10000000000 1; 3 thawed 1 10000000000 10000000000 1; 9 hot 1 9000000000 9000000000 5; 8 hot 1 9000000000 9000000000 6; 5 quarantine 1 0 0 2¦9899999999¦Some(5) None true¶\
-    // 50 seconds after it exactly, and a microsecond more¶\
-    1 warm 1 10000000000 10000000000 1; 2 cold 1 10000000000 10000000000 1; 3 thawed 1 10000000000 10000000000 1; 9 hot 1 9000000000 9000000000 5; 8 hot 1 9000000000 9000000000 6; 5 quarantine 1 0 0 2¦10050000000¦Some(8) None false¶\
-    1 warm 1 10000000000 10000000000 1; 2 cold 1 10000000000 10000000000 1; 3 thawed 1 10000000000 10000000000 1; 9 hot 1 9000000000 9000000000 5; 8 hot 1 9000000000 9000000000 6; 5 quarantine 1 0 0 2¦10050000001¦Some(5) None true¶\
-    // a quarantine counts as one that takes events, and may be the one that rolls¶\
-    5 quarantine 1 0 0 2; 6 hot 1 0 0 3¦10000000000¦None Some(5) false¶\
-    5 quarantine 1 0 0 2; 6 hot 1 0 0 3¦-9223372036854775808¦Some(5) None true";
+const ONE: &str = "0 hot 1 9000000000 9500000000 1";
+
+const TWO: &str = "4 hot 1 0 6500000000 9; 6 hot 1 0 6500000000 7; 7 warm 1 0 10000000000 1";
+
+const MIXED: &str = "1 warm 1 10000000000 10000000000 1; 2 cold 1 10000000000 10000000000 1; \
+    3 thawed 1 10000000000 10000000000 1; 9 hot 1 9000000000 9000000000 5; 8 hot 1 9000000000 9000000000 6; \
+    5 quarantine 1 0 0 2";
+
+const FULL: &str = "5 quarantine 1 0 0 2; 6 hot 1 0 0 3";
+
+static PLACED: [(&str, i64, &str); 14] = [
+    // nothing there: a new bucket, or a new quarantine
+    ("", MOMENT, "None None false"),
+    ("", 0, "None None true"),
+    (ONE, MOMENT, "Some(0) None false"),
+    // a span of an hour exactly, and of a microsecond more
+    (
+        "4 hot 1 6400000000 6500000000 1",
+        MOMENT,
+        "Some(4) None false",
+    ),
+    ("4 hot 1 6399999999 6500000000 1", MOMENT, "None None false"),
+    // two take events: the one that was used first makes room
+    (TWO, MOMENT, "None Some(6) false"),
+    (TWO, 0, "None Some(6) true"),
+    // the first by number, whatever their order; warm, cold and thawed ones take nothing
+    (MIXED, MOMENT, "Some(8) None false"),
+    // 100 seconds before the arrival exactly, and a microsecond more
+    (MIXED, 9_900_000_000, "Some(8) None false"),
+    (MIXED, 9_899_999_999, "Some(5) None true"),
+    // 50 seconds after it exactly, and a microsecond more
+    (MIXED, 10_050_000_000, "Some(8) None false"),
+    (MIXED, 10_050_000_001, "Some(5) None true"),
+    // a quarantine counts as one that takes events, and may be the one that rolls
+    (FULL, MOMENT, "None Some(5) false"),
+    (FULL, i64::MIN, "Some(5) None true"),
+];
+
+fn check_placed(rt: &impl Abort, alloc: Global, rows: &[(&str, i64, &str)]) {
+    for row in rows {
+        let (listed, time, wanted) = *row;
+        compare(rt, placed(alloc, listed, time), wanted);
+    }
+}
 
 #[test]
 fn events_find_their_bucket(rt: HostRuntime) {
-    check_rows(&rt, rt.alloc(), Asked::Target, PLACED);
+    check_placed(&rt, rt.alloc(), &PLACED);
 }
 
 /// Writes what housekeeping does under limits.
@@ -275,52 +368,137 @@ fn note_moves(text: &mut String, alloc: Global, listed: &str, limits: &Limits, m
     drop(list);
 }
 
-/// What housekeeping does to buckets at a moment, under the settings before both: the buckets that roll to warm, those that move to
-/// cold, and those that freeze.
-pub fn moved(alloc: Global, asked: &str) -> String {
-    let (front, moment) = halves(asked);
-    let (settings, listed) = halves(front);
+/// What housekeeping does: the buckets that roll to warm, those that move to cold, and those that freeze.
+fn moved(alloc: Global, settings: &str, listed: &str, moment: i64) -> String {
     let mut text = String::new(alloc);
     if let Some(limits) = main_limits(alloc, settings) {
-        note_moves(&mut text, alloc, listed, &limits, moment_of(moment));
+        note_moves(&mut text, alloc, listed, &limits, moment);
     }
     text
 }
 
-/// Settings, buckets, the moment of a turn, and what moves in it.
-const MOVED: &str = "\
-    // idle: more than 100 seconds without an event¶\
-    maxHotIdleSecs = 100¦1 hot 1 0 9900000000 1; 2 hot 1 0 9899999999 2; 3 quarantine 1 0 0 3; 4 warm 1 0 0 4; 5 thawed 1 0 0 5¦10000000000¦[3, 2] [] []¶\
-    ¦1 hot 1 0 9900000000 1; 2 hot 1 0 9899999999 2; 3 quarantine 1 0 0 3; 4 warm 1 0 0 4; 5 thawed 1 0 0 5¦10000000000¦[] [] []¶\
-    // one warm bucket at the most¶\
-    maxWarmDBCount = 1¦1 warm 1048576 5 5 1; 2 warm 1048576 7 7 2; 3 warm 1 6 6 3; 4 thawed 1048576 0 0 4¦10000000000¦[] [1, 3] []¶\
-    ¦1 warm 1048576 5 5 1; 2 warm 1048576 7 7 2; 3 warm 1 6 6 3; 4 thawed 1048576 0 0 4¦10000000000¦[] [] []¶\
-    // hot, quarantine and warm bytes: the limit exactly, and a byte more¶\
-    homePath.maxDataSizeMB = 2¦1 warm 1048576 5 5 1; 2 hot 1048575 6 6 2; 3 quarantine 1 6 6 3¦10000000000¦[] [] []¶\
-    homePath.maxDataSizeMB = 2¦1 warm 1 5 5 1; 4 warm 1048576 6 6 4; 2 hot 1048575 6 6 2; 3 quarantine 1 6 6 3¦10000000000¦[] [1] []¶\
-    // age: 1,000 seconds exactly, and a microsecond more, by the newest event¶\
-    frozenTimePeriodInSecs = 1000¦1 hot 1 0 0 1; 2 warm 1 0 9000000000 2; 3 warm 1 0 8999999999 3; 4 cold 1 0 8999999998 4; 5 cold 1 0 9500000000 5; 6 thawed 1 0 0 6; 7 quarantine 1 0 0 7¦10000000000¦[] [] [(4, Age), (3, Age)]¶\
-    // cold bytes, until the limit exactly¶\
-    coldPath.maxDataSizeMB = 1¦1 cold 1048575 7 7 1; 2 cold 1048576 5 5 2; 3 cold 1 6 6 3; 4 warm 1048576 4 4 4¦10000000000¦[] [] [(2, Cold)]¶\
-    ¦1 cold 1048575 7 7 1; 2 cold 1048576 5 5 2; 3 cold 1 6 6 3; 4 warm 1048576 4 4 4¦10000000000¦[] [] []¶\
-    // all bytes, until the limit exactly: the older of the cold ones first¶\
-    maxTotalDataSizeMB = 1¦1 warm 600000 1 1 1; 2 cold 448576 9 9 2; 3 cold 448577 8 8 3¦10000000000¦[] [] [(3, Total)]¶\
-    maxTotalDataSizeMB = 1¦1 warm 600000 1 1 1; 2 cold 448576 9 9 2¦10000000000¦[] [] []¶\
-    // a byte more: the cold one, though the warm one is older¶\
-    maxTotalDataSizeMB = 1¦1 warm 600000 1 1 1; 3 cold 448577 8 8 3¦10000000000¦[] [] [(3, Total)]¶\
-    maxTotalDataSizeMB = 1¦¦10000000000¦[] [] []¶\
-    // of two that are as new the lesser number goes¶\
-    maxTotalDataSizeMB = 1¦1 warm 600000 50 50 1; 3 warm 600000 50 50 3¦60¦[] [] [(1, Total)]¶\
-    // what is idle rolls, cools and freezes in one turn, and what froze counts no more¶\
-    maxHotIdleSecs = 100\nmaxWarmDBCount = 1\nfrozenTimePeriodInSecs = 5000\nmaxTotalDataSizeMB = 3\ncoldPath.maxDataSizeMB = 2¦1 hot 1048576 0 9990000000 1; 2 hot 1048576 0 6000000000 2; 3 warm 1048576 0 9000000000 3; 4 cold 1048576 0 4000000000 4; 5 cold 1048576 0 7000000000 5; 6 cold 2097152 0 8000000000 6¦10000000000¦[2] [2] [(4, Age), (2, Cold), (5, Cold), (6, Total)]¶\
-    // hot bytes alone are above the limit: all others go, and the hot ones stay¶\
-    maxTotalDataSizeMB = 1¦1 hot 2097152 9 9 1; 2 warm 1 1 1 2; 3 cold 1 2 2 3¦10000000000¦[] [] [(3, Total), (2, Total)]¶\
-    // the ends of the ranges¶\
-    ¦18446744073709551615 hot 18446744073709551615 -9223372036854775808 -9223372036854775808 1; 1 warm 18446744073709551615 -9223372036854775808 -9223372036854775808 2; 2 cold 18446744073709551615 -9223372036854775808 -9223372036854775808 3; 3 cold 18446744073709551615 9223372036854775807 9223372036854775807 4¦9223372036854775807¦[] [] [(1, Age), (2, Age), (3, Total)]";
+const SILENT: &str =
+    "1 hot 1 0 9900000000 1; 2 hot 1 0 9899999999 2; 3 quarantine 1 0 0 3; 4 warm 1 0 0 4; 5 thawed 1 0 0 5";
+
+const WARM: &str =
+    "1 warm 1048576 5 5 1; 2 warm 1048576 7 7 2; 3 warm 1 6 6 3; 4 thawed 1048576 0 0 4";
+
+const HOME: &str = "homePath.maxDataSizeMB = 2";
+
+const AGED: &str =
+    "1 hot 1 0 0 1; 2 warm 1 0 9000000000 2; 3 warm 1 0 8999999999 3; 4 cold 1 0 8999999998 4; \
+    5 cold 1 0 9500000000 5; 6 thawed 1 0 0 6; 7 quarantine 1 0 0 7";
+
+const COOL: &str =
+    "1 cold 1048575 7 7 1; 2 cold 1048576 5 5 2; 3 cold 1 6 6 3; 4 warm 1048576 4 4 4";
+
+const TOTAL: &str = "maxTotalDataSizeMB = 1";
+
+const MANY: &str =
+    "1 hot 1048576 0 9990000000 1; 2 hot 1048576 0 6000000000 2; 3 warm 1048576 0 9000000000 3; \
+    4 cold 1048576 0 4000000000 4; 5 cold 1048576 0 7000000000 5; 6 cold 2097152 0 8000000000 6";
+
+const SMALL: &str =
+    "maxHotIdleSecs = 100\nmaxWarmDBCount = 1\nfrozenTimePeriodInSecs = 5000\nmaxTotalDataSizeMB = 3\n\
+    coldPath.maxDataSizeMB = 2";
+
+const ENDS: &str =
+    "18446744073709551615 hot 18446744073709551615 -9223372036854775808 -9223372036854775808 1; \
+    1 warm 18446744073709551615 -9223372036854775808 -9223372036854775808 2; \
+    2 cold 18446744073709551615 -9223372036854775808 -9223372036854775808 3; \
+    3 cold 18446744073709551615 9223372036854775807 9223372036854775807 4";
+
+static MOVED: [(&str, &str, i64, &str); 17] = [
+    // idle: more than 100 seconds without an event
+    ("maxHotIdleSecs = 100", SILENT, MOMENT, "[3, 2] [] []"),
+    ("", SILENT, MOMENT, "[] [] []"),
+    // one warm bucket at the most
+    ("maxWarmDBCount = 1", WARM, MOMENT, "[] [1, 3] []"),
+    ("", WARM, MOMENT, "[] [] []"),
+    // hot, quarantine and warm bytes: the limit exactly, and a byte more
+    (
+        HOME,
+        "1 warm 1048576 5 5 1; 2 hot 1048575 6 6 2; 3 quarantine 1 6 6 3",
+        MOMENT,
+        "[] [] []",
+    ),
+    (
+        HOME,
+        "1 warm 1 5 5 1; 4 warm 1048576 6 6 4; 2 hot 1048575 6 6 2; 3 quarantine 1 6 6 3",
+        MOMENT,
+        "[] [1] []",
+    ),
+    // age: 1,000 seconds exactly, and a microsecond more, by the newest event
+    (
+        "frozenTimePeriodInSecs = 1000",
+        AGED,
+        MOMENT,
+        "[] [] [(4, Age), (3, Age)]",
+    ),
+    // cold bytes, until the limit exactly
+    (
+        "coldPath.maxDataSizeMB = 1",
+        COOL,
+        MOMENT,
+        "[] [] [(2, Cold)]",
+    ),
+    ("", COOL, MOMENT, "[] [] []"),
+    // all bytes, until the limit exactly: the older of the cold ones first
+    (
+        TOTAL,
+        "1 warm 600000 1 1 1; 2 cold 448576 9 9 2; 3 cold 448577 8 8 3",
+        MOMENT,
+        "[] [] [(3, Total)]",
+    ),
+    (
+        TOTAL,
+        "1 warm 600000 1 1 1; 2 cold 448576 9 9 2",
+        MOMENT,
+        "[] [] []",
+    ),
+    // a byte more: the cold one, though the warm one is older
+    (
+        TOTAL,
+        "1 warm 600000 1 1 1; 3 cold 448577 8 8 3",
+        MOMENT,
+        "[] [] [(3, Total)]",
+    ),
+    (TOTAL, "", MOMENT, "[] [] []"),
+    // of two that are as new the lesser number goes
+    (
+        TOTAL,
+        "1 warm 600000 50 50 1; 3 warm 600000 50 50 3",
+        60,
+        "[] [] [(1, Total)]",
+    ),
+    // what is idle rolls, cools and freezes in one turn, and what froze counts no more
+    (
+        SMALL,
+        MANY,
+        MOMENT,
+        "[2] [2] [(4, Age), (2, Cold), (5, Cold), (6, Total)]",
+    ),
+    // hot bytes alone are above the limit: all others go, and the hot ones stay
+    (
+        TOTAL,
+        "1 hot 2097152 9 9 1; 2 warm 1 1 1 2; 3 cold 1 2 2 3",
+        MOMENT,
+        "[] [] [(3, Total), (2, Total)]",
+    ),
+    // the ends of the ranges
+    ("", ENDS, i64::MAX, "[] [] [(1, Age), (2, Age), (3, Total)]"),
+];
+
+fn check_moved(rt: &impl Abort, alloc: Global, rows: &[(&str, &str, i64, &str)]) {
+    for row in rows {
+        let (settings, listed, moment, wanted) = *row;
+        compare(rt, moved(alloc, settings, listed, moment), wanted);
+    }
+}
 
 #[test]
 fn housekeeping_moves_buckets(rt: HostRuntime) {
-    check_rows(&rt, rt.alloc(), Asked::Moves, MOVED);
+    check_moved(&rt, rt.alloc(), &MOVED);
 }
 
 /// Adds an index under the limits of `main`.
@@ -469,7 +647,7 @@ fn note_watched(text: &mut String, alloc: Global, settings: &str, limits: &Limit
 }
 
 /// What inputs.conf comes to, where the indexes are `main` and `web`: path, host, source, source type and index of each input.
-pub fn watched(alloc: Global, settings: &str) -> String {
+fn watched(alloc: Global, settings: &str) -> String {
     let mut text = String::new(alloc);
     match load(alloc, "[web]\n") {
         Ok(limits) => {
@@ -484,25 +662,53 @@ pub fn watched(alloc: Global, settings: &str) -> String {
     text
 }
 
-/// Texts of inputs.conf, and what they come to.
-const WATCHED: &str = "\
-    ¦¶\
-    [monitor:///b]\n[monitor://a/*.log]\n[tcp://1]\nindex = no\n¦/b localhost - - -; a/*.log localhost - - -;¶\
-    host = h\nindex = web\n[monitor://a]\nhost =\nsource = s\nsourcetype = t\n¦a localhost s t web;¶\
-    disabled = 1\n[monitor://a]\n[monitor://b]\ndisabled = No\n¦b localhost - - -;¶\
-    [monitor://a]\ndisabled =\n¦a localhost - - -;¶\
-    [monitor://]\nindex = no\n¦BadStanza monitor://¶\
-    [monitor:///a/.../b]\n¦BadStanza monitor:///a/.../b¶\
-    [monitor://a*/b]\n[monitor://..]\n¦BadStanza monitor://a*/b¶\
-    [monitor://b]\nsource = x\nindex = no\n[monitor://a]\ndisabled = 2\n¦BadValue monitor://a disabled¶\
-    [monitor://a]\ndisabled = true\nindex = no\n¦BadValue monitor://a index¶\
-    index = default\n¦BadValue default index¶\
-    index = main\ndisabled = maybe\n¦BadValue default disabled¶\
-    [monitor://a**]\nindex = main\n¦a** localhost - - main;";
+static WATCHED: [(&str, &str); 13] = [
+    ("", ""),
+    (
+        "[monitor:///b]\n[monitor://a/*.log]\n[tcp://1]\nindex = no\n",
+        "/b localhost - - -; a/*.log localhost - - -;",
+    ),
+    (
+        "host = h\nindex = web\n[monitor://a]\nhost =\nsource = s\nsourcetype = t\n",
+        "a localhost s t web;",
+    ),
+    (
+        "disabled = 1\n[monitor://a]\n[monitor://b]\ndisabled = No\n",
+        "b localhost - - -;",
+    ),
+    ("[monitor://a]\ndisabled =\n", "a localhost - - -;"),
+    ("[monitor://]\nindex = no\n", "BadStanza monitor://"),
+    ("[monitor:///a/.../b]\n", "BadStanza monitor:///a/.../b"),
+    (
+        "[monitor://a*/b]\n[monitor://..]\n",
+        "BadStanza monitor://a*/b",
+    ),
+    (
+        "[monitor://b]\nsource = x\nindex = no\n[monitor://a]\ndisabled = 2\n",
+        "BadValue monitor://a disabled",
+    ),
+    (
+        "[monitor://a]\ndisabled = true\nindex = no\n",
+        "BadValue monitor://a index",
+    ),
+    ("index = default\n", "BadValue default index"),
+    (
+        "index = main\ndisabled = maybe\n",
+        "BadValue default disabled",
+    ),
+    ("[monitor://a**]\nindex = main\n", "a** localhost - - main;"),
+];
+
+fn check_watched(rt: &impl Abort, alloc: Global, rows: &[(&str, &str)]) {
+    for row in rows {
+        let (settings, wanted) = *row;
+        compare(rt, watched(alloc, settings), wanted);
+    }
+}
 
 #[test]
 fn inputs_are_watched(rt: HostRuntime) {
-    check_rows(&rt, rt.alloc(), Asked::Inputs, WATCHED);
+    check_watched(&rt, rt.alloc(), &WATCHED);
 }
 
 /// What a pass does with a file, of which a head and a place was kept.
@@ -517,37 +723,44 @@ fn step_from(alloc: Global, file: &Seen, head: &str, offset: u64) -> Step {
     step
 }
 
-/// What a pass does with a file of a size and a head, of which nothing was kept, or a head and a place.
-pub fn step(alloc: Global, asked: &str) -> Step {
-    let mut fields = asked.split('¦');
-    let size = fields.next().unwrap_or("").parse().unwrap_or(0);
-    let head = fields.next().unwrap_or("");
-    let kept = fields.next();
-    let offset = fields.next().unwrap_or("").parse().unwrap_or(0);
-    let head = bytes_of(alloc, head.as_bytes());
-    let file = Seen { size, head };
+/// What a pass does with a file, of which `None`, or a head and a place, was kept.
+fn step(alloc: Global, size: u64, head: &str, kept: Option<(&str, u64)>) -> Step {
+    let file = Seen {
+        size,
+        head: bytes_of(alloc, head.as_bytes()),
+    };
     let step = match kept {
         None => plan(&file, None),
-        Some(kept) => step_from(alloc, &file, kept, offset),
+        Some((head, offset)) => step_from(alloc, &file, head, offset),
     };
     drop(file);
     step
 }
 
 /// The size of a file and its head, the head and the place that were kept of it where some were, and the step.
-const STEPS: &str = "\
-    0¦¦Skip¶\
-    3¦abc¦From(0)¶\
-    3¦abc¦abc¦3¦Skip¶\
-    5¦abcde¦abc¦3¦From(3)¶\
-    5¦abcde¦abc¦5¦Skip¶\
-    // another file, a shorter one, and an empty one¶\
-    5¦abxde¦abc¦3¦Again¶\
-    2¦ab¦abc¦3¦Again¶\
-    300¦abc¦abc¦301¦Again¶\
-    0¦¦abc¦3¦Again";
+type Passed = (u64, &'static str, Option<(&'static str, u64)>, Step);
+
+static STEPS: [Passed; 9] = [
+    (0, "", None, Step::Skip),
+    (3, "abc", None, Step::From(0)),
+    (3, "abc", Some(("abc", 3)), Step::Skip),
+    (5, "abcde", Some(("abc", 3)), Step::From(3)),
+    (5, "abcde", Some(("abc", 5)), Step::Skip),
+    // another file, a shorter one, and an empty one
+    (5, "abxde", Some(("abc", 3)), Step::Again),
+    (2, "ab", Some(("abc", 3)), Step::Again),
+    (300, "abc", Some(("abc", 301)), Step::Again),
+    (0, "", Some(("abc", 3)), Step::Again),
+];
+
+fn check_steps(rt: &impl Abort, alloc: Global, rows: &[Passed]) {
+    for row in rows {
+        let (size, head, kept, wanted) = *row;
+        assert!(rt; step(alloc, size, head, kept) == wanted, "{head}");
+    }
+}
 
 #[test]
 fn a_pass_has_its_steps(rt: HostRuntime) {
-    check_rows(&rt, rt.alloc(), Asked::Step, STEPS);
+    check_steps(&rt, rt.alloc(), &STEPS);
 }

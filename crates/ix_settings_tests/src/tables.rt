@@ -2,7 +2,7 @@
 //! wanted behind the last `¦`. A row that begins with `//` says something of those behind it.
 
 use crate::said::{compare_answer, noted};
-use crate::{conf, life, props};
+use crate::{conf, props};
 use ix_values::{read_boolean, read_number};
 use std::alloc::Global;
 use std::process::Abort;
@@ -17,11 +17,6 @@ pub enum Asked {
     Folded,
     /// Whether a pattern is refused.
     Bad,
-    Limits,
-    Target,
-    Moves,
-    Inputs,
-    Step,
     Boolean,
     Number,
     Change,
@@ -70,11 +65,6 @@ fn answer(alloc: Global, asked: Asked, text: &str) -> String {
         Asked::Name => name_said(alloc, text, false),
         Asked::Folded => name_said(alloc, text, true),
         Asked::Bad => noted(alloc, conf::is_bad(alloc, text.as_bytes())),
-        Asked::Limits => life::outcome(alloc, text),
-        Asked::Target => life::placed(alloc, text),
-        Asked::Moves => life::moved(alloc, text),
-        Asked::Inputs => life::watched(alloc, text),
-        Asked::Step => noted(alloc, life::step(alloc, text)),
         Asked::Settings => props::describe_channel(alloc, text),
         _ => value_said(alloc, asked, text.as_bytes()),
     }
