@@ -3,6 +3,7 @@
 #![tactic(auto)]
 
 mod fault;
+mod names;
 mod plain;
 mod putting;
 mod replaying;
@@ -14,6 +15,7 @@ mod whole;
 mod writing;
 
 pub use fault::CheckpointFault;
+pub use names::{is_only, same_name};
 pub use plain::PlainBook;
 pub use putting::put_body;
 pub use replaying::{Replay, ReplayFault, bad_gate_replays_nothing, replay_log};

@@ -7,76 +7,11 @@ ghost use Rattle.ix_book.specs.Book.{Book, empty, name_of, is_same, removals_in,
 ghost use Rattle.ix_book.specs.Slots.{bytes_of, items_of, without, AreOnce, AreRemovals};
 ghost use Rattle.ix_book.specs.declared.slot.Slot.{Slot};
 
+use crate::names::same_name;
 use crate::plain::removals_after;
 use crate::slot::Slot;
 use ix_base::{File, Sequence};
-use ix_items::Item;
 use std::mem;
-
-fn kind(item: &Item) -> u8
-    ensures { result ≡ (name_of item.now).kind }
-{
-    match item {
-        Item::Settings { .. } => 1,
-        Item::Run { .. } => 2,
-        Item::Moments { .. } => 3,
-        Item::Channel { .. } | Item::Ended { .. } => 4,
-        Item::Bucket { .. } | Item::Gone { .. } => 6,
-        Item::Ledger { .. } => 8,
-        Item::Counts { .. } => 9,
-        Item::Spot { .. } => 10,
-        Item::NextFile { .. } => 11,
-        Item::Removals { .. } => 12,
-        Item::NextId { .. } => 13,
-    }
-}
-
-fn text(item: &Item) -> &[u8]
-    ensures { result.now ≡ (name_of item.now).text }
-{
-    match item {
-        Item::Channel { name, .. } => name.as_slice(),
-        Item::Ended { name } => name.as_slice(),
-        Item::Bucket { index, .. } => index.as_slice(),
-        Item::Gone { index, .. } => index.as_slice(),
-        Item::Ledger { entry } => entry.index.as_slice(),
-        Item::Spot { spot } => spot.path.as_slice(),
-        Item::NextId { index, .. } => index.as_slice(),
-        Item::Settings { .. }
-        | Item::Run { .. }
-        | Item::Moments { .. }
-        | Item::Counts { .. }
-        | Item::NextFile { .. }
-        | Item::Removals { .. } => &[],
-    }
-}
-
-fn number(item: &Item) -> u64
-    ensures { result ≡ (name_of item.now).number }
-{
-    match item {
-        Item::Bucket { bucket, .. } => bucket.id,
-        Item::Gone { id, .. } => *id,
-        Item::Ledger { entry } => entry.id,
-        Item::Settings { .. }
-        | Item::Run { .. }
-        | Item::Moments { .. }
-        | Item::Channel { .. }
-        | Item::Ended { .. }
-        | Item::Counts { .. }
-        | Item::Spot { .. }
-        | Item::NextFile { .. }
-        | Item::Removals { .. }
-        | Item::NextId { .. } => 0,
-    }
-}
-
-/// Whether the two stand under one name.
-fn same_name(a: &Item, b: &Item) -> bool
-    ensures { result ≡ is_same (name_of a.now) (name_of b.now) }
-{
-    kind(a) == kind(b) && text(a) == text(b) && number(a) == number(b)
-}
 
 /// The place of an earlier item under the name of the one at a place, or that place.
 fn earlier(slots: &[Slot], at: usize) -> usize

@@ -15,9 +15,9 @@ ghost use Rattle.ix_bounds.specs.Shelving as defs;
 ghost use Rattle.ix_bounds.specs.Shelving.{AreSettings};
 
 use crate::shelving::{Bucketed, shelve};
-use ix_base::{Bytes, NoMemory, Sequence};
-use ix_items::{Bucket, Entry};
-use ix_life::{BucketList, IndexView, IndexViewList, LimitSet};
+use ix_base::{Bytes, NoMemory};
+use ix_items::Entry;
+use ix_life::{IndexView, IndexViewList, LimitSet, copy_buckets};
 use ix_shelves::Shelves;
 use std::alloc::Global;
 
@@ -35,12 +35,6 @@ fn has_number(ledger: &[Entry], view: &IndexView) -> bool
     ensures { result ≡ has_number ledger.now view.now }
 {
     !view.buckets.is_empty() || has_entry(&view.name, ledger)
-}
-
-fn copy_buckets(alloc: Global, buckets: &[Bucket]) -> Result<BucketList, NoMemory>
-    ensures { IfOk result (λ copy. copy ≡ buckets.now) }
-{
-    Ok(Sequence::from_vec(buckets.to_vec(alloc)?))
 }
 
 fn bucketed_of(alloc: Global, view: &IndexView) -> Result<Bucketed, NoMemory>

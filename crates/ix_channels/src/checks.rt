@@ -2,7 +2,7 @@
 
 ghost use Rattle.std.specs.Prelude.{◌≡◌, ◌<◌, ◌↔◌, ◌^◌, ◌∷◌, [], IfOk, IfSome, IsTrue, IsErrOf, true, false};
 ghost use Rattle.std.specs.List.{All};
-ghost use Rattle.ix_fields.specs.Spelling.{IsShort as IsShortText, IsShortOption};
+ghost use Rattle.ix_fields.specs.Spelling.{IsShort as IsShortText};
 ghost use Rattle.ix_items.specs.Spelling.{HasSpelling, IsMeta};
 ghost use Rattle.ix_items.specs.declared.items.Item.TheVariants as items;
 ghost use Rattle.ix_parse.specs.Limits.{IsSmall};
@@ -12,43 +12,14 @@ ghost use Rattle.ix_channels.specs.declared.working.WorkFault.TheVariants as fau
 
 use crate::working::WorkFault;
 use ix_base::{Bytes, ChannelMeta, Event, Routed};
-use ix_items::Item;
+use ix_items::{Item, is_short, is_short_meta};
 use ix_life::LimitSet;
-
-/// Texts of an item are shorter.
-const SHORT: usize = 4_294_967_296;
 
 /// Fields of an event are shorter.
 const BRIEF: usize = 16_777_216;
 
 /// Names of indexes are shorter.
 const BRIEF_NAME: usize = 1_073_741_824;
-
-/// Whether the length of a text has four bytes.
-fn is_short(text: &Bytes) -> bool
-    ensures { IsTrue result ↔ IsShortText text.now }
-{
-    text.len() < SHORT
-}
-
-fn is_short_option(text: &Option<Bytes>) -> bool
-    ensures { IsTrue result ↔ IsShortOption text.now }
-{
-    match text {
-        Some(text) => is_short(text),
-        None => true,
-    }
-}
-
-/// Whether what a channel states has a spelling.
-fn is_short_meta(meta: &ChannelMeta) -> bool
-    ensures { IsTrue result ↔ IsMeta meta.now }
-{
-    is_short(&meta.host)
-        && is_short(&meta.source)
-        && is_short_option(&meta.sourcetype)
-        && is_short_option(&meta.index)
-}
 
 /// The item of an open channel. It is `Full` where it has no spelling.
 pub(crate) fn channel_item(name: Bytes, meta: ChannelMeta, carry: Bytes) -> Result<Item, WorkFault>

@@ -33,23 +33,12 @@ impl Drop for Files {
     }
 }
 
-fn copy_of(kept: &Kept) -> Result<Kept, NoMemory>
-    ensures { IfOk result (λ copy. copy ≡ kept.now) }
-{
-    Ok(Kept {
-        file: kept.file,
-        stanza: kept.stanza.copy()?,
-        key: kept.key.copy()?,
-        value: kept.value.copy()?,
-    })
-}
-
 /// Adds a setting, where it is of the file.
 fn add_of(file: u8, kept: &Kept, list: &mut KeptList) -> Result<(), NoMemory>
     ensures { OnOk result (list.new ≡ list.old ++ kept_at file kept.now) }
 {
     if kept.file == file {
-        list.push(copy_of(kept)?)?;
+        list.push(kept.copy()?)?;
     }
     Ok(())
 }

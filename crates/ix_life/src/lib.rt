@@ -3,6 +3,7 @@
 #![tactic(auto)]
 
 mod caps;
+mod copies;
 mod faults;
 mod housekeeping;
 mod kinds;
@@ -17,6 +18,7 @@ mod times;
 mod views;
 
 pub use caps::one_shortest;
+pub use copies::{copy_buckets, copy_indexes};
 pub use faults::LimitFault;
 pub use housekeeping::housekeep;
 pub use limits::Limits;

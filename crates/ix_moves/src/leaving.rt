@@ -17,30 +17,13 @@ use ix_life::EntryList;
 use ix_shelves::{Shelves, ascending_differ, put_changes};
 use std::alloc::Global;
 
-/// A copy of an entry.
-fn copied(entry: &Entry) -> Result<Entry, NoMemory>
-    ensures { IfOk result (λ copy. copy ≡ entry.now) }
-{
-    Ok(Entry {
-        index: entry.index.copy()?,
-        id: entry.id,
-        rule: entry.rule,
-        moment: entry.moment,
-        count: entry.count,
-        newest: entry.newest,
-        oldest: entry.oldest,
-        bytes: entry.bytes,
-        archive: entry.archive,
-    })
-}
-
 /// A copy of entries.
 fn copy_of(alloc: Global, entries: &[Entry]) -> Result<EntryList, NoMemory>
     ensures { IfOk result (λ copies. copies ≡ entries.now) }
 {
     let mut copies = Sequence::new(alloc);
     for entry in entries {
-        copies.push(copied(entry)?)?;
+        copies.push(entry.copy()?)?;
     }
     Ok(copies)
 }
@@ -69,7 +52,7 @@ impl Base<'_> {
     {
         let mut ledger = copy_of(self.alloc, self.here())?;
         for entry in more {
-            ledger.push(copied(entry)?)?;
+            ledger.push(entry.copy()?)?;
         }
         Ok(ledger)
     }

@@ -16,7 +16,6 @@ mod sorting;
 mod spots;
 mod whole;
 mod whole_channels;
-mod writable;
 
 pub use faults::RecallFault;
 pub use laws::logs_are_held;

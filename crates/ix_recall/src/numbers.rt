@@ -1,36 +1,15 @@
 //! What stands once in a state, as items: the settings, the moments, the counts and the number of the next file.
 
-ghost use Rattle.std.specs.Prelude.{◌≡◌, ◌++◌, ◌∷◌, [], IfOk, OnOk};
+ghost use Rattle.std.specs.Prelude.{◌≡◌, ◌++◌, ◌∷◌, [], OnOk};
 ghost use Rattle.std.specs.List.{AllByRecursion};
 ghost use Rattle.ix_items.specs.Spelling.{IsInRange};
 ghost use Rattle.ix_items.specs.declared.items.Item.TheVariants as items;
 ghost use Rattle.ix_recall.specs.Putting.{setting_items, count_items};
 
 use ix_base::{NoMemory, Sequence};
-use ix_items::{Item, Kept, KeptList};
+use ix_items::{Item, copy_settings};
 use ix_kept::Held;
 use std::alloc::Global;
-
-fn copy_kept(kept: &Kept) -> Result<Kept, NoMemory>
-    ensures { IfOk result (λ copy. copy ≡ kept.now) }
-{
-    Ok(Kept {
-        file: kept.file,
-        stanza: kept.stanza.copy()?,
-        key: kept.key.copy()?,
-        value: kept.value.copy()?,
-    })
-}
-
-fn copy_all(alloc: Global, kept: &[Kept]) -> Result<KeptList, NoMemory>
-    ensures { IfOk result (λ copies. copies ≡ kept.now) }
-{
-    let mut copies = Sequence::new(alloc);
-    for one in kept {
-        copies.push(copy_kept(one)?)?;
-    }
-    Ok(copies)
-}
 
 fn moments(last: i64, tick: i64) -> Item
     ensures value { result ≡ items.Moments last tick }
@@ -67,7 +46,7 @@ pub(crate) fn put_settings(
     ensures put { OnOk result (said.new ≡ said.old ++ setting_items held.now) }
     ensures ranged { OnOk result (AllByRecursion IsInRange (setting_items held.now)) }
 {
-    let kept = copy_all(alloc, held.config.kept.as_slice())?;
+    let kept = copy_settings(alloc, held.config.kept.as_slice())?;
     said.push(Item::Settings { kept })?;
     Ok(())
 }

@@ -46,22 +46,6 @@ pub(crate) fn put_buckets(indexes: &[IndexView], said: &mut Sequence<Item>) -> R
     Ok(())
 }
 
-fn copied(entry: &Entry) -> Result<Entry, NoMemory>
-    ensures { IfOk result (λ copy. copy ≡ entry.now) }
-{
-    Ok(Entry {
-        index: entry.index.copy()?,
-        id: entry.id,
-        rule: entry.rule,
-        moment: entry.moment,
-        count: entry.count,
-        newest: entry.newest,
-        oldest: entry.oldest,
-        bytes: entry.bytes,
-        archive: entry.archive,
-    })
-}
-
 /// The item of a bucket that was frozen.
 fn frozen(entry: Entry) -> Item
     ensures value { result ≡ items.Ledger entry }
@@ -76,7 +60,7 @@ pub(crate) fn put_entries(ledger: &[Entry], said: &mut Sequence<Item>) -> Result
     ensures ranged { OnOk result (AllByRecursion IsInRange (flat_map entry_item ledger.now)) }
 {
     for entry in ledger {
-        said.push(frozen(copied(entry)?))?;
+        said.push(frozen(entry.copy()?))?;
     }
     Ok(())
 }

@@ -7,7 +7,6 @@ mod files;
 mod judging;
 mod laws;
 mod listing;
-mod names;
 mod ranges;
 mod removed;
 mod replayed;

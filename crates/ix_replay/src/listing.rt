@@ -5,9 +5,29 @@ ghost use Rattle.ix_book.specs.Book.{empty, replay, after_item, name_of, is_same
 ghost use Rattle.ix_items.specs.declared.items.Item.{Item};
 ghost use Rattle.ix_replay.specs.Lists.{AreListed};
 
-use crate::names::{same_name, stays};
 use ix_base::NoMemory;
+use ix_book::same_name;
 use ix_items::Item;
+
+/// Whether the item is what stands under its name after it: not the end of a channel, nor a bucket that is gone.
+fn stays(item: &Item) -> bool
+    ensures { result ≡ is_there (left_by item.now) }
+{
+    match item {
+        Item::Ended { .. } | Item::Gone { .. } => false,
+        Item::Settings { .. }
+        | Item::Run { .. }
+        | Item::Moments { .. }
+        | Item::Channel { .. }
+        | Item::Bucket { .. }
+        | Item::Ledger { .. }
+        | Item::Counts { .. }
+        | Item::Spot { .. }
+        | Item::NextFile { .. }
+        | Item::Removals { .. }
+        | Item::NextId { .. } => true,
+    }
+}
 
 /// The place of the item under the name of this one, or the length where there is none. It looks from the end on: most
 /// items of a body stand for what has changed a short while ago, and that is at the end.

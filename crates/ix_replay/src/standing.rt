@@ -5,8 +5,8 @@ ghost use Rattle.ix_book.specs.Book.{empty, replay, named, name_of, is_same, run
 ghost use Rattle.ix_replay.specs.Amounts.{next_in};
 ghost use Rattle.ix_replay.specs.Lists.{AreListed};
 
-use crate::names::is_only;
 use ix_base::File;
+use ix_book::is_only;
 use ix_items::Item;
 
 /// The item of a kind of which one stands.

@@ -6,7 +6,7 @@ use ix_base::{Area, Bytes, File, Spot};
 use ix_items::{Bucket, Entry, Rule, State};
 use ix_life::{
     BucketList, EntryList, IndexView, IndexViewList, LimitFault, LimitSet, Limits, Target, View,
-    housekeep, place,
+    copy_indexes, housekeep, place,
 };
 use ix_monitor::{Input, InputFault, Inputs, Seen, Step, plan};
 use ix_report::listing;
@@ -560,9 +560,12 @@ fn view(alloc: Global) -> View {
     let main =
         "0 warm 120 -1 1500000 3; 1 hot 50 0 0 2; 2 quarantine 7 0 0 1; 3 cold 11 -1000000 -1000000 5; \
         4 thawed 13 -1000001 0 9";
-    let mut indexes = IndexViewList::new(alloc);
-    add_index(alloc, &mut indexes, b"main", main);
-    add_index(alloc, &mut indexes, b"web", "");
+    let mut made = IndexViewList::new(alloc);
+    add_index(alloc, &mut made, b"main", main);
+    add_index(alloc, &mut made, b"web", "");
+    // the listing is that of a copy
+    let indexes = copy_indexes(alloc, made.as_slice()).unwrap_or(IndexViewList::new(alloc));
+    drop(made);
     View {
         indexes,
         ledger: ledger(alloc),

@@ -73,23 +73,6 @@ fn put_gone(index: &Bytes, id: u64, items: &mut Sequence<Item>) -> Result<(), No
     items.push(gone(index, id)?)
 }
 
-/// A copy of an entry.
-fn copied(entry: &Entry) -> Result<Entry, NoMemory>
-    ensures { IfOk result (λ copy. copy ≡ entry.now) }
-{
-    Ok(Entry {
-        index: entry.index.copy()?,
-        id: entry.id,
-        rule: entry.rule,
-        moment: entry.moment,
-        count: entry.count,
-        newest: entry.newest,
-        oldest: entry.oldest,
-        bytes: entry.bytes,
-        archive: entry.archive,
-    })
-}
-
 /// The item of an entry of the ledger.
 fn ledger_item(entry: Entry) -> Item
     requires { IsWritable (Item.Ledger entry) }
@@ -247,7 +230,7 @@ fn put_entries(more: &[Entry], items: &mut Sequence<Item>) -> Result<(), NoMemor
     ensures proper { OnOk result (AllByRecursion HasSpelling (map Item.Ledger more.now)) }
 {
     for entry in more {
-        items.push(ledger_item(copied(entry)?))?;
+        items.push(ledger_item(entry.copy()?))?;
     }
     Ok(())
 }

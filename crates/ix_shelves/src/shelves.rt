@@ -6,9 +6,8 @@ ghost use Rattle.std.specs.List.{position};
 ghost use Rattle.std.specs.Str.{bytes_eq};
 ghost use Rattle.ix_life.specs.declared.views.IndexView.{IndexView};
 
-use ix_base::{NoMemory, Sequence};
-use ix_items::Bucket;
-use ix_life::{BucketList, IndexView, IndexViewList};
+use ix_base::NoMemory;
+use ix_life::{IndexView, IndexViewList, copy_indexes};
 use std::alloc::Global;
 
 /// The indexes with their buckets, the counts of events, and the number of the next file; what is seen of a store but its ledger.
@@ -34,32 +33,6 @@ pub fn place_of(indexes: &[IndexView], name: &[u8]) -> Option<usize>
     ensures within { IfSome result (λ k. k < length indexes.now) }
 {
     indexes.iter().position(|view| view.name.as_slice() == name)
-}
-
-fn copy_buckets(alloc: Global, buckets: &[Bucket]) -> Result<BucketList, NoMemory>
-    ensures { IfOk result (λ copy. copy ≡ buckets.now) }
-{
-    Ok(Sequence::from_vec(buckets.to_vec(alloc)?))
-}
-
-fn copy_index(alloc: Global, view: &IndexView) -> Result<IndexView, NoMemory>
-    ensures { IfOk result (λ copy. copy ≡ view.now) }
-{
-    Ok(IndexView {
-        name: view.name.copy()?,
-        limits: view.limits,
-        buckets: copy_buckets(alloc, view.buckets.as_slice())?,
-    })
-}
-
-fn copy_indexes(alloc: Global, indexes: &[IndexView]) -> Result<IndexViewList, NoMemory>
-    ensures { IfOk result (λ copies. copies ≡ indexes.now) }
-{
-    let mut copies = Sequence::new(alloc);
-    for view in indexes {
-        copies.push(copy_index(alloc, view)?)?;
-    }
-    Ok(copies)
 }
 
 impl Shelves {

@@ -1,6 +1,6 @@
 //! What a command makes of settings and spots. `working` calls it.
 
-ghost use Rattle.std.specs.Prelude.{◌≡◌, ◌<◌, ◌^◌, ◌↔◌, ◌∷◌, [], Some, None, All, IfOk, IfSome, IsTrue, IsErrOf};
+ghost use Rattle.std.specs.Prelude.{◌≡◌, ◌<◌, ◌^◌, ◌∷◌, [], Some, None, All, IfOk, IfSome, IsErrOf};
 ghost use Rattle.std.specs.List.{AllByRecursion};
 ghost use Rattle.ix_fields.specs.Spelling.{IsShort};
 ghost use Rattle.ix_items.specs.Spelling.{HasSpelling, IsKept};
@@ -14,64 +14,14 @@ ghost use Rattle.ix_steps.specs.declared.spots.SpotChange.TheVariants as changes
 
 use crate::spots::SpotChange;
 use crate::steps::{Beside, StepFault};
-use ix_base::{Bytes, NoMemory, Sequence, Spot};
-use ix_items::{Item, Kept, KeptList};
+use ix_base::{NoMemory, Sequence, Spot};
+use ix_items::{Item, KeptList, are_kept, copy_settings};
 use ix_kept::Held;
 use ix_machine::Config;
 use std::alloc::Global;
 
 /// What the lengths of texts in the log stay below.
 const LONG: usize = 4_294_967_296;
-
-fn is_short(text: &Bytes) -> bool
-    ensures { IsTrue result ↔ IsShort text.now }
-{
-    text.len() < LONG
-}
-
-/// Whether a setting can be written.
-fn is_kept(kept: &Kept) -> bool
-    ensures { IsTrue result ↔ IsKept kept.now }
-{
-    1 <= kept.file
-        && kept.file <= 4
-        && is_short(&kept.stanza)
-        && is_short(&kept.key)
-        && is_short(&kept.value)
-}
-
-/// Whether all of them can.
-fn are_kept(kept: &[Kept]) -> bool
-    ensures { IsTrue result ↔ All IsKept kept.now }
-{
-    for one in kept {
-        if !is_kept(one) {
-            return false;
-        }
-    }
-    true
-}
-
-fn copy_kept(kept: &Kept) -> Result<Kept, NoMemory>
-    ensures { IfOk result (λ copy. copy ≡ kept.now) }
-{
-    Ok(Kept {
-        file: kept.file,
-        stanza: kept.stanza.copy()?,
-        key: kept.key.copy()?,
-        value: kept.value.copy()?,
-    })
-}
-
-fn copy_all(alloc: Global, kept: &[Kept]) -> Result<KeptList, NoMemory>
-    ensures { IfOk result (λ copies. copies ≡ kept.now) }
-{
-    let mut copies = Sequence::new(alloc);
-    for one in kept {
-        copies.push(copy_kept(one)?)?;
-    }
-    Ok(copies)
-}
 
 /// The item of settings. It is `Full` where they cannot be written.
 fn settings_item(alloc: Global, kept: &KeptList) -> Result<Item, StepFault>
@@ -85,7 +35,7 @@ fn settings_item(alloc: Global, kept: &KeptList) -> Result<Item, StepFault>
     if !are_kept(kept.as_slice()) {
         return Err(StepFault::Full);
     }
-    let kept = copy_all(alloc, kept.as_slice())?;
+    let kept = copy_settings(alloc, kept.as_slice())?;
     Ok(Item::Settings { kept })
 }
 

@@ -4,8 +4,12 @@ ghost use Rattle.ix_items.specs.Spelling.{IsWritable};
 
 use crate::made::bytes_of;
 use crate::said::{compare, compare_none, note, say, shown};
-use ix_base::{Bytes, ChannelMeta, Spot};
-use ix_items::{Entry, Item, ItemFault, KeptList, one_item, one_list, read_item, write_item};
+use ix_base::{Bytes, ChannelMeta, Sequence, Spot};
+use ix_book::{is_only, same_name};
+use ix_items::{
+    Entry, Item, ItemFault, Kept, KeptList, are_kept, are_writable, copy_settings, is_short,
+    is_short_meta, one_item, one_list, read_item, write_item,
+};
 use std::alloc::Global;
 use std::process::Abort;
 
@@ -104,6 +108,14 @@ fn note_entry(text: &mut String, entry: &Entry) {
     note(text, entry.archive);
 }
 
+/// Writes what a copy of an entry says.
+fn note_copy(text: &mut String, entry: &Entry) {
+    if let Ok(copy) = entry.copy() {
+        note_entry(text, &copy);
+        drop(copy);
+    }
+}
+
 fn note_spot(text: &mut String, spot: &Spot) {
     note_bytes(text, "spot", &spot.path);
     say(text, shown(spot.head.as_slice()));
@@ -164,7 +176,7 @@ pub fn note_item(text: &mut String, item: &Item) {
             note_bytes(text, "gone", index);
             note(text, *id);
         }
-        Item::Ledger { entry } => note_entry(text, entry),
+        Item::Ledger { entry } => note_copy(text, entry),
         Item::Spot { spot } => note_spot(text, spot),
         Item::NextId { index, id } => {
             note_bytes(text, "next id", index);
@@ -279,6 +291,109 @@ fn items_said(alloc: Global, rows: &[&[u8]]) -> String {
 #[test]
 fn bytes_that_are_no_item_are_refused(rt: HostRuntime) {
     compare_none(&rt, items_said(rt.alloc(), &BAD));
+}
+
+/// What is said of a setting of this file: its copy, and whether it can be written.
+fn setting_said(alloc: Global, file: u8) -> String {
+    let mut text = String::new(alloc);
+    let mut list = KeptList::new(alloc);
+    let _ = list.push(Kept {
+        file,
+        stanza: bytes_of(alloc, b"s1"),
+        key: bytes_of(alloc, b"k"),
+        value: bytes_of(alloc, b"v"),
+    });
+    if let Ok(copies) = copy_settings(alloc, list.as_slice()) {
+        for one in copies.as_slice() {
+            note(&mut text, one.file);
+            note_bytes(&mut text, "stanza", &one.stanza);
+            note_bytes(&mut text, "key", &one.key);
+            note_bytes(&mut text, "value", &one.value);
+        }
+        note(&mut text, are_kept(copies.as_slice()));
+        drop(copies);
+    }
+    drop(list);
+    text
+}
+
+#[test]
+fn settings_are_copied_and_one_of_file_5_cannot_be_written(rt: HostRuntime) {
+    let alloc = rt.alloc();
+    compare(
+        &rt,
+        setting_said(alloc, 4),
+        "4 stanza s1 key k value v true ",
+    );
+    compare(
+        &rt,
+        setting_said(alloc, 5),
+        "5 stanza s1 key k value v false ",
+    );
+}
+
+/// Whether an item can be written, and for a channel whether its name and what it states are short.
+fn writable_said(alloc: Global, row: &[u8]) -> String {
+    let mut text = String::new(alloc);
+    let mut list = Sequence::new(alloc);
+    if let Ok((item, _)) = read_item(alloc, row) {
+        let _ = list.push(item);
+    }
+    note(&mut text, are_writable(list.as_slice()));
+    for item in list.as_slice() {
+        if let Item::Channel { name, meta, .. } = item {
+            note(&mut text, is_short(name) && is_short_meta(meta));
+        }
+    }
+    drop(list);
+    text
+}
+
+#[test]
+fn what_was_read_can_be_written(rt: HostRuntime) {
+    let alloc = rt.alloc();
+    compare(&rt, writable_said(alloc, ROWS[4].0), "true true ");
+    compare(&rt, writable_said(alloc, ROWS[8].0), "true ");
+}
+
+/// Whether the items of two rows stand under one name, and whether the first one is what stands once of its kind.
+fn names_said(alloc: Global, first: &[u8], second: &[u8], kind: u8) -> String {
+    let mut text = String::new(alloc);
+    if let Ok((one, _)) = read_item(alloc, first) {
+        note(&mut text, is_only(&one, kind));
+        if let Ok((other, _)) = read_item(alloc, second) {
+            note(&mut text, same_name(&one, &other));
+            drop(other);
+        }
+        drop(one);
+    }
+    text
+}
+
+#[test]
+fn an_item_replaces_what_stands_under_its_name(rt: HostRuntime) {
+    let alloc = rt.alloc();
+    // a channel and its end, a bucket and its going, and that bucket's place in the ledger
+    compare(
+        &rt,
+        names_said(alloc, ROWS[4].0, ROWS[5].0, 4),
+        "false true ",
+    );
+    compare(
+        &rt,
+        names_said(alloc, ROWS[6].0, ROWS[7].0, 6),
+        "false true ",
+    );
+    compare(
+        &rt,
+        names_said(alloc, ROWS[7].0, ROWS[8].0, 6),
+        "false false ",
+    );
+    compare(
+        &rt,
+        names_said(alloc, ROWS[0].0, ROWS[1].0, 1),
+        "true true ",
+    );
 }
 
 fn first_body(alloc: Global) -> String {

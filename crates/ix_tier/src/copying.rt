@@ -3,38 +3,11 @@
 ghost use Rattle.std.specs.Prelude.{◌≡◌, None, IfOk};
 ghost use Rattle.ix_kept.specs.Held.{shelves_of};
 
-use ix_base::{NoMemory, Sequence};
-use ix_items::Bucket;
+use ix_base::NoMemory;
 use ix_kept::{Held, Storage};
-use ix_life::{BucketList, IndexView, IndexViewList};
+use ix_life::copy_indexes;
 use ix_shelves::Shelves;
 use std::alloc::Global;
-
-fn copy_buckets(alloc: Global, buckets: &[Bucket]) -> Result<BucketList, NoMemory>
-    ensures { IfOk result (λ copy. copy ≡ buckets.now) }
-{
-    Ok(Sequence::from_vec(buckets.to_vec(alloc)?))
-}
-
-fn copy_index(alloc: Global, view: &IndexView) -> Result<IndexView, NoMemory>
-    ensures { IfOk result (λ copy. copy ≡ view.now) }
-{
-    Ok(IndexView {
-        name: view.name.copy()?,
-        limits: view.limits,
-        buckets: copy_buckets(alloc, view.buckets.as_slice())?,
-    })
-}
-
-fn copy_indexes(alloc: Global, indexes: &[IndexView]) -> Result<IndexViewList, NoMemory>
-    ensures { IfOk result (λ copies. copies ≡ indexes.now) }
-{
-    let mut copies = Sequence::new(alloc);
-    for view in indexes {
-        copies.push(copy_index(alloc, view)?)?;
-    }
-    Ok(copies)
-}
 
 fn copy_shelves(alloc: Global, held: &Held) -> Result<Shelves, NoMemory>
     ensures { IfOk result (λ shelves. shelves ≡ shelves_of held.now) }

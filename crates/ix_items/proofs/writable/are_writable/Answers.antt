@@ -3,7 +3,7 @@ use Rattle.std.specs.Prelude.{All}
 use Rattle.std.proofs.lemmas.List.{take_all}
 use Rattle.std.proofs.lemmas.List.Elements.{All-more}
 use Rattle.ix_items.specs.Spelling.{IsWritable}
-use Rattle.ix_recall.proofs.writable.are_writable.Goals as goal
+use Rattle.ix_items.proofs.writable.are_writable.Goals as goal
 
 pub loop-item-preserved : goal.loop-item-preserved
 loop-item-preserved c =

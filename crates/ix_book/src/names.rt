@@ -1,7 +1,7 @@
-//! The names that items stand under. The list of what stands compares them.
+//! The names that items stand under. The staged items are compared by them, and so is the list of what a mount has replayed.
 
 ghost use Rattle.std.specs.Prelude.{◌≡◌, []};
-ghost use Rattle.ix_book.specs.Book.{name_of, named, is_same, left_by, is_there};
+ghost use Rattle.ix_book.specs.Book.{name_of, named, is_same};
 
 use ix_items::Item;
 
@@ -63,36 +63,17 @@ fn number(item: &Item) -> u64
     }
 }
 
-/// Whether the two stand under one name. The numbers are compared first, since they tell most names apart.
+/// Whether the two items stand under one name, so that the later one replaces the other. The numbers are compared first, since they tell most names apart.
 pub fn same_name(a: &Item, b: &Item) -> bool
     ensures { result ≡ is_same (name_of a.now) (name_of b.now) }
 {
     number(a) == number(b) && kind(a) == kind(b) && text(a) == text(b)
 }
 
-/// Whether the item stands under a kind alone, as one does of which there is one.
+/// Whether the item stands under a kind alone, as one does of which a state has one: the settings, the run, the moments, the counts, the
+/// number of the next file and the removals.
 pub fn is_only(item: &Item, of: u8) -> bool
     ensures { result ≡ is_same (name_of item.now) (named of [] 0) }
 {
     kind(item) == of && text(item).is_empty() && number(item) == 0
-}
-
-/// Whether the item is what stands under its name after it: not the end of a channel, nor a bucket that is gone.
-pub fn stays(item: &Item) -> bool
-    ensures { result ≡ is_there (left_by item.now) }
-{
-    match item {
-        Item::Ended { .. } | Item::Gone { .. } => false,
-        Item::Settings { .. }
-        | Item::Run { .. }
-        | Item::Moments { .. }
-        | Item::Channel { .. }
-        | Item::Bucket { .. }
-        | Item::Ledger { .. }
-        | Item::Counts { .. }
-        | Item::Spot { .. }
-        | Item::NextFile { .. }
-        | Item::Removals { .. }
-        | Item::NextId { .. } => true,
-    }
 }

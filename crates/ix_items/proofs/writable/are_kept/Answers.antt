@@ -3,7 +3,7 @@ use Rattle.std.specs.Prelude.{All}
 use Rattle.std.proofs.lemmas.List.{take_all}
 use Rattle.std.proofs.lemmas.List.Elements.{All-more}
 use Rattle.ix_items.specs.Spelling.{IsKept}
-use Rattle.ix_steps.proofs.settings.are_kept.Goals as goal
+use Rattle.ix_items.proofs.writable.are_kept.Goals as goal
 
 pub loop-one-preserved : goal.loop-one-preserved
 loop-one-preserved c =

@@ -1,4 +1,5 @@
-//! Whether items can be written. Those of a state that commands lead to can.
+//! Whether items can be written: no text or list in them is too long for the four bytes of its length, and the numbers of files and archives
+//! are such as a log has. Who makes items of what callers send asks these calls first, since `write_item` takes none that cannot be written.
 
 ghost use Rattle.std.specs.Prelude.{◌≡◌, ◌≢◌, ◌↔◌, All, IsTrue, Some};
 ghost use Rattle.std.specs.List.{AllByRecursion};
@@ -6,13 +7,14 @@ ghost use Rattle.ix_fields.specs.Spelling.{IsShort as IsShortText, IsShortOption
 ghost use Rattle.ix_items.specs.Spelling.{IsKept, IsMeta, IsWritable};
 ghost use Rattle.ix_items.specs.declared.items.Item.TheVariants as items;
 
+use crate::items::{Entry, Item, Kept, KeptList};
 use ix_base::{Bytes, ChannelMeta};
-use ix_items::{Entry, Item, Kept, KeptList};
 
 /// What the lengths of texts and lists in a log stay below.
 const LONG: usize = 4_294_967_296;
 
-fn is_short(text: &Bytes) -> bool
+/// Whether a text can be written: it has fewer than 4,294,967,296 bytes.
+pub fn is_short(text: &Bytes) -> bool
     ensures { IsTrue result ↔ IsShortText text.now }
 {
     text.len() < LONG
@@ -27,7 +29,8 @@ fn is_short_option(text: &Option<Bytes>) -> bool
     }
 }
 
-fn is_meta(meta: &ChannelMeta) -> bool
+/// Whether what a channel states of itself can be written: each of its texts is short.
+pub fn is_short_meta(meta: &ChannelMeta) -> bool
     ensures { IsTrue result ↔ IsMeta meta.now }
 {
     is_short(&meta.host)
@@ -36,6 +39,7 @@ fn is_meta(meta: &ChannelMeta) -> bool
         && is_short_option(&meta.index)
 }
 
+/// Whether a setting can be written: its file is one of the four, and its texts are short.
 fn is_kept(kept: &Kept) -> bool
     ensures { IsTrue result ↔ IsKept kept.now }
 {
@@ -46,7 +50,8 @@ fn is_kept(kept: &Kept) -> bool
         && is_short(&kept.value)
 }
 
-fn are_kept(kept: &[Kept]) -> bool
+/// Whether settings can be written, each by itself. A list of them has to be short as well.
+pub fn are_kept(kept: &[Kept]) -> bool
     ensures { IsTrue result ↔ All IsKept kept.now }
 {
     for one in kept {
@@ -66,7 +71,7 @@ fn are_settings(kept: &KeptList) -> bool
 fn is_channel(name: &Bytes, meta: &ChannelMeta, carry: &Bytes) -> bool
     ensures { IsTrue result ↔ IsWritable (items.Channel name.now meta.now carry.now) }
 {
-    is_short(name) && is_meta(meta) && is_short(carry)
+    is_short(name) && is_short_meta(meta) && is_short(carry)
 }
 
 /// Whether the number of an archive is not 0.
@@ -104,8 +109,8 @@ fn is_writable(item: &Item) -> bool
     }
 }
 
-/// Whether all of them can.
-pub(crate) fn are_writable(list: &[Item]) -> bool
+/// Whether all of these items can be written.
+pub fn are_writable(list: &[Item]) -> bool
     ensures { IsTrue result ↔ All IsWritable list.now }
 {
     for item in list {
