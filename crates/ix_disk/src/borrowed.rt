@@ -2,7 +2,7 @@
 
 ghost use Rattle.std.specs.Prelude.{◌≡◌};
 
-use crate::Disk;
+use crate::{Disk, LockFault};
 use ix_base::{Failed, File};
 
 impl<D: Disk> Disk for &mut D {
@@ -16,11 +16,19 @@ impl<D: Disk> Disk for &mut D {
 
     ghost faults = { λ d. D.Disk.faults d.now };
 
+    ghost in_use = { λ d. D.Disk.in_use d.now };
+
+    ghost refused = { λ d. D.Disk.refused d.now };
+
     ghost seen_may_stay = { λ d image is. D.Disk.seen_may_stay d.now image is };
 
     ghost counts_now = { λ d t image le left. D.Disk.counts_now d.now t image le left };
 
     ghost only_now = { λ d image left. D.Disk.only_now d.now image left };
+
+    fn lock(&mut self) -> Result<(), LockFault> {
+        Disk::lock(&mut **self)
+    }
 
     fn length(&mut self, file: File) -> Result<u64, Failed> {
         Disk::length(&mut **self, file)

@@ -1,11 +1,32 @@
 //! The disk, as the layers above see it.
 
-ghost use Rattle.std.specs.Prelude.{◌≡◌, ◌≤◌, ◌<◌, ◌+◌, ◌-◌, ◌^◌, ◌++◌, ℕ, List, length, take, drop, min, Option, Some, IfOk, OnOk, OnErr};
+ghost use Rattle.std.specs.Prelude.{◌≡◌, ◌≢◌, ◌≤◌, ◌<◌, ◌+◌, ◌-◌, ◌^◌, ◌++◌, ℕ, List, length, take, drop, min, Bool, true, false, Option, Some, IfOk, OnOk, OnErr, IsErrOf};
 ghost use Rattle.ix_disk.specs.Image.{Image, bytes_in, MayWrite, Writes, MayRemove, Removes, Stays, Passes};
 ghost use Rattle.ix_base.specs.Told.{Told};
 ghost use Rattle.ix_base.specs.Faults.{HasCause};
+ghost use Rattle.ix_disk.specs.Locks.{KeepsLock, HasLockCause};
+ghost use Rattle.ix_disk.specs.declared.disk.LockFault.TheVariants.{InUse};
 
 use ix_base::{Failed, File};
+
+/// Why a program does not get a disk for itself.
+#[derive(Clone, Copy, Debug, PartialEq, Eq)]
+pub enum LockFault {
+    /// Another program has it.
+    InUse,
+    /// The disk failed.
+    Failed,
+}
+
+impl From<Failed> for LockFault {
+    ghost use Rattle.ix_disk.specs.declared.disk.LockFault.TheVariants.{Failed as failed};
+
+    ghost from_gives = { λ _ fault. fault ≡ failed };
+
+    fn from(_: Failed) -> LockFault {
+        LockFault::Failed
+    }
+}
 
 /// Files under a name each, and what a crash may leave of them.
 ///
@@ -15,7 +36,9 @@ use ix_base::{Failed, File};
 /// back. After a sync that succeeds a crash leaves the file as a read gives it. Files do not depend on each other.
 ///
 /// The ghost members say so of an image, which is what a disk holds: the bytes of each file, or that it is missing. A disk
-/// may tell nothing of what its files hold; then it tells no image either, and only its count of faults is kept.
+/// may tell nothing of what its files hold; then it tells no image either, and only its counts are kept.
+///
+/// One program at a time has a disk for itself, from its `lock` to its end.
 pub trait Disk {
     /// What a read gives, where the disk tells it.
     ghost seen: { Self → Option Image };
@@ -32,6 +55,22 @@ pub trait Disk {
     /// How often the disk has failed. A count that has come to 2^64 - 1 may stand there.
     ghost faults: { Self → ℕ };
 
+    /// Whether another program has the disk, where the disk knows.
+    ghost in_use: { Self → Option Bool };
+
+    /// How often the disk has answered that another program has it. A count that has come to 2^64 - 1 may stand there.
+    ghost refused: { Self → ℕ };
+
+    /// Takes the disk for this program alone, before anything is read or written, and keeps it. Where the disk knows whether
+    /// another program has it, it answers `InUse` exactly where one has. Nothing that the files hold is read or changed.
+    fn lock(&mut self) -> Result<(), LockFault>
+        ensures taken { in_use self.old ≡ Some true → IsErrOf result InUse }
+        ensures free { IsErrOf result InUse → in_use self.old ≢ Some false }
+        ensures use_stays { in_use self.new ≡ in_use self.old }
+        ensures same { seen self.new ≡ seen self.old }
+        ensures images { Passes may_leave moment left_since self.old self.new Stays }
+        ensures cause { HasLockCause (faults self.old) (faults self.new) (refused self.old) (refused self.new) result };
+
     /// How many bytes the file has, fewer than 2^63; a missing one has none. It answers `Failed` where the disk failed, as
     /// each call here.
     fn length(&mut self, file: File) -> Result<u64, Failed>
@@ -39,7 +78,8 @@ pub trait Disk {
         ensures bounded { IfOk result (λ n. n < 2 ^ 63) }
         ensures same { seen self.new ≡ seen self.old }
         ensures images { Passes may_leave moment left_since self.old self.new Stays }
-        ensures cause { HasCause (faults self.old) (faults self.new) result };
+        ensures cause { HasCause (faults self.old) (faults self.new) result }
+        ensures lock { KeepsLock (in_use self.old) (in_use self.new) (refused self.old) (refused self.new) };
 
     /// Reads what stands from the place on into the front of the buffer, as much as there is room for, and answers how many
     /// bytes that are: none where the file is missing or ends before.
@@ -50,7 +90,8 @@ pub trait Disk {
             × (buf.new ≡ take n (drop at (bytes_in image file)) ++ drop n buf.old)) }
         ensures same { seen self.new ≡ seen self.old }
         ensures images { Passes may_leave moment left_since self.old self.new Stays }
-        ensures cause { HasCause (faults self.old) (faults self.new) result };
+        ensures cause { HasCause (faults self.old) (faults self.new) result }
+        ensures lock { KeepsLock (in_use self.old) (in_use self.new) (refused self.old) (refused self.new) };
 
     /// Writes over what stands from the place on, and past the end. The place is within the file or at its end. It makes a
     /// missing file. It fails where the file would come to 2^63 bytes. After `Failed` any part of it may have happened.
@@ -60,14 +101,16 @@ pub trait Disk {
         ensures begun { OnErr result (Told (MayWrite file at (length bytes.now)) (seen self.old) (seen self.new)) }
         ensures bounded { OnOk result (at + length bytes.now < 2 ^ 63) }
         ensures images { Passes may_leave moment left_since self.old self.new (MayWrite file at (length bytes.now)) }
-        ensures cause { HasCause (faults self.old) (faults self.new) result };
+        ensures cause { HasCause (faults self.old) (faults self.new) result }
+        ensures lock { KeepsLock (in_use self.old) (in_use self.new) (refused self.old) (refused self.new) };
 
     /// After it a crash leaves the file as a read gives it, and a missing file is missing. After `Failed` nothing is settled.
     fn sync(&mut self, file: File) -> Result<(), Failed>
         ensures settled { OnOk result ((image : Image) → may_leave self.new image → (read : Image) × (seen self.new ≡ Some read) × (image file ≡ read file)) }
         ensures same { seen self.new ≡ seen self.old }
         ensures images { Passes may_leave moment left_since self.old self.new Stays }
-        ensures cause { HasCause (faults self.old) (faults self.new) result };
+        ensures cause { HasCause (faults self.old) (faults self.new) result }
+        ensures lock { KeepsLock (in_use self.old) (in_use self.new) (refused self.old) (refused self.new) };
 
     /// Removes the file, and leaves a missing one missing. Until a sync of it a crash may bring it back. After `Failed` it
     /// is there or removed.
@@ -75,7 +118,8 @@ pub trait Disk {
         ensures removed { OnOk result (Told (Removes file) (seen self.old) (seen self.new)) }
         ensures begun { OnErr result (Told (MayRemove file) (seen self.old) (seen self.new)) }
         ensures images { Passes may_leave moment left_since self.old self.new (MayRemove file) }
-        ensures cause { HasCause (faults self.old) (faults self.new) result };
+        ensures cause { HasCause (faults self.old) (faults self.new) result }
+        ensures lock { KeepsLock (in_use self.old) (in_use self.new) (refused self.old) (refused self.new) };
 
     /// What a read gives is one of the images.
     ghost seen_may_stay: { (disk : Self) (image : Image) → seen disk ≡ Some image → may_leave disk image };

@@ -2,12 +2,13 @@
 
 ghost use Rattle.std.specs.Prelude.{◌<◌};
 
+use crate::machine::{Reason, done, if_there, reason_of};
 use crate::paths::folder_of;
-use ix_base::{Area, Failed};
-use std::fs::OpenFile;
+use ix_base::Area;
+use std::fs::{self, DirBuilder, OpenFile, Permissions};
 use std::io::ErrorKind;
+use std::os::unix::fs::{DirBuilderExt, PermissionsExt};
 use std::rt::Files;
-use std::{fs, io};
 
 /// Which folders may have names in them that no sync has put on the disk.
 #[derive(Drop)]
@@ -18,6 +19,9 @@ pub struct Folders {
     /// The current folder, where `var` stands.
     current: bool,
 }
+
+/// Only the user that the program runs as may look into a folder that it makes.
+const FOLDER_MODE: u32 = 0o700;
 
 /// The number of an area.
 fn number_of(area: Area) -> usize
@@ -32,34 +36,24 @@ fn number_of(area: Area) -> usize
     }
 }
 
-/// What a call of the system gave, or that it failed: the disk tells nobody why.
-pub fn done<T: Drop>(given: io::Result<T>) -> Result<T, Failed> {
-    match given {
-        Ok(value) => Ok(value),
-        Err(_) => Err(Failed),
-    }
-}
-
-/// Nothing in place of the error that something is missing.
-pub fn if_there<T: Drop>(found: io::Result<T>) -> Result<Option<T>, Failed> {
-    match found {
-        Ok(value) => Ok(Some(value)),
-        Err(fault) if fault.kind() == ErrorKind::NotFound => Ok(None),
-        Err(_) => Err(Failed),
-    }
-}
-
-/// Makes a folder where it is missing, and tells whether it did.
-fn make_folder<R: Files>(rt: &R, path: &str) -> Result<bool, Failed> {
-    match fs::create_dir(rt, path) {
-        Ok(()) => Ok(true),
-        Err(fault) if fault.kind() == ErrorKind::AlreadyExists => Ok(false),
-        Err(_) => Err(Failed),
+/// Makes a folder where it is missing, with the same mode under any mask of the process, and notes that a name has come
+/// into the folder above it.
+fn make_folder<R: Files>(rt: &R, path: &str, changed: &mut bool) -> Result<(), Reason> {
+    let mut how = DirBuilder::new();
+    how.mode(FOLDER_MODE);
+    match how.create(rt, path) {
+        Ok(()) => {
+            *changed = true;
+            let mode = Permissions::from_mode(FOLDER_MODE);
+            done(fs::set_permissions(rt, path, mode))
+        }
+        Err(fault) if fault.kind() == ErrorKind::AlreadyExists => Ok(()),
+        Err(fault) => Err(reason_of(&fault)),
     }
 }
 
 /// Syncs what is open. Where that fails, bytes are lost.
-pub fn sync_open<H: OpenFile>(open: &H, lost: &mut bool) -> Result<(), Failed> {
+pub fn sync_open<H: OpenFile>(open: &H, lost: &mut bool) -> Result<(), Reason> {
     let synced = done(open.sync_all());
     if synced.is_err() {
         *lost = true;
@@ -68,15 +62,13 @@ pub fn sync_open<H: OpenFile>(open: &H, lost: &mut bool) -> Result<(), Failed> {
 }
 
 /// Syncs a file.
-pub fn sync_path<R: Files>(rt: &R, path: &str, lost: &mut bool) -> Result<(), Failed> {
-    match fs::open(rt, path) {
-        Ok(file) => sync_open(&file, lost),
-        Err(_) => Err(Failed),
-    }
+pub fn sync_path<R: Files>(rt: &R, path: &str, lost: &mut bool) -> Result<(), Reason> {
+    let file = done(fs::open(rt, path))?;
+    sync_open(&file, lost)
 }
 
 /// Syncs a folder, where it is there.
-fn sync_folder<R: Files>(rt: &R, path: &str, lost: &mut bool) -> Result<(), Failed> {
+fn sync_folder<R: Files>(rt: &R, path: &str, lost: &mut bool) -> Result<(), Reason> {
     match if_there(fs::open(rt, path))? {
         Some(folder) => sync_open(&folder, lost),
         None => Ok(()),
@@ -89,7 +81,7 @@ fn settle_folder<R: Files>(
     path: &str,
     changed: &mut bool,
     lost: &mut bool,
-) -> Result<(), Failed> {
+) -> Result<(), Reason> {
     if *changed {
         sync_folder(rt, path, lost)?;
         *changed = false;
@@ -112,19 +104,19 @@ impl Folders {
         self.areas[number_of(area)] = true;
     }
 
+    /// Makes `var` where it is missing.
+    pub fn make_var<R: Files>(&mut self, rt: &R) -> Result<(), Reason> {
+        make_folder(rt, "var", &mut self.current)
+    }
+
     /// Makes the folder of the area, and `var`, where they are missing.
-    pub fn make<R: Files>(&mut self, rt: &R, area: Area) -> Result<(), Failed> {
-        if make_folder(rt, "var")? {
-            self.current = true;
-        }
-        if make_folder(rt, folder_of(area))? {
-            self.var = true;
-        }
-        Ok(())
+    pub fn make<R: Files>(&mut self, rt: &R, area: Area) -> Result<(), Reason> {
+        self.make_var(rt)?;
+        make_folder(rt, folder_of(area), &mut self.var)
     }
 
     /// Syncs the folder of the area and those above it, where names in them changed.
-    pub fn settle<R: Files>(&mut self, rt: &R, area: Area, lost: &mut bool) -> Result<(), Failed> {
+    pub fn settle<R: Files>(&mut self, rt: &R, area: Area, lost: &mut bool) -> Result<(), Reason> {
         settle_folder(rt, folder_of(area), &mut self.areas[number_of(area)], lost)?;
         settle_folder(rt, "var", &mut self.var, lost)?;
         settle_folder(rt, ".", &mut self.current, lost)

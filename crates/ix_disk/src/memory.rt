@@ -1,17 +1,18 @@
 //! A disk in memory, which can crash.
 
-ghost use Rattle.std.specs.Prelude.{◌≡◌, ◌≤◌, ◌<◌, ◌-◌, ◌+◌, ◌^◌, ◌++◌, [], ◌∷◌, ℕ, List, ◌⊎◌, length, take, drop, min, Option, Some, None, true, false, IfOk, OnOk, OnErr, count_by};
+ghost use Rattle.std.specs.Prelude.{◌≡◌, ◌≤◌, ◌<◌, ◌-◌, ◌+◌, ◌^◌, ◌++◌, [], ◌∷◌, ℕ, List, ◌⊎◌, length, take, drop, min, Option, Some, None, true, false, ◌≢◌, ◌↔◌, IfOk, OnOk, OnErr, IsErr, IsErrOf, IsTrue, count_by};
 ghost use Rattle.std.proofs.Props.{props};
 ghost use Rattle.ix_base.specs.Faults.{HasCause, Rose};
 ghost use Rattle.ix_base.specs.Told.{Told};
 ghost use Rattle.ix_base.specs.declared.files.File.{File};
 ghost use Rattle.ix_disk.specs.Contents.{present, torn_in};
 ghost use Rattle.ix_disk.specs.Memory.{seen_after, torn_after};
+ghost use Rattle.ix_disk.specs.Locks.{KeepsLock, HasLockCause};
 ghost use Rattle.ix_disk.specs.Image.{Image, nothing, bytes_in, MayWrite, Writes, MayRemove, Removes, Stays};
 
-use crate::Disk;
 use crate::contents::Contents;
 use crate::past::{Call, Past};
+use crate::{Disk, LockFault};
 use ix_base::{Bytes, FailPlan, Failed, File, NoMemory};
 use std::alloc::Global;
 
@@ -22,6 +23,10 @@ pub struct MemDisk {
     /// The record of its calls, and which are to fail.
     past: Past,
     files: Contents,
+    /// Another program has the disk.
+    in_use: bool,
+    /// How often it has answered so. It stands at 2^64 - 1.
+    refused: u64,
     ghost seen_is: { (file : File) → present files.files.items file ≡ seen_after past.calls.items file } by { Prim.hlevel props },
     ghost torn_is: { (file : File) → torn_in files.files.items file ≡ torn_after past.calls.items file } by { Prim.hlevel props },
 }
@@ -33,6 +38,8 @@ impl Drop for MemDisk {
             alloc: _,
             past: _,
             files: _,
+            in_use: _,
+            refused: _,
         } = self;
     }
 }
@@ -54,7 +61,7 @@ fn copy_from(bytes: &[u8], at: u64, buf: &mut [u8]) -> usize
 }
 
 impl MemDisk {
-    /// An empty disk, whose calls fail by the plan.
+    /// An empty disk, whose calls fail by the plan. No other program has it.
     pub fn new(alloc: Global, plan: FailPlan) -> Self
         ensures seen { ⟦<MemDisk as Disk>⟧.seen result ≡ Some nothing }
         ensures left { (image : Image) → ⟦<MemDisk as Disk>⟧.may_leave result image → image ≡ nothing }
@@ -62,6 +69,8 @@ impl MemDisk {
         ensures calls { result.past.calls.items ≡ [] }
         ensures plan { result.past.plan ≡ plan }
         ensures shortages { result.past.shortages ≡ 0 }
+        ensures free { ⟦<MemDisk as Disk>⟧.in_use result ≡ Some false }
+        ensures refused { ⟦<MemDisk as Disk>⟧.refused result ≡ 0 }
     {
         MemDisk {
             alloc,
@@ -71,7 +80,25 @@ impl MemDisk {
                 shortages: 0,
             },
             files: Contents::new(alloc),
+            in_use: false,
+            refused: 0,
         }
+    }
+
+    /// Tells the disk whether another program has it.
+    pub fn set_in_use(&mut self, in_use: bool)
+        ensures told { ⟦<MemDisk as Disk>⟧.in_use self.new ≡ Some in_use }
+        ensures past { self.new.past ≡ self.old.past }
+        ensures refused { ⟦<MemDisk as Disk>⟧.refused self.new ≡ ⟦<MemDisk as Disk>⟧.refused self.old }
+    {
+        self.in_use = in_use;
+    }
+
+    /// How often the disk has answered that another program has it.
+    pub fn refused(&self) -> u64
+        ensures { result ≡ ⟦<MemDisk as Disk>⟧.refused self.now }
+    {
+        self.refused
     }
 }
 
@@ -113,6 +140,7 @@ impl MemDisk {
         ensures left { IfOk result (λ disk. (image : Image) → ⟦<MemDisk as Disk>⟧.may_leave disk image → ⟦<MemDisk as Disk>⟧.may_leave self.now image) }
         ensures plan { IfOk result (λ disk. (disk.past.plan.calls ≡ 0) × (disk.past.plan.failing.items ≡ [])) }
         ensures faults { IfOk result (λ disk. ⟦<MemDisk as Disk>⟧.faults disk ≡ 0) }
+        ensures free { IfOk result (λ disk. ⟦<MemDisk as Disk>⟧.in_use disk ≡ Some false) }
     {
         let contents = self.files.left(torn)?;
         let disk = MemDisk::made(self.alloc, contents)?;
@@ -125,6 +153,7 @@ impl MemDisk {
         ensures one { IfOk result (λ disk. (image : Image) → LeftBy disk.past.calls.items image → (file : File) → image file ≡ present contents.files.items file) }
         ensures plan { IfOk result (λ disk. (disk.past.plan.calls ≡ 0) × (disk.past.plan.failing.items ≡ [])) }
         ensures faults { IfOk result (λ disk. disk.past.plan.faults ≡ 0) }
+        ensures free { IfOk result (λ disk. disk.in_use ≡ false) }
     {
         let files = contents.left(false)?;
         let mut calls = Vec::new(alloc);
@@ -137,6 +166,8 @@ impl MemDisk {
                 shortages: 0,
             },
             files,
+            in_use: false,
+            refused: 0,
         })
     }
 }
@@ -154,6 +185,7 @@ impl MemDisk {
         ensures later { self.old.past.plan.faults ≤ self.new.past.plan.faults }
         ensures number { self.new.past.plan.calls ≡ self.old.past.plan.calls }
         ensures list { self.new.past.plan.failing ≡ self.old.past.plan.failing }
+        ensures lock { KeepsLock (Some self.old.in_use) (Some self.new.in_use) self.old.refused self.new.refused }
     {
         let Ok(()) = self.files.mark(file, at as usize, bytes.len()) else {
             return self.past.run_short();
@@ -177,6 +209,7 @@ impl MemDisk {
         ensures cause { HasCause self.old.past.plan.faults self.new.past.plan.faults result }
         ensures number { self.new.past.plan.calls ≡ self.old.past.plan.calls }
         ensures list { self.new.past.plan.failing ≡ self.old.past.plan.failing }
+        ensures lock { KeepsLock (Some self.old.in_use) (Some self.new.in_use) self.old.refused self.new.refused }
     {
         let Ok(()) = self.files.write(file, at as usize, bytes.as_slice()) else {
             return Err(self.past.run_short());
@@ -192,9 +225,10 @@ impl MemDisk {
 }
 
 impl Disk for MemDisk {
-    ghost use Rattle.ix_base.specs.Plans.{CountsCall};
+    ghost use Rattle.ix_base.specs.Plans.{is_due, CountsCall};
     ghost use Rattle.ix_disk.specs.Memory.{LeftBy, LeftSince, Grows, memory_seen_stays, memory_counts_now, memory_only_now};
     ghost use Rattle.ix_disk.specs.Recorded.{Recorded};
+    ghost use Rattle.ix_disk.specs.declared.disk.LockFault.TheVariants.{InUse};
     ghost use Rattle.ix_disk.specs.declared.past.Call.TheVariants.{Wrote, Settled, Removed, Asked};
 
     ghost seen = { λ d. Some (seen_after d.past.calls.items) };
@@ -207,11 +241,38 @@ impl Disk for MemDisk {
 
     ghost faults = { λ d. d.past.plan.faults };
 
+    ghost in_use = { λ d. Some d.in_use };
+
+    ghost refused = { λ d. d.refused };
+
     ghost seen_may_stay = { λ d image is. memory_seen_stays d.past.calls.items image is };
 
     ghost counts_now = { λ d t image le left. memory_counts_now d.past.calls.items t image le left };
 
     ghost only_now = { λ d image left. memory_only_now d.past.calls.items image left };
+
+    /// It is not in the record, which has the calls on files. Where no other program has the disk, it fails where the call
+    /// is due to fail.
+    fn lock(&mut self) -> Result<(), LockFault>
+        ensures taken { Some self.old.in_use ≡ Some true → IsErrOf result InUse }
+        ensures free { IsErrOf result InUse → Some self.old.in_use ≢ Some false }
+        ensures use_stays { Some self.new.in_use ≡ Some self.old.in_use }
+        ensures same { Some (seen_after self.new.past.calls.items) ≡ Some (seen_after self.old.past.calls.items) }
+        ensures images { Grows self.old.past.calls.items self.new.past.calls.items Stays }
+        ensures cause { HasLockCause self.old.past.plan.faults self.new.past.plan.faults self.old.refused self.new.refused result }
+        ensures calls { self.new.past.calls.items ≡ self.old.past.calls.items }
+        ensures due { self.old.in_use ≡ false → (IsErr result ↔ IsTrue (is_due self.old.past.plan)) }
+    {
+        if self.in_use {
+            self.refused = self.refused.saturating_add(1);
+            return Err(LockFault::InUse);
+        }
+        if self.past.plan.is_due() {
+            let _ = self.past.plan.fail();
+            return Err(LockFault::Failed);
+        }
+        Ok(())
+    }
 
     /// It fails where the call is due to fail, where it finds no room, and where the file has 2^63 bytes.
     fn length(&mut self, file: File) -> Result<u64, Failed>
@@ -220,6 +281,7 @@ impl Disk for MemDisk {
         ensures same { Some (seen_after self.new.past.calls.items) ≡ Some (seen_after self.old.past.calls.items) }
         ensures images { Grows self.old.past.calls.items self.new.past.calls.items Stays }
         ensures cause { HasCause self.old.past.plan.faults self.new.past.plan.faults result }
+        ensures lock { KeepsLock (Some self.old.in_use) (Some self.new.in_use) self.old.refused self.new.refused }
         ensures recorded { Recorded self.old.past self.new.past (Asked file) (Asked file) (2 ^ 63 ≤ length (bytes_in (seen_after self.old.past.calls.items) file)) result }
         ensures counted { CountsCall self.old.past.plan self.new.past.plan }
     {
@@ -240,6 +302,7 @@ impl Disk for MemDisk {
         ensures same { Some (seen_after self.new.past.calls.items) ≡ Some (seen_after self.old.past.calls.items) }
         ensures images { Grows self.old.past.calls.items self.new.past.calls.items Stays }
         ensures cause { HasCause self.old.past.plan.faults self.new.past.plan.faults result }
+        ensures lock { KeepsLock (Some self.old.in_use) (Some self.new.in_use) self.old.refused self.new.refused }
         ensures recorded { Recorded self.old.past self.new.past (Asked file) (Asked file) ⊥ result }
         ensures counted { CountsCall self.old.past.plan self.new.past.plan }
     {
@@ -255,6 +318,7 @@ impl Disk for MemDisk {
         ensures bounded { OnOk result (at + length bytes.now < 2 ^ 63) }
         ensures images { Grows self.old.past.calls.items self.new.past.calls.items (MayWrite file at (length bytes.now)) }
         ensures cause { HasCause self.old.past.plan.faults self.new.past.plan.faults result }
+        ensures lock { KeepsLock (Some self.old.in_use) (Some self.new.in_use) self.old.refused self.new.refused }
         ensures recorded { Recorded self.old.past self.new.past (Wrote file at bytes.now true) (Wrote file at bytes.now false) (2 ^ 63 ≤ at + length bytes.now) result }
         ensures counted { CountsCall self.old.past.plan self.new.past.plan }
     {
@@ -275,6 +339,7 @@ impl Disk for MemDisk {
         ensures same { Some (seen_after self.new.past.calls.items) ≡ Some (seen_after self.old.past.calls.items) }
         ensures images { Grows self.old.past.calls.items self.new.past.calls.items Stays }
         ensures cause { HasCause self.old.past.plan.faults self.new.past.plan.faults result }
+        ensures lock { KeepsLock (Some self.old.in_use) (Some self.new.in_use) self.old.refused self.new.refused }
         ensures recorded { Recorded self.old.past self.new.past (Settled file true) (Settled file false) ⊥ result }
         ensures counted { CountsCall self.old.past.plan self.new.past.plan }
     {
@@ -294,6 +359,7 @@ impl Disk for MemDisk {
         ensures begun { OnErr result (Told (MayRemove file) (Some (seen_after self.old.past.calls.items)) (Some (seen_after self.new.past.calls.items))) }
         ensures images { Grows self.old.past.calls.items self.new.past.calls.items (MayRemove file) }
         ensures cause { HasCause self.old.past.plan.faults self.new.past.plan.faults result }
+        ensures lock { KeepsLock (Some self.old.in_use) (Some self.new.in_use) self.old.refused self.new.refused }
         ensures recorded { Recorded self.old.past self.new.past (Removed file true) (Removed file false) ⊥ result }
         ensures counted { CountsCall self.old.past.plan self.new.past.plan }
     {

@@ -1,12 +1,14 @@
 //! A disk that fails once.
 
-ghost use Rattle.std.specs.Prelude.{◌≡◌, ◌≢◌, ◌≤◌, ◌<◌, ◌+◌, ◌-◌, ◌^◌, ◌++◌, length, take, drop, min, Option, Some, None, IfOk, OnOk, OnErr};
+ghost use Rattle.std.specs.Prelude.{◌≡◌, ◌≢◌, ◌≤◌, ◌<◌, ◌+◌, ◌-◌, ◌^◌, ◌++◌, length, take, drop, min, true, false, Option, Some, None, IfOk, OnOk, OnErr, IsErrOf};
 ghost use Rattle.ix_base.specs.Faults.{HasCause};
 ghost use Rattle.ix_base.specs.Told.{Told};
 ghost use Rattle.ix_disk.specs.Image.{Image, bytes_in, MayWrite, Writes, MayRemove, Removes, Stays, Passes};
+ghost use Rattle.ix_disk.specs.Locks.{unknown, KeepsLock, HasLockCause, LockFailsOne};
 ghost use Rattle.ix_disk.specs.Stops.{FailsOne, calls_before};
+ghost use Rattle.ix_disk.specs.declared.disk.LockFault.TheVariants.{InUse};
 
-use crate::Disk;
+use crate::{Disk, LockFault};
 use ix_base::{Failed, File};
 
 /// A disk that fails the one call with a given number, of those from 0 on, and passes each other on to the disk inside.
@@ -75,11 +77,28 @@ impl<D: Disk + Drop> Disk for OneFail<D> {
 
     ghost faults = { λ d. D.Disk.faults d.inner + d.faults };
 
+    ghost in_use = { λ d. unknown };
+
+    ghost refused = { λ d. D.Disk.refused d.inner };
+
     ghost seen_may_stay = { λ d image is. D.Disk.seen_may_stay d.inner image is };
 
     ghost counts_now = { λ d t image le left. D.Disk.counts_now d.inner t image le left };
 
     ghost only_now = { λ d image left. D.Disk.only_now d.inner image left };
+
+    fn lock(&mut self) -> Result<(), LockFault>
+        ensures taken { unknown ≡ Some true → IsErrOf result InUse }
+        ensures free { IsErrOf result InUse → unknown ≢ Some false }
+        ensures use_stays { unknown ≡ unknown }
+        ensures same { D.Disk.seen self.new.inner ≡ D.Disk.seen self.old.inner }
+        ensures images { Passes D.Disk.may_leave D.Disk.moment D.Disk.left_since self.old.inner self.new.inner Stays }
+        ensures cause { HasLockCause (D.Disk.faults self.old.inner + self.old.faults) (D.Disk.faults self.new.inner + self.new.faults) (D.Disk.refused self.old.inner) (D.Disk.refused self.new.inner) result }
+        ensures fails { LockFailsOne D.Disk.faults D.Disk.refused self.old.before self.new.before self.old.inner self.new.inner result }
+    {
+        pass(&mut self.before, &mut self.faults)?;
+        self.inner.lock()
+    }
 
     fn length(&mut self, file: File) -> Result<u64, Failed>
         ensures length { IfOk result (λ n. (image : Image) → D.Disk.seen self.old.inner ≡ Some image → n ≡ length (bytes_in image file)) }
@@ -87,6 +106,7 @@ impl<D: Disk + Drop> Disk for OneFail<D> {
         ensures same { D.Disk.seen self.new.inner ≡ D.Disk.seen self.old.inner }
         ensures images { Passes D.Disk.may_leave D.Disk.moment D.Disk.left_since self.old.inner self.new.inner Stays }
         ensures cause { HasCause (D.Disk.faults self.old.inner + self.old.faults) (D.Disk.faults self.new.inner + self.new.faults) result }
+        ensures lock { KeepsLock unknown unknown (D.Disk.refused self.old.inner) (D.Disk.refused self.new.inner) }
         ensures fails { FailsOne D.Disk.faults self.old.before self.new.before self.old.inner self.new.inner result }
     {
         pass(&mut self.before, &mut self.faults)?;
@@ -101,6 +121,7 @@ impl<D: Disk + Drop> Disk for OneFail<D> {
         ensures same { D.Disk.seen self.new.inner ≡ D.Disk.seen self.old.inner }
         ensures images { Passes D.Disk.may_leave D.Disk.moment D.Disk.left_since self.old.inner self.new.inner Stays }
         ensures cause { HasCause (D.Disk.faults self.old.inner + self.old.faults) (D.Disk.faults self.new.inner + self.new.faults) result }
+        ensures lock { KeepsLock unknown unknown (D.Disk.refused self.old.inner) (D.Disk.refused self.new.inner) }
         ensures fails { FailsOne D.Disk.faults self.old.before self.new.before self.old.inner self.new.inner result }
     {
         pass(&mut self.before, &mut self.faults)?;
@@ -114,6 +135,7 @@ impl<D: Disk + Drop> Disk for OneFail<D> {
         ensures bounded { OnOk result (at + length bytes.now < 2 ^ 63) }
         ensures images { Passes D.Disk.may_leave D.Disk.moment D.Disk.left_since self.old.inner self.new.inner (MayWrite file at (length bytes.now)) }
         ensures cause { HasCause (D.Disk.faults self.old.inner + self.old.faults) (D.Disk.faults self.new.inner + self.new.faults) result }
+        ensures lock { KeepsLock unknown unknown (D.Disk.refused self.old.inner) (D.Disk.refused self.new.inner) }
         ensures fails { FailsOne D.Disk.faults self.old.before self.new.before self.old.inner self.new.inner result }
     {
         pass(&mut self.before, &mut self.faults)?;
@@ -125,6 +147,7 @@ impl<D: Disk + Drop> Disk for OneFail<D> {
         ensures same { D.Disk.seen self.new.inner ≡ D.Disk.seen self.old.inner }
         ensures images { Passes D.Disk.may_leave D.Disk.moment D.Disk.left_since self.old.inner self.new.inner Stays }
         ensures cause { HasCause (D.Disk.faults self.old.inner + self.old.faults) (D.Disk.faults self.new.inner + self.new.faults) result }
+        ensures lock { KeepsLock unknown unknown (D.Disk.refused self.old.inner) (D.Disk.refused self.new.inner) }
         ensures fails { FailsOne D.Disk.faults self.old.before self.new.before self.old.inner self.new.inner result }
     {
         pass(&mut self.before, &mut self.faults)?;
@@ -136,6 +159,7 @@ impl<D: Disk + Drop> Disk for OneFail<D> {
         ensures begun { OnErr result (Told (MayRemove file) (D.Disk.seen self.old.inner) (D.Disk.seen self.new.inner)) }
         ensures images { Passes D.Disk.may_leave D.Disk.moment D.Disk.left_since self.old.inner self.new.inner (MayRemove file) }
         ensures cause { HasCause (D.Disk.faults self.old.inner + self.old.faults) (D.Disk.faults self.new.inner + self.new.faults) result }
+        ensures lock { KeepsLock unknown unknown (D.Disk.refused self.old.inner) (D.Disk.refused self.new.inner) }
         ensures fails { FailsOne D.Disk.faults self.old.before self.new.before self.old.inner self.new.inner result }
     {
         pass(&mut self.before, &mut self.faults)?;

@@ -13,6 +13,9 @@ pub struct FilePath {
     text: ArrayString<31>,
 }
 
+/// The file whose lock one program at a time has. It is never removed.
+pub const LOCK_PATH: &str = "var/lock";
+
 /// The folder of an area's files.
 pub fn folder_of(area: Area) -> &'static str
     ensures path { result.now ≡ folder_path area }

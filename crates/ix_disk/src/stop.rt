@@ -1,12 +1,14 @@
 //! A disk that stops.
 
-ghost use Rattle.std.specs.Prelude.{◌≡◌, ◌≤◌, ◌<◌, ◌+◌, ◌-◌, ◌^◌, ◌++◌, length, take, drop, min, Some, IfOk, OnOk, OnErr};
+ghost use Rattle.std.specs.Prelude.{◌≡◌, ◌≤◌, ◌<◌, ◌+◌, ◌-◌, ◌^◌, ◌++◌, length, take, drop, min, true, false, Some, ◌≢◌, IfOk, OnOk, OnErr, IsErrOf};
 ghost use Rattle.ix_base.specs.Faults.{HasCause};
 ghost use Rattle.ix_base.specs.Told.{Told};
 ghost use Rattle.ix_disk.specs.Image.{Image, bytes_in, MayWrite, Writes, MayRemove, Removes, Stays, Passes};
+ghost use Rattle.ix_disk.specs.Locks.{unknown, KeepsLock, HasLockCause, LockStops};
 ghost use Rattle.ix_disk.specs.Stops.{Stops};
+ghost use Rattle.ix_disk.specs.declared.disk.LockFault.TheVariants.{InUse};
 
-use crate::Disk;
+use crate::{Disk, LockFault};
 use ix_base::{Failed, File};
 
 /// A disk that passes some calls on to the disk inside and then fails every call, as if the machine had stopped. What
@@ -69,11 +71,28 @@ impl<D: Disk + Drop> Disk for StopDisk<D> {
 
     ghost faults = { λ d. D.Disk.faults d.inner + d.faults };
 
+    ghost in_use = { λ d. unknown };
+
+    ghost refused = { λ d. D.Disk.refused d.inner };
+
     ghost seen_may_stay = { λ d image is. D.Disk.seen_may_stay d.inner image is };
 
     ghost counts_now = { λ d t image le left. D.Disk.counts_now d.inner t image le left };
 
     ghost only_now = { λ d image left. D.Disk.only_now d.inner image left };
+
+    fn lock(&mut self) -> Result<(), LockFault>
+        ensures taken { unknown ≡ Some true → IsErrOf result InUse }
+        ensures free { IsErrOf result InUse → unknown ≢ Some false }
+        ensures use_stays { unknown ≡ unknown }
+        ensures same { D.Disk.seen self.new.inner ≡ D.Disk.seen self.old.inner }
+        ensures images { Passes D.Disk.may_leave D.Disk.moment D.Disk.left_since self.old.inner self.new.inner Stays }
+        ensures cause { HasLockCause (D.Disk.faults self.old.inner + self.old.faults) (D.Disk.faults self.new.inner + self.new.faults) (D.Disk.refused self.old.inner) (D.Disk.refused self.new.inner) result }
+        ensures stops { LockStops D.Disk.faults D.Disk.refused self.old.left self.new.left self.old.inner self.new.inner result }
+    {
+        pass(&mut self.left, &mut self.faults)?;
+        self.inner.lock()
+    }
 
     fn length(&mut self, file: File) -> Result<u64, Failed>
         ensures length { IfOk result (λ n. (image : Image) → D.Disk.seen self.old.inner ≡ Some image → n ≡ length (bytes_in image file)) }
@@ -81,6 +100,7 @@ impl<D: Disk + Drop> Disk for StopDisk<D> {
         ensures same { D.Disk.seen self.new.inner ≡ D.Disk.seen self.old.inner }
         ensures images { Passes D.Disk.may_leave D.Disk.moment D.Disk.left_since self.old.inner self.new.inner Stays }
         ensures cause { HasCause (D.Disk.faults self.old.inner + self.old.faults) (D.Disk.faults self.new.inner + self.new.faults) result }
+        ensures lock { KeepsLock unknown unknown (D.Disk.refused self.old.inner) (D.Disk.refused self.new.inner) }
         ensures stops { Stops D.Disk.faults self.old.left self.new.left self.old.inner self.new.inner result }
     {
         pass(&mut self.left, &mut self.faults)?;
@@ -95,6 +115,7 @@ impl<D: Disk + Drop> Disk for StopDisk<D> {
         ensures same { D.Disk.seen self.new.inner ≡ D.Disk.seen self.old.inner }
         ensures images { Passes D.Disk.may_leave D.Disk.moment D.Disk.left_since self.old.inner self.new.inner Stays }
         ensures cause { HasCause (D.Disk.faults self.old.inner + self.old.faults) (D.Disk.faults self.new.inner + self.new.faults) result }
+        ensures lock { KeepsLock unknown unknown (D.Disk.refused self.old.inner) (D.Disk.refused self.new.inner) }
         ensures stops { Stops D.Disk.faults self.old.left self.new.left self.old.inner self.new.inner result }
     {
         pass(&mut self.left, &mut self.faults)?;
@@ -108,6 +129,7 @@ impl<D: Disk + Drop> Disk for StopDisk<D> {
         ensures bounded { OnOk result (at + length bytes.now < 2 ^ 63) }
         ensures images { Passes D.Disk.may_leave D.Disk.moment D.Disk.left_since self.old.inner self.new.inner (MayWrite file at (length bytes.now)) }
         ensures cause { HasCause (D.Disk.faults self.old.inner + self.old.faults) (D.Disk.faults self.new.inner + self.new.faults) result }
+        ensures lock { KeepsLock unknown unknown (D.Disk.refused self.old.inner) (D.Disk.refused self.new.inner) }
         ensures stops { Stops D.Disk.faults self.old.left self.new.left self.old.inner self.new.inner result }
     {
         pass(&mut self.left, &mut self.faults)?;
@@ -119,6 +141,7 @@ impl<D: Disk + Drop> Disk for StopDisk<D> {
         ensures same { D.Disk.seen self.new.inner ≡ D.Disk.seen self.old.inner }
         ensures images { Passes D.Disk.may_leave D.Disk.moment D.Disk.left_since self.old.inner self.new.inner Stays }
         ensures cause { HasCause (D.Disk.faults self.old.inner + self.old.faults) (D.Disk.faults self.new.inner + self.new.faults) result }
+        ensures lock { KeepsLock unknown unknown (D.Disk.refused self.old.inner) (D.Disk.refused self.new.inner) }
         ensures stops { Stops D.Disk.faults self.old.left self.new.left self.old.inner self.new.inner result }
     {
         pass(&mut self.left, &mut self.faults)?;
@@ -130,6 +153,7 @@ impl<D: Disk + Drop> Disk for StopDisk<D> {
         ensures begun { OnErr result (Told (MayRemove file) (D.Disk.seen self.old.inner) (D.Disk.seen self.new.inner)) }
         ensures images { Passes D.Disk.may_leave D.Disk.moment D.Disk.left_since self.old.inner self.new.inner (MayRemove file) }
         ensures cause { HasCause (D.Disk.faults self.old.inner + self.old.faults) (D.Disk.faults self.new.inner + self.new.faults) result }
+        ensures lock { KeepsLock unknown unknown (D.Disk.refused self.old.inner) (D.Disk.refused self.new.inner) }
         ensures stops { Stops D.Disk.faults self.old.left self.new.left self.old.inner self.new.inner result }
     {
         pass(&mut self.left, &mut self.faults)?;

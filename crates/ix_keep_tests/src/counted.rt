@@ -3,10 +3,11 @@
 ghost use Rattle.std.specs.Prelude.{◌≡◌, ◌≤◌, ◌<◌, ◌+◌, ◌-◌, ◌^◌, ◌++◌, length, take, drop, min, Some, IfOk, OnOk, OnErr};
 ghost use Rattle.ix_base.specs.Faults.{HasCause};
 ghost use Rattle.ix_base.specs.Told.{Told};
+ghost use Rattle.ix_disk.specs.Locks.{KeepsLock};
 ghost use Rattle.ix_disk.specs.Image.{Image, bytes_in, MayWrite, Writes, MayRemove, Removes, Stays, Passes};
 
 use ix_base::{Area, Failed, File};
-use ix_disk::Disk;
+use ix_disk::{Disk, LockFault};
 
 /// A disk, with how often it was asked, and how often for a sync of a log and of another file.
 #[derive(Drop)]
@@ -39,11 +40,19 @@ impl<D: Disk + Drop> Disk for Counted<D> {
 
     ghost faults = { λ d. D.Disk.faults d.inner };
 
+    ghost in_use = { λ d. D.Disk.in_use d.inner };
+
+    ghost refused = { λ d. D.Disk.refused d.inner };
+
     ghost seen_may_stay = { λ d image is. D.Disk.seen_may_stay d.inner image is };
 
     ghost counts_now = { λ d t image le left. D.Disk.counts_now d.inner t image le left };
 
     ghost only_now = { λ d image left. D.Disk.only_now d.inner image left };
+
+    fn lock(&mut self) -> Result<(), LockFault> {
+        self.inner.lock()
+    }
 
     fn length(&mut self, file: File) -> Result<u64, Failed>
         ensures length { IfOk result (λ n. (image : Image) → D.Disk.seen self.old.inner ≡ Some image → n ≡ length (bytes_in image file)) }
@@ -51,6 +60,7 @@ impl<D: Disk + Drop> Disk for Counted<D> {
         ensures same { D.Disk.seen self.new.inner ≡ D.Disk.seen self.old.inner }
         ensures images { Passes D.Disk.may_leave D.Disk.moment D.Disk.left_since self.old.inner self.new.inner Stays }
         ensures cause { HasCause (D.Disk.faults self.old.inner) (D.Disk.faults self.new.inner) result }
+        ensures lock { KeepsLock (D.Disk.in_use self.old.inner) (D.Disk.in_use self.new.inner) (D.Disk.refused self.old.inner) (D.Disk.refused self.new.inner) }
     {
         self.calls = self.calls.saturating_add(1);
         self.inner.length(file)
@@ -64,6 +74,7 @@ impl<D: Disk + Drop> Disk for Counted<D> {
         ensures same { D.Disk.seen self.new.inner ≡ D.Disk.seen self.old.inner }
         ensures images { Passes D.Disk.may_leave D.Disk.moment D.Disk.left_since self.old.inner self.new.inner Stays }
         ensures cause { HasCause (D.Disk.faults self.old.inner) (D.Disk.faults self.new.inner) result }
+        ensures lock { KeepsLock (D.Disk.in_use self.old.inner) (D.Disk.in_use self.new.inner) (D.Disk.refused self.old.inner) (D.Disk.refused self.new.inner) }
     {
         self.calls = self.calls.saturating_add(1);
         self.inner.read(file, at, buf)
@@ -76,6 +87,7 @@ impl<D: Disk + Drop> Disk for Counted<D> {
         ensures bounded { OnOk result (at + length bytes.now < 2 ^ 63) }
         ensures images { Passes D.Disk.may_leave D.Disk.moment D.Disk.left_since self.old.inner self.new.inner (MayWrite file at (length bytes.now)) }
         ensures cause { HasCause (D.Disk.faults self.old.inner) (D.Disk.faults self.new.inner) result }
+        ensures lock { KeepsLock (D.Disk.in_use self.old.inner) (D.Disk.in_use self.new.inner) (D.Disk.refused self.old.inner) (D.Disk.refused self.new.inner) }
     {
         self.calls = self.calls.saturating_add(1);
         self.inner.write_at(file, at, bytes)
@@ -86,6 +98,7 @@ impl<D: Disk + Drop> Disk for Counted<D> {
         ensures same { D.Disk.seen self.new.inner ≡ D.Disk.seen self.old.inner }
         ensures images { Passes D.Disk.may_leave D.Disk.moment D.Disk.left_since self.old.inner self.new.inner Stays }
         ensures cause { HasCause (D.Disk.faults self.old.inner) (D.Disk.faults self.new.inner) result }
+        ensures lock { KeepsLock (D.Disk.in_use self.old.inner) (D.Disk.in_use self.new.inner) (D.Disk.refused self.old.inner) (D.Disk.refused self.new.inner) }
     {
         self.calls = self.calls.saturating_add(1);
         if file.area == Area::Meta {
@@ -101,6 +114,7 @@ impl<D: Disk + Drop> Disk for Counted<D> {
         ensures begun { OnErr result (Told (MayRemove file) (D.Disk.seen self.old.inner) (D.Disk.seen self.new.inner)) }
         ensures images { Passes D.Disk.may_leave D.Disk.moment D.Disk.left_since self.old.inner self.new.inner (MayRemove file) }
         ensures cause { HasCause (D.Disk.faults self.old.inner) (D.Disk.faults self.new.inner) result }
+        ensures lock { KeepsLock (D.Disk.in_use self.old.inner) (D.Disk.in_use self.new.inner) (D.Disk.refused self.old.inner) (D.Disk.refused self.new.inner) }
     {
         self.calls = self.calls.saturating_add(1);
         self.inner.remove(file)

@@ -216,6 +216,52 @@ const RUN_SAID: &str = "Ok(()) Ok(()) Ok(()) Ok(()) Ok(()) \
     Ok(0) Ok(1) Ok(2) Err(BadRecord { at: 60 }) Err(BadRecord { at: 120 }) Ok(1) \
     Ok(()) ten 180 Ok(()) six 180 ";
 
+/// The text of a record that takes 30,000 bytes.
+const TEXT: [u8; 29_943] = [b'x'; 29_943];
+
+/// Puts so many records of 30,000 bytes, and writes where the last one ends.
+fn note_long(said: &mut String, alloc: Global, disk: &mut MemDisk, count: usize) {
+    for _ in 0..count {
+        if put_record(alloc, disk, HOME, MOMENT, &TEXT).is_err() {
+            say(said, "not put");
+        }
+    }
+    note(said, disk.length(HOME));
+}
+
+/// How many records a reader reads from the front up to a place.
+fn read_long(reader: &mut Reader, disk: &mut MemDisk, until: u64) -> usize {
+    let mut at = 0;
+    for count in 0..1_000 {
+        match reader.next(disk, HOME, at, until) {
+            Ok(Some((_, next))) => at = next,
+            _ => return count,
+        }
+    }
+    1_000
+}
+
+fn pieces_said(alloc: Global) -> String {
+    let mut said = String::new(alloc);
+    let mut disk = empty(alloc);
+    note_long(&mut said, alloc, &mut disk, 100);
+    let before = disk.asked(HOME);
+    if let Ok(mut reader) = Reader::new(alloc) {
+        note(&mut said, read_long(&mut reader, &mut disk, 3_000_000));
+        drop(reader);
+    }
+    note(&mut said, disk.asked(HOME).saturating_sub(before));
+    drop(disk);
+    said
+}
+
+#[test]
+fn a_bucket_is_read_in_pieces(rt: HostRuntime) {
+    // A mebibyte has 34 records whole, and the next piece begins with the one behind them: three pieces. For each of them
+    // the length of its first record is read, and the length of the file asked for.
+    compare(&rt, pieces_said(rt.alloc()), "Ok(3000000) 100 9 ");
+}
+
 /// Writes what a reader answers of a record that is put behind what it holds, and of one that is put over that once it has
 /// forgotten.
 fn note_new<D: Disk>(said: &mut String, alloc: Global, reader: &mut Reader, disk: &mut D) {

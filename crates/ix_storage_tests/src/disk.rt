@@ -4,7 +4,7 @@ use crate::machine::{Work, machine_said};
 use crate::made::{empty, failing};
 use crate::said::{compare, front, note, shown};
 use ix_base::{Area, Failed, File};
-use ix_disk::{Disk, HostDisk, MemDisk, OneFail, StopDisk};
+use ix_disk::{Disk, HostDisk, LockFiles, MemDisk, OneFail, StopDisk};
 use std::alloc::Global;
 use std::fmt::Debug;
 use std::fs;
@@ -14,6 +14,21 @@ use std::rt::Files;
 const LOG: File = File {
     area: Area::Meta,
     number: 1,
+};
+
+const NEXT: File = File {
+    area: Area::Meta,
+    number: 3,
+};
+
+const OTHER: File = File {
+    area: Area::Cold,
+    number: 9,
+};
+
+const CUT_ONE: File = File {
+    area: Area::Meta,
+    number: 4,
 };
 
 const BUCKET: File = File {
@@ -429,6 +444,10 @@ pub enum Step {
     All(&'static [Ask<'static>]),
     /// The calls on one more disk of the machine.
     Beside(&'static [Ask<'static>]),
+    /// The disk takes its lock.
+    Lock,
+    /// The other one does, and how often it was refused is shown.
+    LockBeside,
     /// A write of one byte at any place.
     Byte(File, u64),
     Change(Change),
@@ -436,7 +455,18 @@ pub enum Step {
     Show(&'static str),
 }
 
-fn note_step<R: Files + AllocGlobal + Drop>(
+/// Writes what a lock answers, and how often it was refused where it was.
+fn note_lock<R: LockFiles + Drop>(text: &mut String, disk: &mut HostDisk<R>) {
+    match disk.lock() {
+        Ok(()) => note_done(text, Ok(())),
+        Err(fault) => {
+            note(text, fault);
+            note(text, disk.refused());
+        }
+    }
+}
+
+fn note_step<R: LockFiles + AllocGlobal + Drop>(
     text: &mut String,
     rt: &R,
     disk: &mut HostDisk<R>,
@@ -446,6 +476,8 @@ fn note_step<R: Files + AllocGlobal + Drop>(
     match step {
         Step::All(asks) => note_all(text, disk, asks),
         Step::Beside(asks) => note_all(text, beside, asks),
+        Step::Lock => note_lock(text, disk),
+        Step::LockBeside => note_lock(text, beside),
         Step::Byte(file, at) => note_done(text, disk.write_at(file, at, b"x")),
         Step::Change(change) => note_change(text, rt, change),
         Step::Show(path) => note_file(text, rt, path),
@@ -453,7 +485,7 @@ fn note_step<R: Files + AllocGlobal + Drop>(
 }
 
 /// Writes what the steps answer, one behind the other.
-pub fn note_steps<R: Files + AllocGlobal + Drop>(
+pub fn note_steps<R: LockFiles + AllocGlobal + Drop>(
     text: &mut String,
     rt: &R,
     disk: &mut HostDisk<R>,
@@ -465,18 +497,26 @@ pub fn note_steps<R: Files + AllocGlobal + Drop>(
     }
 }
 
-/// Files are kept where a disk of the machine puts them.
+/// Files are kept where a disk of the machine puts them. Another disk of the same files is let in to none of them.
 const IN_PLACE: &[Step] = &[
     Step::All(&[Ask::Sync(LOG), Ask::Remove(LOG)]),
     Step::All(RUN),
     Step::All(ALL),
-    Step::Beside(ALL),
+    Step::Lock,
+    Step::LockBeside,
+    Step::Beside(&[Ask::Length(LOG), Ask::Read(LOG, 0)]),
+    Step::Beside(&[Ask::Sync(LOG), Ask::Remove(LOG)]),
     Step::Show("var/meta/1"),
 ];
 
 const IN_PLACE_SAID: &str = "ok ok ok ok ok ok ok ok ok ok ok ok ok ok \
     [abXYefZ]7 7 [new]3 3 []0 0 []0 0 []0 0 \
-    [abXYefZ]7 7 [new]3 3 []0 0 []0 0 []0 0 abXYefZ";
+    ok InUse 1 failed [...]failed failed failed abXYefZ";
+
+/// The next disk finds them.
+const FOUND: &[Step] = &[Step::All(ALL)];
+
+const FOUND_SAID: &str = "[abXYefZ]7 7 [new]3 3 []0 0 []0 0 []0 0 ";
 
 /// A folder in place of a file, and a file in place of a folder; the five calls on a file, each of which fails where a folder
 /// is in its place or its folder cannot be; and a write past each file's end.
@@ -504,12 +544,42 @@ const READ_ONLY: &[Step] = &[
     Step::All(&[Ask::Held(GONE)]),
 ];
 
-/// A file that is taken away between a write and its sync: no sync answers Ok any more.
+/// A file that is taken away behind a write: no call on it is done any more, and no sync of any file.
 const TAKEN_AWAY: &[Step] = &[
-    Step::All(&[Ask::Write(LOG, 7, b"!")]),
+    Step::All(&[Ask::Write(LOG, 7, b"!"), Ask::Sync(LOG)]),
     Step::Change(Change::Move("var/meta/1", "var/meta/2")),
-    Step::All(&[Ask::Sync(LOG), Ask::Sync(KEPT)]),
+    Step::All(&[Ask::Length(LOG), Ask::Sync(LOG), Ask::Sync(KEPT)]),
+    Step::Byte(LOG, 0),
+    Step::Byte(LOG, 8),
+    Step::All(&[Ask::Remove(LOG)]),
 ];
+
+const TAKEN_AWAY_SAID: &str = "ok ok failed failed failed failed failed failed 6 ";
+
+/// Another file comes into the place of one that was written, as long as it.
+const REPLACED: &[Step] = &[
+    Step::All(&[Ask::Write(NEXT, 0, b"next"), Ask::Sync(NEXT)]),
+    Step::All(&[Ask::Write(OTHER, 0, b"next"), Ask::Sync(OTHER)]),
+    Step::Change(Change::Move("var/cold/9", "var/meta/3")),
+    Step::All(&[Ask::Read(NEXT, 0)]),
+    Step::Byte(NEXT, 4),
+    Step::All(&[Ask::Sync(NEXT), Ask::Sync(KEPT)]),
+];
+
+const REPLACED_SAID: &str = "ok ok ok ok [...]failed failed failed failed 4 ";
+
+/// A file that was written is cut, and one ends before the place of a write.
+const CUT: &[Step] = &[
+    Step::All(&[Ask::Write(CUT_ONE, 0, b"cut"), Ask::Sync(CUT_ONE)]),
+    Step::Byte(CUT_ONE, 4),
+    Step::Byte(CUT_ONE, 3),
+    Step::Change(Change::Empty("var/meta/4")),
+    Step::All(&[Ask::Length(CUT_ONE), Ask::Read(CUT_ONE, 0)]),
+    Step::Byte(CUT_ONE, 0),
+    Step::All(&[Ask::Sync(CUT_ONE), Ask::Sync(KEPT)]),
+];
+
+const CUT_SAID: &str = "ok ok failed ok failed [...]failed failed failed failed 6 ";
 
 const BY_THE_OWNER: &str = "ok [x]1 1 ";
 
@@ -523,8 +593,11 @@ fn compare_read_only(rt: &impl Abort, found: String) {
 #[test]
 fn the_disk_of_the_machine_has_real_files(rt: HostRuntime) {
     compare(&rt, machine_said(&rt, Work::Steps(IN_PLACE)), IN_PLACE_SAID);
+    compare(&rt, machine_said(&rt, Work::Steps(FOUND)), FOUND_SAID);
     compare(&rt, machine_said(&rt, Work::Steps(NO_FILE)), NO_FILE_SAID);
-    let taken = "ok failed failed 2 ";
-    compare(&rt, machine_said(&rt, Work::Steps(TAKEN_AWAY)), taken);
+    let taken = machine_said(&rt, Work::Steps(TAKEN_AWAY));
+    compare(&rt, taken, TAKEN_AWAY_SAID);
+    compare(&rt, machine_said(&rt, Work::Steps(REPLACED)), REPLACED_SAID);
+    compare(&rt, machine_said(&rt, Work::Steps(CUT)), CUT_SAID);
     compare_read_only(&rt, machine_said(&rt, Work::Steps(READ_ONLY)));
 }

@@ -5,9 +5,8 @@ use crate::disk::{Step, note_steps};
 use crate::made::empty;
 use crate::said::note;
 use crate::{archive, bucket, log};
-use ix_disk::{Disk, HostDisk};
+use ix_disk::{Disk, HostDisk, LockFiles};
 use std::alloc::Global;
-use std::rt::Files;
 
 /// What is done with a disk.
 #[derive(Clone, Copy)]
@@ -42,7 +41,7 @@ pub fn memory_said(alloc: Global, work: Work) -> String {
 }
 
 /// Does the work with the first disk. The second one is of the same files.
-fn note_work<R: Files + AllocGlobal + Drop>(
+fn note_work<R: LockFiles + AllocGlobal + Drop>(
     text: &mut String,
     rt: &R,
     disk: &mut HostDisk<R>,
@@ -56,7 +55,7 @@ fn note_work<R: Files + AllocGlobal + Drop>(
 }
 
 /// Writes what the work answers on a disk of the machine, and how many calls of that disk failed, where one did.
-fn note_machine<R: Files + AllocGlobal + Copy + Drop>(text: &mut String, rt: R, work: Work) {
+fn note_machine<R: LockFiles + AllocGlobal + Copy + Drop>(text: &mut String, rt: R, work: Work) {
     let mut disk = HostDisk::new(rt);
     let mut beside = HostDisk::new(rt);
     note_work(text, &rt, &mut disk, &mut beside, work);

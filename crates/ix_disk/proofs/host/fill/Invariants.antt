@@ -3,4 +3,4 @@ use Rattle.ix_disk.proofs.host.fill.Given as goal
 
 -- what was read is in the buffer
 abbrev pub invariant-loop : goal.invariant-loop
-invariant-loop g l = l.done ≤ length l.buf
+invariant-loop g l = l.filled ≤ length l.buf

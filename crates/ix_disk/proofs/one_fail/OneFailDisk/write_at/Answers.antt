@@ -12,6 +12,7 @@ returns-in_err-pass g c = record {
   bounded = IfOk-from_err c.from_residual.result _ c.from_residual.ensures.0;
   images = passes_none g.D.Disk.may_leave g.D.Disk.moment g.D.Disk.left_since c.args.self.now.inner _ (as_it_was c.args.at (length c.args.bytes.now) c.args.file);
   cause = cause_own (g.D.Disk.faults c.args.self.now.inner) c.args.self.now.faults c.pass.new.faults c.from_residual.result c.pass.ensures.cause.later (c.in_err-pass.ensures.cause.failed refl);
+  lock = (refl, refl);
   fails = fails_here g.D.Disk.faults c.args.self.now.before c.pass.new.before c.args.self.now.inner c.from_residual.result c.pass.ensures.counted c.in_err-pass.ensures.failed c.from_residual.ensures.0;
 }
 
@@ -22,5 +23,6 @@ returns g c = record {
   bounded = c.write_at.ensures.bounded;
   images = c.write_at.ensures.images;
   cause = cause_inner (g.D.Disk.faults c.args.self.now.inner) (g.D.Disk.faults c.write_at.new.self) c.args.self.now.faults c.pass.new.faults c.write_at.result c.in_ok-pass.ensures.passed.1 c.write_at.ensures.cause;
+  lock = (refl, c.write_at.ensures.lock.1);
   fails = fails_not g.D.Disk.faults c.args.self.now.before c.pass.new.before c.args.self.now.inner c.write_at.new.self c.write_at.result c.pass.ensures.counted c.in_ok-pass.ensures.passed.0 c.write_at.ensures.cause;
 }
