@@ -9,10 +9,33 @@ use ix_base::{HostClock, StdSink, StdSource, Text};
 use ix_disk::HostDisk;
 use ix_link::TcpListen;
 use ix_tree::HostTree;
+use std::fs::{File, OpenOptions};
 use std::io::ErrorKind;
+use std::os::fd::AsRawFd;
 use std::process::ExitCode;
 use std::rt::Env;
 use std::{env, io};
+
+/// The number of the last of the three streams that every program is started with.
+const LAST_STREAM: i32 = 2;
+
+/// Opens the null device in place of each stream that the program was started without. The system gives a file that is
+/// opened the lowest free number, so without this a file of the store would take the number of a stream, and what is
+/// written to the stream would go into the file.
+fn fill_streams(rt: &HostRuntime) -> io::Result<[Option<File>; 3]> {
+    let mut kept = [None, None, None];
+    for place in &mut kept {
+        let open = OpenOptions::new()
+            .read(true)
+            .write(true)
+            .open(rt, "/dev/null")?;
+        if open.as_raw_fd() > LAST_STREAM {
+            break;
+        }
+        *place = Some(open);
+    }
+    Ok(kept)
+}
 
 /// The words of the command line behind the program's name.
 fn read_words<R: Env + AllocGlobal>(rt: &R) -> io::Result<Vec<Text>> {
@@ -24,6 +47,9 @@ fn read_words<R: Env + AllocGlobal>(rt: &R) -> io::Result<Vec<Text>> {
 }
 
 fn main(rt: HostRuntime) -> ExitCode {
+    let Ok(streams) = fill_streams(&rt) else {
+        return ExitCode::from(Status::Output.code());
+    };
     let mut output = StdSink::new(io::writer(&rt));
     let words = match read_words(&rt) {
         Ok(words) => words,
@@ -49,5 +75,9 @@ fn main(rt: HostRuntime) -> ExitCode {
         &mut disk,
         &mut listener,
     );
+    if let Some(fault) = disk.first_fault() {
+        let _ = eprintln!(&rt; "indexd: {fault}");
+    }
+    drop(streams);
     ExitCode::from(status.code())
 }
