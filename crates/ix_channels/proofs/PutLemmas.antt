@@ -22,6 +22,9 @@ use Rattle.ix_machine.specs.declared.commands.Order.{Order}
 use Rattle.ix_parse.specs.Limits.{IsSmall}
 use Rattle.ix_props.specs.declared.props.PropsEntry.{PropsEntry}
 use Rattle.ix_props.specs.declared.settings.Settings.{Settings}
+use Rattle.ix_parse.proofs.SameLemmas.{same-changed}
+use Rattle.ix_props.specs.Same.{AreSame}
+use Rattle.ix_transforms.specs.Changes.{changed}
 use Rattle.ix_kept.specs.Held.{SeesChannels}
 use Rattle.ix_kept.specs.declared.held.Held.{Held}
 use Rattle.ix_transforms.specs.Seds.{raw_limit}
@@ -42,6 +45,12 @@ true_false e = cc
 
 -- ---- one event
 
+-- settings that mean the same make the same of it
+same_direct : (a b : Settings) (meta : ChannelMeta) (moment : ℤ) (direct : DirectEvent) → AreSame a b → direct_by a meta moment direct ≡ direct_by b meta moment direct
+same_direct a b meta moment direct same =
+    same-changed a.seds b.seds a.transforms b.transforms (direct_event a meta moment direct) same.seds same.transforms
+    ∙ ap (λ (s : Settings). changed b.seds b.transforms (direct_event s meta moment direct)) same.others
+
 put_is : (choose : Chooser) (m : State) (held : Held) (moment : ℤ) (direct : DirectEvent) (routed : Routed) → IsChooser choose → SeesChannels m held →
     IsPut held.config.limits held.config.props moment direct routed → routed ≡ direct_adds choose m.force moment direct
 put_is choose m held moment direct routed is sees p =
@@ -49,7 +58,7 @@ put_is choose m held moment direct routed is sees p =
     let same = chosen_same choose m held direct.meta p.settings is sees p.chosen in
     p.routed_is
     ∙ ap (λ (w : ChannelMeta). direct_by p.settings w moment direct) (resolved_is m held direct.meta sees)
-    ∙ ap (λ (s : Settings). direct_by s whole moment direct) same.others
+    ∙ same_direct p.settings (choose m.force whole) whole moment direct same
 
 all_put : (choose : Chooser) (m : State) (held : Held) (moment : ℤ) (events : List DirectEvent) (outcomes : List Routed) → IsChooser choose → SeesChannels m held →
     ArePut held.config.limits held.config.props moment events outcomes → outcomes ≡ map (direct_adds choose m.force moment) events

@@ -1,3 +1,4 @@
+pub mod BreakerLemmas
 pub mod ClassLemmas
 pub mod FindLemmas
 pub mod KindLemmas
@@ -8,8 +9,10 @@ pub mod OrderLemmas
 pub mod OwnLemmas
 pub mod PropLemmas
 pub mod RankLemmas
+pub mod ReadingLemmas
 pub mod RisingLemmas
 pub mod SameLemmas
+pub mod SameUseLemmas
 pub mod SettledLemmas
 pub mod UsableLemmas
 pub mod ValueLemmas
