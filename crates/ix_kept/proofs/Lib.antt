@@ -12,3 +12,10 @@ pub mod Brief
 pub mod Known
 pub mod Thawing
 pub mod Judged
+pub mod Merged
+pub mod Breaking
+pub mod Fitting
+pub mod Nearest
+pub mod Chosen
+pub mod Loaded
+mod Choosing

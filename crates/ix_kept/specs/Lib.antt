@@ -5,3 +5,4 @@ pub mod Files
 pub mod Keeping
 pub mod Held
 pub mod Causes
+pub mod Choosers

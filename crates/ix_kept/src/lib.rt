@@ -3,6 +3,7 @@
 #![tactic(auto)]
 
 mod checks;
+mod choosers;
 mod configs;
 mod faults;
 mod files;
@@ -11,6 +12,7 @@ mod judging;
 mod keeping;
 mod ranking;
 
+pub use choosers::{choosers_exist, chosen_lives_join, settings_exist};
 pub use configs::config_of;
 pub use faults::ConfigFault;
 pub use held::{Held, Open, Storage};

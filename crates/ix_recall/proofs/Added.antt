@@ -27,7 +27,7 @@ use Rattle.ix_props.specs.declared.settings.Settings.{Settings}
 use Rattle.ix_transforms.specs.Sizes as sizes
 use Rattle.ix_transforms.proofs.SizeLemmas.{changed-sizes, changed-moments}
 use Rattle.ix_recall.proofs.RangeLives.{more_moments, chosen_keep, IsLimited, IsReached}
-use Rattle.ix_recall.proofs.Loaded.{AreLoaded}
+use Rattle.ix_kept.proofs.Loaded.{AreLoaded}
 
 -- an outcome that is small and arrived in range
 abbrev pub IsFit : Routed → Type 0

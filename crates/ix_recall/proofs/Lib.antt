@@ -20,12 +20,6 @@ mod Held
 mod Brief
 mod Written
 mod Sound
-pub mod Merged
-pub mod Breaking
-pub mod Fitting
-pub mod Nearest
-pub mod Chosen
-pub mod Loaded
 pub mod RangeBrief
 pub mod RangeLives
 pub mod Added

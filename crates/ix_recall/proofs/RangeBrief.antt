@@ -10,8 +10,8 @@ use Rattle.ix_life.specs.Limits.{first_fault}
 use Rattle.ix_machine.specs.Given.{Chooser, entries, default_index, home}
 use Rattle.ix_props.specs.Same.{AreSame}
 use Rattle.ix_props.specs.declared.settings.Settings.{Settings}
-use Rattle.ix_recall.proofs.Chosen.{settings_exist}
-use Rattle.ix_recall.proofs.Loaded.{AreLoaded}
+use Rattle.ix_kept.proofs.Chosen.{settings_exist}
+use Rattle.ix_kept.proofs.Loaded.{AreLoaded}
 
 module _ (force : List Kept) (h : AreLoaded force) where
   stanzas : AreBrief force

@@ -21,7 +21,7 @@ use Rattle.ix_parse.specs.Carry.{HasMoments}
 use Rattle.ix_parse.specs.Limits.{KeepsLimits}
 use Rattle.ix_shelves.specs.Lists.{without, insert, stands_before}
 use Rattle.ix_recall.proofs.RangeBrief.{default_brief, source_type_brief}
-use Rattle.ix_recall.proofs.Loaded.{AreLoaded, none_loaded, still_loaded}
+use Rattle.ix_kept.proofs.Loaded.{AreLoaded, none_loaded, still_loaded}
 
 -- ---- moments
 

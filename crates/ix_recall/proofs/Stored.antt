@@ -34,7 +34,7 @@ use Rattle.ix_recall.specs.Ranges.{EventsHaveRecords}
 use Rattle.ix_recall.proofs.Added.{IsFit, adds_fit}
 use Rattle.ix_recall.proofs.RangeBrief.{home_brief}
 use Rattle.ix_recall.proofs.RangeLives.{IsReached, first_reached, moment_of, next_reached}
-use Rattle.ix_recall.proofs.Loaded.{AreLoaded}
+use Rattle.ix_kept.proofs.Loaded.{AreLoaded}
 
 -- ---- what is dealt
 

@@ -5,7 +5,6 @@ pub mod Standing
 pub mod Laws
 pub mod Whole
 pub mod Putting
-pub mod Existing
 pub mod Ranges
 pub mod Among
 pub mod Listed

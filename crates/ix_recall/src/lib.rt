@@ -23,6 +23,6 @@ pub use list_laws::{
     fits_with_log, items_have_room, items_lead, items_part, lists_tell, states_are_listed,
     within_fits,
 };
-pub use range_laws::{events_have_records, settings_exist};
+pub use range_laws::events_have_records;
 pub use recalling::{Recalled, recall};
 pub use whole::items_of;

@@ -1,21 +1,25 @@
--- The settings in force are those of a command that set them, or else none; and also where there are none, values were read of them.
+-- The settings in force are those of a command that set them, or else none; and also where there are none, values are read of them. So whatever
+-- is said of the settings of a config is said of those in force, here and in ix_recall.
 use Rattle.std.proofs.Common.{◌≡◌, ℕ, List, [], ◌∷◌, refl, sym, ap, codes}
 use Rattle.std.specs.Prelude.{Some, unwrap_or, bytes_eq}
 use Rattle.ix_conf.specs.Value.{AreMerged}
 use Rattle.ix_items.specs.declared.items.Kept.{Kept}
 use Rattle.ix_kept.specs.Configs.{layer_in, built_in, AreProps, IsConfig}
-use Rattle.ix_kept.specs.Taken.{IsTakenCommand}
+use Rattle.ix_kept.specs.Taken.{IsTakenCommand, AreGiven}
 use Rattle.ix_life.specs.Limits.{number, limits, limits_of, index_limits, listed, AreLimits}
 use Rattle.ix_life.specs.Stanzas.{is_index_stanza}
 use Rattle.ix_life.specs.declared.kinds.Kind.TheVariants as kinds
 use Rattle.ix_life.specs.declared.sets.LimitSet.{LimitSet}
-use Rattle.ix_machine.specs.Step.{force}
+use Rattle.ix_machine.specs.Given.{Chooser}
+use Rattle.ix_machine.specs.State.{State, empty}
+use Rattle.ix_machine.specs.Step.{force, step, after_from, after}
 use Rattle.ix_machine.specs.declared.commands.Command.{Command}
 use Rattle.ix_machine.specs.declared.commands.Command.TheVariants.{Begin, Block, End, Tick, Roll, Thaw, Configure, Direct}
 use Rattle.ix_machine.specs.declared.commands.Config.{Config}
+use Rattle.ix_machine.specs.declared.commands.Order.{Order}
 use Rattle.ix_machine.proofs.Named.{by_test, same_bytes}
 use Rattle.ix_values.specs.Values.{value_of}
-use Rattle.ix_recall.proofs.Merged.{merged_exist}
+use Rattle.ix_kept.proofs.Merged.{merged_exist}
 
 -- settings in force, with the values that were read of them
 pub record AreLoaded (in_force : List Kept) : Type 0 where
@@ -91,3 +95,13 @@ still_loaded in_force (Roll index) h t = h
 still_loaded in_force (Thaw index id) h t = h
 still_loaded in_force (Configure config) h t = record { config = config; is = t; same = refl }
 still_loaded in_force (Direct events) h t = h
+
+-- ---- behind a history
+
+loaded_from : (choose : Chooser) (m : State) (history : List Order) → AreLoaded m.force → AreGiven history → AreLoaded (after_from choose m history).force
+loaded_from choose m [] h given = h
+loaded_from choose m (order ∷ history) h given =
+    loaded_from choose (step choose m order) history (still_loaded m.force order.command h given.0) given.1
+
+pub loaded_after : (choose : Chooser) (history : List Order) → AreGiven history → AreLoaded (after choose history).force
+loaded_after choose history given = loaded_from choose empty history none_loaded given

@@ -14,10 +14,10 @@ use Rattle.ix_props.specs.declared.settings.Settings.{Settings}
 use Rattle.ix_props.specs.declared.settings.TimeSettings.{TimeSettings}
 use Rattle.ix_props.proofs.RankLemmas.{ranks-start, ranks-other, ranks-put, ranks-left}
 use Rattle.ix_props.proofs.SettledLemmas.{type_of_source, settled}
-use Rattle.ix_recall.specs.Existing.{SettingsExist}
-use Rattle.ix_recall.proofs.Breaking.{breaker_exists}
-use Rattle.ix_recall.proofs.Fitting.{rank_by}
-use Rattle.ix_recall.proofs.Nearest.{nearest_exist}
+use Rattle.ix_kept.specs.Choosers.{SettingsExist}
+use Rattle.ix_kept.proofs.Breaking.{breaker_exists}
+use Rattle.ix_kept.proofs.Fitting.{rank_by}
+use Rattle.ix_kept.proofs.Nearest.{nearest_exist}
 
 -- ---- the stanzas that hold, with their ranks
 
