@@ -8,3 +8,4 @@ pub mod MissedLemmas
 pub mod ShortLemmas
 pub mod ServeLemmas
 pub mod CarriedLemmas
+mod Starting

@@ -12,3 +12,4 @@ pub mod Feeds
 pub mod Serves
 pub mod Btool
 pub mod Carried
+pub mod Starts

@@ -100,7 +100,8 @@ named_in tasks.Tick = codes ""
 -- ---- runs
 
 -- Whatever the images at the start stand for: some history of commands that may be given, of which each has the first k at least, the
--- settings of channels being those that the kept settings give. The disk tells what it reads.
+-- settings of channels being those that the kept settings give. The disk tells what it reads. A premise that nothing meets would make all that is said
+-- so empty: whoever adds one here shows in `indexd_premises` what meets it.
 abbrev pub FromStart : {D : Type 0} → Ghosts D → D → (Chooser → List Order → ℕ → Type 0) → Type 0
 FromStart d disk comes =
     (choose : Chooser) (history : List Order) (k : ℕ) → IsChooser choose → AreGiven history →

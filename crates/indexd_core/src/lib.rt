@@ -5,6 +5,7 @@ mod btool;
 mod ends;
 mod events;
 mod feed;
+mod laws;
 mod prepare;
 mod preview;
 mod program;
@@ -14,5 +15,6 @@ mod stored;
 
 /// What the program's store is over, for callers that open that store themselves.
 pub use ix_tier::Tier;
+pub use laws::blank_disks_are_starts;
 pub use program::top;
 pub use status::{Status, say};

@@ -1,0 +1,153 @@
+-- A run that is done, over a disk on which nothing was written: what is said of every run from a start is said of it. For `first_run`.
+use Rattle.std.proofs.Common.{◌≡◌, inl, inr, ℕ, true, List, [], sym, ap, ◌∙◌, subst, length, take, arith, refl}
+use Rattle.std.specs.Prelude.{Option, false}
+use Rattle.std.proofs.lemmas.List.{take_all}
+use Rattle.ix_base.specs.Clocks.{Moments}
+use Rattle.ix_disk.specs.Image.{Image, nothing}
+use Rattle.ix_disk.specs.declared.disk.Disk.{Ghosts}
+use Rattle.ix_feed.specs.Connections as connections
+use Rattle.ix_feed.specs.Feeding as feeding
+use Rattle.ix_feed.specs.declared.feed.Fed.{Fed}
+use Rattle.ix_feed.specs.declared.feed.Fed.TheVariants as fed
+use Rattle.ix_feed.specs.declared.serve.Heard.{Heard}
+use Rattle.ix_feed.specs.declared.serve.Heard.TheVariants as heard
+use Rattle.ix_keep.specs.declared.fault.CommitFault.TheVariants as commits
+use Rattle.ix_kept.specs.Configs.{IsChooser}
+use Rattle.ix_machine.specs.Given.{Chooser}
+use Rattle.ix_machine.specs.declared.commands.Config.{Config}
+use Rattle.ix_machine.specs.declared.commands.Order.{Order}
+use Rattle.ix_replay.specs.Fits.{fits}
+use Rattle.ix_run.specs.Giving.{given_all}
+use Rattle.ix_store.proofs.Lawful.{stands_from}
+use Rattle.ix_store.specs.Written.{Stands, StandsFrom}
+use Rattle.ix_tree.specs.declared.trees.TreeFile.{TreeFile}
+use Rattle.indexd_feed.specs.Ends.{FedBehind, HeardBehind, fed_of, heard_end}
+use Rattle.indexd_feed.specs.Serving.{HasServed, Requests, Connections}
+use Rattle.indexd_feed.specs.Sides.{IsSound}
+use Rattle.indexd_feed.specs.declared.end.End.{End}
+use Rattle.indexd_feed.specs.declared.end.End.TheVariants as ends
+use Rattle.indexd_feed.specs.declared.end.ServeEnd.{ServeEnd}
+use Rattle.indexd_feed.specs.declared.end.ServeEnd.TheVariants as serving
+use Rattle.indexd_store.specs.Opened.{Doing, WhenOpen, HasRun}
+use Rattle.indexd_store.specs.declared.stop.Stop.{Stop}
+use Rattle.indexd_store.specs.declared.stop.Stop.TheVariants as stops
+use Rattle.indexd_core.specs.Feeds as feeds
+use Rattle.indexd_core.specs.Feeds.{FeedComes, end_status}
+use Rattle.indexd_core.specs.Serves as serves
+use Rattle.indexd_core.specs.Serves.{Listened, ServeComes, EndsServing}
+use Rattle.indexd_core.specs.Sides.{Side}
+use Rattle.indexd_core.specs.Starts.{BeginsEmpty}
+use Rattle.indexd_core.specs.Stored.{status_of, FromStart, Comes, done, stopped, WroteUnread, Whole, unread, ran}
+use Rattle.indexd_core.specs.declared.status.Status.{Status}
+use Rattle.indexd_core.specs.declared.status.Status.TheVariants.{Done, ListenerFault}
+use Rattle.indexd_premises.specs.Standing.{HasHistory}
+
+-- ---- statuses
+
+not_done : (stop : Stop) → status_of stop ≡ Done → ⊥
+not_done stops.Memory e = cc
+not_done stops.Disk e = cc
+not_done (stops.Damaged file at) e = cc
+not_done stops.Inconsistent e = cc
+not_done stops.NotFound e = cc
+not_done stops.TooManyChannels e = cc
+not_done stops.Full e = cc
+not_done stops.Output e = cc
+not_done stops.Input e = cc
+not_done stops.Endless e = cc
+
+-- the store is open behind requests that end so
+open_behind : (first : Fed) (end : End) → end_status end ≡ Done → FedBehind first (fed_of end) → feeding.is_open_end first ≡ true
+open_behind first ends.Ended is (inl same) = ap feeding.is_open_end (sym same)
+open_behind first ends.Ended is (inr other) = other.0
+open_behind first (ends.Unreadable request) is b = absurd (cc)
+open_behind first ends.Memory is b = absurd (cc)
+open_behind first ends.Endless is b = absurd (cc)
+open_behind first ends.Disk is b = absurd (cc)
+open_behind first (ends.Damaged file at) is b = absurd (cc)
+open_behind first ends.Input is b = absurd (cc)
+open_behind first ends.Output is b = absurd (cc)
+
+open_served : (first : Heard) → HeardBehind first serving.Done → connections.is_open_end first ≡ true
+open_served heard.Done b = refl
+open_served heard.Listener b = refl
+open_served (heard.Broken commits.Disk) (inl e) = absurd (cc)
+open_served (heard.Broken commits.Disk) (inr other) = other.0
+open_served (heard.Broken (commits.Damaged file at)) (inl e) = absurd (cc)
+open_served (heard.Broken (commits.Damaged file at)) (inr other) = other.0
+
+served_whole : (status : Status) (requests : ℕ) (end : ServeEnd) (output output' : Side) → status ≡ Done → EndsServing status requests end output output' → end ≡ serving.Done
+served_whole status requests serving.Done output output' is e = refl
+served_whole status requests serving.Listener output output' is e = let s = e.0 in absurd (cc)
+served_whole status requests serving.Memory output output' is e = let s = e.0 in absurd (cc)
+served_whole status requests serving.Disk output output' is e = let s = e.0 in absurd (cc)
+served_whole status requests (serving.Damaged file at) output output' is e = let s = e.0 in absurd (cc)
+
+-- ---- images
+
+-- an image that a run has written for a history stands for all of it
+whole : (run : ℕ) (choose : Chooser) (history : List Order) (image : Image) → Stands fits run choose history image → StandsFrom fits choose history (length history) image
+whole run choose history image stands =
+    stands_from fits run choose history (length history) (length history) image (omega arith) (omega arith)
+    (subst (λ (h : List Order). Stands fits run choose h image) (sym (take_all (length history) history (omega arith))) stands)
+
+-- ---- runs
+
+module _ {D : Type 0} {d : Ghosts D} {disk : D} (choose : Chooser) (chooser : IsChooser choose) (met : BeginsEmpty d choose disk) where
+  -- what is said of every run from here is said of this one
+  pub is_said : (comes : Chooser → List Order → ℕ → Type 0) → FromStart d disk comes → comes choose [] 0
+  is_said comes from = from choose [] 0 chooser met.given met.begins nothing met.seen
+
+  of_run : (may : List Order → List Order → List Order → Type 0) (disk' : D) → HasRun false d fits choose [] 0 may disk disk' → HasHistory d disk'
+  of_run may disk' run = record {
+    choose = choose;
+    chooser = chooser;
+    history = given_all choose (given_all choose (take run.count []) run.configured) run.orders;
+    all = run.exit;
+  }
+
+  pub of_comes : (status : Status) (config : Config) (named : List ℕ) (ahead ahead' : Option Moments) (what : Chooser → Doing) (untouched : Side → Type 0)
+      (part : Stop → Side → Chooser → Doing) (wrote : Stop → Side → Type 0) (output' : Side) (disk' : D) → status ≡ Done →
+      Comes status d config named ahead ahead' what untouched part wrote output' disk disk' → HasHistory d disk'
+  of_comes status config named ahead ahead' what untouched part wrote output' disk' is (done e from) =
+      of_run (WhenOpen choose config ahead (what choose)) disk'
+      (is_said (λ choose history k. HasRun false d fits choose history k (WhenOpen choose config ahead (what choose)) disk disk') from)
+  of_comes status config named ahead ahead' what untouched part wrote output' disk' is (stopped stop middle e from w s) = absurd (not_done stop (sym e ∙ is))
+
+  pub of_feed : (status : Status) (config : Config) (ahead ahead' : Option Moments) (input input' output output' : Side) (disk' : D) → status ≡ Done →
+      FeedComes status d config ahead ahead' input input' output output' disk disk' → HasHistory d disk'
+  of_feed status config ahead ahead' input input' output output' disk' is (feeds.shut stop e from same said) = absurd (not_done stop (sym e ∙ is))
+  of_feed status config ahead ahead' input input' output output' disk' is (feeds.served end middle e l m from said) =
+      let run = is_said (λ choose history k. HasServed d fits choose history k config ahead
+      (Requests d fits choose (fed_of end) (IsSound output.faults middle.faults) input.told input'.told ahead' output.told middle.told disk') disk disk') from in
+      let requests = run.served in
+      record {
+        choose = choose;
+        chooser = chooser;
+        history = run.now;
+        all = λ image may. whole run.run choose run.now image (requests.all (open_behind requests.first end (sym e ∙ is) requests.behind) image may);
+      }
+
+  pub of_serve : (status : Status) (config : Config) (requests : ℕ) (ahead ahead' : Option Moments) (heard heard' : Listened) (output output' : Side) (disk' : D) → status ≡ Done →
+      ServeComes status d config requests ahead ahead' heard heard' output output' disk disk' → HasHistory d disk'
+  of_serve status config requests ahead ahead' heard heard' output output' disk' is (serves.unbound e a h s said) = absurd (cc)
+  of_serve status config requests ahead ahead' heard heard' output output' disk' is (serves.shut stop e from same said) = absurd (not_done stop (sym e ∙ is))
+  of_serve status config requests ahead ahead' heard heard' output output' disk' is (serves.served end from wrote) =
+      let run = is_said (λ choose history k. HasServed d fits choose history k config ahead
+      (Connections d fits choose requests end heard.waiting heard'.waiting heard.handed heard'.handed ahead' disk') disk disk') from in
+      let visits = run.served in
+      let behind : HeardBehind visits.first serving.Done =
+      subst (HeardBehind visits.first) (served_whole status requests end output output' is wrote) visits.behind in
+      record {
+        choose = choose;
+        chooser = chooser;
+        history = run.now;
+        all = λ image may. whole run.run choose run.now image (visits.all (open_served visits.first behind) image may);
+      }
+
+-- one that is done has read the settings
+pub of_whole : (status : Status) (files : Option (List TreeFile)) (failed failed' : ℕ) (still : Type 0) (comes : Config → Type 0) (output output' : Side) (said : Type 0) → status ≡ Done →
+    ((config : Config) → comes config → said) → Whole status files failed failed' still comes output output' → said
+of_whole status files failed failed' still comes output output' said is f (unread s wrote) =
+    absurd (subst (λ (s : Status). WroteUnread s files failed failed' output output') is wrote)
+of_whole status files failed failed' still comes output output' said is f (ran config given c) = f config c

@@ -1,0 +1,59 @@
+//! A guard: a sentence whose premises nobody can meet says nothing, and no wrong body of code shows it. What `top` says of runs over a store
+//! has premises: a chooser of settings, a history for which the images at the start stand, a disk that tells what it reads. Here the program runs
+//! over an empty disk in memory, which meets them all, and what is said of that run has no premise on histories left. So the gate fails where a
+//! definition changes into one that nothing meets. Whoever adds a premise to `FromStart` of `indexd_core` shows here what meets it.
+#![tactic(auto)]
+
+ghost use Rattle.std.specs.Prelude.{◌≡◌, ℕ, true};
+ghost use Rattle.ix_kept.specs.Configs.{IsChooser};
+ghost use Rattle.ix_machine.specs.Given.{Chooser};
+ghost use Rattle.indexd_core.specs.Commands.{is_task, AskStore, AskFeed, AskServe};
+ghost use Rattle.indexd_core.specs.Prepared.{Stated};
+ghost use Rattle.indexd_core.specs.Starts.{BeginsEmpty, IsBlank, IsStart};
+ghost use Rattle.indexd_words.specs.Orders.{asked};
+ghost use Rattle.indexd_premises.specs.Standing.{HasHistory};
+
+#[cfg(test)]
+mod tests;
+
+use indexd_core::{Status, top};
+use ix_base::{Clock, FailPlan, Sink, Source, Text};
+use ix_disk::{Disk, MemDisk};
+use ix_link::Listener;
+use ix_tree::Tree;
+use std::alloc::Global;
+
+/// An empty disk in memory. It meets all that the clauses of `top` ask of a start.
+pub fn empty_disk(alloc: Global) -> MemDisk
+    ensures blank { IsBlank ⟦<MemDisk as Disk>⟧ result }
+    ensures begins { (choose : Chooser) × IsChooser choose × BeginsEmpty ⟦<MemDisk as Disk>⟧ choose result }
+    ensures start { IsStart ⟦<MemDisk as Disk>⟧ result }
+{
+    ix_kept::choosers_exist();
+    indexd_core::blank_disks_are_starts::<MemDisk>();
+    MemDisk::new(alloc, FailPlan::none(alloc))
+}
+
+/// Runs the program over an empty disk in memory, and answers with its status the disk that it leaves. Nothing is damaged, and at 0 every image
+/// that a crash may leave stands for all of one history of commands.
+pub fn first_run<S: Source, W: Sink, C: Clock, T: Tree, L: Listener>(
+    alloc: Global,
+    words: &[Text],
+    input: &mut S,
+    output: &mut W,
+    clock: &mut C,
+    tree: &mut T,
+    listener: &mut L,
+) -> (Status, MemDisk)
+    ensures undamaged { result.0 ≡ Status.Damaged → ⊥ }
+    ensures task { is_task (asked words.now) ≡ true → result.0 ≡ Status.Done → HasHistory ⟦<MemDisk as Disk>⟧ result.1 }
+    ensures stored { (stated : Stated) → AskStore words.now stated → result.0 ≡ Status.Done → HasHistory ⟦<MemDisk as Disk>⟧ result.1 }
+    ensures fed { AskFeed words.now → result.0 ≡ Status.Done → HasHistory ⟦<MemDisk as Disk>⟧ result.1 }
+    ensures served { (port requests : ℕ) → AskServe words.now port requests → result.0 ≡ Status.Done → HasHistory ⟦<MemDisk as Disk>⟧ result.1 }
+{
+    let mut disk = empty_disk(alloc);
+    let status = top(
+        alloc, words, input, output, clock, tree, &mut disk, listener,
+    );
+    (status, disk)
+}
