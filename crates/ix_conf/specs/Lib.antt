@@ -8,3 +8,4 @@ pub mod Lent
 pub mod Names
 pub mod Walk
 pub mod Zones
+pub mod Stars

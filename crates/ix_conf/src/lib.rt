@@ -10,6 +10,7 @@ mod merged;
 mod merging;
 mod names;
 mod reading;
+mod stars;
 mod tokens;
 mod zones;
 
@@ -18,5 +19,6 @@ pub use layers::{Layer, Layers, MergedEntry};
 pub use merged::{Item, Merged, Setting, merge};
 pub use names::NamePattern;
 pub use reading::parse;
+pub use stars::fits_stars;
 pub use tokens::NameFault;
 pub use zones::built_in_zones;

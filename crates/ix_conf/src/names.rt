@@ -28,7 +28,7 @@ fn same_byte(fold: bool, byte: u8, other: u8) -> bool
 }
 
 /// Asks for a byte before what was asked at each place.
-fn ask_byte(marks: &mut [bool], name: &[u8], fold: bool, byte: u8)
+pub(crate) fn ask_byte(marks: &mut [bool], name: &[u8], fold: bool, byte: u8)
     requires { length marks.old ≡ length name.now + 1 }
     ensures each { (i : ℕ) → i < length name.now → slice_index_or marks.new i false ≡ (same_byte fold byte (slice_index name.now i) && slice_index_or marks.old (i + 1) false) }
     ensures last { slice_index_or marks.new (length name.now) false ≡ false }
@@ -46,7 +46,7 @@ fn may_pass(slash: bool, byte: u8) -> bool
 }
 
 /// Asks for any bytes, with slashes or without, before what was asked at each place.
-fn ask_bytes(marks: &mut [bool], name: &[u8], slash: bool)
+pub(crate) fn ask_bytes(marks: &mut [bool], name: &[u8], slash: bool)
     requires { length marks.old ≡ length name.now + 1 }
     ensures each { (i : ℕ) → i < length name.now → slice_index_or marks.new i false
         ≡ (slice_index_or marks.old i false || (may_pass slash (slice_index name.now i) && slice_index_or marks.new (i + 1) false)) }
@@ -111,7 +111,7 @@ fn open(top: Level, below: &mut VecDeque<Level>) -> Level
     }
 }
 
-fn no_marks(alloc: Global, len: usize) -> Result<Vec<bool>, NoMemory>
+pub(crate) fn no_marks(alloc: Global, len: usize) -> Result<Vec<bool>, NoMemory>
     ensures { IfOk result (λ marks. marks.items ≡ replicate len false) }
 {
     Ok(vec![in alloc; false; len]?)
