@@ -5,6 +5,7 @@ pub mod InPlace
 pub mod Numbers
 pub mod Once
 pub mod Renaming
+pub mod RepeatLemmas
 pub mod Replays
 pub mod Runs
 pub mod RootNumbers

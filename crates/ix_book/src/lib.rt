@@ -3,9 +3,11 @@
 #![tactic(auto)]
 
 mod fault;
+mod keys;
 mod names;
 mod plain;
 mod putting;
+mod repeats;
 mod replaying;
 mod root;
 mod rooting;
@@ -15,6 +17,7 @@ mod whole;
 mod writing;
 
 pub use fault::CheckpointFault;
+pub use keys::key_of;
 pub use names::{is_only, same_name};
 pub use plain::PlainBook;
 pub use putting::put_body;

@@ -5,7 +5,7 @@ ghost use Rattle.ix_book.specs.Book.{name_of, named, is_same};
 
 use ix_items::Item;
 
-fn kind(item: &Item) -> u8
+pub(crate) fn kind(item: &Item) -> u8
     ensures { result ≡ (name_of item.now).kind }
 {
     match item {
@@ -23,7 +23,7 @@ fn kind(item: &Item) -> u8
     }
 }
 
-fn text(item: &Item) -> &[u8]
+pub(crate) fn text(item: &Item) -> &[u8]
     ensures { result.now ≡ (name_of item.now).text }
 {
     match item {
@@ -43,7 +43,7 @@ fn text(item: &Item) -> &[u8]
     }
 }
 
-fn number(item: &Item) -> u64
+pub(crate) fn number(item: &Item) -> u64
     ensures { result ≡ (name_of item.now).number }
 {
     match item {

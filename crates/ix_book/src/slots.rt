@@ -1,14 +1,16 @@
 //! The staged items: one slot a name. Staging a draft calls `drop_older`, a commit `last_removals`.
 
-ghost use Rattle.std.specs.Prelude.{◌≡◌, ◌<◌, ◌≤◌, ◌+◌, ℕ, length, get_or, take, true, false, All};
+ghost use Rattle.std.specs.Prelude.{◌≡◌, ◌<◌, ◌≤◌, ◌+◌, ℕ, length, get_or, take, true, false, All, IfSome};
 ghost use Rattle.std.specs.List.{AllByRecursion};
 ghost use Rattle.ix_items.specs.Spelling.{HasSpelling};
 ghost use Rattle.ix_book.specs.Book.{Book, empty, name_of, is_same, removals_in, replay};
+ghost use Rattle.ix_book.specs.Repeats.{Tells};
 ghost use Rattle.ix_book.specs.Slots.{bytes_of, items_of, without, AreOnce, AreRemovals};
 ghost use Rattle.ix_book.specs.declared.slot.Slot.{Slot};
 
 use crate::names::same_name;
 use crate::plain::removals_after;
+use crate::repeats::{Repeats, is_single, repeats_of};
 use crate::slot::Slot;
 use ix_base::{File, Sequence};
 use std::mem;
@@ -31,6 +33,34 @@ fn earlier(slots: &[Slot], at: usize) -> usize
     k
 }
 
+/// The same, without a walk where no second item has the number of the name.
+fn earlier_by(repeats: &Option<Repeats>, slots: &[Slot], at: usize) -> usize
+    requires at { at < length slots.now }
+    requires tells { IfSome repeats.now (λ seen. Tells seen slots.now) }
+    ensures within { result ≤ at }
+    ensures found { (d : Slot) → result < at → is_same (name_of (get_or slots.now result d).item) (name_of (get_or slots.now at d).item) ≡ true }
+    ensures none { (d : Slot) → result ≡ at → All (λ slot. is_same (name_of slot.item) (name_of (get_or slots.now at d).item) ≡ false) (take at slots.now) }
+{
+    match repeats {
+        Some(seen) if is_single(seen, &slots[at].item) => at,
+        _ => earlier(slots, at),
+    }
+}
+
+/// From how many new items on the names of all are numbered. Before that, walks cost less.
+const MANY: usize = 32;
+
+/// The numbers of the names, where many items are new and there is room for them.
+fn repeats_in(slots: &Vec<Slot>, from: usize) -> Option<Repeats>
+    requires { from ≤ length slots.now.items }
+    ensures { IfSome result (λ seen. Tells seen slots.now.items) }
+{
+    if slots.len() - from < MANY {
+        return None;
+    }
+    repeats_of(*slots.allocator(), slots.as_slice()).ok()
+}
+
 /// How many bytes the item at the place has.
 fn size_at(slots: &[Slot], at: usize) -> u64
     requires { at < length slots.now }
@@ -41,9 +71,10 @@ fn size_at(slots: &[Slot], at: usize) -> u64
 }
 
 /// Drops each item under whose name a later one stands, from a place on, and answers how many bytes are left.
-fn drop_in(slots: &mut Vec<Slot>, from: usize, size: u64) -> u64
+fn drop_in(slots: &mut Vec<Slot>, repeats: &Option<Repeats>, from: usize, size: u64) -> u64
     requires size { size ≡ length (bytes_of slots.old.items) }
     requires from { from ≤ length slots.old.items }
+    requires tells { IfSome repeats.now (λ seen. Tells seen slots.old.items) }
     ensures size { result ≡ length (bytes_of slots.new.items) }
     ensures book { (book : Book) → replay (items_of slots.new.items) book ≡ replay (items_of slots.old.items) book }
     ensures proper { AllByRecursion HasSpelling (items_of slots.old.items) → AllByRecursion HasSpelling (items_of slots.new.items) }
@@ -53,7 +84,7 @@ fn drop_in(slots: &mut Vec<Slot>, from: usize, size: u64) -> u64
     let mut size = size;
     let mut k = from;
     while k < slots.len() {
-        let at = earlier(slots.as_slice(), k);
+        let at = earlier_by(repeats, slots.as_slice(), k);
         if at < k {
             size -= size_at(slots.as_slice(), at);
             drop(slots.remove(at));
@@ -65,7 +96,8 @@ fn drop_in(slots: &mut Vec<Slot>, from: usize, size: u64) -> u64
 }
 
 /// Drops each item under whose name a later one stands, where that one stands at `from` or behind, so that each name is
-/// there once. It answers how many bytes the items have then, and takes no memory.
+/// there once. It answers how many bytes the items have then. It needs no memory; where many items are new it takes some
+/// for the numbers of names, so that it does not hold each item against all others, and does without where there is none.
 pub fn drop_older(slots: &mut Sequence<Slot>, from: usize, size: u64) -> u64
     requires size { size ≡ length (bytes_of slots.old) }
     requires from { from ≤ length slots.old }
@@ -77,7 +109,8 @@ pub fn drop_older(slots: &mut Sequence<Slot>, from: usize, size: u64) -> u64
 {
     let own = slots.empty();
     let mut list = mem::replace(slots, own).into_vec();
-    let left = drop_in(&mut list, from, size);
+    let repeats = repeats_in(&list, from);
+    let left = drop_in(&mut list, &repeats, from, size);
     *slots = Sequence::from_vec(list);
     left
 }

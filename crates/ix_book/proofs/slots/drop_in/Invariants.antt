@@ -1,13 +1,16 @@
 use Rattle.std.proofs.Common.{◌≡◌, ◌≤◌, ◌-◌, length, take}
+use Rattle.std.specs.Prelude.{IfSome}
 use Rattle.std.specs.List.{AllByRecursion}
 use Rattle.ix_items.specs.Spelling.{HasSpelling}
 use Rattle.ix_book.specs.Book.{Book, replay}
+use Rattle.ix_book.specs.Repeats.{Tells}
 use Rattle.ix_book.specs.Slots.{bytes_of, items_of, AreOnce}
 use Rattle.ix_book.proofs.slots.drop_in.Given as goal
 
 abbrev pub invariant-loop-k : goal.invariant-loop-k
 invariant-loop-k l = record {
   within : l.k ≤ length l.slots.items;
+  tells : IfSome l.repeats (λ seen. Tells seen l.slots.items);
   size : l.size ≡ length (bytes_of l.slots.items);
   book : (book : Book) → replay (items_of l.slots.items) book ≡ replay (items_of l.fn.slots.items) book;
   proper : AllByRecursion HasSpelling (items_of l.fn.slots.items) → AllByRecursion HasSpelling (items_of l.slots.items);
