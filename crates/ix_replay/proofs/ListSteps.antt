@@ -37,7 +37,7 @@ none_there (Some item) is = absurd cc
 
 -- ---- names
 
-other_way : (a b : Name) → is_same a b ≡ false → is_same b a ≡ false
+pub other_way : (a b : Name) → is_same a b ≡ false → is_same b a ≡ false
 other_way a b is = go (is_same b a) refl
   where
     go : (test : Bool) → is_same b a ≡ test → is_same b a ≡ false
@@ -115,7 +115,7 @@ book_same items item other gone = λ i name. at name (is_same (name_of item) nam
 
 -- ---- the same by places
 
-split_at : (list : List Item) (at : ℕ) (d : Item) → at < length list → list ≡ take at list ++ get_or list at d ∷ drop (at + 1) list
+pub split_at : (list : List Item) (at : ℕ) (d : Item) → at < length list → list ≡ take at list ++ get_or list at d ∷ drop (at + 1) list
 split_at list at d within = sym (take-append-drop at list) ∙ ap (λ (l : List Item). take at list ++ l) (drop_more list at d within)
 
 module _ (list : List Item) (at : ℕ) (item : Item) (within : at < length list) (listed : AreListed list) (same : is_same (name_of (get_or list at item)) (name_of item) ≡ true) where

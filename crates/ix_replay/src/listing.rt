@@ -1,13 +1,23 @@
 //! A list of what stands, one item a name, and what a further item changes there. The replayed state keeps one.
 
-ghost use Rattle.std.specs.Prelude.{◌≡◌, ◌≤◌, ◌<◌, length, get_or, true, false, All, OnOk, OnErr};
+ghost use Rattle.std.specs.Prelude.{◌≡◌, ◌≤◌, ◌<◌, List, length, get_or, true, false, All, IsSome, OnOk, OnErr};
+ghost use Rattle.std.specs.BTreeMap.{get};
+ghost use Rattle.std.specs.Ordering.{nat_cmp};
 ghost use Rattle.ix_book.specs.Book.{empty, replay, after_item, name_of, is_same, left_by, is_there};
+ghost use Rattle.ix_book.specs.Keys.{key_in};
 ghost use Rattle.ix_items.specs.declared.items.Item.{Item};
+ghost use Rattle.ix_replay.specs.Known.{AreKnown};
 ghost use Rattle.ix_replay.specs.Lists.{AreListed};
 
 use ix_base::NoMemory;
-use ix_book::same_name;
+use ix_book::{key_of, same_name};
 use ix_items::Item;
+use std::collections::BTreeMap;
+
+/// Where the items of a list are looked for, by the numbers of their names: a hint, which is tested and not trusted. Each item
+/// has an entry, so where there is none no item has the name. The place it tells is looked at, and where another item
+/// stands there, whose name has the same number, the list is gone through.
+pub type Places = BTreeMap<u64, usize>;
 
 /// Whether the item is what stands under its name after it: not the end of a channel, nor a bucket that is gone.
 fn stays(item: &Item) -> bool
@@ -31,7 +41,7 @@ fn stays(item: &Item) -> bool
 
 /// The place of the item under the name of this one, or the length where there is none. It looks from the end on: most
 /// items of a body stand for what has changed a short while ago, and that is at the end.
-fn place_of(items: &[Item], item: &Item) -> usize
+fn walk_to(items: &[Item], item: &Item) -> usize
     ensures within { result ≤ length items.now }
     ensures found { (d : Item) → result < length items.now → is_same (name_of (get_or items.now result d)) (name_of item.now) ≡ true }
     ensures none { result ≡ length items.now → All (λ x. is_same (name_of x) (name_of item.now) ≡ false) items.now }
@@ -46,63 +56,123 @@ fn place_of(items: &[Item], item: &Item) -> usize
     items.len()
 }
 
-/// Puts an item in place of the one of its name at a place. It goes to the end, where it is found first.
-fn replace(items: &mut Vec<Item>, at: usize, item: Item) -> Result<(), NoMemory>
+/// The same, by the place that the hint tells.
+fn place_of(items: &[Item], places: &Places, item: &Item) -> usize
+    requires known { AreKnown places.now items.now }
+    ensures within { result ≤ length items.now }
+    ensures found { (d : Item) → result < length items.now → is_same (name_of (get_or items.now result d)) (name_of item.now) ≡ true }
+    ensures none { result ≡ length items.now → All (λ x. is_same (name_of x) (name_of item.now) ≡ false) items.now }
+{
+    match places.get(&key_of(item)) {
+        Some(at) => {
+            if *at < items.len() && same_name(&items[*at], item) {
+                *at
+            } else {
+                walk_to(items, item)
+            }
+        }
+        None => items.len(),
+    }
+}
+
+/// Puts an item in place of the one of its name at a place.
+fn replace(items: &mut Vec<Item>, places: &Places, at: usize, item: Item)
     requires at { at < length items.old.items }
     requires listed { AreListed items.old.items }
+    requires known { AreKnown places.now items.old.items }
     requires same { (d : Item) → is_same (name_of (get_or items.old.items at d)) (name_of item) ≡ true }
     requires stays { is_there (left_by item) ≡ true }
     ensures listed { AreListed items.new.items }
-    ensures book { OnOk result (replay items.new.items empty ≡ after_item item (replay items.old.items empty)) }
+    ensures known { AreKnown places.now items.new.items }
+    ensures book { replay items.new.items empty ≡ after_item item (replay items.old.items empty) }
 {
-    drop(items.remove(at));
-    items.push(item)?;
+    items[at] = item;
+}
+
+/// Notes that an item stands at a place.
+fn note(places: &mut Places, item: &Item, at: usize) -> Result<(), NoMemory>
+    ensures here { OnOk result (IsSome (get nat_cmp places.new (key_in item.now))) }
+    ensures known { (items : List Item) → AreKnown places.old items → AreKnown places.new items }
+{
+    places.insert(key_of(item), at)?;
     Ok(())
 }
 
-/// Takes the item at a place out, for one of its name that leaves nothing.
-fn take_out(items: &mut Vec<Item>, at: usize, gone: &Item)
+/// Takes the item at a place out, for one of its name that leaves nothing. The last one takes its place.
+fn swap_out(items: &mut Vec<Item>, places: &Places, at: usize, gone: &Item)
     requires at { at < length items.old.items }
     requires listed { AreListed items.old.items }
+    requires known { AreKnown places.now items.old.items }
     requires same { (d : Item) → is_same (name_of (get_or items.old.items at d)) (name_of gone.now) ≡ true }
     requires gone { is_there (left_by gone.now) ≡ false }
     ensures listed { AreListed items.new.items }
+    ensures known { AreKnown places.now items.new.items }
     ensures book { replay items.new.items empty ≡ after_item gone.now (replay items.old.items empty) }
 {
-    drop(items.remove(at));
+    drop(items.swap_remove(at));
+}
+
+/// The same, and notes where the last one stands now.
+fn take_out(
+    items: &mut Vec<Item>,
+    places: &mut Places,
+    at: usize,
+    gone: &Item,
+) -> Result<(), NoMemory>
+    requires at { at < length items.old.items }
+    requires listed { AreListed items.old.items }
+    requires known { AreKnown places.old items.old.items }
+    requires same { (d : Item) → is_same (name_of (get_or items.old.items at d)) (name_of gone.now) ≡ true }
+    requires gone { is_there (left_by gone.now) ≡ false }
+    ensures listed { AreListed items.new.items }
+    ensures known { AreKnown places.new items.new.items }
+    ensures book { replay items.new.items empty ≡ after_item gone.now (replay items.old.items empty) }
+{
+    swap_out(items, places, at, gone);
+    if at < items.len() {
+        note(places, &items[at], at)?;
+    }
+    Ok(())
 }
 
 /// Adds an item under a name of its own.
-fn add(items: &mut Vec<Item>, item: Item) -> Result<(), NoMemory>
+fn add(items: &mut Vec<Item>, places: &mut Places, item: Item) -> Result<(), NoMemory>
     requires listed { AreListed items.old.items }
+    requires known { AreKnown places.old items.old.items }
     requires none { All (λ x. is_same (name_of x) (name_of item) ≡ false) items.old.items }
     requires stays { is_there (left_by item) ≡ true }
     ensures listed { AreListed items.new.items }
+    ensures known { AreKnown places.new items.new.items }
     ensures book { OnOk result (replay items.new.items empty ≡ after_item item (replay items.old.items empty)) }
 {
+    note(places, &item, items.len())?;
     items.push(item)?;
     Ok(())
 }
 
 /// Puts an item in place of what stands under its name.
-pub fn put(items: &mut Vec<Item>, item: Item) -> Result<(), NoMemory>
-    requires { AreListed items.old.items }
+pub fn put(items: &mut Vec<Item>, places: &mut Places, item: Item) -> Result<(), NoMemory>
+    requires listed { AreListed items.old.items }
+    requires known { AreKnown places.old items.old.items }
     ensures listed { AreListed items.new.items }
+    ensures known { AreKnown places.new items.new.items }
     ensures book { OnOk result (replay items.new.items empty ≡ after_item item (replay items.old.items empty)) }
 {
-    let at = place_of(items.as_slice(), &item);
+    let at = place_of(items.as_slice(), places, &item);
     let found = at < items.len();
     if stays(&item) {
         if found {
-            replace(items, at, item)
+            replace(items, places, at, item);
+            Ok(())
         } else {
-            add(items, item)
+            add(items, places, item)
         }
     } else {
+        let mut done = Ok(());
         if found {
-            take_out(items, at, &item);
+            done = take_out(items, places, at, &item);
         }
         drop(item);
-        Ok(())
+        done
     }
 }

@@ -5,30 +5,34 @@ ghost use Rattle.ix_book.specs.Book.{empty, replay};
 ghost use Rattle.ix_replay.specs.Lists.{Lists};
 
 use crate::judging::keeps_bounds;
-use crate::listing::put;
+use crate::listing::{Places, put};
 use crate::standing::{are_settled, removals, run_of};
 use ix_base::{File, NoMemory};
 use ix_book::Replay;
 use ix_items::Item;
 use std::alloc::Global;
+use std::collections::BTreeMap;
 use std::marker::Model;
 
 /// The items that stand after a log, one a name. Contracts see it as their list.
 #[derive(Drop)]
 pub struct Replayed {
     items: Vec<Item>,
+    /// Where they are looked for.
+    places: Places,
 }
 
 impl Model for Replayed {
     ghost use Rattle.std.specs.Prelude.{List};
     ghost use Rattle.ix_items.specs.declared.items.Item.{Item};
+    ghost use Rattle.ix_replay.specs.Known.{AreKnown};
     ghost use Rattle.ix_replay.specs.Lists.{AreListed};
 
     ghost Value = { List Item };
 
     ghost view = { λ r. r.items.items };
 
-    ghost invariant = { λ r. AreListed r.items.items };
+    ghost invariant = { λ r. AreListed r.items.items × AreKnown r.places r.items.items };
 }
 
 impl Replayed {
@@ -38,6 +42,7 @@ impl Replayed {
     {
         Replayed {
             items: Vec::new(alloc),
+            places: BTreeMap::new(alloc),
         }
     }
 
@@ -59,7 +64,7 @@ impl Replay for Replayed {
     ghost fits = { fits };
 
     fn apply(&mut self, item: Item) -> Result<(), NoMemory> {
-        put(&mut self.items, item)
+        put(&mut self.items, &mut self.places, item)
     }
 
     fn judge(&mut self) -> Result<bool, NoMemory> {

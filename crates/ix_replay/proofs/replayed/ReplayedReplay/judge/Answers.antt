@@ -9,6 +9,6 @@ use Rattle.ix_replay.proofs.replayed.ReplayedReplay.judge.Goals as goal
 pub returns-clause-judged : goal.returns-clause-judged
 returns-clause-judged c =
     let list = c.self.inside.items.items in (
-      (λ yes. subst (λ (l : List Item). fits (replay l empty)) c.self.view_is (fits_from_keeps list c.self.invariant (subst KeepsBounds c.as_slice.ensures.value (c.in_ok-keeps.ensures.0 yes)))),
-      (λ fit. c.in_ok-keeps.ensures.1 (subst KeepsBounds (sym c.as_slice.ensures.value) (keeps_from_fits list c.self.invariant (subst (λ (l : List Item). fits (replay l empty)) (sym c.self.view_is) fit)))),
+      (λ yes. subst (λ (l : List Item). fits (replay l empty)) c.self.view_is (fits_from_keeps list c.self.invariant.0 (subst KeepsBounds c.as_slice.ensures.value (c.in_ok-keeps.ensures.0 yes)))),
+      (λ fit. c.in_ok-keeps.ensures.1 (subst KeepsBounds (sym c.as_slice.ensures.value) (keeps_from_fits list c.self.invariant.0 (subst (λ (l : List Item). fits (replay l empty)) (sym c.self.view_is) fit)))),
     )

@@ -2,7 +2,7 @@ use Rattle.std.proofs.Common.{◌≡◌, ◌≤◌, length, drop, false}
 use Rattle.std.specs.Prelude.{All}
 use Rattle.ix_items.specs.declared.items.Item.{Item}
 use Rattle.ix_book.specs.Book.{name_of, is_same}
-use Rattle.ix_replay.proofs.listing.place_of.Given as goal
+use Rattle.ix_replay.proofs.listing.walk_to.Given as goal
 
 abbrev pub invariant-loop-at : goal.invariant-loop-at
 invariant-loop-at l = record {
