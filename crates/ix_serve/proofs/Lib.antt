@@ -4,3 +4,4 @@ pub mod Exporting
 pub mod Asking
 pub mod Taking
 pub mod Behind
+pub mod Closing

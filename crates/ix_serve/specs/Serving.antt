@@ -7,8 +7,10 @@ use Rattle.ix_book.specs.Book.{Book}
 use Rattle.ix_disk.specs.Image.{Image}
 use Rattle.ix_disk.specs.Moments.{Always}
 use Rattle.ix_disk.specs.declared.disk.Disk.{Ghosts}
+use Rattle.ix_heads.specs.declared.faults.LinkFault.TheVariants as link
 use Rattle.ix_http.specs.Asked.{Fits}
 use Rattle.ix_http.specs.Limits.{IsWithin}
+use Rattle.ix_http.specs.declared.kinds.Incoming.TheVariants as was
 use Rattle.ix_keep.specs.Snapshot.{IsLong}
 use Rattle.ix_keep.specs.declared.keeper.Keeper.{Keeper}
 use Rattle.ix_link.specs.Links.{Standing}
@@ -19,7 +21,7 @@ use Rattle.ix_store.specs.declared.store.Store.{Store}
 use Rattle.ix_serve.specs.Answer.{Answer, Found, Says, MayList, says, is_whole}
 use Rattle.ix_serve.specs.Entries.{Entry}
 use Rattle.ix_serve.specs.Prefixes.{StandsIn}
-use Rattle.ix_serve.specs.Replies.{Reply, text_of}
+use Rattle.ix_serve.specs.Replies.{Reply, http_status, text_of}
 use Rattle.ix_serve.specs.declared.served.Served.{Served}
 use Rattle.ix_serve.specs.declared.served.Served.TheVariants as served
 use Rattle.ix_serve.specs.declared.served.ServeFault.{ServeFault}
@@ -58,6 +60,13 @@ IsOpen (Err (fault.Damaged file at)) = ⊥
 IsOpen (Err fault.Link) = Unit {0}
 IsOpen (Err fault.Cut) = Unit {0}
 
+abbrev pub still_open : Result Served ServeFault → Bool
+still_open (Ok value) = true
+still_open (Err fault.Disk) = false
+still_open (Err (fault.Damaged file at)) = false
+still_open (Err fault.Link) = true
+still_open (Err fault.Cut) = true
+
 -- no fewer commands are committed than before, and at a commit point all are
 pub record HoldsFrom {D : Type 0} (d : Ghosts D) {M : Type 0} (fits : Book → Type 0) (holds : Chooser → List Order → M → Type 0) (e : Entry) (commits : Bool) (history : List Order) (store : Store M) (disk : D) : Type 0 where
   pub count : ℕ
@@ -70,6 +79,38 @@ pub record IsListed (e : Entry) (clean : Type 0) (result : Result Served ServeFa
   pub reply : Reply
   pub may_be : MayList e (says false reply)
   pub gave : Wrote reply true clean result given given'
+
+-- ---- what comes of what was read, whatever the store holds
+
+-- a reply was written, behind which another request may follow or not; or the link or the disk failed
+abbrev pub IsReplied : Bool → Result Served ServeFault → Type 0
+IsReplied delimited (Ok served.Ended) = ⊥
+IsReplied delimited (Ok (served.Reply status whole unshortened)) = whole ≡ delimited
+IsReplied delimited (Err fault.Disk) = Unit {0}
+IsReplied delimited (Err (fault.Damaged file at)) = Unit {0}
+IsReplied delimited (Err fault.Link) = Unit {0}
+IsReplied delimited (Err fault.Cut) = ⊥
+
+-- with this status
+abbrev pub HasStatus : ℕ → Result Served ServeFault → Type 0
+HasStatus status (Ok served.Ended) = Unit {0}
+HasStatus status (Ok (served.Reply replied whole unshortened)) = replied ≡ status
+HasStatus status (Err cause) = Unit {0}
+
+abbrev pub ComesOf : Found → Result Served ServeFault → Type 0
+ComesOf (Ok was.Ended) result = result ≡ Ok served.Ended
+ComesOf (Ok (was.Asked ask)) result = IsReplied true result
+ComesOf (Ok (was.Refused why delimited)) result = IsReplied delimited result × HasStatus (http_status why) result
+ComesOf (Err link.Failed) result = result ≡ Err fault.Link
+ComesOf (Err link.Cut) result = result ≡ Err fault.Cut
+ComesOf (Err (link.NoMemory whole)) result = IsReplied whole result × HasStatus 503 result
+
+-- What was read of the bytes of the link, and what came of it.
+pub record Reads (result : Result Served ServeFault) (left left' : Option (List ℕ)) : Type 0 where
+  pub read : Found
+  pub took : Told (Fits read) left left'
+  pub within : IfOk read IsWithin
+  pub comes : ComesOf read result
 
 -- ---- how long the log is
 

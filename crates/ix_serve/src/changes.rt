@@ -1,6 +1,6 @@
 //! Requests that change a store: a channel is begun, takes a block, or is ended.
 
-ghost use Rattle.std.specs.Prelude.{◌≡◌, ℕ, List, None, true};
+ghost use Rattle.std.specs.Prelude.{◌≡◌, ℕ, List, None, true, false};
 ghost use Rattle.std.specs.List.{AllByRecursion};
 ghost use Rattle.ix_http.specs.declared.kinds.Ask.TheVariants as asks;
 ghost use Rattle.ix_http.specs.declared.kinds.Kind.TheVariants.{Json};
@@ -12,8 +12,8 @@ ghost use Rattle.ix_machine.specs.declared.commands.Order.{Order};
 ghost use Rattle.ix_serve.specs.Answer.{MayChange, MayBe};
 ghost use Rattle.ix_serve.specs.Entries.{entry};
 ghost use Rattle.ix_serve.specs.Replies.{reply};
-ghost use Rattle.ix_serve.specs.Serving.{Answers, Comes, IsClean, IsOpen, IsTold};
-ghost use Rattle.ix_store.specs.Holding.{Holds};
+ghost use Rattle.ix_serve.specs.Serving.{Answers, Comes, IsClean, IsOpen, IsReplied, IsTold, still_open};
+ghost use Rattle.ix_store.specs.Holding.{Holds, is_closed};
 
 use crate::bodies::{acked_body, begun_body};
 use crate::keeping::settle;
@@ -47,6 +47,8 @@ fn serve_change<K: Link, M: Memory + Drop, D: Disk>(
     ensures left { K.left link.new ≡ K.left link.old }
     ensures over { IsOpen result → IsOver D.Disk store.new.keeper disk.new }
     ensures measured { IsMeasured D.Disk store.old.keeper disk.old → IsOpen result → IsMeasured D.Disk store.new.keeper disk.new }
+    ensures closed { still_open result ≡ false → is_closed store.new ≡ true }
+    ensures replied { IsReplied true result }
     ensures run { store.new.run ≡ store.old.run }
     ensures told { IsTold D.Disk disk.old → IsTold D.Disk disk.new }
     ensures goes { Goes (K.standing link.old) (K.standing link.new) }
@@ -82,6 +84,8 @@ pub(crate) fn serve_begin<K: Link, M: Memory + Drop, D: Disk>(
     ensures left { K.left link.new ≡ K.left link.old }
     ensures over { IsOpen result → IsOver D.Disk store.new.keeper disk.new }
     ensures measured { IsMeasured D.Disk store.old.keeper disk.old → IsOpen result → IsMeasured D.Disk store.new.keeper disk.new }
+    ensures closed { still_open result ≡ false → is_closed store.new ≡ true }
+    ensures replied { IsReplied true result }
     ensures run { store.new.run ≡ store.old.run }
     ensures told { IsTold D.Disk disk.old → IsTold D.Disk disk.new }
     ensures goes { Goes (K.standing link.old) (K.standing link.new) }
@@ -114,6 +118,8 @@ pub(crate) fn serve_block<K: Link, M: Memory + Drop, D: Disk>(
     ensures left { K.left link.new ≡ K.left link.old }
     ensures over { IsOpen result → IsOver D.Disk store.new.keeper disk.new }
     ensures measured { IsMeasured D.Disk store.old.keeper disk.old → IsOpen result → IsMeasured D.Disk store.new.keeper disk.new }
+    ensures closed { still_open result ≡ false → is_closed store.new ≡ true }
+    ensures replied { IsReplied true result }
     ensures run { store.new.run ≡ store.old.run }
     ensures told { IsTold D.Disk disk.old → IsTold D.Disk disk.new }
     ensures goes { Goes (K.standing link.old) (K.standing link.new) }
@@ -149,6 +155,8 @@ pub(crate) fn serve_end<K: Link, M: Memory + Drop, D: Disk>(
     ensures left { K.left link.new ≡ K.left link.old }
     ensures over { IsOpen result → IsOver D.Disk store.new.keeper disk.new }
     ensures measured { IsMeasured D.Disk store.old.keeper disk.old → IsOpen result → IsMeasured D.Disk store.new.keeper disk.new }
+    ensures closed { still_open result ≡ false → is_closed store.new ≡ true }
+    ensures replied { IsReplied true result }
     ensures run { store.new.run ≡ store.old.run }
     ensures told { IsTold D.Disk disk.old → IsTold D.Disk disk.new }
     ensures goes { Goes (K.standing link.old) (K.standing link.new) }

@@ -1,6 +1,6 @@
 //! The lines of an index, kept in memory up to a limit before they are replied with.
 
-ghost use Rattle.std.specs.Prelude.{◌≡◌, ◌≤◌, ◌⊎◌, ℕ, List, [], Option, Some, Err, length, nat_le, if◌then◌else◌, true, IfOk, IfErr, OnOk, OnErr};
+ghost use Rattle.std.specs.Prelude.{◌≡◌, ◌≤◌, ◌⊎◌, ℕ, List, [], Option, Some, Err, length, nat_le, if◌then◌else◌, true, IfOk, IfErr, OnOk, OnErr, false};
 ghost use Rattle.std.specs.List.{AllByRecursion};
 ghost use Rattle.ix_base.specs.Faults.{HasCause, Rose};
 ghost use Rattle.ix_base.specs.Told.{HasWritten, HasBegun};
@@ -17,8 +17,8 @@ ghost use Rattle.ix_serve.specs.Entries.{Entry, entry};
 ghost use Rattle.ix_serve.specs.Exports.{reply_of, MayReply, IsNoDamage};
 ghost use Rattle.ix_serve.specs.Prefixes.{StandsIn};
 ghost use Rattle.ix_serve.specs.Replies.{most_lines};
-ghost use Rattle.ix_serve.specs.Serving.{Answers, Comes, Gave, IsClean, IsOpen, IsTold};
-ghost use Rattle.ix_store.specs.Holding.{Holds};
+ghost use Rattle.ix_serve.specs.Serving.{Answers, Comes, Gave, IsClean, IsOpen, IsReplied, IsTold, still_open};
+ghost use Rattle.ix_store.specs.Holding.{Holds, is_closed};
 
 use crate::replies::{decline, give, give_refusal, give_unread, give_up};
 use crate::served::{ServeFault, Served};
@@ -120,6 +120,7 @@ fn export_lines<M: Memory + Drop, D: Disk>(
     ensures undamaged { IfErr result (λ cause. (choose : Chooser) (history : List Order) (base : ℕ) → M.is_chooser choose → AllByRecursion M.takes history →
         Holds D.Disk M.Book.fits M.holds choose history base (length history) store.old disk.old → IsNoDamage D.Disk disk.new cause) }
     ensures measured { IsMeasured D.Disk store.old.keeper disk.old → IsMeasured D.Disk store.new.keeper disk.new }
+    ensures closed { OnErr result (is_closed store.new ≡ true) }
     ensures run { store.new.run ≡ store.old.run }
     ensures same { D.Disk.seen disk.new ≡ D.Disk.seen disk.old }
     ensures over { IsOver D.Disk store.old.keeper disk.old → IsOver D.Disk store.new.keeper disk.new }
@@ -164,6 +165,7 @@ fn committed_lines<M: Memory + Drop, D: Disk>(
     ensures undamaged { IfErr result (λ cause. (choose : Chooser) (history : List Order) (base k : ℕ) → M.is_chooser choose → AllByRecursion M.takes history →
         Holds D.Disk M.Book.fits M.holds choose history base k store.old disk.old → IsNoDamage D.Disk disk.new cause) }
     ensures measured { IsMeasured D.Disk store.old.keeper disk.old → OnOk result (IsMeasured D.Disk store.new.keeper disk.new) }
+    ensures closed { OnErr result (is_closed store.new ≡ true) }
     ensures run { store.new.run ≡ store.old.run }
     ensures told { IsTold D.Disk disk.old → IsTold D.Disk disk.new }
     ensures over { OnOk result (IsOver D.Disk store.new.keeper disk.new) }
@@ -213,6 +215,8 @@ pub(crate) fn serve_events<K: Link, M: Memory + Drop, D: Disk>(
     ensures left { K.left link.new ≡ K.left link.old }
     ensures over { IsOpen result → IsOver D.Disk store.new.keeper disk.new }
     ensures measured { IsMeasured D.Disk store.old.keeper disk.old → IsOpen result → IsMeasured D.Disk store.new.keeper disk.new }
+    ensures closed { still_open result ≡ false → is_closed store.new ≡ true }
+    ensures replied { IsReplied true result }
     ensures run { store.new.run ≡ store.old.run }
     ensures told { IsTold D.Disk disk.old → IsTold D.Disk disk.new }
     ensures goes { GoesLink (K.standing link.old) (K.standing link.new) }

@@ -1,6 +1,6 @@
 //! Behind a reply what was accepted is made durable, and the log is made short. Those who serve requests call both.
 
-ghost use Rattle.std.specs.Prelude.{◌≡◌, ◌≤◌, ◌⊎◌, ℕ, List, length, nat_lt, true, Err, IfOk, IfErr, OnOk};
+ghost use Rattle.std.specs.Prelude.{◌≡◌, ◌≤◌, ◌⊎◌, ℕ, List, length, nat_lt, true, Err, IfOk, IfErr, OnOk, false, OnErr};
 ghost use Rattle.std.specs.List.{AllByRecursion};
 ghost use Rattle.ix_base.specs.Faults.{Rose};
 ghost use Rattle.ix_base.specs.Told.{Told};
@@ -12,8 +12,8 @@ ghost use Rattle.ix_machine.specs.Given.{Chooser};
 ghost use Rattle.ix_machine.specs.declared.commands.Order.{Order};
 ghost use Rattle.ix_serve.specs.Answer.{answer_of_fault};
 ghost use Rattle.ix_serve.specs.Prefixes.{StandsIn};
-ghost use Rattle.ix_serve.specs.Serving.{IsOpen, IsShort, IsTold, IsUndamaged};
-ghost use Rattle.ix_store.specs.Holding.{Holds};
+ghost use Rattle.ix_serve.specs.Serving.{IsOpen, IsShort, IsTold, IsUndamaged, still_open};
+ghost use Rattle.ix_store.specs.Holding.{Holds, is_closed};
 
 use crate::served::{ServeFault, Served, answer_of_fault};
 use ix_book::CheckpointFault;
@@ -34,6 +34,7 @@ pub(crate) fn settle<M: Memory + Drop, D: Disk>(
         Always D.Disk disk.old disk.new (StandsIn M.Book.fits store.old.run choose history k) }
     ensures came { (result ≡ came) ⊎ ((cause : CommitFaultOf) × (result ≡ Err (answer_of_fault cause))) }
     ensures measured { IsMeasured D.Disk store.old.keeper disk.old → IsOpen result → IsMeasured D.Disk store.new.keeper disk.new }
+    ensures closed { still_open result ≡ false → is_closed store.new ≡ true }
     ensures run { store.new.run ≡ store.old.run }
     ensures told { IsTold D.Disk disk.old → IsTold D.Disk disk.new }
     ensures over { IsOpen result → IsOver D.Disk store.new.keeper disk.new }
@@ -69,6 +70,7 @@ pub(crate) fn shorten_behind<M: Listing + Drop, D: Disk>(
         Holds D.Disk M.Book.fits M.holds choose history base k store.old disk.old → fault ≡ ServeFault.Disk) }
     ensures over { OnOk result (IsOver D.Disk store.new.keeper disk.new) }
     ensures measured { IsMeasured D.Disk store.old.keeper disk.old → OnOk result (IsMeasured D.Disk store.new.keeper disk.new) }
+    ensures closed { OnErr result (is_closed store.new ≡ true) }
     ensures run { store.new.run ≡ store.old.run }
     ensures told { Told Anyhow (D.Disk.seen disk.old) (D.Disk.seen disk.new) }
     ensures later { D.Disk.faults disk.old ≤ D.Disk.faults disk.new }

@@ -1,6 +1,6 @@
 //! Requests that ask: which numbers are committed, and what is stored.
 
-ghost use Rattle.std.specs.Prelude.{◌≡◌, ◌≤◌, ◌&&◌, ℕ, List, map, true, not, IfOk, Err};
+ghost use Rattle.std.specs.Prelude.{◌≡◌, ◌≤◌, ◌&&◌, ℕ, List, map, true, not, IfOk, Err, false};
 ghost use Rattle.std.specs.List.{AllByRecursion, list_any};
 ghost use Rattle.ix_base.specs.Faults.{Rose};
 ghost use Rattle.ix_http.specs.declared.kinds.Ask.TheVariants as asks;
@@ -11,8 +11,8 @@ ghost use Rattle.ix_machine.specs.declared.commands.Order.{Order};
 ghost use Rattle.ix_serve.specs.Answer.{MayBe};
 ghost use Rattle.ix_serve.specs.Bodies.{acks_body};
 ghost use Rattle.ix_serve.specs.Entries.{Entry, IsAt, entry, is_acked, is_pending};
-ghost use Rattle.ix_serve.specs.Serving.{Answers, Comes, IsClean, IsListed, IsOpen, IsTold};
-ghost use Rattle.ix_store.specs.Holding.{Holds};
+ghost use Rattle.ix_serve.specs.Serving.{Answers, Comes, IsClean, IsListed, IsOpen, IsReplied, IsTold, still_open};
+ghost use Rattle.ix_store.specs.Holding.{Holds, is_closed};
 
 use crate::bodies::add_value;
 use crate::keeping::settle;
@@ -93,6 +93,8 @@ pub(crate) fn serve_acks<K: Link, M: Memory + Drop, D: Disk>(
     ensures left { K.left link.new ≡ K.left link.old }
     ensures over { IsOpen result → IsOver D.Disk store.new.keeper disk.new }
     ensures measured { IsMeasured D.Disk store.old.keeper disk.old → IsOpen result → IsMeasured D.Disk store.new.keeper disk.new }
+    ensures closed { still_open result ≡ false → is_closed store.new ≡ true }
+    ensures replied { IsReplied true result }
     ensures run { store.new.run ≡ store.old.run }
     ensures told { IsTold D.Disk disk.old → IsTold D.Disk disk.new }
     ensures goes { Goes (K.standing link.old) (K.standing link.new) }
@@ -119,6 +121,7 @@ pub(crate) fn serve_buckets<K: Link, M: Memory + Drop>(
     ensures lists { (e : Entry) (old : Snapshot) → IsAt M.Book.fits M.holds e store.now old →
         IsListed e (IsClean (K.faults link.old) (K.faults link.new) (K.standing link.old) (K.standing link.new)) result (K.given link.old) (K.given link.new) }
     ensures left { K.left link.new ≡ K.left link.old }
+    ensures replied { IsReplied true result }
     ensures open { IsOpen result }
     ensures goes { Goes (K.standing link.old) (K.standing link.new) }
     ensures later { K.faults link.old ≤ K.faults link.new }

@@ -1,6 +1,6 @@
 //! One request is served. Whoever serves links calls `serve_one`.
 
-ghost use Rattle.std.specs.Prelude.{◌≡◌, ℕ, List, length, nat_lt, true};
+ghost use Rattle.std.specs.Prelude.{◌≡◌, ℕ, List, length, nat_lt, true, false};
 ghost use Rattle.std.specs.List.{AllByRecursion};
 ghost use Rattle.ix_http.specs.Limits.{KeepsLimits};
 ghost use Rattle.ix_keep.specs.Snapshot.{IsMeasured, IsOver};
@@ -9,9 +9,9 @@ ghost use Rattle.ix_machine.specs.Given.{Chooser};
 ghost use Rattle.ix_machine.specs.declared.commands.Order.{Order};
 ghost use Rattle.ix_serve.specs.Answer.{MayBe};
 ghost use Rattle.ix_serve.specs.Entries.{entry};
-ghost use Rattle.ix_serve.specs.Serving.{Answers, Comes, IsClean, IsLongStill, IsOpen, IsShortBehind, IsTold, Serves};
+ghost use Rattle.ix_serve.specs.Serving.{Answers, Comes, IsClean, IsLongStill, IsOpen, IsReplied, IsShortBehind, IsTold, Reads, Serves, still_open};
 ghost use Rattle.ix_serve.specs.Taking.{TakesAsks};
-ghost use Rattle.ix_store.specs.Holding.{Holds};
+ghost use Rattle.ix_store.specs.Holding.{Holds, is_closed};
 
 use crate::changes::{serve_begin, serve_block, serve_end};
 use crate::events::serve_events;
@@ -45,6 +45,8 @@ fn serve_ask<K: Link, M: Memory + Drop, D: Disk>(
     ensures left { K.left link.new ≡ K.left link.old }
     ensures over { IsOpen result → IsOver D.Disk store.new.keeper disk.new }
     ensures measured { IsMeasured D.Disk store.old.keeper disk.old → IsOpen result → IsMeasured D.Disk store.new.keeper disk.new }
+    ensures closed { still_open result ≡ false → is_closed store.new ≡ true }
+    ensures replied { IsReplied true result }
     ensures run { store.new.run ≡ store.old.run }
     ensures told { IsTold D.Disk disk.old → IsTold D.Disk disk.new }
     ensures goes { Goes (K.standing link.old) (K.standing link.new) }
@@ -82,6 +84,8 @@ fn serve_request<K: Link, M: Memory + Drop, D: Disk>(
         result (K.left link.old) (K.left link.new) (K.given link.old) (K.given link.new) store.new disk.old disk.new }
     ensures over { IsOpen result → IsOver D.Disk store.new.keeper disk.new }
     ensures measured { IsMeasured D.Disk store.old.keeper disk.old → IsOpen result → IsMeasured D.Disk store.new.keeper disk.new }
+    ensures closed { still_open result ≡ false → is_closed store.new ≡ true }
+    ensures reads { Reads result (K.left link.old) (K.left link.new) }
     ensures run { store.new.run ≡ store.old.run }
     ensures told { IsTold D.Disk disk.old → IsTold D.Disk disk.new }
     ensures goes { Goes (K.standing link.old) (K.standing link.new) }
@@ -116,6 +120,10 @@ pub fn serve_one<K: Link, M: Listing + Drop, D: Disk>(
         Holds D.Disk M.Book.fits M.holds choose history base k store.old disk.old →
         Serves D.Disk M.Book.fits M.holds (entry choose history base k store.old.run moment) (IsClean (K.faults link.old) (K.faults link.new) (K.standing link.old) (K.standing link.new))
         result (K.left link.old) (K.left link.new) (K.given link.old) (K.given link.new) store.new disk.old disk.new }
+    // What comes of a request goes by what was read, also where the disk holds no history: where it is cut or refused, and whether another may follow.
+    ensures reads { Reads result (K.left link.old) (K.left link.new) }
+    // After a fault of the disk, or damage, the store is closed.
+    ensures closed { still_open result ≡ false → is_closed store.new ≡ true }
     // Behind a reply the log is not long, unless a command is staged, or the reply comes with `unshortened`; and then it is long.
     ensures short { (choose : Chooser) (history : List Order) (base k : ℕ) → Holds D.Disk M.Book.fits M.holds choose history base k store.new disk.new →
         IsShortBehind result (nat_lt k (length history)) store.new.keeper }

@@ -1,11 +1,12 @@
 -- What stands in the log of a store: the book of a history, with a run and last removals.
-use Rattle.std.specs.Prelude.{◌≡◌, ℕ, if◌then◌else◌, List, [], length, Option, Some}
+use Rattle.std.specs.Prelude.{◌≡◌, ◌+◌, ℕ, if◌then◌else◌, List, [], length, Option, Some}
 use Rattle.std.specs.List.{AllByRecursion}
 use Rattle.ix_base.specs.declared.files.File.{File}
 use Rattle.ix_items.specs.declared.items.Item.{Item}
 use Rattle.ix_items.specs.declared.items.Item.TheVariants as items
 use Rattle.ix_disk.specs.Image.{Image}
-use Rattle.ix_book.specs.Book.{Book, named, is_same}
+use Rattle.ix_book.specs.Book.{Book, named, is_same, run_in}
+use Rattle.ix_keep.specs.Reads.{LeadsTo}
 use Rattle.ix_keep.specs.Mounting.{KeepsOneOf}
 use Rattle.ix_keep.specs.Snapshot.{Snapshot, Keeps}
 use Rattle.ix_machine.specs.Given.{Chooser}
@@ -36,6 +37,12 @@ pub record Stands (fits : Book → Type 0) (run : ℕ) (choose : Chooser) (histo
 -- An image stands for a prefix with at least so many commands, and for some run; a disk on which nothing was written yet for none.
 abbrev pub StandsFrom : (Book → Type 0) → Chooser → List Order → ℕ → Image → Type 0
 StandsFrom fits choose history k image = KeepsOneOf fits (leaves choose history) k (length history) image
+
+-- this is the run behind the one that the image keeps, which is 0 where no body counts
+pub record IsNextRun (fits : Book → Type 0) (run : ℕ) (image : Image) : Type 0 where
+  pub found : Book
+  pub leads : LeadsTo fits found image
+  pub is : run ≡ run_in found + 1
 
 -- files that are done with
 abbrev pub AreDone : Catalog → List File → Type 0

@@ -9,12 +9,14 @@ ghost use Rattle.ix_disk.specs.Image.{Image, bytes_in};
 ghost use Rattle.ix_disk.specs.Moments.{Always};
 ghost use Rattle.ix_keep.specs.Committing.{IsShort};
 ghost use Rattle.ix_keep.specs.Contents.{Anyhow};
-ghost use Rattle.ix_keep.specs.Reads.{HasNoRun};
-ghost use Rattle.ix_keep.specs.Snapshot.{IsOver, IsIdle, IsMeasured};
+ghost use Rattle.ix_book.specs.Book.{empty, removals_in, replay};
+ghost use Rattle.ix_book.specs.Slots.{items_of};
+ghost use Rattle.ix_keep.specs.Reads.{HasNoRun, ReadsNone};
+ghost use Rattle.ix_keep.specs.Snapshot.{IsOver, IsIdle, IsMeasured, log_of};
 ghost use Rattle.ix_machine.specs.Given.{Chooser};
 ghost use Rattle.ix_machine.specs.declared.commands.Order.{Order};
 ghost use Rattle.ix_store.specs.Finding.{IsBadStore};
-ghost use Rattle.ix_store.specs.Written.{Stands, StandsFrom};
+ghost use Rattle.ix_store.specs.Written.{IsNextRun, Stands, StandsFrom};
 
 use crate::fault::{MountFault, fault_of};
 use crate::finding::blame;
@@ -44,6 +46,8 @@ impl<M: Memory + Drop> Store<M> {
         ensures over { OnOk result (IsOver D.Disk self.new.keeper disk.new) }
         ensures idle { OnOk result (IsIdle self.new.keeper) }
         ensures measured { (IsIdle self.old.keeper → IsMeasured D.Disk self.old.keeper disk.old) → OnOk result (IsMeasured D.Disk self.new.keeper disk.new) }
+        // Then the files that were superseded are gone, as the disk reads: those that the staged removals name.
+        ensures removed { OnOk result (ReadsNone D.Disk disk.new (log_of self.old.keeper) (removals_in (replay (items_of self.old.keeper.slots) empty))) }
         ensures run { self.new.run ≡ self.old.run }
         ensures closed { OnErr result (self.new.keeper.closed ≡ true) }
         // The named file, a bucket's or an archive's, has so many bytes, fewer than were committed.
@@ -72,6 +76,8 @@ impl<M: Memory + Drop> Store<M> {
         ensures mounted { IfOk result (λ store. (choose : Chooser) (history : List Order) (k : ℕ) → M.is_chooser choose → AllByRecursion M.takes history →
             ((image : Image) → D.Disk.may_leave disk.old image → StandsFrom M.Book.fits choose history k image) → (image : Image) → D.Disk.seen disk.old ≡ Some image →
             IsMounted D.Disk M.Book.fits M.holds choose history k image store disk.new) }
+        // The run is the one behind that which the disk's own reading keeps, whatever history that stands for.
+        ensures number { IfOk result (λ store. (image : Image) → D.Disk.seen disk.old ≡ Some image → IsNextRun M.Book.fits store.run image) }
         // What a commit and a checkpoint ask for.
         ensures over { IfOk result (λ store. IsOver D.Disk store.keeper disk.new) }
         ensures idle { IfOk result (λ store. IsIdle store.keeper) }

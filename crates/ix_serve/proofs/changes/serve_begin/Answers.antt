@@ -12,6 +12,7 @@ use Rattle.ix_serve.specs.Entries.{entry}
 use Rattle.ix_serve.specs.Replies.{reply, no_memory}
 use Rattle.ix_serve.specs.Serving.{Answers, IsClean, IsTold}
 use Rattle.ix_serve.proofs.Answering.{comes_open, idle}
+use Rattle.ix_serve.proofs.Closing.{open_still, replied_by}
 use Rattle.ix_serve.proofs.changes.serve_begin.Goals as goal
 
 pub returns-in_default : goal.returns-in_default
@@ -23,6 +24,8 @@ returns-in_default g c = record {
   left = c.decline.ensures.left;
   over = λ stays. c.requires.over;
   measured = λ measured stays. measured;
+  closed = λ down. absurd (open_still c.decline.result c.decline.ensures.open down);
+  replied = replied_by no_memory true (IsClean (g.K.Link.faults c.args.link.now) (g.K.Link.faults c.decline.new.link) (g.K.Link.standing c.args.link.now) (g.K.Link.standing c.decline.new.link)) c.decline.result (g.K.Link.given c.args.link.now) (g.K.Link.given c.decline.new.link) c.decline.ensures.gave;
   run = refl;
   told = λ told. told;
   goes = c.decline.ensures.goes;
@@ -41,6 +44,8 @@ returns g c = record {
   left = c.serve_change.ensures.left;
   over = c.serve_change.ensures.over;
   measured = c.serve_change.ensures.measured;
+  closed = c.serve_change.ensures.closed;
+  replied = c.serve_change.ensures.replied;
   run = c.serve_change.ensures.run;
   told = c.serve_change.ensures.told;
   goes = c.serve_change.ensures.goes;

@@ -4,6 +4,7 @@ use Rattle.ix_keep.specs.declared.fault.CommitFault.{CommitFault}
 use Rattle.ix_serve.specs.Prefixes.{StandsIn}
 use Rattle.ix_serve.proofs.Answering.{if_ok, if_err, on_ok_always}
 use Rattle.ix_serve.proofs.Standing.{committing, standing_on, tells_on}
+use Rattle.ix_serve.proofs.Closing.{by_keeper}
 use Rattle.ix_serve.proofs.events.committed_lines.Goals as goal
 
 pub returns-in-Ok : goal.returns-in-Ok
@@ -12,6 +13,7 @@ returns-in-Ok g c = record {
   held = λ choose h base k hold. c.export_lines.ensures.held choose h base (length h) (c.in-Ok.ensures.done choose h base k hold);
   undamaged = if_err c.export_lines.result (λ cause says choose h base k chooser taken hold. says choose h base chooser taken (c.in-Ok.ensures.done choose h base k hold)) c.export_lines.ensures.undamaged;
   measured = λ measured. on_ok_always c.export_lines.result (c.export_lines.ensures.measured (c.in-Ok.ensures.measured (λ idle. measured)));
+  closed = c.export_lines.ensures.closed;
   run = c.export_lines.ensures.run ∙ c.commit.ensures.run;
   told = λ told. let mid = tells_on g.D.Disk _ c.args.disk.now c.commit.new.disk c.commit.ensures.told told in (mid.0, c.export_lines.ensures.same ∙ mid.1);
   over = on_ok_always c.export_lines.result (c.export_lines.ensures.over c.in-Ok.ensures.over);
@@ -29,6 +31,7 @@ returns-in-Err g c = record {
   held = λ choose h base k hold. tt;
   undamaged = λ choose h base k chooser taken hold file at is image seen. c.in-Err.ensures.undamaged file at (ap (λ (f : CommitFault). Err f) is) choose h base k hold image seen;
   measured = λ measured. tt;
+  closed = by_keeper c.commit.new.self c.in-Err.ensures.closed;
   run = c.commit.ensures.run;
   told = tells_on g.D.Disk _ c.args.disk.now c.commit.new.disk c.commit.ensures.told;
   over = tt;

@@ -4,12 +4,13 @@ use Rattle.ix_base.specs.declared.files.File.{File}
 use Rattle.ix_keep.specs.declared.fault.CommitFault.TheVariants as commits
 use Rattle.ix_machine.specs.Step.{after}
 use Rattle.ix_store.specs.Exporting.{is_seen}
-use Rattle.ix_store.specs.Faults.{is_of_disk}
+use Rattle.ix_store.specs.Faults.{is_of_disk, closes}
 use Rattle.ix_store.specs.declared.fault.ExportFault.{ExportFault}
 use Rattle.ix_store.specs.declared.fault.ExportFault.TheVariants as exports
 use Rattle.ix_serve.specs.Serving.{IsTold}
 use Rattle.ix_serve.proofs.Behind.{ok_err}
 use Rattle.ix_serve.proofs.Exporting.{of_kept, of_front, of_unseen, seen_by}
+use Rattle.ix_serve.proofs.Closing.{by_export}
 use Rattle.ix_serve.proofs.events.export_lines.Goals as goal
 
 disk_or_damaged : (file : File) (at : ℕ) → commits.Disk ≡ commits.Damaged file at → ⊥
@@ -30,6 +31,7 @@ returns-in-Ok g c = record {
   held = λ choose h base k hold. c.in-Ok.ensures.held refl choose h base k hold;
   undamaged = tt;
   measured = c.export.ensures.measured;
+  closed = tt;
   run = c.export.ensures.run;
   same = c.export.ensures.same;
   over = c.export.ensures.over;
@@ -47,6 +49,7 @@ returns-in-Err-Output g c = record {
   held = λ choose h base k hold. c.in-Err-Output.ensures.held (ap is_of_disk c.in-Err-Output.field-0-is) choose h base k hold;
   undamaged = tt;
   measured = c.export.ensures.measured;
+  closed = tt;
   run = c.export.ensures.run;
   same = c.export.ensures.same;
   over = c.export.ensures.over;
@@ -63,6 +66,7 @@ returns-in-Err-UnknownIndex g c = record {
   held = λ choose h base k hold. c.in-Err-UnknownIndex.ensures.held (ap is_of_disk c.in-Err-UnknownIndex.field-0-is) choose h base k hold;
   undamaged = tt;
   measured = c.export.ensures.measured;
+  closed = tt;
   run = c.export.ensures.run;
   same = c.export.ensures.same;
   over = c.export.ensures.over;
@@ -78,6 +82,7 @@ returns g c = record {
   undamaged = λ choose h base chooser taken hold file at is image seen.
       c.in-Err-Damaged.ensures.sound c.in-Err-Damaged.file c.in-Err-Damaged.at (ap (λ (f : ExportFault). Err f) c.in-Err-Damaged.field-0-is) choose h base image chooser taken hold (sym c.in-Err-Damaged.ensures.same ∙ seen);
   measured = c.export.ensures.measured;
+  closed = by_export c.export.new.self _ _ c.export.ensures.closes (ap closes (c.in-Err-Damaged.is ∙ ap Err c.in-Err-Damaged.field-0-is));
   run = c.export.ensures.run;
   same = c.export.ensures.same;
   over = c.export.ensures.over;
@@ -92,6 +97,7 @@ returns-in-Err-NoMemory g c = record {
   held = λ choose h base k hold. c.in-Err-NoMemory.ensures.held (ap is_of_disk c.in-Err-NoMemory.field-0-is) choose h base k hold;
   undamaged = tt;
   measured = c.export.ensures.measured;
+  closed = tt;
   run = c.export.ensures.run;
   same = c.export.ensures.same;
   over = c.export.ensures.over;
@@ -107,6 +113,7 @@ returns-in-Err-Closed g c = record {
   held = λ choose h base k hold. c.in-Err-Closed.ensures.held (ap is_of_disk c.in-Err-Closed.field-0-is) choose h base k hold;
   undamaged = tt;
   measured = c.export.ensures.measured;
+  closed = tt;
   run = c.export.ensures.run;
   same = c.export.ensures.same;
   over = c.export.ensures.over;
@@ -121,6 +128,7 @@ returns-in-Err-Disk g c = record {
   held = λ choose h base k hold. tt;
   undamaged = λ choose h base chooser taken hold file at is. absurd (disk_or_damaged file at is);
   measured = c.export.ensures.measured;
+  closed = by_export c.export.new.self _ _ c.export.ensures.closes (ap closes (c.in-Err-Disk.is ∙ ap Err c.in-Err-Disk.field-0-is));
   run = c.export.ensures.run;
   same = c.export.ensures.same;
   over = c.export.ensures.over;

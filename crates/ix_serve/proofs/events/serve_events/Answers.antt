@@ -7,6 +7,7 @@ use Rattle.ix_serve.specs.Replies.{Reply, no_memory, broken}
 use Rattle.ix_serve.specs.Serving.{IsClean, IsOpen, IsTold}
 use Rattle.ix_serve.specs.declared.served.ServeFault.TheVariants as fault
 use Rattle.ix_serve.proofs.Answering.{comes_open, comes_closed, err_back, queried, due_held, open_undamaged, closed, damaged_back}
+use Rattle.ix_serve.proofs.Closing.{open_still, replied_by, replied_err}
 use Rattle.ix_serve.proofs.events.serve_events.Goals as goal
 
 pub returns-in-Ok : goal.returns-in-Ok
@@ -33,6 +34,8 @@ returns-in-Ok g c = record {
   left = c.give_exported.ensures.left;
   over = λ stays. c.in-Ok.ensures.over;
   measured = λ measured stays. c.in-Ok.ensures.measured measured;
+  closed = λ down. absurd (open_still c.give_exported.result c.give_exported.ensures.open down);
+  replied = replied_by (reply_of c.in-Ok.exported) true (IsClean (g.K.Link.faults c.args.link.now) (g.K.Link.faults c.give_exported.new.link) (g.K.Link.standing c.args.link.now) (g.K.Link.standing c.give_exported.new.link)) c.give_exported.result (g.K.Link.given c.args.link.now) (g.K.Link.given c.give_exported.new.link) c.give_exported.ensures.gave;
   run = c.committed_lines.ensures.run;
   told = c.committed_lines.ensures.told;
   goes = c.give_exported.ensures.goes;
@@ -57,6 +60,8 @@ returns-in-Err g c = record {
   left = c.give_up.ensures.left;
   over = λ stays. absurd (closed c.in-Err.cause (subst IsOpen c.give_up.ensures.result stays));
   measured = λ measured stays. absurd (closed c.in-Err.cause (subst IsOpen c.give_up.ensures.result stays));
+  closed = λ down. c.in-Err.ensures.closed;
+  replied = replied_err true c.in-Err.cause c.give_up.result c.give_up.ensures.result;
   run = c.committed_lines.ensures.run;
   told = c.committed_lines.ensures.told;
   goes = c.give_up.ensures.goes;

@@ -5,6 +5,7 @@ use Rattle.ix_serve.specs.declared.served.ServeFault.{ServeFault}
 use Rattle.ix_serve.specs.declared.served.ServeFault.TheVariants as fault
 use Rattle.ix_serve.proofs.Answering.{open_undamaged, damaged_back, disk_back, err_back, not_open}
 use Rattle.ix_serve.proofs.Standing.{committing, tells_on}
+use Rattle.ix_serve.proofs.Closing.{open_still, by_keeper}
 use Rattle.ix_serve.proofs.keeping.settle.Goals as goal
 
 pub returns-in-Ok : goal.returns-in-Ok
@@ -14,6 +15,7 @@ returns-in-Ok g c = record {
       committing g.M.Book.Replay.fits c.args.store.now.run choose h k hold.staged.within g.D.Disk c.args.disk.now c.commit.new.disk (c.commit.ensures.images choose h base k hold);
   came = inl refl;
   measured = λ measured stays. c.in-Ok.ensures.measured (λ idle. measured);
+  closed = λ down. absurd (open_still c.args.came c.requires.open down);
   run = c.commit.ensures.run;
   told = tells_on g.D.Disk _ c.args.disk.now c.commit.new.disk c.commit.ensures.told;
   over = λ stays. c.in-Ok.ensures.over;
@@ -29,6 +31,7 @@ returns-in-Err g c = record {
       committing g.M.Book.Replay.fits c.args.store.now.run choose h k hold.staged.within g.D.Disk c.args.disk.now c.commit.new.disk (c.commit.ensures.images choose h base k hold);
   came = inr (c.in-Err.cause, ap (λ (f : ServeFault). Err f) c.answer_of_fault.ensures);
   measured = λ measured stays. absurd (not_open c.answer_of_fault.result c.in-Err.cause c.answer_of_fault.ensures stays);
+  closed = λ down. by_keeper c.commit.new.self c.in-Err.ensures.closed;
   run = c.commit.ensures.run;
   told = tells_on g.D.Disk _ c.args.disk.now c.commit.new.disk c.commit.ensures.told;
   over = λ stays. absurd (not_open c.answer_of_fault.result c.in-Err.cause c.answer_of_fault.ensures stays);

@@ -9,6 +9,7 @@ use Rattle.ix_keep.proofs.Reading.{anyhow_same, anyhow_through}
 use Rattle.ix_serve.proofs.Standing.{committing, standing}
 use Rattle.ix_serve.proofs.Answering.{disk_back}
 use Rattle.ix_serve.proofs.Behind.{ok_err, all_in, short_told, shortened_images, shortened_held}
+use Rattle.ix_serve.proofs.Closing.{by_keeper}
 use Rattle.ix_serve.proofs.keeping.shorten_behind.Goals as goal
 
 -- a command is staged, and nothing is done
@@ -23,6 +24,7 @@ returns-then-staged g c = record {
   undamaged = tt;
   over = c.requires.over;
   measured = λ measured. measured;
+  closed = tt;
   run = refl;
   told = anyhow_same (g.D.Disk.seen c.args.disk.now) (g.D.Disk.seen c.args.disk.now) refl;
   later = omega arith;
@@ -41,6 +43,7 @@ returns-then-not-long g c = record {
   undamaged = tt;
   over = c.requires.over;
   measured = λ measured. measured;
+  closed = tt;
   run = refl;
   told = anyhow_same (g.D.Disk.seen c.args.disk.now) (g.D.Disk.seen c.args.disk.now) refl;
   later = omega arith;
@@ -62,6 +65,7 @@ returns-in-Err g c = record {
       absurd (ok_err (sym (c.commit.ensures.none (hold.staged.idle whole)).0 ∙ c.in-Err.is));
   over = tt;
   measured = λ measured. tt;
+  closed = by_keeper c.commit.new.self c.in-Err.ensures.closed;
   run = c.commit.ensures.run;
   told = c.commit.ensures.told;
   later = c.commit.ensures.later;
@@ -85,6 +89,7 @@ returns-in-Ok-checkpoint g c = record {
   undamaged = tt;
   over = c.in-Ok-checkpoint.ensures.over;
   measured = λ measured. c.in-Ok-checkpoint.ensures.measured;
+  closed = tt;
   run = c.checkpoint.ensures.run ∙ c.commit.ensures.run;
   told = anyhow_through (g.D.Disk.seen c.args.disk.now) (g.D.Disk.seen c.commit.new.disk) (g.D.Disk.seen c.checkpoint.new.disk) c.commit.ensures.told c.checkpoint.ensures.told;
   later = omega (arith, c.commit.ensures.later, c.checkpoint.ensures.later);
@@ -110,6 +115,7 @@ returns-in-Err-NoMemory g c = record {
   over = c.checkpoint.ensures.over_still (c.in-Err-NoMemory.is ∙ ap Err c.in-Err-NoMemory.field-0-is);
   measured = λ measured.
       c.checkpoint.ensures.measured_still (c.in-Err-NoMemory.is ∙ ap Err c.in-Err-NoMemory.field-0-is) (c.in-Ok.ensures.measured (λ idle. measured));
+  closed = tt;
   run = c.checkpoint.ensures.run ∙ c.commit.ensures.run;
   told = anyhow_through (g.D.Disk.seen c.args.disk.now) (g.D.Disk.seen c.commit.new.disk) (g.D.Disk.seen c.checkpoint.new.disk) c.commit.ensures.told c.checkpoint.ensures.told;
   later = omega (arith, c.commit.ensures.later, c.checkpoint.ensures.later);
@@ -130,6 +136,7 @@ returns-in-Err-Disk g c = record {
   undamaged = λ choose h base k hold. refl;
   over = tt;
   measured = λ measured. tt;
+  closed = by_keeper c.checkpoint.new.self (c.checkpoint.ensures.closed (c.in-Err-Disk.is ∙ ap Err c.in-Err-Disk.field-0-is));
   run = c.checkpoint.ensures.run ∙ c.commit.ensures.run;
   told = anyhow_through (g.D.Disk.seen c.args.disk.now) (g.D.Disk.seen c.commit.new.disk) (g.D.Disk.seen c.checkpoint.new.disk) c.commit.ensures.told c.checkpoint.ensures.told;
   later = omega (arith, c.commit.ensures.later, c.checkpoint.ensures.later);

@@ -8,6 +8,7 @@ use Rattle.ix_serve.specs.Entries.{entry, is_acked, is_pending}
 use Rattle.ix_serve.specs.Replies.{reply, no_memory}
 use Rattle.ix_serve.specs.Serving.{IsClean, IsTold}
 use Rattle.ix_serve.proofs.Answering.{comes_open, comes_settled, idle, queried, wrote_settled, due_held}
+use Rattle.ix_serve.proofs.Closing.{open_still, replied_by, replied_settled}
 use Rattle.ix_serve.proofs.queries.serve_acks.Goals as goal
 
 pub returns-in_default : goal.returns-in_default
@@ -20,6 +21,8 @@ returns-in_default g c = record {
   left = c.decline.ensures.left;
   over = λ stays. c.requires.over;
   measured = λ measured stays. measured;
+  closed = λ down. absurd (open_still c.decline.result c.decline.ensures.open down);
+  replied = replied_by no_memory true (IsClean (g.K.Link.faults c.args.link.now) (g.K.Link.faults c.decline.new.link) (g.K.Link.standing c.args.link.now) (g.K.Link.standing c.decline.new.link)) c.decline.result (g.K.Link.given c.args.link.now) (g.K.Link.given c.decline.new.link) c.decline.ensures.gave;
   run = refl;
   told = λ told. told;
   goes = c.decline.ensures.goes;
@@ -46,6 +49,8 @@ returns-then-pending g c = record {
   left = c.give-came.ensures.left;
   over = c.settle.ensures.over;
   measured = c.settle.ensures.measured;
+  closed = c.settle.ensures.closed;
+  replied = replied_settled true c.give-came.result c.settle.result c.settle.ensures.came (replied_by (reply 200 Json c.as_slice-3.result.now) true (IsClean (g.K.Link.faults c.args.link.now) (g.K.Link.faults c.give-came.new.link) (g.K.Link.standing c.args.link.now) (g.K.Link.standing c.give-came.new.link)) c.give-came.result (g.K.Link.given c.args.link.now) (g.K.Link.given c.give-came.new.link) c.give-came.ensures.gave);
   run = c.settle.ensures.run;
   told = c.settle.ensures.told;
   goes = c.give-came.ensures.goes;
@@ -68,6 +73,8 @@ returns g c = record {
   left = c.give-came.ensures.left;
   over = λ stays. c.requires.over;
   measured = λ measured stays. measured;
+  closed = λ down. absurd (open_still c.give-came.result c.give-came.ensures.open down);
+  replied = replied_by (reply 200 Json c.as_slice-3.result.now) true (IsClean (g.K.Link.faults c.args.link.now) (g.K.Link.faults c.give-came.new.link) (g.K.Link.standing c.args.link.now) (g.K.Link.standing c.give-came.new.link)) c.give-came.result (g.K.Link.given c.args.link.now) (g.K.Link.given c.give-came.new.link) c.give-came.ensures.gave;
   run = refl;
   told = λ told. told;
   goes = c.give-came.ensures.goes;

@@ -8,6 +8,7 @@ use Rattle.ix_serve.specs.Entries.{entry}
 use Rattle.ix_serve.specs.Serving.{Answers, IsClean, IsTold}
 use Rattle.ix_serve.proofs.Answering.{comes_open}
 use Rattle.ix_serve.proofs.Asking.{listed_answers}
+use Rattle.ix_serve.proofs.Closing.{open_still}
 use Rattle.ix_serve.proofs.serve.serve_ask.Goals as goal
 
 pub returns-in-Begin : goal.returns-in-Begin
@@ -21,6 +22,8 @@ returns-in-Begin g c = record {
   left = c.serve_begin.ensures.left;
   over = c.serve_begin.ensures.over;
   measured = c.serve_begin.ensures.measured;
+  closed = c.serve_begin.ensures.closed;
+  replied = c.serve_begin.ensures.replied;
   run = c.serve_begin.ensures.run;
   told = c.serve_begin.ensures.told;
   goes = c.serve_begin.ensures.goes;
@@ -38,6 +41,8 @@ returns-in-Block g c = record {
   left = c.serve_block.ensures.left;
   over = c.serve_block.ensures.over;
   measured = c.serve_block.ensures.measured;
+  closed = c.serve_block.ensures.closed;
+  replied = c.serve_block.ensures.replied;
   run = c.serve_block.ensures.run;
   told = c.serve_block.ensures.told;
   goes = c.serve_block.ensures.goes;
@@ -55,6 +60,8 @@ returns-in-End g c = record {
   left = c.serve_end.ensures.left;
   over = c.serve_end.ensures.over;
   measured = c.serve_end.ensures.measured;
+  closed = c.serve_end.ensures.closed;
+  replied = c.serve_end.ensures.replied;
   run = c.serve_end.ensures.run;
   told = c.serve_end.ensures.told;
   goes = c.serve_end.ensures.goes;
@@ -72,6 +79,8 @@ returns-in-Acks g c = record {
   left = c.serve_acks.ensures.left;
   over = c.serve_acks.ensures.over;
   measured = c.serve_acks.ensures.measured;
+  closed = c.serve_acks.ensures.closed;
+  replied = c.serve_acks.ensures.replied;
   run = c.serve_acks.ensures.run;
   told = c.serve_acks.ensures.told;
   goes = c.serve_acks.ensures.goes;
@@ -89,6 +98,8 @@ returns-in-Events g c = record {
   left = c.serve_events.ensures.left;
   over = c.serve_events.ensures.over;
   measured = c.serve_events.ensures.measured;
+  closed = c.serve_events.ensures.closed;
+  replied = c.serve_events.ensures.replied;
   run = c.serve_events.ensures.run;
   told = c.serve_events.ensures.told;
   goes = c.serve_events.ensures.goes;
@@ -107,6 +118,8 @@ returns-in-Buckets g c = record {
   left = c.serve_buckets.ensures.left;
   over = λ stays. c.requires.over;
   measured = λ measured stays. measured;
+  closed = λ down. absurd (open_still c.serve_buckets.result c.serve_buckets.ensures.open down);
+  replied = c.serve_buckets.ensures.replied;
   run = refl;
   told = λ told. told;
   goes = c.serve_buckets.ensures.goes;

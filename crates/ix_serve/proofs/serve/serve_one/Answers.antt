@@ -1,4 +1,4 @@
-use Rattle.std.proofs.Common.{◌∙◌, ℕ, ◌++◌, ap, subst, Result, Ok, rules, arith}
+use Rattle.std.proofs.Common.{◌∙◌, ℕ, ◌++◌, ap, subst, Result, Ok, rules, arith, sym}
 use mir.Val.{SFits}
 use Rattle.std.specs.Int.{w64}
 use Rattle.std.proofs.lemmas.Int.{to_z-of_z}
@@ -6,7 +6,7 @@ use Rattle.ix_disk.specs.Moments.{Always}
 use Rattle.ix_keep.specs.Contents.{Anyhow}
 use Rattle.ix_serve.specs.Entries.{entry}
 use Rattle.ix_serve.specs.Prefixes.{StandsIn}
-use Rattle.ix_serve.specs.Serving.{IsClean, IsTold, Serves}
+use Rattle.ix_serve.specs.Serving.{IsClean, IsTold, Serves, Reads}
 use Rattle.ix_serve.specs.declared.served.Served.{Served}
 use Rattle.ix_serve.specs.declared.served.Served.TheVariants as served
 use Rattle.ix_serve.specs.declared.served.ServeFault.{ServeFault}
@@ -14,6 +14,8 @@ use Rattle.ix_serve.proofs.Answering.{not_open}
 use Rattle.ix_serve.proofs.Behind.{comes_reply, comes_fault, serves_short, serves_failed}
 use Rattle.ix_serve.proofs.Standing.{tells_on}
 use Rattle.ix_serve.proofs.Taking.{says_taken}
+use Rattle.ix_serve.proofs.Closing.{reads_again, reads_fault}
+use Rattle.std.proofs.lemmas.Bool.{false≢true}
 use Rattle.ix_serve.proofs.serve.serve_one.Goals as goal
 
 pub returns-in-Ok : goal.returns-in-Ok
@@ -35,6 +37,8 @@ returns-in-Ok g c = record {
   long = c.in-Ok.ensures.long;
   over = λ stays. c.in-Ok.ensures.over;
   measured = λ measured stays. c.in-Ok.ensures.measured (c.in-Ok-Reply.ensures.measured measured tt);
+  closed = λ down. absurd (false≢true (sym down));
+  reads = reads_again c.serve_request.result c.in-Ok-Reply.status c.in-Ok-Reply.delimited _ (g.K.Link.left c.args.link.now) (g.K.Link.left c.serve_request.new.link) (c.in-Ok-Reply.is ∙ ap Ok c.in-Ok-Reply.field-0-is) c.serve_request.ensures.reads c.in-Ok.unshortened;
   run = c.shorten_behind.ensures.run ∙ c.serve_request.ensures.run;
   told = λ told. tells_on g.D.Disk _ c.serve_request.new.disk c.shorten_behind.new.disk c.shorten_behind.ensures.told (c.serve_request.ensures.told told);
   goes = c.serve_request.ensures.goes;
@@ -61,6 +65,8 @@ returns-in-Err-shorten_behind g c = record {
   long = tt;
   over = λ stays. absurd (not_open c.in-Err-shorten_behind.fault c.in-Err-shorten_behind.ensures.cause.0 c.in-Err-shorten_behind.ensures.cause.1 stays);
   measured = λ measured stays. absurd (not_open c.in-Err-shorten_behind.fault c.in-Err-shorten_behind.ensures.cause.0 c.in-Err-shorten_behind.ensures.cause.1 stays);
+  closed = λ down. c.in-Err-shorten_behind.ensures.closed;
+  reads = reads_fault c.serve_request.result c.in-Ok-Reply.status c.in-Ok-Reply.delimited _ (g.K.Link.left c.args.link.now) (g.K.Link.left c.serve_request.new.link) (c.in-Ok-Reply.is ∙ ap Ok c.in-Ok-Reply.field-0-is) c.serve_request.ensures.reads c.in-Err-shorten_behind.fault c.in-Err-shorten_behind.ensures.cause.0 c.in-Err-shorten_behind.ensures.cause.1;
   run = c.shorten_behind.ensures.run ∙ c.serve_request.ensures.run;
   told = λ told. tells_on g.D.Disk _ c.serve_request.new.disk c.shorten_behind.new.disk c.shorten_behind.ensures.told (c.serve_request.ensures.told told);
   goes = c.serve_request.ensures.goes;
@@ -82,6 +88,8 @@ returns-in-Ok-Ended g c = record {
   long = tt;
   over = λ stays. c.in-Ok-Ended.ensures.over tt;
   measured = λ measured stays. c.in-Ok-Ended.ensures.measured measured tt;
+  closed = λ down. absurd (false≢true (sym down));
+  reads = subst (λ (r : Result Served ServeFault). Reads r (g.K.Link.left c.args.link.now) (g.K.Link.left c.serve_request.new.link)) (c.in-Ok-Ended.is ∙ ap Ok c.in-Ok-Ended.field-0-is) c.serve_request.ensures.reads;
   run = c.serve_request.ensures.run;
   told = c.serve_request.ensures.told;
   goes = c.serve_request.ensures.goes;
@@ -102,6 +110,8 @@ returns-in-Err g c = record {
   long = tt;
   over = c.in-Err.ensures.over;
   measured = c.in-Err.ensures.measured;
+  closed = c.in-Err.ensures.closed;
+  reads = subst (λ (r : Result Served ServeFault). Reads r (g.K.Link.left c.args.link.now) (g.K.Link.left c.serve_request.new.link)) c.in-Err.is c.serve_request.ensures.reads;
   run = c.serve_request.ensures.run;
   told = c.serve_request.ensures.told;
   goes = c.serve_request.ensures.goes;

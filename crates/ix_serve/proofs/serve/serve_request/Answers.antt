@@ -1,4 +1,4 @@
-use Rattle.std.proofs.Common.{ap, refl, subst, Some, None, List, ℕ, Bool, Option, true, false, Result, Ok, Err, ◌≡◌, ◌∙◌, arith, rules}
+use Rattle.std.proofs.Common.{ap, refl, subst, Some, None, List, ℕ, Bool, Option, true, false, Result, Ok, Err, ◌≡◌, ◌∙◌, arith, rules, sym}
 use mir.Val.{SFits}
 use Rattle.std.specs.Int.{w64}
 use Rattle.std.proofs.lemmas.Int.{to_z-of_z}
@@ -8,13 +8,15 @@ use Rattle.ix_link.proofs.GoesLemmas.{goes_on}
 use Rattle.ix_serve.specs.Answer.{Found, MayBe, Says}
 use Rattle.ix_serve.specs.Entries.{entry}
 use Rattle.ix_serve.specs.Replies.{no_memory, unread}
-use Rattle.ix_serve.specs.Serving.{Gave, IsClean, IsTold}
+use Rattle.ix_serve.specs.Serving.{Gave, IsClean, IsTold, IsReplied}
 use Rattle.ix_serve.specs.declared.served.Served.{Served}
 use Rattle.ix_serve.specs.declared.served.Served.TheVariants as served
 use Rattle.ix_serve.specs.declared.served.ServeFault.{ServeFault}
 use Rattle.ix_serve.specs.declared.served.ServeFault.TheVariants as fault
 use Rattle.ix_serve.proofs.Answering.{idle, served_so, clean_behind, cleaner, comes_later, comes_open, gave_cleaner}
 use Rattle.ix_serve.proofs.Behind.{ok_err}
+use Rattle.ix_serve.proofs.Closing.{open_still, replied_by, status_by, reads_so}
+use Rattle.std.proofs.lemmas.Bool.{false≢true}
 use Rattle.ix_serve.proofs.serve.serve_request.Goals as goal
 
 not_link : (let result : Result Served ServeFault = Err fault.Cut in result ≡ Err fault.Link) → ⊥
@@ -32,6 +34,8 @@ returns-in-Ok-Ended g c = record {
       c.args.store.now c.args.disk.now None (refl, refl) c.read_request.ensures.reads.given tt refl hold);
   over = λ stays. c.requires.over;
   measured = λ measured stays. measured;
+  closed = λ down. absurd (false≢true (sym down));
+  reads = reads_so c.read_request.result (Ok was.Ended) _ (g.K.Link.left c.args.link.now) (g.K.Link.left c.read_request.new.link) (g.K.Link.left c.read_request.new.link) (c.in-Ok-Ended.is ∙ ap Ok c.in-Ok-Ended.field-0-is) refl c.read_request.ensures.read c.read_request.ensures.within refl;
   run = refl;
   told = λ told. told;
   goes = c.read_request.ensures.reads.goes;
@@ -50,6 +54,8 @@ returns-in-Err-Failed g c = record {
       c.args.store.now c.args.disk.now None (refl, refl) c.read_request.ensures.reads.given tt refl hold);
   over = λ stays. c.requires.over;
   measured = λ measured stays. measured;
+  closed = λ down. absurd (false≢true (sym down));
+  reads = reads_so c.read_request.result (Err link.Failed) _ (g.K.Link.left c.args.link.now) (g.K.Link.left c.read_request.new.link) (g.K.Link.left c.read_request.new.link) (c.in-Err-Failed.is ∙ ap Err c.in-Err-Failed.field-0-is) refl c.read_request.ensures.read c.read_request.ensures.within refl;
   run = refl;
   told = λ told. told;
   goes = c.read_request.ensures.reads.goes;
@@ -68,6 +74,8 @@ returns-in-Err-Cut g c = record {
       c.args.store.now c.args.disk.now None (refl, refl) c.read_request.ensures.reads.given tt refl hold);
   over = λ stays. c.requires.over;
   measured = λ measured stays. measured;
+  closed = λ down. absurd (false≢true (sym down));
+  reads = reads_so c.read_request.result (Err link.Cut) _ (g.K.Link.left c.args.link.now) (g.K.Link.left c.read_request.new.link) (g.K.Link.left c.read_request.new.link) (c.in-Err-Cut.is ∙ ap Err c.in-Err-Cut.field-0-is) refl c.read_request.ensures.read c.read_request.ensures.within refl;
   run = refl;
   told = λ told. told;
   goes = c.read_request.ensures.reads.goes;
@@ -92,6 +100,8 @@ returns-in-Ok-Refused g c = record {
       c.give_unread.ensures.open refl hold);
   over = λ stays. c.requires.over;
   measured = λ measured stays. measured;
+  closed = λ down. absurd (open_still c.give_unread.result c.give_unread.ensures.open down);
+  reads = reads_so c.read_request.result (Ok (was.Refused c.in-Ok-Refused.fault c.in-Ok-Refused.delimited)) _ (g.K.Link.left c.args.link.now) (g.K.Link.left c.read_request.new.link) (g.K.Link.left c.give_unread.new.link) (c.in-Ok-Refused.is ∙ ap Ok c.in-Ok-Refused.field-0-is) c.give_unread.ensures.left c.read_request.ensures.read c.read_request.ensures.within (replied_by (unread c.in-Ok-Refused.fault) c.in-Ok-Refused.delimited (IsClean (g.K.Link.faults c.read_request.new.link) (g.K.Link.faults c.give_unread.new.link) (g.K.Link.standing c.read_request.new.link) (g.K.Link.standing c.give_unread.new.link)) c.give_unread.result (g.K.Link.given c.read_request.new.link) (g.K.Link.given c.give_unread.new.link) c.give_unread.ensures.gave, status_by (unread c.in-Ok-Refused.fault) c.in-Ok-Refused.delimited (IsClean (g.K.Link.faults c.read_request.new.link) (g.K.Link.faults c.give_unread.new.link) (g.K.Link.standing c.read_request.new.link) (g.K.Link.standing c.give_unread.new.link)) c.give_unread.result (g.K.Link.given c.read_request.new.link) (g.K.Link.given c.give_unread.new.link) c.give_unread.ensures.gave);
   run = refl;
   told = λ told. told;
   goes = goes_on c.read_request.ensures.reads.goes c.give_unread.ensures.goes;
@@ -117,6 +127,8 @@ returns-in-Err-NoMemory g c = record {
       c.decline.ensures.open refl hold);
   over = λ stays. c.requires.over;
   measured = λ measured stays. measured;
+  closed = λ down. absurd (open_still c.decline.result c.decline.ensures.open down);
+  reads = reads_so c.read_request.result (Err (link.NoMemory c.in-Err-NoMemory.whole)) _ (g.K.Link.left c.args.link.now) (g.K.Link.left c.read_request.new.link) (g.K.Link.left c.decline.new.link) (c.in-Err-NoMemory.is ∙ ap Err c.in-Err-NoMemory.field-0-is) c.decline.ensures.left c.read_request.ensures.read c.read_request.ensures.within (subst (λ (w : Bool). IsReplied w c.decline.result) c.in-Err-NoMemory.whole-is (replied_by no_memory _ (IsClean (g.K.Link.faults c.read_request.new.link) (g.K.Link.faults c.decline.new.link) (g.K.Link.standing c.read_request.new.link) (g.K.Link.standing c.decline.new.link)) c.decline.result (g.K.Link.given c.read_request.new.link) (g.K.Link.given c.decline.new.link) c.decline.ensures.gave), status_by no_memory _ (IsClean (g.K.Link.faults c.read_request.new.link) (g.K.Link.faults c.decline.new.link) (g.K.Link.standing c.read_request.new.link) (g.K.Link.standing c.decline.new.link)) c.decline.result (g.K.Link.given c.read_request.new.link) (g.K.Link.given c.decline.new.link) c.decline.ensures.gave);
   run = refl;
   told = λ told. told;
   goes = goes_on c.read_request.ensures.reads.goes c.decline.ensures.goes;
@@ -140,6 +152,8 @@ returns-in-Ok-Asked g c = record {
       (simp to_z-of_z at (c.serve_ask.ensures.answers choose h base k chooser taken hold)));
   over = c.serve_ask.ensures.over;
   measured = c.serve_ask.ensures.measured;
+  closed = c.serve_ask.ensures.closed;
+  reads = reads_so c.read_request.result (Ok (was.Asked c.in-Ok-Asked.ask)) _ (g.K.Link.left c.args.link.now) (g.K.Link.left c.read_request.new.link) (g.K.Link.left c.serve_ask.new.link) (c.in-Ok-Asked.is ∙ ap Ok c.in-Ok-Asked.field-0-is) c.serve_ask.ensures.left c.read_request.ensures.read c.read_request.ensures.within c.serve_ask.ensures.replied;
   run = c.serve_ask.ensures.run;
   told = c.serve_ask.ensures.told;
   goes = goes_on c.read_request.ensures.reads.goes c.serve_ask.ensures.goes;

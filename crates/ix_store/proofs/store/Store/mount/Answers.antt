@@ -1,5 +1,5 @@
-use Rattle.std.proofs.Common.{◌≡◌, Option, refl, ap, sym, subst, ◌∙◌, inl, inr, length, rules}
-use Rattle.std.specs.Prelude.{Err}
+use Rattle.std.proofs.Common.{◌≡◌, Option, refl, ap, sym, subst, ◌∙◌, inl, inr, length, rules, ◌+◌}
+use Rattle.std.specs.Prelude.{Err, None, not}
 use Rattle.ix_base.specs.Told.{Told}
 use Rattle.ix_base.specs.declared.files.File.{File}
 use Rattle.ix_disk.specs.Image.{Image, bytes_in}
@@ -8,7 +8,10 @@ use Rattle.ix_log.specs.Log.{HasBodies}
 use Rattle.ix_book.specs.Root.{log_file}
 use Rattle.ix_keep.specs.Contents.{Anyhow}
 use Rattle.ix_keep.specs.declared.mounting.MountFault.{MountFault as KeptFault}
-use Rattle.ix_keep.proofs.Reading.{begun_has_run}
+use Rattle.ix_book.specs.Book.{has_settings, run_in}
+use Rattle.ix_keep.proofs.Beginning.{run_begun}
+use Rattle.ix_keep.specs.Snapshot.{Snapshot}
+use Rattle.ix_keep.proofs.Reading.{begun_has_run, begun_next}
 use Rattle.ix_machine.specs.Snap.{leaves}
 use Rattle.ix_store.specs.declared.fault.MountFault.TheVariants as faults
 use Rattle.ix_store.specs.declared.memory.BookFault.{BookFault}
@@ -79,3 +82,15 @@ returns-in-Ok-from_book-clause-begun g c = λ image told none. begun_has_run _ i
 
 pub returns-clause-damaged : goal.returns-clause-damaged
 returns-clause-damaged g c = search rules
+
+pub returns-in-Ok-from_book-clause-number : goal.returns-in-Ok-from_book-clause-number
+returns-in-Ok-from_book-clause-number g c = λ image told.
+    let begun = c.in-Ok.ensures.read image told in
+    let s : Snapshot = record { book = begun.book; contents = λ file. None } in
+    let fresh = not (has_settings begun.book) in
+    let next = begun_next begun.book (run_in begun.book + 1) s refl refl in
+    record {
+      found = begun.book;
+      leads = begun.leads;
+      is = c.run-run.ensures ∙ (ap run_in begun.is ∙ (sym (ap run_in next) ∙ run_begun fresh (run_in begun.book + 1) s));
+    }
