@@ -222,7 +222,7 @@ module _ {D : Type 0} (g : Ghosts D) (fits : Book → Type 0) where
     since = λ t image le left. ⊎_elim (λ past. inl past) (λ from. absurd (none from.0 from.1)) (comes.since t image le left);
   }
 
-  module _ (keeper : Keeper) (mid : D) (book : Book) (read : IsRead g fits keeper mid book) (family : ℕ → Snapshot) (from to : ℕ) (is_family : IsFamily family from to) (keeps_mid : AllKeep g mid fits family from to) where
+  module _ (keeper : Keeper) (mid : D) (book : Book) (read : IsRead g fits keeper mid book) (family : ℕ → Snapshot) (least from to : ℕ) (is_family : IsFamily family from to) (keeps_mid : AllKeep g mid fits least family from to) where
     -- an image keeps the book that was read, in the log that was read
     same_log : (image : Image) → g.may_leave mid image → (s : Snapshot) (keeps : Keeps fits s image) → current keeps.checkpoints ≡ log_of keeper
     same_log image left s keeps =
@@ -241,7 +241,7 @@ module _ {D : Type 0} (g : Ghosts D) (fits : Book → Type 0) where
         replays_one (Taken fits (log_of keeper)) keeps.bodies empty book s.book (subst (λ (b : List (List ℕ)). Replays (Taken fits (log_of keeper)) b empty book) same read.replayed) theirs
 
     module _ (image : Image) (left : g.may_leave mid image) where
-      abbrev one : KeepsOneOf fits family from to image
+      abbrev one : KeepsOneOf fits least family from to image
       one = keeps_mid image left
 
       abbrev pub as_read : Snapshot
@@ -278,23 +278,37 @@ module _ {D : Type 0} (g : Ghosts D) (fits : Book → Type 0) where
       like_one : (run : ℕ) → IsLike (begun (not (has_settings book)) run as_read) (family one.which)
       like_one run = begun_like run as_read (family one.which) stands (is_family.settled one.which one.least one.most)
 
-      keeps_one : (run : ℕ) (other : Image) → KeepsEither fits as_read (begun (not (has_settings book)) run as_read) other → KeepsOneOf fits family from to other
-      keeps_one run other (inl keeps) = record { which = one.which; least = one.least; most = one.most; kept = as_read; stands = stands; keeps = keeps }
-      keeps_one run other (inr keeps) = record { which = one.which; least = one.least; most = one.most; kept = begun (not (has_settings book)) run as_read; stands = inl (like_one run); keeps = keeps }
+      later_one : least ≤ run_in book
+      later_one = subst (λ (n : ℕ). least ≤ n) (sym (ap run_in (book_of image left one.kept one.keeps))) one.later
+
+      keeps_old : (other : Image) → Keeps fits as_read other → KeepsOneOf fits least family from to other
+      keeps_old other keeps = record { which = one.which; least = one.least; most = one.most; kept = as_read; later = later_one; stands = stands; keeps = keeps }
+
+      keeps_one : (run : ℕ) → run_in book ≤ run → (other : Image) → KeepsEither fits as_read (begun (not (has_settings book)) run as_read) other → KeepsOneOf fits least family from to other
+      keeps_one run le other (inl keeps) = keeps_old other keeps
+      keeps_one run le other (inr keeps) = let is = run_begun (not (has_settings book)) run as_read in record {
+        which = one.which;
+        least = one.least;
+        most = one.most;
+        kept = begun (not (has_settings book)) run as_read;
+        later = omega (arith, later_one, le, is);
+        stands = inl (like_one run);
+        keeps = keeps;
+      }
 
     -- the removals: every image still keeps one of them
     pub removed_images : ((image : Image) (disk : D) → g.seen disk ≡ Some image → g.may_leave disk image) → (files : List File) → files ≡ removals_in book → (del : D)
-        → ((contents : Contents) → All (IsFree (log_of keeper) contents) files → Goes g mid del (Spares (log_of keeper) (filling contents))) → Goes g mid del Anyhow → Always g mid del (KeepsOneOf fits family from to)
+        → ((contents : Contents) → All (IsFree (log_of keeper) contents) files → Goes g mid del (Spares (log_of keeper) (filling contents))) → Goes g mid del Anyhow → Always g mid del (KeepsOneOf fits least family from to)
     removed_images may_stay files named del removed comes = go (g.seen mid) refl
       where
-        go : (seen : Option Image) → g.seen mid ≡ seen → Always g mid del (KeepsOneOf fits family from to)
+        go : (seen : Option Image) → g.seen mid ≡ seen → Always g mid del (KeepsOneOf fits least family from to)
         go (Some image) is =
             let left = may_stay image mid is in
             let s = as_read image left in
             let free = subst (All (IsFree (log_of keeper) s.contents)) (sym named) (free_one image left) in
-            always_weaker g mid del (KeepsEither fits s s) (KeepsOneOf fits family from to) (λ other either. keeps_one image left 0 other (⊎_elim (λ keeps. inl keeps) (λ keeps. inl keeps) either))
+            always_weaker g mid del (KeepsEither fits s s) (KeepsOneOf fits least family from to) (λ other either. keeps_old image left other (⊎_elim (λ keeps. keeps) (λ keeps. keeps) either))
             (commit_first g fits keeper mid s s (held_one image left) del (removed s.contents free))
-        go None is = nothing_comes mid del (KeepsOneOf fits family from to) comes (λ image left.
+        go None is = nothing_comes mid del (KeepsOneOf fits least family from to) comes (λ image left.
             let told = read.settled image left in
             let t1 = told.1 in
             let none : None ≡ Some told.0 = sym is ∙ t1 in
@@ -302,19 +316,19 @@ module _ {D : Type 0} (g : Ghosts D) (fits : Book → Type 0) where
 
     -- and the run that begins
     pub begun_images : ((image : Image) (disk : D) → g.seen disk ≡ Some image → g.may_leave disk image) → (files : List File) → files ≡ removals_in book → (del : D)
-        → ((contents : Contents) → All (IsFree (log_of keeper) contents) files → Goes g mid del (Spares (log_of keeper) (filling contents))) → Goes g mid del Anyhow → (run : ℕ) (last : D)
-        → ((s : Snapshot) → s.book ≡ book → Held g fits keeper del s s → Always g del last (KeepsEither fits s (begun (not (has_settings s.book)) run s))) → Goes g del last Anyhow → Always g mid last (KeepsOneOf fits family from to)
-    begun_images may_stay files named del removed removed_comes run last images comes = go (g.seen mid) refl
+        → ((contents : Contents) → All (IsFree (log_of keeper) contents) files → Goes g mid del (Spares (log_of keeper) (filling contents))) → Goes g mid del Anyhow → (run : ℕ) → run_in book ≤ run → (last : D)
+        → ((s : Snapshot) → s.book ≡ book → Held g fits keeper del s s → Always g del last (KeepsEither fits s (begun (not (has_settings s.book)) run s))) → Goes g del last Anyhow → Always g mid last (KeepsOneOf fits least family from to)
+    begun_images may_stay files named del removed removed_comes run le last images comes = go (g.seen mid) refl
       where
-        go : (seen : Option Image) → g.seen mid ≡ seen → Always g mid last (KeepsOneOf fits family from to)
+        go : (seen : Option Image) → g.seen mid ≡ seen → Always g mid last (KeepsOneOf fits least family from to)
         go (Some image) is =
             let left = may_stay image mid is in
             let s = as_read image left in
             let free = subst (All (IsFree (log_of keeper) s.contents)) (sym named) (free_one image left) in
             let held = held_spared keeper mid del s (held_one image left) (removed s.contents free) in
-            always_on g mid del last (KeepsOneOf fits family from to) (removed_images may_stay files named del removed removed_comes)
-            (always_weaker g del last (KeepsEither fits s (begun (not (has_settings book)) run s)) (KeepsOneOf fits family from to) (keeps_one image left run) (images s refl held))
-        go None is = nothing_comes mid last (KeepsOneOf fits family from to) (anyhow_on g mid del last removed_comes comes) (λ image left.
+            always_on g mid del last (KeepsOneOf fits least family from to) (removed_images may_stay files named del removed removed_comes)
+            (always_weaker g del last (KeepsEither fits s (begun (not (has_settings book)) run s)) (KeepsOneOf fits least family from to) (keeps_one image left run le) (images s refl held))
+        go None is = nothing_comes mid last (KeepsOneOf fits least family from to) (anyhow_on g mid del last removed_comes comes) (λ image left.
             let told = read.settled image left in
             let t1 = told.1 in
             let none : None ≡ Some told.0 = sym is ∙ t1 in

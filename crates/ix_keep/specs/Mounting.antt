@@ -21,12 +21,13 @@ use Rattle.ix_keep.specs.declared.mounting.MountFault.TheVariants as mounts
 abbrev pub StandsFor : Snapshot → Snapshot → Type 0
 StandsFor kept snapshot = IsLike kept snapshot ⊎ ((kept.book ≡ empty) × IsLike (with_item (items.Settings []) kept) snapshot)
 
--- the image keeps what stands for one of these snapshots
-pub record KeepsOneOf (fits : Book → Type 0) (family : ℕ → Snapshot) (from to : ℕ) (image : Image) : Type 0 where
+-- the image keeps what stands for one of these snapshots, of this run or a later one
+pub record KeepsOneOf (fits : Book → Type 0) (run : ℕ) (family : ℕ → Snapshot) (from to : ℕ) (image : Image) : Type 0 where
   pub which : ℕ
   pub least : from ≤ which
   pub most : which ≤ to
   pub kept : Snapshot
+  pub later : run ≤ run_in kept.book
   pub stands : StandsFor kept (family which)
   pub keeps : Keeps fits kept image
 
@@ -41,8 +42,8 @@ pub record IsFamily (family : ℕ → Snapshot) (from to : ℕ) : Type 0 where
   pub settled : (i : ℕ) → from ≤ i → i ≤ to → has_settings (family i).book ≡ true
 
 -- every image keeps what stands for one of these snapshots
-abbrev pub AllKeep : {D : Type 0} → Ghosts D → D → (Book → Type 0) → (ℕ → Snapshot) → ℕ → ℕ → Type 0
-AllKeep g disk fits family from to = (image : Image) → g.may_leave disk image → KeepsOneOf fits family from to image
+abbrev pub AllKeep : {D : Type 0} → Ghosts D → D → (Book → Type 0) → ℕ → (ℕ → Snapshot) → ℕ → ℕ → Type 0
+AllKeep g disk fits run family from to = (image : Image) → g.may_leave disk image → KeepsOneOf fits run family from to image
 
 -- The logs were read to their ends, and the current one leads to this book.
 pub record IsRead {D : Type 0} (g : Ghosts D) (fits : Book → Type 0) (keeper : Keeper) (disk : D) (book : Book) : Type 0 where

@@ -19,7 +19,7 @@ use ix_disk::Disk;
 /// An empty disk keeps what stands for the first snapshot of a family that begins with no settings set, nothing else and
 /// no bytes.
 pub fn empty_disk_keeps<B: Replay>()
-    ensures { (family : ℕ → Snapshot) (to : ℕ) → ((name : Name) → name.kind ≢ 2 → name.kind ≢ 12 → after_item (items.Settings []) empty name ≡ (family 0).book name) → ((file : File) → filling (family 0).contents file ≡ []) → KeepsOneOf B.fits family 0 to nothing }
+    ensures { (family : ℕ → Snapshot) (to : ℕ) → ((name : Name) → name.kind ≢ 2 → name.kind ≢ 12 → after_item (items.Settings []) empty name ≡ (family 0).book name) → ((file : File) → filling (family 0).contents file ≡ []) → KeepsOneOf B.fits 0 family 0 to nothing }
 {}
 
 /// What is staged leads as well to a snapshot that says less of the files: a file may be done with at any time, also one

@@ -252,10 +252,10 @@ pub fn mount<D: Disk, B: Replay>(
 ) -> Result<Keeper, MountFault>
     requires { B.stands state.old ≡ empty }
     // Where every image at the start keeps one of a family of snapshots, every image since does.
-    ensures images { (family : ℕ → Snapshot) (from to : ℕ) → IsFamily family from to → AllKeep D.Disk disk.old B.fits family from to →
-        Always D.Disk disk.old disk.new (KeepsOneOf B.fits family from to) }
+    ensures images { (family : ℕ → Snapshot) (run from to : ℕ) → IsFamily family from to → AllKeep D.Disk disk.old B.fits run family from to →
+        Always D.Disk disk.old disk.new (KeepsOneOf B.fits run family from to) }
     // At Ok disk and keeper hold the one that the disk's own reading keeps, with the next run.
-    ensures mounted { IfOk result (λ keeper. (family : ℕ → Snapshot) (from to : ℕ) → IsFamily family from to → AllKeep D.Disk disk.old B.fits family from to →
+    ensures mounted { IfOk result (λ keeper. (family : ℕ → Snapshot) (run from to : ℕ) → IsFamily family from to → AllKeep D.Disk disk.old B.fits run family from to →
         (image : Image) → D.Disk.seen disk.old ≡ Some image → IsMountedAt D.Disk B.fits keeper disk.new (B.stands state.new) family from to image) }
     // What a commit asks for.
     ensures over { IfOk result (λ keeper. IsOver D.Disk keeper disk.new) }

@@ -34,9 +34,10 @@ pub record Stands (fits : Book → Type 0) (run : ℕ) (choose : Chooser) (histo
   pub written : IsOf run snapshot (left choose history)
   pub keeps : Keeps fits snapshot image
 
--- An image stands for a prefix with at least so many commands, and for some run; a disk on which nothing was written yet for none.
-abbrev pub StandsFrom : (Book → Type 0) → Chooser → List Order → ℕ → Image → Type 0
-StandsFrom fits choose history k image = KeepsOneOf fits (leaves choose history) k (length history) image
+-- An image stands for a prefix with at least so many commands, and for this run or a later one; a disk on which nothing was written yet
+-- stands for none, which is before all runs.
+abbrev pub StandsFrom : (Book → Type 0) → ℕ → Chooser → List Order → ℕ → Image → Type 0
+StandsFrom fits run choose history k image = KeepsOneOf fits run (leaves choose history) k (length history) image
 
 -- this is the run behind the one that the image keeps, which is 0 where no body counts
 pub record IsNextRun (fits : Book → Type 0) (run : ℕ) (image : Image) : Type 0 where

@@ -1,6 +1,6 @@
 //! A store is committed, and mounted again behind a stop. The program calls both.
 
-ghost use Rattle.std.specs.Prelude.{◌≡◌, ◌≤◌, ◌⊎◌, ℕ, List, length, take, true, false, Some, Ok, Err, IfOk, OnOk, OnErr, IsErrOf};
+ghost use Rattle.std.specs.Prelude.{◌≡◌, ◌≤◌, ◌<◌, ◌⊎◌, ℕ, List, length, take, true, false, Some, Ok, Err, IfOk, OnOk, OnErr, IsErrOf};
 ghost use Rattle.std.specs.List.{AllByRecursion};
 ghost use Rattle.ix_base.specs.Faults.{Rose};
 ghost use Rattle.ix_base.specs.Told.{Told};
@@ -69,13 +69,17 @@ impl<M: Memory + Drop> Store<M> {
 
     /// Mounts the store that a disk keeps, or begins a new one on an empty disk, and begins the next run.
     pub fn mount<D: Disk>(alloc: Global, disk: &mut D) -> Result<Store<M>, MountFault>
-        // Where every image at the start stands for a prefix with at least k commands, every image since does.
-        ensures images { (choose : Chooser) (history : List Order) (k : ℕ) → ((image : Image) → D.Disk.may_leave disk.old image → StandsFrom M.Book.fits choose history k image) →
-            Always D.Disk disk.old disk.new (StandsFrom M.Book.fits choose history k) }
+        // Where every image at the start stands for a prefix with at least k commands, and for this run or a later one, every image since does.
+        ensures images { (choose : Chooser) (history : List Order) (run k : ℕ) → ((image : Image) → D.Disk.may_leave disk.old image → StandsFrom M.Book.fits run choose history k image) →
+            Always D.Disk disk.old disk.new (StandsFrom M.Book.fits run choose history k) }
         // At Ok store and disk hold the prefix for which the disk's own reading stands, in the run behind the one that was found.
-        ensures mounted { IfOk result (λ store. (choose : Chooser) (history : List Order) (k : ℕ) → M.is_chooser choose → AllByRecursion M.takes history →
-            ((image : Image) → D.Disk.may_leave disk.old image → StandsFrom M.Book.fits choose history k image) → (image : Image) → D.Disk.seen disk.old ≡ Some image →
+        ensures mounted { IfOk result (λ store. (choose : Chooser) (history : List Order) (run k : ℕ) → M.is_chooser choose → AllByRecursion M.takes history →
+            ((image : Image) → D.Disk.may_leave disk.old image → StandsFrom M.Book.fits run choose history k image) → (image : Image) → D.Disk.seen disk.old ≡ Some image →
             IsMounted D.Disk M.Book.fits M.holds choose history k image store disk.new) }
+        // That is a later run than each of those.
+        ensures above { IfOk result (λ store. (choose : Chooser) (history : List Order) (run k : ℕ) →
+            ((image : Image) → D.Disk.may_leave disk.old image → StandsFrom M.Book.fits run choose history k image) → (image : Image) → D.Disk.seen disk.old ≡ Some image →
+            run < store.run) }
         // The run is the one behind that which the disk's own reading keeps, whatever history that stands for.
         ensures number { IfOk result (λ store. (image : Image) → D.Disk.seen disk.old ≡ Some image → IsNextRun M.Book.fits store.run image) }
         // What a commit and a checkpoint ask for.
@@ -89,9 +93,9 @@ impl<M: Memory + Drop> Store<M> {
         ensures damaged { (named : File) (at : ℕ) → result ≡ Err (MountFault.Damaged named at) → (image : Image) → D.Disk.seen disk.old ≡ Some image →
             IsBadStore M.Book.fits M.gives_none named at image }
         // A disk of whose every image some commands may be read is not damaged.
-        ensures undamaged { (named : File) (at : ℕ) → result ≡ Err (MountFault.Damaged named at) → (choose : Chooser) (history : List Order) (k : ℕ) →
+        ensures undamaged { (named : File) (at : ℕ) → result ≡ Err (MountFault.Damaged named at) → (choose : Chooser) (history : List Order) (run k : ℕ) →
             M.is_chooser choose → AllByRecursion M.takes history →
-            ((image : Image) → D.Disk.may_leave disk.old image → StandsFrom M.Book.fits choose history k image) → (image : Image) → D.Disk.seen disk.old ≡ Some image → ⊥ }
+            ((image : Image) → D.Disk.may_leave disk.old image → StandsFrom M.Book.fits run choose history k image) → (image : Image) → D.Disk.seen disk.old ≡ Some image → ⊥ }
         // Full comes exactly where no further run has a number, or there is no room for it, as the disk reads, unless another fault or want of
         // memory comes first.
         ensures full { IsErrOf result MountFault.Full → (image : Image) → D.Disk.seen disk.old ≡ Some image → HasNoRun M.Book.fits image }

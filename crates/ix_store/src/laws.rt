@@ -14,10 +14,16 @@ ghost use Rattle.ix_store.specs.declared.store.Store.{Store};
 use crate::memory::Memory;
 use ix_disk::Disk;
 
-/// An image that stands for a prefix is one from which a mount reads a prefix with as many commands.
+/// An image that stands for a run and a prefix is one from which a mount reads a prefix with as many commands, and that run or a later one.
 pub fn prefixes_stand<M: Memory>()
     ensures { (run : ℕ) (choose : Chooser) (history : List Order) (k count : ℕ) (image : Image) → k ≤ count → count ≤ length history →
-        Stands M.Book.fits run choose (take count history) image → StandsFrom M.Book.fits choose history k image }
+        Stands M.Book.fits run choose (take count history) image → StandsFrom M.Book.fits run choose history k image }
+{}
+
+/// What stands for so many commands, and a run or a later one, stands for fewer, and for an earlier run or a later one.
+pub fn fewer_stand<M: Memory>()
+    ensures { (least run : ℕ) (choose : Chooser) (history : List Order) (k count : ℕ) (image : Image) → least ≤ run → k ≤ count →
+        StandsFrom M.Book.fits run choose history count image → StandsFrom M.Book.fits least choose history k image }
 {}
 
 /// Every image of a disk that a store holds a history with stands for the commands that are committed.

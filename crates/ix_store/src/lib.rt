@@ -16,7 +16,9 @@ mod store;
 mod subject;
 
 pub use fault::{ExportFault, MountFault};
-pub use laws::{accepted_is_held, given_are_taken, prefixes_stand, what_is_held_stands};
+pub use laws::{
+    accepted_is_held, fewer_stand, given_are_taken, prefixes_stand, what_is_held_stands,
+};
 pub use memory::{BookFault, Made, Memory};
 pub use shortening::{ListFault, Listing};
 pub use store::Store;

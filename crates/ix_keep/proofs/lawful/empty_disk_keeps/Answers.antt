@@ -10,6 +10,7 @@ returns g c = λ family to books none. record {
   least = omega arith;
   most = omega arith;
   kept = record { book = empty; contents = (family 0).contents };
+  later = omega arith;
   stands = inr (refl, record { books = books; contents = refl });
   keeps = record {
     checkpoints = 0;

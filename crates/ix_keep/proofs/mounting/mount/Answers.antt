@@ -23,50 +23,50 @@ use Rattle.ix_keep.proofs.Beginning.{read_over, removed_images, begun_images, mo
 use Rattle.ix_keep.proofs.mounting.mount.Goals as goal
 
 pub returns-in_err-begin-clause-images : goal.returns-in_err-begin-clause-images
-returns-in_err-begin-clause-images g c = λ family from to is keep.
+returns-in_err-begin-clause-images g c = λ family least from to is keep.
     let fits = g.B.Replay.fits in
     let keeper = c.in_ok-keeper.keeper in
     let first = c.args.disk.now in
     let mid = c.read.new.disk in
     let book = g.B.Replay.stands c.read.new.state in
-    let keep_mid = still_all g.D.Disk first mid (KeepsOneOf fits family from to) c.read.ensures.images keep in
-    let start = always_still g.D.Disk first mid (KeepsOneOf fits family from to) c.read.ensures.images keep in
+    let keep_mid = still_all g.D.Disk first mid (KeepsOneOf fits least family from to) c.read.ensures.images keep in
+    let start = always_still g.D.Disk first mid (KeepsOneOf fits least family from to) c.read.ensures.images keep in
     let files = c.removals.result.now in
     let named : files ≡ removals_in book = c.removals.ensures in
     let del = c.remove_all.new.disk in
     let current : c.log_file.result ≡ log_of keeper = c.log_file.ensures ∙ sym (read_over g.D.Disk fits keeper mid book c.in_ok-keeper.ensures.read).file in
     let removed = subst (λ (f : File). (contents : Contents) → All (IsFree f contents) files → Goes g.D.Disk mid del (Spares f (filling contents))) current c.remove_all.ensures.images in
     let gone = loosely g.D.Disk mid del _ c.remove_all.ensures.logs in
-    always_on g.D.Disk first mid c.begin.new.disk (KeepsOneOf fits family from to) start
-    (begun_images g.D.Disk fits keeper mid book c.in_ok-keeper.ensures.read family from to is keep_mid (λ image disk told. g.met.D.Disk.seen_may_stay disk image told) files named del removed gone (c.run-run.result + 1) c.begin.new.disk c.begin.ensures.images c.begin.ensures.comes)
+    always_on g.D.Disk first mid c.begin.new.disk (KeepsOneOf fits least family from to) start
+    (begun_images g.D.Disk fits keeper mid book c.in_ok-keeper.ensures.read family least from to is keep_mid (λ image disk told. g.met.D.Disk.seen_may_stay disk image told) files named del removed gone (c.run-run.result + 1) (omega (arith, c.run-run.ensures)) c.begin.new.disk c.begin.ensures.images c.begin.ensures.comes)
 
 pub returns-clause-images : goal.returns-clause-images
-returns-clause-images g c = λ family from to is keep.
+returns-clause-images g c = λ family least from to is keep.
     let fits = g.B.Replay.fits in
     let keeper = c.in_ok-keeper.keeper in
     let first = c.args.disk.now in
     let mid = c.read.new.disk in
     let book = g.B.Replay.stands c.read.new.state in
-    let keep_mid = still_all g.D.Disk first mid (KeepsOneOf fits family from to) c.read.ensures.images keep in
-    let start = always_still g.D.Disk first mid (KeepsOneOf fits family from to) c.read.ensures.images keep in
+    let keep_mid = still_all g.D.Disk first mid (KeepsOneOf fits least family from to) c.read.ensures.images keep in
+    let start = always_still g.D.Disk first mid (KeepsOneOf fits least family from to) c.read.ensures.images keep in
     let files = c.removals.result.now in
     let named : files ≡ removals_in book = c.removals.ensures in
     let del = c.remove_all.new.disk in
     let current : c.log_file.result ≡ log_of keeper = c.log_file.ensures ∙ sym (read_over g.D.Disk fits keeper mid book c.in_ok-keeper.ensures.read).file in
     let removed = subst (λ (f : File). (contents : Contents) → All (IsFree f contents) files → Goes g.D.Disk mid del (Spares f (filling contents))) current c.remove_all.ensures.images in
     let gone = loosely g.D.Disk mid del _ c.remove_all.ensures.logs in
-    always_on g.D.Disk first mid c.begin.new.disk (KeepsOneOf fits family from to) start
-    (begun_images g.D.Disk fits keeper mid book c.in_ok-keeper.ensures.read family from to is keep_mid (λ image disk told. g.met.D.Disk.seen_may_stay disk image told) files named del removed gone (c.run-run.result + 1) c.begin.new.disk c.begin.ensures.images c.begin.ensures.comes)
+    always_on g.D.Disk first mid c.begin.new.disk (KeepsOneOf fits least family from to) start
+    (begun_images g.D.Disk fits keeper mid book c.in_ok-keeper.ensures.read family least from to is keep_mid (λ image disk told. g.met.D.Disk.seen_may_stay disk image told) files named del removed gone (c.run-run.result + 1) (omega (arith, c.run-run.ensures)) c.begin.new.disk c.begin.ensures.images c.begin.ensures.comes)
 
 pub returns-clause-mounted : goal.returns-clause-mounted
-returns-clause-mounted g c = λ family from to is keep image told.
+returns-clause-mounted g c = λ family least from to is keep image told.
     let fits = g.B.Replay.fits in
     let keeper = c.in_ok-keeper.keeper in
     let first = c.args.disk.now in
     let mid = c.read.new.disk in
     let book = g.B.Replay.stands c.read.new.state in
-    let keep_mid = still_all g.D.Disk first mid (KeepsOneOf fits family from to) c.read.ensures.images keep in
-    let start = always_still g.D.Disk first mid (KeepsOneOf fits family from to) c.read.ensures.images keep in
+    let keep_mid = still_all g.D.Disk first mid (KeepsOneOf fits least family from to) c.read.ensures.images keep in
+    let start = always_still g.D.Disk first mid (KeepsOneOf fits least family from to) c.read.ensures.images keep in
     let files = c.removals.result.now in
     let named : files ≡ removals_in book = c.removals.ensures in
     let del = c.remove_all.new.disk in
@@ -74,47 +74,47 @@ returns-clause-mounted g c = λ family from to is keep image told.
     let removed = subst (λ (f : File). (contents : Contents) → All (IsFree f contents) files → Goes g.D.Disk mid del (Spares f (filling contents))) current c.remove_all.ensures.images in
     let gone = loosely g.D.Disk mid del _ c.remove_all.ensures.logs in
     let left = g.met.D.Disk.seen_may_stay mid image (c.read.ensures.same ∙ told) in
-    mounted_at g.D.Disk fits keeper mid book c.in_ok-keeper.ensures.read family from to is keep_mid image left files named del removed c.begin.new.keeper c.begin.new.disk (g.B.Replay.stands c.begin.new.state) (c.run-run.result + 1)
+    mounted_at g.D.Disk fits keeper mid book c.in_ok-keeper.ensures.read family least from to is keep_mid image left files named del removed c.begin.new.keeper c.begin.new.disk (g.B.Replay.stands c.begin.new.state) (c.run-run.result + 1)
     (search rules) c.in_ok-begin.ensures.made c.in_ok-begin.ensures.done
 
 pub returns-then-is_err-clause-images : goal.returns-then-is_err-clause-images
-returns-then-is_err-clause-images g c = λ family from to is keep.
+returns-then-is_err-clause-images g c = λ family least from to is keep.
     let fits = g.B.Replay.fits in
     let keeper = c.in_ok-keeper.keeper in
     let first = c.args.disk.now in
     let mid = c.read.new.disk in
     let book = g.B.Replay.stands c.read.new.state in
-    let keep_mid = still_all g.D.Disk first mid (KeepsOneOf fits family from to) c.read.ensures.images keep in
-    let start = always_still g.D.Disk first mid (KeepsOneOf fits family from to) c.read.ensures.images keep in
+    let keep_mid = still_all g.D.Disk first mid (KeepsOneOf fits least family from to) c.read.ensures.images keep in
+    let start = always_still g.D.Disk first mid (KeepsOneOf fits least family from to) c.read.ensures.images keep in
     let files = c.removals.result.now in
     let named : files ≡ removals_in book = c.removals.ensures in
     let del = c.remove_all.new.disk in
     let current : c.log_file.result ≡ log_of keeper = c.log_file.ensures ∙ sym (read_over g.D.Disk fits keeper mid book c.in_ok-keeper.ensures.read).file in
     let removed = subst (λ (f : File). (contents : Contents) → All (IsFree f contents) files → Goes g.D.Disk mid del (Spares f (filling contents))) current c.remove_all.ensures.images in
     let gone = loosely g.D.Disk mid del _ c.remove_all.ensures.logs in
-    always_on g.D.Disk first mid del (KeepsOneOf fits family from to) start
-    (removed_images g.D.Disk fits keeper mid book c.in_ok-keeper.ensures.read family from to is keep_mid (λ image disk told. g.met.D.Disk.seen_may_stay disk image told) files named del removed gone)
+    always_on g.D.Disk first mid del (KeepsOneOf fits least family from to) start
+    (removed_images g.D.Disk fits keeper mid book c.in_ok-keeper.ensures.read family least from to is keep_mid (λ image disk told. g.met.D.Disk.seen_may_stay disk image told) files named del removed gone)
 
 pub returns-then-run-ge9223372036854775807-clause-images : goal.returns-then-run-ge9223372036854775807-clause-images
-returns-then-run-ge9223372036854775807-clause-images g c = λ family from to is keep.
+returns-then-run-ge9223372036854775807-clause-images g c = λ family least from to is keep.
     let fits = g.B.Replay.fits in
     let keeper = c.in_ok-keeper.keeper in
     let first = c.args.disk.now in
     let mid = c.read.new.disk in
     let book = g.B.Replay.stands c.read.new.state in
-    let keep_mid = still_all g.D.Disk first mid (KeepsOneOf fits family from to) c.read.ensures.images keep in
-    let start = always_still g.D.Disk first mid (KeepsOneOf fits family from to) c.read.ensures.images keep in
+    let keep_mid = still_all g.D.Disk first mid (KeepsOneOf fits least family from to) c.read.ensures.images keep in
+    let start = always_still g.D.Disk first mid (KeepsOneOf fits least family from to) c.read.ensures.images keep in
     let files = c.removals.result.now in
     let named : files ≡ removals_in book = c.removals.ensures in
     let del = c.remove_all.new.disk in
     let current : c.log_file.result ≡ log_of keeper = c.log_file.ensures ∙ sym (read_over g.D.Disk fits keeper mid book c.in_ok-keeper.ensures.read).file in
     let removed = subst (λ (f : File). (contents : Contents) → All (IsFree f contents) files → Goes g.D.Disk mid del (Spares f (filling contents))) current c.remove_all.ensures.images in
     let gone = loosely g.D.Disk mid del _ c.remove_all.ensures.logs in
-    always_on g.D.Disk first mid del (KeepsOneOf fits family from to) start
-    (removed_images g.D.Disk fits keeper mid book c.in_ok-keeper.ensures.read family from to is keep_mid (λ image disk told. g.met.D.Disk.seen_may_stay disk image told) files named del removed gone)
+    always_on g.D.Disk first mid del (KeepsOneOf fits least family from to) start
+    (removed_images g.D.Disk fits keeper mid book c.in_ok-keeper.ensures.read family least from to is keep_mid (λ image disk told. g.met.D.Disk.seen_may_stay disk image told) files named del removed gone)
 
 pub returns-in_err-keeper-clause-images : goal.returns-in_err-keeper-clause-images
-returns-in_err-keeper-clause-images g c = λ family from to is keep. always_still g.D.Disk c.args.disk.now c.read.new.disk (KeepsOneOf g.B.Replay.fits family from to) c.read.ensures.images keep
+returns-in_err-keeper-clause-images g c = λ family least from to is keep. always_still g.D.Disk c.args.disk.now c.read.new.disk (KeepsOneOf g.B.Replay.fits least family from to) c.read.ensures.images keep
 
 pub returns-in_err-keeper-clause-damaged : goal.returns-in_err-keeper-clause-damaged
 returns-in_err-keeper-clause-damaged g c = λ named at is.

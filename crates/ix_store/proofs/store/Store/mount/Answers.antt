@@ -17,15 +17,16 @@ use Rattle.ix_store.specs.declared.fault.MountFault.TheVariants as faults
 use Rattle.ix_store.specs.declared.memory.BookFault.{BookFault}
 use Rattle.ix_store.proofs.Said.{bad_item, same_fault, seen_on}
 use Rattle.ix_store.proofs.Committed.{family_from, holds_mounted, none_unsound, kept_damaged, kept_full}
+use Rattle.ix_store.proofs.Lawful.{later_run}
 use Rattle.ix_store.proofs.Undamaged.{keeps_undamaged}
 use Rattle.ix_store.proofs.store.Store.mount.Goals as goal
 
 pub returns-in-Ok-from_book-clause-mounted : goal.returns-in-Ok-from_book-clause-mounted
-returns-in-Ok-from_book-clause-mounted g c = λ choose h k chooser given all image told.
+returns-in-Ok-from_book-clause-mounted g c = λ choose h run k chooser given all image told.
     let made = c.in-Ok.ensures in
     let none = c.none.ensures in
     holds_mounted g.D.Disk _ g.M.Memory.holds g.M.Memory.is_chooser g.M.Memory.takes choose h k image _ c.mount.new.disk _ chooser given
-    (made.mounted (leaves choose h) k (length h) (family_from choose h k) all image told) c.in-Ok-from_book.ensures.held c.run-run.ensures made.not_full made.idle refl refl refl none.done none.weight none.turned none.waiting
+    (made.mounted (leaves choose h) run k (length h) (family_from choose h k) all image told) c.in-Ok-from_book.ensures.held c.run-run.ensures made.not_full made.idle refl refl refl none.done none.weight none.turned none.waiting
 
 pub returns-in-Err-Bad-clause-damaged : goal.returns-in-Err-Bad-clause-damaged
 returns-in-Err-Bad-clause-damaged g c = λ named at is image told.
@@ -42,8 +43,8 @@ returns-in-Err-Bad-clause-damaged g c = λ named at is image told.
     (there.0 ∙ file, there.1)))
 
 pub returns-in-Err-Bad-clause-undamaged : goal.returns-in-Err-Bad-clause-undamaged
-returns-in-Err-Bad-clause-undamaged g c = λ named at is choose h k chooser given all image told.
-    none_unsound g.D.Disk _ _ c.mount.new.disk _ choose h k image (c.in-Ok.ensures.mounted (leaves choose h) k (length h) (family_from choose h k) all image told)
+returns-in-Err-Bad-clause-undamaged g c = λ named at is choose h run k chooser given all image told.
+    none_unsound g.D.Disk _ _ c.mount.new.disk _ choose h k image (c.in-Ok.ensures.mounted (leaves choose h) run k (length h) (family_from choose h k) all image told)
     g.M.Memory.is_chooser g.M.Memory.takes chooser given (c.in-Err-Bad.ensures.sound c.in-Err-Bad.subject (ap (λ (f : BookFault). Err f) c.in-Err-Bad.field-0-is))
 
 pub returns-in-Err-clause-damaged : goal.returns-in-Err-clause-damaged
@@ -51,24 +52,24 @@ returns-in-Err-clause-damaged g c = λ named at is image told.
     inl (c.mount.ensures.damaged named at (c.in-Err.is ∙ ap (λ (f : KeptFault). Err f) (kept_damaged c.in-Err.fault named at c.fault_of.result c.fault_of.ensures is)) image told)
 
 pub returns-in-Ok-from_book-clause-images : goal.returns-in-Ok-from_book-clause-images
-returns-in-Ok-from_book-clause-images g c = λ choose h k all. c.mount.ensures.images (leaves choose h) k (length h) (family_from choose h k) all
+returns-in-Ok-from_book-clause-images g c = λ choose h run k all. c.mount.ensures.images (leaves choose h) run k (length h) (family_from choose h k) all
 
 pub returns-in-Err-clause-images : goal.returns-in-Err-clause-images
-returns-in-Err-clause-images g c = λ choose h k all. c.mount.ensures.images (leaves choose h) k (length h) (family_from choose h k) all
+returns-in-Err-clause-images g c = λ choose h run k all. c.mount.ensures.images (leaves choose h) run k (length h) (family_from choose h k) all
 
 pub returns-in-Err-Bad-clause-images : goal.returns-in-Err-Bad-clause-images
-returns-in-Err-Bad-clause-images g c = λ choose h k all.
-    let so_far = c.mount.ensures.images (leaves choose h) k (length h) (family_from choose h k) all in
+returns-in-Err-Bad-clause-images g c = λ choose h run k all.
+    let so_far = c.mount.ensures.images (leaves choose h) run k (length h) (family_from choose h k) all in
     always_on g.D.Disk c.args.disk.now c.mount.new.disk c.blame.new.disk _ so_far (always_still g.D.Disk c.mount.new.disk c.blame.new.disk _ c.blame.ensures.images so_far.now)
 
 pub returns-in-Err-Bad-clause-told : goal.returns-in-Err-Bad-clause-told
 returns-in-Err-Bad-clause-told g c = subst (λ (now : Option Image). Told Anyhow (g.D.Disk.seen c.args.disk.now) now) (sym c.blame.ensures.same) c.mount.ensures.told
 
 pub returns-clause-images : goal.returns-clause-images
-returns-clause-images g c = λ choose h k all. c.mount.ensures.images (leaves choose h) k (length h) (family_from choose h k) all
+returns-clause-images g c = λ choose h run k all. c.mount.ensures.images (leaves choose h) run k (length h) (family_from choose h k) all
 
 pub returns-in-Err-clause-undamaged : goal.returns-in-Err-clause-undamaged
-returns-in-Err-clause-undamaged g c = λ named at is choose h k chooser given all image told.
+returns-in-Err-clause-undamaged g c = λ named at is choose h run k chooser given all image told.
     let bad = c.mount.ensures.damaged named at (c.in-Err.is ∙ ap (λ (f : KeptFault). Err f) (kept_damaged c.in-Err.fault named at c.fault_of.result c.fault_of.ensures is)) image told in
     let stands = all image (g.met.D.Disk.seen_may_stay c.args.disk.now image told) in
     keeps_undamaged _ stands.kept image named at stands.keeps bad
@@ -94,3 +95,7 @@ returns-in-Ok-from_book-clause-number g c = λ image told.
       leads = begun.leads;
       is = c.run-run.ensures ∙ (ap run_in begun.is ∙ (sym (ap run_in next) ∙ run_begun fresh (run_in begun.book + 1) s));
     }
+
+pub returns-in-Ok-from_book-clause-above : goal.returns-in-Ok-from_book-clause-above
+returns-in-Ok-from_book-clause-above g c = λ choose h run k all image told.
+    later_run _ run _ choose h k image (all image (g.met.D.Disk.seen_may_stay c.args.disk.now image told)) (returns-in-Ok-from_book-clause-number g c image told)
