@@ -9,3 +9,6 @@ pub mod ShortLemmas
 pub mod ServeLemmas
 pub mod CarriedLemmas
 mod Starting
+pub mod ChainLemmas
+pub mod Empty
+pub mod ReadLemmas

@@ -6,7 +6,8 @@ use Rattle.ix_base.specs.declared.files.File.{File}
 use Rattle.ix_link.specs.Listeners.{Handed}
 use Rattle.indexd_feed.specs.declared.end.ServeEnd.{ServeEnd}
 use Rattle.indexd_feed.specs.declared.end.ServeEnd.TheVariants as ends
-use Rattle.indexd_core.specs.Serves.{listened, EndsServing}
+use Rattle.ix_feed.specs.Connections.{listened}
+use Rattle.indexd_core.specs.Serves.{EndsServing}
 use Rattle.indexd_core.specs.Sides.{Side}
 use Rattle.indexd_core.specs.declared.status.Status.{Status}
 use Rattle.indexd_core.specs.declared.status.Status.TheVariants as statuses

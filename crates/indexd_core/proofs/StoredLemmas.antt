@@ -208,7 +208,7 @@ unread_at ended at files failed failed' output output' wrote is = subst (λ (s :
 
 pub unmounted : {D : Type 0} (d : Ghosts D) (fits : Book → Type 0) (choose : Chooser) (history : List Order) (k : ℕ) (config : Config) (ahead : Option Moments)
     (untouched : Type 0) (may : Doing) (disk : D) → untouched → Begins d fits choose history k disk → d.moment disk ≤ d.moment disk →
-    HasStopped stops.Memory d fits choose history k config ahead ahead untouched may disk disk
+    HasStopped stops.Memory d IsTaken fits choose history k config ahead ahead untouched may disk disk
 unmounted d fits choose history k config ahead untouched may disk same begins now = inl (
   inl (record {
     fault = mounts.NoMemory;

@@ -13,7 +13,8 @@ use Rattle.indexd_core.specs.Btool.{Tells}
 use Rattle.indexd_core.specs.Commands.{is_built, is_stored, asked_for}
 use Rattle.indexd_core.specs.Feeds.{Feeds}
 use Rattle.indexd_core.specs.Runs.{Previews, Refuses}
-use Rattle.indexd_core.specs.Serves.{Listened, Serves}
+use Rattle.ix_feed.specs.Connections.{Listened}
+use Rattle.indexd_core.specs.Serves.{Serves}
 use Rattle.indexd_core.specs.Shortened.{LeavesShort}
 use Rattle.indexd_core.specs.Sides.{Side}
 use Rattle.indexd_core.specs.Stored.{FromStart, Stored, Tasked}

@@ -4,7 +4,9 @@ use Rattle.ix_base.specs.Clocks.{Moments}
 use Rattle.ix_tree.specs.declared.trees.TreeFile.{TreeFile}
 use Rattle.ix_disk.specs.declared.disk.Disk.{Ghosts}
 use Rattle.ix_machine.specs.declared.commands.Config.{Config}
+use Rattle.ix_kept.specs.Taken.{IsTaken}
 use Rattle.ix_replay.specs.Fits.{fits}
+use Rattle.ix_feed.specs.Reading.{ReadsTo}
 use Rattle.indexd_feed.specs.Ends.{fed_of}
 use Rattle.indexd_feed.specs.Serving.{HasServed, Requests}
 use Rattle.indexd_feed.specs.Sides.{IsSound}
@@ -47,16 +49,18 @@ end_line ends.Output = status_text Output
 
 -- A run of requests with these settings. Shut: it stopped before the first request, read nothing, and wrote the line of that. Served: requests
 -- were served up to this end, and behind their replies, where the output is at the middle, stands the line of the status. All replies were
--- written, unless the output has failed.
+-- written, unless the output has failed. Which requests were read, and where the run ended by them, goes by the bytes of the input, whatever the
+-- disk holds.
 pub data FeedComes (status : Status) {D : Type 0} (d : Ghosts D) (config : Config) (ahead ahead' : Option Moments) (input input' output output' : Side) (disk disk' : D) : Type 0 where
   shut : (stop : Stop) → status ≡ status_of stop →
-      FromStart d disk (λ choose history k. HasShut stop d fits choose history k config ahead ahead' disk disk') →
+      FromStart d disk (λ choose history k. HasShut stop d IsTaken fits choose history k config ahead ahead' disk disk') →
       input' ≡ input → Said (line_of [] stop) output output' →
       FeedComes status d config ahead ahead' input input' output output' disk disk'
   served : (end : End) (middle : Side) → status ≡ end_status end → output.faults ≤ middle.faults → middle.faults ≤ output'.faults →
+      ReadsTo (fed_of end) input.told input'.told →
       FromStart d disk (λ choose history k.
-      HasServed d fits choose history k config ahead
-      (Requests d fits choose (fed_of end) (IsSound output.faults middle.faults) input.told input'.told ahead' output.told middle.told disk') disk disk') →
+      HasServed d IsTaken fits choose history k config ahead
+      (Requests d fits (fed_of end) (IsSound output.faults middle.faults) input.told input'.told ahead' output.told middle.told disk') disk disk') →
       Said (end_line end) middle output' →
       FeedComes status d config ahead ahead' input input' output output' disk disk'
 

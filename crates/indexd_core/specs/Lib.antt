@@ -13,3 +13,4 @@ pub mod Serves
 pub mod Btool
 pub mod Carried
 pub mod Starts
+pub mod Chain

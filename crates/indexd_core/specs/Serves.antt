@@ -5,8 +5,11 @@ use Rattle.ix_base.specs.Faults.{Rose}
 use Rattle.ix_base.specs.Told.{HasWritten, HasBegun}
 use Rattle.ix_tree.specs.declared.trees.TreeFile.{TreeFile}
 use Rattle.ix_disk.specs.declared.disk.Disk.{Ghosts}
-use Rattle.ix_link.specs.Listeners.{Handed}
+use Rattle.ix_feed.specs.Connections.{Listened}
+use Rattle.ix_feed.specs.Reading.{HearsMany}
+use Rattle.indexd_feed.specs.Ends.{AsManyServed}
 use Rattle.ix_machine.specs.declared.commands.Config.{Config}
+use Rattle.ix_kept.specs.Taken.{IsTaken}
 use Rattle.ix_replay.specs.Fits.{fits}
 use Rattle.indexd_feed.specs.Serving.{HasServed, Connections}
 use Rattle.indexd_feed.specs.declared.end.ServeEnd.{ServeEnd}
@@ -18,14 +21,6 @@ use Rattle.indexd_core.specs.Stored.{status_of, line_of, damaged_line, FromStart
 use Rattle.indexd_core.specs.Texts.{status_text, Said}
 use Rattle.indexd_core.specs.declared.status.Status.{Status}
 use Rattle.indexd_core.specs.declared.status.Status.TheVariants.{Done, Memory, DiskFault, Damaged, Output, ListenerFault}
-
--- what a listener tells: what each connection that waits holds, and the connections that were handed back
-pub record Listened : Type 0 where
-  pub waiting : Option (List (Option (List ℕ)))
-  pub handed : Option (List Handed)
-
-abbrev pub listened : Option (List (Option (List ℕ))) → Option (List Handed) → Listened
-listened waiting handed = record { waiting = waiting; handed = handed }
 
 -- ---- statuses and their lines
 
@@ -45,17 +40,19 @@ EndsServing status requests (ends.Damaged file at) output output' = (status ≡ 
 -- ---- runs
 
 -- A run of connections with these settings. Unbound: the port was not to be had, and nothing else was done. Shut: the run stopped before the
--- first connection, took none, and wrote the line of that. Served: connections were served up to this end, and then the output was written.
+-- first connection, took none, and wrote the line of that. Served: connections were served up to this end, and then the output was written. How
+-- many were taken, and that each was handed back, holds whatever the disk holds.
 pub data ServeComes (status : Status) {D : Type 0} (d : Ghosts D) (config : Config) (requests : ℕ) (ahead ahead' : Option Moments) (heard heard' : Listened) (output output' : Side) (disk disk' : D) : Type 0 where
   unbound : status ≡ ListenerFault → ahead' ≡ ahead → heard' ≡ heard → disk' ≡ disk → Said (status_text ListenerFault) output output' →
       ServeComes status d config requests ahead ahead' heard heard' output output' disk disk'
   shut : (stop : Stop) → status ≡ status_of stop →
-      FromStart d disk (λ choose history k. HasShut stop d fits choose history k config ahead ahead' disk disk') →
+      FromStart d disk (λ choose history k. HasShut stop d IsTaken fits choose history k config ahead ahead' disk disk') →
       heard' ≡ heard → Said (line_of [] stop) output output' →
       ServeComes status d config requests ahead ahead' heard heard' output output' disk disk'
   served : (end : ServeEnd) →
-      FromStart d disk (λ choose history k. HasServed d fits choose history k config ahead
-      (Connections d fits choose requests end heard.waiting heard'.waiting heard.handed heard'.handed ahead' disk') disk disk') →
+      HearsMany (AsManyServed requests end) heard heard' →
+      FromStart d disk (λ choose history k. HasServed d IsTaken fits choose history k config ahead
+      (Connections d fits requests end heard heard' ahead' disk') disk disk') →
       EndsServing status requests end output output' →
       ServeComes status d config requests ahead ahead' heard heard' output output' disk disk'
 

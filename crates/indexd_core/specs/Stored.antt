@@ -10,7 +10,7 @@ use Rattle.ix_tree.specs.declared.trees.TreeFile.{TreeFile}
 use Rattle.ix_disk.specs.Image.{Image}
 use Rattle.ix_disk.specs.declared.disk.Disk.{Ghosts}
 use Rattle.ix_kept.specs.Configs.{IsChooser}
-use Rattle.ix_kept.specs.Taken.{AreGiven}
+use Rattle.ix_kept.specs.Taken.{IsTaken, AreGiven}
 use Rattle.ix_machine.specs.Given.{Chooser}
 use Rattle.ix_machine.specs.declared.commands.Config.{Config}
 use Rattle.ix_machine.specs.declared.commands.Order.{Order}
@@ -115,10 +115,10 @@ pub data Comes (status : Status) {D : Type 0} (d : Ghosts D) (config : Config) (
     (whole : Chooser → Doing) (untouched : Side → Type 0) (part : Stop → Side → Chooser → Doing) (wrote : Stop → Side → Type 0)
     (output' : Side) (disk disk' : D) : Type 0 where
   done : status ≡ Done →
-      FromStart d disk (λ choose history k. HasRun false d fits choose history k (WhenOpen choose config ahead (whole choose)) disk disk') →
+      FromStart d disk (λ choose history k. HasRun false d IsTaken fits choose history k (WhenOpen choose config ahead (whole choose)) disk disk') →
       Comes status d config named ahead ahead' whole untouched part wrote output' disk disk'
   stopped : (stop : Stop) (middle : Side) → status ≡ status_of stop →
-      FromStart d disk (λ choose history k. HasStopped stop d fits choose history k config ahead ahead' (untouched middle) (part stop middle choose) disk disk') →
+      FromStart d disk (λ choose history k. HasStopped stop d IsTaken fits choose history k config ahead ahead' (untouched middle) (part stop middle choose) disk disk') →
       wrote stop middle → Said (line_of named stop) middle output' →
       Comes status d config named ahead ahead' whole untouched part wrote output' disk disk'
 

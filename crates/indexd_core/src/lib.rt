@@ -2,6 +2,7 @@
 #![tactic(auto)]
 
 mod btool;
+mod chain;
 mod ends;
 mod events;
 mod feed;
@@ -9,12 +10,15 @@ mod laws;
 mod prepare;
 mod preview;
 mod program;
+mod reading;
 mod serve;
 mod status;
 mod stored;
 
+pub use chain::{an_empty_disk_may_run, an_exit_is_a_stop, runs_leave, the_next_run_may_begin};
 /// What the program's store is over, for callers that open that store themselves.
 pub use ix_tier::Tier;
 pub use laws::blank_disks_are_starts;
 pub use program::top;
+pub use reading::a_feed_that_is_done_has_read_all;
 pub use status::{Status, say};

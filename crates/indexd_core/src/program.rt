@@ -13,7 +13,8 @@ ghost use Rattle.indexd_core.specs.Commands.{asked_for, is_command, is_stored, i
 ghost use Rattle.indexd_core.specs.Feeds.{Feeds};
 ghost use Rattle.indexd_core.specs.Prepared.{Stated};
 ghost use Rattle.indexd_core.specs.Runs.{Previews, Refuses};
-ghost use Rattle.indexd_core.specs.Serves.{Listened, Serves, listened};
+ghost use Rattle.ix_feed.specs.Connections.{Listened, listened};
+ghost use Rattle.indexd_core.specs.Serves.{Serves};
 ghost use Rattle.indexd_core.specs.Shortened.{LeavesShort};
 ghost use Rattle.indexd_core.specs.Sides.{Side, side};
 ghost use Rattle.indexd_core.specs.Stored.{FromStart, Tasked, Stored};
@@ -158,6 +159,13 @@ fn answer<S: Source, W: Sink, C: Clock, T: Tree, D: Disk, L: Listener>(
 /// before the store is touched. Each of these commands, once it has mounted the store, makes the log short where it is long, whatever it ends
 /// with: for want of memory, or where the disk fails at it, it ends with `Memory` or `DiskFault` in place of any other status.
 ///
+/// A run may be stopped at any moment, and the next one goes on from what the disk has then. What is promised of it speaks of every history of
+/// commands of which each image that a crash may leave at its start stands for a first part, with its first k commands at least, and of a disk that tells
+/// what it reads. Up to the mount each image still does; from the mount on each stands for a first part of what was mounted and accepted since, with all
+/// that was mounted. A number that a reply tells as stored is that of a command of this run which every image has from then on. At the exit every image
+/// has all that was accepted, unless the disk has failed or a file is damaged. `runs_leave`, `an_exit_is_a_stop` and `the_next_run_may_begin` join one run to
+/// the next, and `an_empty_disk_may_run` begins them.
+///
 /// Any other words are `Usage`. `Configuration` comes exactly where the files that the command reads have a fault. `NotFound` comes where
 /// INDEX is not configured, or the bucket is not in the archive; `TooManyChannels` where 256 channels are open, and `Full` where the store
 /// would pass its bounds. `Input` comes only where the input of `preview` or the tree has failed, `Output` only where the output has,
@@ -194,7 +202,8 @@ pub fn top<S: Source, W: Sink, C: Clock, T: Tree, D: Disk, L: Listener>(
         (side (W.faults output.old) (W.given output.old)) (side (W.faults output.new) (W.given output.new)) }
 
     // A task over a store: at 0 it was given behind what the store had, with the settings of the files in force, its text was written, and every
-    // image at the exit has all commands. At any other status no image has lost what was there, and the status has its cause and its line.
+    // image at the exit has all commands. At any other status no image has lost what was mounted, and the status has its cause and its line. What was given
+    // may be given again, so that a further run may begin.
     ensures task { is_task (asked words.now) ≡ true → (task : Task) × AskTask words.now task ×
         Tasked result task (T.files tree.old) (T.faults tree.old) (T.faults tree.new) (C.ahead clock.old) (C.ahead clock.new)
         (side (W.faults output.old) (W.given output.old)) (side (W.faults output.new) (W.given output.new)) D.Disk disk.old disk.new }
@@ -205,15 +214,18 @@ pub fn top<S: Source, W: Sink, C: Clock, T: Tree, D: Disk, L: Listener>(
         (side (S.faults input.old) (S.left input.old)) (side (S.faults input.new) (S.left input.new))
         (side (W.faults output.old) (W.given output.old)) (side (W.faults output.new) (W.given output.new)) D.Disk disk.old disk.new }
 
-    // Requests of the input: they were served one behind the other, over what the store had, up to where the run ended. The replies stand in the
-    // output, and then the line of the status; at every end but a fault of the disk each image has all commands that were accepted.
+    // Requests of the input: they were served one behind the other, over what the store had, in a run with a new number, up to where the run ended. Where
+    // that was goes by the bytes of the input alone, whatever the disk holds: 0 comes only behind the last byte, and `Unreadable` just where a request is cut, or
+    // refused and not delimited, unless there is no room in memory or input, output or disk fails. The replies stand in the output, and then the line of the
+    // status. What a reply tells as stored is in every image from then on; at every end but a fault of the disk each image has all commands that were accepted.
     ensures fed { AskFeed words.now →
         Feeds result (T.files tree.old) (T.faults tree.old) (T.faults tree.new) (C.ahead clock.old) (C.ahead clock.new)
         (side (S.faults input.old) (S.left input.old)) (side (S.faults input.new) (S.left input.new))
         (side (W.faults output.old) (W.given output.old)) (side (W.faults output.new) (W.given output.new)) D.Disk disk.old disk.new }
 
-    // Connections of the listener: so many were served, one request each, over what the store had, and at 0 the output tells how many. On each
-    // stands the reply to what it held; at every end but a fault of the disk each image has all commands that were accepted.
+    // Connections of the listener: so many were served, one request each, over what the store had, in a run with a new number, and at 0 the output tells how
+    // many. How many were taken, and that each was handed back, holds whatever the disk holds. On each stands the reply to what it held. What a reply tells as
+    // stored is in every image from then on; at every end but a fault of the disk each image has all commands that were accepted.
     ensures served { (port requests : ℕ) → AskServe words.now port requests →
         Serves result requests (T.files tree.old) (T.faults tree.old) (T.faults tree.new) (C.ahead clock.old) (C.ahead clock.new)
         (listened (L.waiting listener.old) (L.handed listener.old)) (listened (L.waiting listener.new) (L.handed listener.new))

@@ -4,6 +4,7 @@
 ghost use Rattle.std.specs.Prelude.{◌≡◌, ◌≤◌, ◌⊎◌, ℕ, List, Option, None, true, false, length, Err, IfOk, IfErr, OnOk, IfSome, IsErrOf};
 ghost use Rattle.ix_base.specs.Faults.{Rose};
 ghost use Rattle.ix_kept.specs.Configs.{IsConfig};
+ghost use Rattle.ix_kept.specs.Taken.{IsTaken};
 ghost use Rattle.ix_replay.specs.Fits.{fits};
 ghost use Rattle.ix_serve.specs.Serving.{IsTold};
 ghost use Rattle.indexd_store.specs.Opened.{HasRun, HasStopped, WhenOpen};
@@ -126,7 +127,7 @@ fn miss<C: Clock, D: Disk>(
 ) -> Stop
     requires settings { IsConfig config }
     requires long { defs.is_long origin.now.index ≡ true }
-    ensures stopped { (left : Option (List ℕ)) → FromStart D.Disk disk.old (λ choose history k. HasStopped result D.Disk fits choose history k config
+    ensures stopped { (left : Option (List ℕ)) → FromStart D.Disk disk.old (λ choose history k. HasStopped result D.Disk IsTaken fits choose history k config
         (C.ahead clock.old) (C.ahead clock.new) (left ≡ left)
         (HasFed choose origin.now (Err result) (C.ahead clock.new) left left) disk.old disk.new) }
     ensures short { StopsShort D.Disk fits result disk.old disk.new }
@@ -159,9 +160,9 @@ fn store_input<C: Clock, S: Source, D: Disk>(
     requires host { length origin.host ≤ 1024 }
     requires source { length origin.source ≤ 1024 }
     requires sourcetype { IfSome origin.sourcetype (λ (name : List ℕ). length name ≤ 1024) }
-    ensures done { OnOk result (FromStart D.Disk disk.old (λ choose history k. HasRun false D.Disk fits choose history k
+    ensures done { OnOk result (FromStart D.Disk disk.old (λ choose history k. HasRun false D.Disk IsTaken fits choose history k
         (WhenOpen choose config (C.ahead clock.old) (HasFed choose origin result (C.ahead clock.new) (S.left input.old) (S.left input.new))) disk.old disk.new)) }
-    ensures stopped { IfErr result (λ stop. FromStart D.Disk disk.old (λ choose history k. HasStopped stop D.Disk fits choose history k config
+    ensures stopped { IfErr result (λ stop. FromStart D.Disk disk.old (λ choose history k. HasStopped stop D.Disk IsTaken fits choose history k config
         (C.ahead clock.old) (C.ahead clock.new) (S.left input.new ≡ S.left input.old)
         (HasFed choose origin result (C.ahead clock.new) (S.left input.old) (S.left input.new)) disk.old disk.new)) }
     ensures short { EndsShort D.Disk fits result disk.old disk.new }

@@ -1,6 +1,7 @@
 -- A checkpoint behind requests changes nothing of what was answered: every image since stands for all that was accepted.
 use Rattle.std.proofs.Common.{◌≡◌, ◌≤◌, ◌∙◌, ℕ, true, false, List, [], ◌∷◌, length, refl, sym, ap, subst, arith, inl, inr, Option, Result, Ok, Err, length-append}
 use Rattle.std.specs.Prelude.{OnOk}
+use Rattle.std.specs.List.{AllByRecursion}
 use Rattle.std.proofs.lemmas.Bool.{false≢true}
 use Rattle.ix_base.specs.Clocks.{Moments}
 use Rattle.ix_base.specs.declared.files.File.{File}
@@ -11,19 +12,19 @@ use Rattle.ix_disk.proofs.Runs.{always_on, always_weaker}
 use Rattle.ix_disk.specs.Image.{Image}
 use Rattle.ix_disk.specs.Moments.{Always}
 use Rattle.ix_disk.specs.declared.disk.Disk.{Ghosts}
-use Rattle.ix_feed.proofs.Growing.{AreGrowing, acknowledging}
+use Rattle.ix_feed.proofs.Growing.{knows_within}
+use Rattle.ix_feed.proofs.Turning.{safe_turns}
+use Rattle.ix_feed.proofs.Visiting.{safe_visits}
 use Rattle.ix_feed.specs.Connections as connections
-use Rattle.ix_feed.specs.Connections.{Visit, AreVisits, Listens, turns_of}
-use Rattle.ix_feed.specs.Feeding.{Turn, AreTurns, Runs, Acknowledges, history_after, known, is_open_end}
+use Rattle.ix_feed.specs.Connections.{Listened, Listens, turns_of}
+use Rattle.ix_feed.specs.Feeding.{AreSafe, Has, Kind, Start, coming, Turn, Runs, disk_after, history_after, known, is_open_end}
 use Rattle.ix_feed.specs.declared.feed.Fed.{Fed}
 use Rattle.ix_feed.specs.declared.feed.Fed.TheVariants as fed
 use Rattle.ix_feed.specs.declared.serve.Heard.{Heard}
 use Rattle.ix_feed.specs.declared.serve.Heard.TheVariants as heard
 use Rattle.ix_keep.specs.declared.fault.CommitFault.TheVariants as commits
-use Rattle.ix_link.specs.Listeners.{Handed}
 use Rattle.ix_machine.specs.Given.{Chooser}
 use Rattle.ix_machine.specs.declared.commands.Order.{Order}
-use Rattle.ix_serve.specs.Prefixes.{StandsIn}
 use Rattle.ix_store.proofs.Counted.{take_whole}
 use Rattle.ix_store.specs.Written.{Stands}
 use Rattle.ix_store.specs.declared.store.Store.{Store}
@@ -32,50 +33,26 @@ use Rattle.indexd_feed.specs.Serving.{Requests, Connections}
 use Rattle.indexd_feed.specs.declared.end.ServeEnd.{ServeEnd}
 use Rattle.indexd_feed.specs.declared.end.ServeEnd.TheVariants as serving
 
--- ---- histories
-
--- a turn knew no more than there was, and the history only grows
-grown : (D : Type 0) (h : List Order) (turns : List (Turn D)) → length h ≤ length (history_after h turns)
-grown D h [] = omega arith
-grown D h (turn ∷ earlier) = omega (arith, grown D h earlier, length-append (history_after h earlier) turn.answer.more)
-
-knows_within : (D : Type 0) (h : List Order) (turns : List (Turn D)) → AreGrowing h (length h) turns → known (length h) turns ≤ length (history_after h turns)
-knows_within D h [] grow = omega arith
-knows_within D h (turn ∷ earlier) grow = omega (arith, grow.2, length-append (history_after h earlier) turn.answer.more)
-
-growing : {D : Type 0} (g : Ghosts D) (choose : Chooser) (h : List Order) (base k run : ℕ) (turns : List (Turn D)) (left left' : Option (List ℕ)) (ahead ahead' : Option Moments) →
-    AreTurns g choose h base k run turns left left' ahead ahead' → AreGrowing h k turns
-growing g choose h base k run [] left left' ahead ahead' are = tt
-growing g choose h base k run (turn ∷ earlier) left left' ahead ahead' are = (growing g choose h base k run earlier left are.0 ahead are.1 are.2, are.3.least, are.3.within)
-
-visits_growing : {D : Type 0} (g : Ghosts D) (choose : Chooser) (h : List Order) (base k run : ℕ) (visits : List (Visit D)) (ahead ahead' : Option Moments) →
-    AreVisits g choose h base k run visits ahead ahead' → AreGrowing h k (turns_of visits)
-visits_growing g choose h base k run [] ahead ahead' are = tt
-visits_growing g choose h base k run (visit ∷ earlier) ahead ahead' are = (visits_growing g choose h base k run earlier ahead are.0 are.1, are.2.turn.least, are.2.turn.within)
-
 -- ---- images
 
-module _ {D : Type 0} (g : Ghosts D) (fits : Book → Type 0) (choose : Chooser) (h : List Order) (run of_store : ℕ) (turns : List (Turn D)) (first mid last : D) (same : of_store ≡ run) (grow : AreGrowing h (length h) turns)
-    (images : Always g first mid (StandsIn fits run choose (history_after h turns) (length h))) (made : Always g mid last (Stands fits of_store choose (history_after h turns))) where
+module _ {D : Type 0} (g : Ghosts D) (fits : Book → Type 0) (s : Start D) (of_store : ℕ) (turns : List (Turn D)) (mid last : D) (same : of_store ≡ s.run) (within : s.kept ≤ length s.history) (safe : AreSafe g fits s turns)
+    (before : Always g (disk_after s turns) mid (Has fits s turns (known s turns))) (made : Always g mid last (Stands fits of_store s.choose (history_after s turns))) where
   abbrev now : List Order
-  now = history_after h turns
+  now = history_after s turns
 
-  stands_in : (n : ℕ) → n ≤ length now → (image : Image) → Stands fits of_store choose now image → StandsIn fits run choose now n image
-  stands_in n within image stands = record {
+  stands_in : (image : Image) → Stands fits of_store s.choose now image → Has fits s turns (known s turns) image
+  stands_in image stands = record {
     count = length now;
-    least = within;
+    least = knows_within g fits s turns within safe;
     most = omega arith;
-    stands = subst (λ (l : List Order). Stands fits run choose l image) (sym (take_whole now)) (subst (λ (r : ℕ). Stands fits r choose now image) same stands);
+    stands = subst (λ (l : List Order). Stands fits s.run s.choose l image) (sym (take_whole now)) (subst (λ (r : ℕ). Stands fits r s.choose now image) same stands);
   }
 
-  images_on : Always g first last (StandsIn fits run choose now (length h))
-  images_on = always_on g first mid last (StandsIn fits run choose now (length h)) images (always_weaker g mid last _ _ (stands_in (length h) (grown D h turns)) made)
+  behind_on : Always g (disk_after s turns) last (Has fits s turns (known s turns))
+  behind_on = always_on g (disk_after s turns) mid last (Has fits s turns (known s turns)) before (always_weaker g mid last _ _ stands_in made)
 
-  acknowledged_on : (image : Image) → g.may_leave last image → Acknowledges fits run choose h turns image
-  acknowledged_on image may = acknowledging h (length h) fits run choose turns grow image (stands_in (known (length h) turns) (knows_within D h turns grow) image (made.now image may))
-
-  all_on : (image : Image) → g.may_leave last image → Stands fits run choose now image
-  all_on image may = subst (λ (r : ℕ). Stands fits r choose now image) same (made.now image may)
+  all_on : (image : Image) → g.may_leave last image → Stands fits s.run s.choose now image
+  all_on image may = subst (λ (r : ℕ). Stands fits r s.choose now image) same (made.now image may)
 
 -- ---- ends
 
@@ -180,94 +157,99 @@ listener_served first (Err checkpoints.NoMemory) is = absurd (cc)
 
 -- ---- the whole, over one link
 
-module _ {D : Type 0} (g : Ghosts D) {M : Type 0} (takes : Order → Type 0) (fits : Book → Type 0) (holds : Chooser → List Order → M → Type 0) (choose : Chooser) (h : List Order) (base run : ℕ) (first : Fed) (clean : Type 0)
-    (left left' : Option (List ℕ)) (ahead ahead' : Option Moments) (given given' : Option (List ℕ)) (store : Store M) (before mid : D)
-    (runs : Runs g takes fits holds choose h base (length h) run first clean left left' ahead ahead' given given' store before mid) where
-  pub requests_closed : (now : List Order) × Requests g fits choose first clean left left' ahead' given given' mid base run ahead before h now
+module _ {D : Type 0} (g : Ghosts D) {M : Type 0} (kind : Kind M) (s : Start D) (first : Fed) (clean : Type 0)
+    (left left' : Option (List ℕ)) (ahead ahead' : Option Moments) (given given' : Option (List ℕ)) (store : Store M) (mid : D)
+    (runs : Runs g kind s first clean (coming left ahead) (coming left' ahead') given given' store mid) where
+  pub requests_closed : (now : List Order) × (AllByRecursion kind.takes now × Requests g kind.fits first clean left left' ahead' given given' mid s ahead now)
   requests_closed = (
-    history_after h runs.turns,
-    record {
-      turns = runs.turns;
-      now_is = refl;
-      are = runs.are;
-      first = first;
-      ends = runs.ends;
-      behind = inl refl;
-      written = runs.written;
-      sent = runs.sent;
-      begun = runs.begun;
-      told = runs.told;
-      images = runs.images;
-      acknowledged = runs.acknowledged;
-      all = runs.all;
-    },
+    history_after s runs.turns,
+    (
+      runs.taken,
+      record {
+        turns = runs.turns;
+        now_is = refl;
+        are = runs.are;
+        first = first;
+        ends = runs.ends;
+        ends_behind = inl refl;
+        written = runs.written;
+        sent = runs.sent;
+        begun = runs.begun;
+        told = runs.told;
+        behind = runs.behind;
+        all = runs.all;
+      },
+    ),
   )
 
-  pub requests_behind : (shortened : Result Unit CheckpointFault) (end : Fed) (last : D) → end ≡ fed_behind first shortened → is_open_end first ≡ true → store.run ≡ run →
-      Always g mid last (Stands fits store.run choose (history_after h runs.turns)) →
-      (now : List Order) × Requests g fits choose end clean left left' ahead' given given' last base run ahead before h now
-  requests_behind shortened end last is up same made =
-      let grow = growing g choose h base (length h) run runs.turns left left' ahead ahead' runs.are in (
-        history_after h runs.turns,
-        record {
-          turns = runs.turns;
-          now_is = refl;
-          are = runs.are;
-          first = first;
-          ends = runs.ends;
-          behind = subst (FedBehind first) (sym is) (ends_behind first shortened up);
-          written = runs.written;
-          sent = runs.sent;
-          begun = runs.begun;
-          told = runs.told;
-          images = images_on g fits choose h run store.run runs.turns before mid last same grow runs.images made;
-          acknowledged = acknowledged_on g fits choose h run store.run runs.turns before mid last same grow runs.images made;
-          all = λ opened. all_on g fits choose h run store.run runs.turns before mid last same grow runs.images made;
-        },
+  pub requests_behind : (shortened : Result Unit CheckpointFault) (end : Fed) (last : D) → end ≡ fed_behind first shortened → is_open_end first ≡ true → store.run ≡ s.run → s.kept ≤ length s.history →
+      Always g mid last (Stands kind.fits store.run s.choose (history_after s runs.turns)) →
+      (now : List Order) × (AllByRecursion kind.takes now × Requests g kind.fits end clean left left' ahead' given given' last s ahead now)
+  requests_behind shortened end last is up same within made =
+      let safe = safe_turns g kind.fits s runs.turns (coming left ahead) (coming left' ahead') runs.are in (
+        history_after s runs.turns,
+        (
+          runs.taken,
+          record {
+            turns = runs.turns;
+            now_is = refl;
+            are = runs.are;
+            first = first;
+            ends = runs.ends;
+            ends_behind = subst (FedBehind first) (sym is) (ends_behind first shortened up);
+            written = runs.written;
+            sent = runs.sent;
+            begun = runs.begun;
+            told = runs.told;
+            behind = behind_on g kind.fits s store.run runs.turns mid last same within safe runs.behind made;
+            all = λ opened. all_on g kind.fits s store.run runs.turns mid last same within safe runs.behind made;
+          },
+        ),
       )
 
 -- ---- over a connection each
 
-module _ {D : Type 0} (g : Ghosts D) {M : Type 0} (takes : Order → Type 0) (fits : Book → Type 0) (holds : Chooser → List Order → M → Type 0) (choose : Chooser) (h : List Order) (base run requests : ℕ) (first : Heard)
-    (waiting waiting' : Option (List (Option (List ℕ)))) (handed handed' : Option (List Handed)) (ahead ahead' : Option Moments) (store : Store M) (before mid : D)
-    (listens : Listens g takes fits holds choose h base (length h) run requests first waiting waiting' handed handed' ahead ahead' store before mid) where
-  pub connections_closed : (end : ServeEnd) → end ≡ heard_end first → (now : List Order) × Connections g fits choose requests end waiting waiting' handed handed' ahead' mid base run ahead before h now
+module _ {D : Type 0} (g : Ghosts D) {M : Type 0} (kind : Kind M) (s : Start D) (requests : ℕ) (first : Heard) (from to : Listened) (ahead ahead' : Option Moments) (store : Store M) (mid : D)
+    (listens : Listens g kind s requests first from to ahead ahead' store mid) where
+  pub connections_closed : (end : ServeEnd) → end ≡ heard_end first → (now : List Order) × (AllByRecursion kind.takes now × Connections g kind.fits requests end from to ahead' mid s ahead now)
   connections_closed end is = (
-    history_after h (turns_of listens.visits),
-    record {
-      visits = listens.visits;
-      now_is = refl;
-      are = listens.are;
-      first = first;
-      ends = listens.ends;
-      behind = inl is;
-      waits = listens.waits;
-      backs = listens.backs;
-      told = listens.told;
-      images = listens.images;
-      acknowledged = listens.acknowledged;
-      all = listens.all;
-    },
+    history_after s (turns_of listens.visits),
+    (
+      listens.taken,
+      record {
+        visits = listens.visits;
+        now_is = refl;
+        are = listens.are;
+        first = first;
+        ends = listens.ends;
+        ends_behind = inl is;
+        heard = listens.heard;
+        told = listens.told;
+        behind = listens.behind;
+        all = listens.all;
+      },
+    ),
   )
 
-  pub connections_behind : (shortened : Result Unit CheckpointFault) (end : ServeEnd) (last : D) → end ≡ heard_behind first shortened → connections.is_open_end first ≡ true → store.run ≡ run →
-      Always g mid last (Stands fits store.run choose (history_after h (turns_of listens.visits))) →
-      (now : List Order) × Connections g fits choose requests end waiting waiting' handed handed' ahead' last base run ahead before h now
-  connections_behind shortened end last is up same made =
-      let grow = visits_growing g choose h base (length h) run listens.visits ahead ahead' listens.are in (
-        history_after h (turns_of listens.visits),
-        record {
-          visits = listens.visits;
-          now_is = refl;
-          are = listens.are;
-          first = first;
-          ends = listens.ends;
-          behind = subst (HeardBehind first) (sym is) (serves_behind first shortened up);
-          waits = listens.waits;
-          backs = listens.backs;
-          told = listens.told;
-          images = images_on g fits choose h run store.run (turns_of listens.visits) before mid last same grow listens.images made;
-          acknowledged = acknowledged_on g fits choose h run store.run (turns_of listens.visits) before mid last same grow listens.images made;
-          all = λ opened. all_on g fits choose h run store.run (turns_of listens.visits) before mid last same grow listens.images made;
-        },
+  pub connections_behind : (shortened : Result Unit CheckpointFault) (end : ServeEnd) (last : D) → end ≡ heard_behind first shortened → connections.is_open_end first ≡ true → store.run ≡ s.run → s.kept ≤ length s.history →
+      Always g mid last (Stands kind.fits store.run s.choose (history_after s (turns_of listens.visits))) →
+      (now : List Order) × (AllByRecursion kind.takes now × Connections g kind.fits requests end from to ahead' last s ahead now)
+  connections_behind shortened end last is up same within made =
+      let safe = safe_visits g kind.fits s listens.visits ahead ahead' listens.are in (
+        history_after s (turns_of listens.visits),
+        (
+          listens.taken,
+          record {
+            visits = listens.visits;
+            now_is = refl;
+            are = listens.are;
+            first = first;
+            ends = listens.ends;
+            ends_behind = subst (HeardBehind first) (sym is) (serves_behind first shortened up);
+            heard = listens.heard;
+            told = listens.told;
+            behind = behind_on g kind.fits s store.run (turns_of listens.visits) mid last same within safe listens.behind made;
+            all = λ opened. all_on g kind.fits s store.run (turns_of listens.visits) mid last same within safe listens.behind made;
+          },
+        ),
       )

@@ -131,3 +131,6 @@ has_failed before after none rose (inl is) = absurd (still (subst (λ (x : Optio
 pub along : {A B : Type 0} (P : A → A → B → B → Type 0) {a a' c c' : A} {b b' e e' : B} → a ≡ c → a' ≡ c' → b ≡ e → b' ≡ e' → P a a' b b' → P c c' e e'
 along P {a} {a'} {c} {c'} {b} {b'} {e} {e'} first second third fourth is =
     subst (λ (x : _). P c c' e x) fourth (subst (λ (x : _). P c c' x b') third (subst (λ (x : _). P c x b b') second (subst (λ (x : _). P x a' b b') first is)))
+
+pub along_two : {A : Type 0} (P : A → A → Type 0) {a a' c c' : A} → a ≡ c → a' ≡ c' → P a a' → P c c'
+along_two P {a} {a'} {c} {c'} first second is = subst (λ (x : _). P c x) second (subst (λ (x : _). P x a') first is)

@@ -1,3 +1,4 @@
 pub mod Opening
 pub mod Ending
 pub mod Behind
+pub mod Reading

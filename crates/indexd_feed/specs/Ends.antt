@@ -1,5 +1,5 @@
 -- How runs of requests end, and what of an end is told once the log behind them was made short.
-use Rattle.std.specs.Prelude.{◌≡◌, ◌⊎◌, Bool, true, false, Option, None, Some, Result, Ok, Err}
+use Rattle.std.specs.Prelude.{◌≡◌, ◌⊎◌, ◌<◌, ◌≤◌, ℕ, Bool, true, false, Option, None, Some, Result, Ok, Err}
 use Rattle.ix_book.specs.declared.fault.CheckpointFault.{CheckpointFault}
 use Rattle.ix_book.specs.declared.fault.CheckpointFault.TheVariants as checkpoints
 use Rattle.ix_feed.specs.Connections as connections
@@ -83,6 +83,14 @@ heard_behind end (Err checkpoints.NoMemory) = serving.Memory
 -- fault of the disk.
 abbrev pub HeardBehind : Heard → ServeEnd → Type 0
 HeardBehind first end = (end ≡ heard_end first) ⊎ ((connections.is_open_end first ≡ true) × ((end ≡ serving.Memory) ⊎ (end ≡ serving.Disk)))
+
+-- how many of so many connections were taken by the end of a run: all, fewer where the listener failed, and at the most all at any other end
+abbrev pub AsManyServed : ℕ → ServeEnd → ℕ → Type 0
+AsManyServed requests serving.Done count = count ≡ requests
+AsManyServed requests serving.Listener count = count < requests
+AsManyServed requests serving.Memory count = count ≤ requests
+AsManyServed requests serving.Disk count = count ≤ requests
+AsManyServed requests (serving.Damaged file at) count = count ≤ requests
 
 -- whether the log was made short behind a run
 abbrev pub is_short_served : ServeEnd → Bool

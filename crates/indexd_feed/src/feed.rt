@@ -6,7 +6,8 @@ ghost use Rattle.std.specs.List.{AllByRecursion};
 ghost use Rattle.ix_base.specs.Faults.{Rose};
 ghost use Rattle.ix_base.specs.declared.files.File.{File};
 ghost use Rattle.ix_disk.specs.Image.{Image};
-ghost use Rattle.ix_feed.specs.Feeding.{Comes};
+ghost use Rattle.ix_feed.specs.Feeding.{Comes, start};
+ghost use Rattle.ix_feed.specs.Reading.{ReadsTo};
 ghost use Rattle.ix_link.specs.Links.{Goes};
 ghost use Rattle.ix_machine.specs.Given.{Chooser};
 ghost use Rattle.ix_machine.specs.declared.commands.Order.{Order};
@@ -44,8 +45,9 @@ fn feed_open<M: Listing + Drop, D: Disk, C: Clock, K: Link>(
     requires asks { TakesAsks M.takes }
     ensures requests { (choose : Chooser) (history : List Order) (base : ℕ) → M.is_chooser choose → AllByRecursion M.takes history →
         Holds D.Disk M.Book.fits M.holds choose history base (length history) store.old disk.old →
-        (now : List Order) × Requests D.Disk M.Book.fits choose result (IsClean (K.faults link.old) (K.faults link.new) (K.standing link.old) (K.standing link.new))
-        (K.left link.old) (K.left link.new) (C.ahead clock.new) (K.given link.old) (K.given link.new) disk.new base store.old.run (C.ahead clock.old) disk.old history now }
+        (now : List Order) × (AllByRecursion M.takes now × Requests D.Disk M.Book.fits result (IsClean (K.faults link.old) (K.faults link.new) (K.standing link.old) (K.standing link.new))
+        (K.left link.old) (K.left link.new) (C.ahead clock.new) (K.given link.old) (K.given link.new) disk.new (start choose history base (length history) store.old.run disk.old) (C.ahead clock.old) now) }
+    ensures reads { ReadsTo result (K.left link.old) (K.left link.new) }
     ensures unbroken { (file : File) (at : ℕ) → result ≡ Fed.Broken (CommitFault.Damaged file at) → (choose : Chooser) (history : List Order) (base : ℕ) → M.is_chooser choose →
         AllByRecursion M.takes history → Holds D.Disk M.Book.fits M.holds choose history base (length history) store.old disk.old → (image : Image) → D.Disk.seen disk.old ≡ Some image → ⊥ }
     ensures short { ends.is_short result ≡ true → ReadsShort D.Disk disk.new }
@@ -78,13 +80,15 @@ pub fn run_feed<M: Listing + Drop, D: Disk, C: Clock, K: Link>(
     // count of the link has risen, and that of its writing side.
     ensures served { IfOk result (λ end. (choose : Chooser) (history : List Order) (k : ℕ) → M.is_chooser choose → AllByRecursion M.takes history →
         Begins D.Disk M.Book.fits choose history k disk.old → (image : Image) → D.Disk.seen disk.old ≡ Some image →
-        HasServed D.Disk M.Book.fits choose history k config (C.ahead clock.old)
-        (Requests D.Disk M.Book.fits choose end (IsClean (K.faults link.old) (K.faults link.new) (K.standing link.old) (K.standing link.new))
+        HasServed D.Disk M.takes M.Book.fits choose history k config (C.ahead clock.old)
+        (Requests D.Disk M.Book.fits end (IsClean (K.faults link.old) (K.faults link.new) (K.standing link.old) (K.standing link.new))
         (K.left link.old) (K.left link.new) (C.ahead clock.new) (K.given link.old) (K.given link.new) disk.new) disk.old disk.new) }
+    // Which requests were read, and where the run ended by them, goes by the bytes of the link, whatever the disk holds.
+    ensures reads { IfOk result (λ end. ReadsTo end (K.left link.old) (K.left link.new)) }
     // A run that stops before them has lost nothing, has its cause, and leaves the link alone.
     ensures shut { IfErr result (λ stop. (choose : Chooser) (history : List Order) (k : ℕ) → M.is_chooser choose → AllByRecursion M.takes history →
         Begins D.Disk M.Book.fits choose history k disk.old → (image : Image) → D.Disk.seen disk.old ≡ Some image →
-        HasShut stop D.Disk M.Book.fits choose history k config (C.ahead clock.old) (C.ahead clock.new) disk.old disk.new) }
+        HasShut stop D.Disk M.takes M.Book.fits choose history k config (C.ahead clock.old) (C.ahead clock.new) disk.old disk.new) }
     ensures untouched { OnErr result (link.new ≡ link.old) }
     // Behind the run the current log is not long, as the disk reads; but for want of memory, where the disk is at fault, or where nothing was
     // mounted.

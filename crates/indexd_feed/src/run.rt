@@ -5,6 +5,7 @@ ghost use Rattle.std.specs.List.{AllByRecursion};
 ghost use Rattle.ix_base.specs.Faults.{Rose};
 ghost use Rattle.ix_base.specs.declared.files.File.{File};
 ghost use Rattle.ix_disk.specs.Image.{Image};
+ghost use Rattle.ix_feed.specs.Reading.{ReadsTo};
 ghost use Rattle.ix_machine.specs.Given.{Chooser};
 ghost use Rattle.ix_machine.specs.declared.commands.Order.{Order};
 ghost use Rattle.ix_run.specs.Resting.{ReadsShort};
@@ -45,13 +46,15 @@ pub fn run_streams<M: Listing + Drop, D: Disk, C: Clock, S: Source, W: Sink>(
     // count of the output has risen.
     ensures served { IfOk result (λ end. (choose : Chooser) (history : List Order) (k : ℕ) → M.is_chooser choose → AllByRecursion M.takes history →
         Begins D.Disk M.Book.fits choose history k disk.old → (image : Image) → D.Disk.seen disk.old ≡ Some image →
-        HasServed D.Disk M.Book.fits choose history k config (C.ahead clock.old)
-        (Requests D.Disk M.Book.fits choose (fed_of end) (IsSound (W.faults output.old) (W.faults output.new)) (S.left input.old) (S.left input.new) (C.ahead clock.new)
+        HasServed D.Disk M.takes M.Book.fits choose history k config (C.ahead clock.old)
+        (Requests D.Disk M.Book.fits (fed_of end) (IsSound (W.faults output.old) (W.faults output.new)) (S.left input.old) (S.left input.new) (C.ahead clock.new)
         (W.given output.old) (W.given output.new) disk.new) disk.old disk.new) }
+    // Which requests were read, and where the run ended by them, goes by the bytes of the input, whatever the disk holds.
+    ensures reads { IfOk result (λ end. ReadsTo (fed_of end) (S.left input.old) (S.left input.new)) }
     // A run that stops before them has lost nothing, has its cause, and leaves the input and the output alone.
     ensures shut { IfErr result (λ stop. (choose : Chooser) (history : List Order) (k : ℕ) → M.is_chooser choose → AllByRecursion M.takes history →
         Begins D.Disk M.Book.fits choose history k disk.old → (image : Image) → D.Disk.seen disk.old ≡ Some image →
-        HasShut stop D.Disk M.Book.fits choose history k config (C.ahead clock.old) (C.ahead clock.new) disk.old disk.new) }
+        HasShut stop D.Disk M.takes M.Book.fits choose history k config (C.ahead clock.old) (C.ahead clock.new) disk.old disk.new) }
     ensures unread { OnErr result (input.new ≡ input.old) }
     ensures unwritten { OnErr result (output.new ≡ output.old) }
     // Behind the run the current log is not long, as the disk reads; but for want of memory, where the disk is at fault, or where nothing was

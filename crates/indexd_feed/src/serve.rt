@@ -6,6 +6,9 @@ ghost use Rattle.std.specs.List.{AllByRecursion};
 ghost use Rattle.ix_base.specs.Faults.{Rose};
 ghost use Rattle.ix_base.specs.declared.files.File.{File};
 ghost use Rattle.ix_disk.specs.Image.{Image};
+ghost use Rattle.ix_feed.specs.Connections.{listened};
+ghost use Rattle.ix_feed.specs.Feeding.{start};
+ghost use Rattle.ix_feed.specs.Reading.{HearsMany};
 ghost use Rattle.ix_machine.specs.Given.{Chooser};
 ghost use Rattle.ix_machine.specs.declared.commands.Order.{Order};
 ghost use Rattle.ix_run.specs.Resting.{IsAtRest, ReadsShort};
@@ -42,8 +45,10 @@ fn serve_open<M: Listing + Drop, D: Disk, C: Clock, L: Listener>(
     requires asks { TakesAsks M.takes }
     ensures connections { (choose : Chooser) (history : List Order) (base : ℕ) → M.is_chooser choose → AllByRecursion M.takes history →
         Holds D.Disk M.Book.fits M.holds choose history base (length history) store.old disk.old →
-        (now : List Order) × Connections D.Disk M.Book.fits choose requests result (L.waiting listener.old) (L.waiting listener.new) (L.handed listener.old) (L.handed listener.new)
-        (C.ahead clock.new) disk.new base store.old.run (C.ahead clock.old) disk.old history now }
+        (now : List Order) × (AllByRecursion M.takes now × Connections D.Disk M.Book.fits requests result
+        (listened (L.waiting listener.old) (L.handed listener.old)) (listened (L.waiting listener.new) (L.handed listener.new))
+        (C.ahead clock.new) disk.new (start choose history base (length history) store.old.run disk.old) (C.ahead clock.old) now) }
+    ensures reads { HearsMany (ends.AsManyServed requests result) (listened (L.waiting listener.old) (L.handed listener.old)) (listened (L.waiting listener.new) (L.handed listener.new)) }
     ensures unbroken { (file : File) (at : ℕ) → result ≡ ServeEnd.Damaged file at → (choose : Chooser) (history : List Order) (base : ℕ) → M.is_chooser choose →
         AllByRecursion M.takes history → Holds D.Disk M.Book.fits M.holds choose history base (length history) store.old disk.old → (image : Image) → D.Disk.seen disk.old ≡ Some image → ⊥ }
     ensures short { ends.is_short_served result ≡ true → ReadsShort D.Disk disk.new }
@@ -79,12 +84,16 @@ pub fn run_serve<M: Listing + Drop, D: Disk, C: Clock, L: Listener>(
     // Connections are served over some prefix of what was there, with the settings in force, up to this end.
     ensures served { IfOk result (λ end. (choose : Chooser) (history : List Order) (k : ℕ) → M.is_chooser choose → AllByRecursion M.takes history →
         Begins D.Disk M.Book.fits choose history k disk.old → (image : Image) → D.Disk.seen disk.old ≡ Some image →
-        HasServed D.Disk M.Book.fits choose history k config (C.ahead clock.old)
-        (Connections D.Disk M.Book.fits choose requests end (L.waiting listener.old) (L.waiting listener.new) (L.handed listener.old) (L.handed listener.new) (C.ahead clock.new) disk.new) disk.old disk.new) }
+        HasServed D.Disk M.takes M.Book.fits choose history k config (C.ahead clock.old)
+        (Connections D.Disk M.Book.fits requests end (listened (L.waiting listener.old) (L.handed listener.old)) (listened (L.waiting listener.new) (L.handed listener.new)) (C.ahead clock.new) disk.new) disk.old disk.new) }
+    // How many connections were taken, that each request was read of what its connection held, and that each was handed back, holds whatever the
+    // disk holds.
+    ensures reads { IfOk result (λ end. HearsMany (ends.AsManyServed requests end)
+        (listened (L.waiting listener.old) (L.handed listener.old)) (listened (L.waiting listener.new) (L.handed listener.new))) }
     // A run that stops before them has lost nothing, has its cause, and leaves the listener alone.
     ensures shut { IfErr result (λ stop. (choose : Chooser) (history : List Order) (k : ℕ) → M.is_chooser choose → AllByRecursion M.takes history →
         Begins D.Disk M.Book.fits choose history k disk.old → (image : Image) → D.Disk.seen disk.old ≡ Some image →
-        HasShut stop D.Disk M.Book.fits choose history k config (C.ahead clock.old) (C.ahead clock.new) disk.old disk.new) }
+        HasShut stop D.Disk M.takes M.Book.fits choose history k config (C.ahead clock.old) (C.ahead clock.new) disk.old disk.new) }
     ensures untouched { OnErr result (listener.new ≡ listener.old) }
     // Behind the run the current log is not long, as the disk reads; but for want of memory, where the disk is at fault, or where nothing was
     // mounted.

@@ -1,12 +1,13 @@
 -- How the parts of a run of the program join: mounting, putting settings in force, and commands.
-use Rattle.std.proofs.Common.{◌≡◌, ◌≤◌, ℕ, zero, suc, ℤ, Bool, true, false, List, [], ◌∷◌, length, length-take, take, refl, sym, ap, ◌∙◌, subst, arith, inl, inr}
+use Rattle.std.proofs.Common.{◌≡◌, ◌≤◌, ℕ, zero, suc, ℤ, Bool, true, false, List, [], ◌∷◌, length, length-append, length-take, take, refl, sym, ap, ◌∙◌, subst, arith, inl, inr}
 use Rattle.std.specs.List.{AllByRecursion}
-use Rattle.std.specs.Prelude.{Result, Ok, Err, Option}
+use Rattle.std.specs.Prelude.{Result, Ok, Err, Option, Some}
 use Rattle.ix_base.specs.Clocks.{Moments, Answered}
 use Rattle.ix_base.specs.Told.{Told, HasWritten, HasBegun}
 use Rattle.ix_base.specs.declared.events.ChannelMeta.{ChannelMeta}
 use Rattle.ix_disk.proofs.Runs.{always_on, always_weaker}
 use Rattle.ix_disk.specs.Image.{Image}
+use Rattle.ix_keep.specs.Reads.{LeadsTo}
 use Rattle.ix_disk.specs.Moments.{Always}
 use Rattle.ix_disk.specs.declared.disk.Disk.{Ghosts}
 use Rattle.ix_book.specs.Book.{Book}
@@ -21,6 +22,7 @@ use Rattle.ix_run.proofs.Given.{more_of, given_more, fewer}
 use Rattle.ix_run.proofs.Gone.{longer, stood_here}
 use Rattle.ix_run.specs.Giving.{given_all}
 use Rattle.ix_run.specs.Running.{HasStood}
+use Rattle.ix_store.proofs.Counted.{take_more, take_taken}
 use Rattle.ix_store.proofs.Joining.{more_taken}
 use Rattle.ix_store.specs.Holding.{Holds, Staged, IsMounted}
 use Rattle.ix_store.specs.Written.{StandsFrom}
@@ -36,7 +38,10 @@ use Rattle.indexd_store.specs.declared.stop.Stop.TheVariants as stops
 use Rattle.indexd_store.specs.Tasks.{orders_in, GaveAll, Gave, IsWhy, IsFine, says, HasPrinted, HasDone, HasHalted}
 use Rattle.indexd_store.specs.declared.task.Task.{Task}
 use Rattle.indexd_store.proofs.Tasks.{left_weaker, ends_weaker}
-use Rattle.indexd_store.specs.Opened.{configuring, is_configured, Configures, Doing, IsUnset, WhenOpen, WhenShut, StandsInRun, HasOpened, HasRun, HasShut}
+use Rattle.indexd_store.specs.Opened.{configuring, is_configured, Configures, Doing, IsNewRun, IsUnset, Passes, WhenOpen, WhenShut, HasOpened, HasRun, HasShut}
+
+some_is : (a b : Image) → Some a ≡ Some b → a ≡ b
+some_is a b is = cc
 
 taken : (n : ℕ) (h : List Order) → n ≤ length h → length (take n h) ≡ n
 taken n h within = omega (arith, length-take n h)
@@ -58,10 +63,10 @@ pub asked_once : (order : Order) (orders : List Order) (ahead ahead' : Option Mo
 asked_once order orders ahead ahead' is told = subst (λ (os : List Order). Asks os ahead ahead') (sym is) (ahead', told, refl)
 
 -- what stands on the disk is sound
-pub shut_sound : (stop : Stop) {D : Type 0} (g : Ghosts D) (fits : Book → Type 0) (choose : Chooser) (h : List Order) (k : ℕ) (config : Config) (ahead ahead' : Option Moments) (first last : D) →
-    stop ≡ stops.Inconsistent → HasShut stop g fits choose h k config ahead ahead' first last → ⊥
-shut_sound stop g fits choose h k config ahead ahead' first last unsound (inl not) = not.sound unsound
-shut_sound stop g fits choose h k config ahead ahead' first last unsound (inr run) =
+pub shut_sound : (stop : Stop) {D : Type 0} (g : Ghosts D) (takes : Order → Type 0) (fits : Book → Type 0) (choose : Chooser) (h : List Order) (k : ℕ) (config : Config) (ahead ahead' : Option Moments) (first last : D) →
+    stop ≡ stops.Inconsistent → HasShut stop g takes fits choose h k config ahead ahead' first last → ⊥
+shut_sound stop g takes fits choose h k config ahead ahead' first last unsound (inl not) = not.sound unsound
+shut_sound stop g takes fits choose h k config ahead ahead' first last unsound (inr run) =
     sound_settings choose (take run.count h) (configuring config run.allowed.moment) stop unsound run.allowed.why
 
 module _ {D : Type 0} (g : Ghosts D) {M : Type 0} (fits : Book → Type 0) (holds : Chooser → List Order → M → Type 0) (choose : Chooser) where
@@ -82,9 +87,25 @@ module _ {D : Type 0} (g : Ghosts D) {M : Type 0} (fits : Book → Type 0) (hold
     configured_as image store mid is kept said same answer same_is answers =
         sym (ap (λ (force : List Kept). same_kept force config.kept) (said choose (take is.count h) is.count is.count is.hold.old is.hold.staged)) ∙ (sym same_is ∙ answers)
 
-    pub opened_same : (image : Image) (store : Store M) (first mid : D) (ahead : Option Moments) → (is : IsMounted g fits holds choose h k image store mid) → Always g first mid (StandsFrom fits choose h k) →
+    -- all that was mounted is in every image
+    all_mounted : (image : Image) (store : Store M) (mid : D) → (is : IsMounted g fits holds choose h k image store mid) → (other : Image) → g.may_leave mid other → StandsFrom fits choose (take is.count h) is.count other
+    all_mounted image store mid is other may =
+        (stood_here g fits holds choose (take is.count h) is.count (length (take is.count h)) is.count store mid (omega (arith, taken is.count h is.most)) (committed image store mid is)).now other may
+
+    -- its number is that behind the one that was found
+    numbered : (image : Image) (mounted store : Store M) (first mid : D) → (is : IsMounted g fits holds choose h k image mounted mid) → g.seen first ≡ Some image → store.run ≡ mounted.run → IsNewRun g fits store.run first
+    numbered image mounted store first mid is seen same other told =
+        let the_same = some_is image other (sym seen ∙ told) in
+        record {
+          found = is.found.book;
+          leads = subst (λ (i : Image). LeadsTo fits is.found.book i) the_same
+              (record { checkpoints = is.keeps.checkpoints; in_root = is.keeps.in_root; bodies = is.keeps.bodies; in_log = is.keeps.in_log; replayed = is.keeps.replayed });
+          is = same ∙ is.run;
+        }
+
+    pub opened_same : (image : Image) (store : Store M) (first mid : D) (ahead : Option Moments) → g.seen first ≡ Some image → (is : IsMounted g fits holds choose h k image store mid) → Always g first mid (StandsFrom fits choose h k) →
         HasRunsLeft g fits first → is_configured choose (take is.count h) config ≡ true → HasOpened g fits holds choose h k config store ahead ahead first mid
-    opened_same image store first mid ahead is stood left same = record {
+    opened_same image store first mid ahead seen is stood left same = record {
       count = is.count;
       least = is.least;
       most = is.most;
@@ -93,21 +114,38 @@ module _ {D : Type 0} (g : Ghosts D) {M : Type 0} (fits : Book → Type 0) (hold
       asked = refl;
       runs_left = left;
       hold = committed image store mid is;
-      stood = always_weaker g first mid _ _ (λ image stands. inl stands) stood;
+      number = numbered image store store first mid is seen refl;
+      passes = record { mounted = mid; first = take_taken is.count h; within = omega (arith, taken is.count h is.most); up_to = stood; at_mount = all_mounted image store mid is; from_on = (stood_here g fits holds choose (take is.count h) is.count (length (take is.count h)) is.count store mid (omega (arith, taken is.count h is.most)) (committed image store mid is)) };
     }
 
-    -- what was mounted, and what was given over it
-    over_mount : (count : ℕ) (now : List Order) (first mid last : D) → count ≤ length h → Always g first mid (StandsFrom fits choose h k) →
-        HasStood g fits choose now (length (take count h)) mid last → Always g first last (StandsInRun fits choose h k now count)
-    over_mount count now first mid last most before stood =
-        always_on g first mid last (StandsInRun fits choose h k now count)
-        (always_weaker g first mid _ _ (λ image stands. inl stands) before)
-        (always_weaker g mid last _ _ (λ image stands. inr stands) (fewer g fits holds choose now (length (take count h)) count mid last (omega (arith, taken count h most)) stood))
+    -- the front that was mounted is the front still
+    front_first : (count : ℕ) (orders : List Order) → count ≤ length h → take count (given_all choose (take count h) orders) ≡ take count h
+    front_first count orders most =
+        ap (take count) (given_more choose (take count h) orders)
+        ∙ (take_more count (take count h) (more_of choose (take count h) orders) (omega (arith, taken count h most)) ∙ take_taken count h)
 
-    pub opened_by : (image : Image) (mounted store : Store M) (first mid last : D) (ahead ahead' : Option Moments) → (is : IsMounted g fits holds choose h k image mounted mid) → Always g first mid (StandsFrom fits choose h k) →
+    front_within : (count : ℕ) (orders : List Order) → count ≤ length h → count ≤ length (given_all choose (take count h) orders)
+    front_within count orders most =
+        subst (λ (l : List Order). count ≤ length l) (sym (given_more choose (take count h) orders))
+        (omega (arith, taken count h most, length-append (take count h) (more_of choose (take count h) orders)))
+
+    -- what was mounted, and what was given over it
+    over_mount : (count : ℕ) (orders : List Order) (first mid last : D) → count ≤ length h → ((image : Image) → g.may_leave mid image → StandsFrom fits choose (take count h) count image) → Always g first mid (StandsFrom fits choose h k) →
+        HasStood g fits choose (given_all choose (take count h) orders) (length (take count h)) mid last → Passes g fits choose h k (given_all choose (take count h) orders) count first last
+    over_mount count orders first mid last most at before stood = record {
+      mounted = mid;
+      first = front_first count orders most;
+      within = front_within count orders most;
+      up_to = before;
+      at_mount = λ image may. subst (λ (l : List Order). StandsFrom fits choose l count image) (sym (given_more choose (take count h) orders))
+          (longer fits choose (take count h) (more_of choose (take count h) orders) count count image (omega arith) (at image may));
+      from_on = fewer g fits holds choose (given_all choose (take count h) orders) (length (take count h)) count mid last (omega (arith, taken count h most)) stood;
+    }
+
+    pub opened_by : (image : Image) (mounted store : Store M) (first mid last : D) (ahead ahead' : Option Moments) → g.seen first ≡ Some image → store.run ≡ mounted.run → (is : IsMounted g fits holds choose h k image mounted mid) → Always g first mid (StandsFrom fits choose h k) →
         HasRunsLeft g fits first → is_configured choose (take is.count h) config ≡ false → (moment : ℤ) → Told (Answered moment) ahead ahead' →
         IsLeft g fits holds choose (take is.count h) is.count (Only (configuring config moment)) store mid last → HasOpened g fits holds choose h k config store ahead ahead' first last
-    opened_by image mounted store first mid last ahead ahead' is before runs other moment told left = record {
+    opened_by image mounted store first mid last ahead ahead' seen same_run is before runs other moment told left = record {
       count = is.count;
       least = is.least;
       most = is.most;
@@ -116,7 +154,8 @@ module _ {D : Type 0} (g : Ghosts D) {M : Type 0} (fits : Book → Type 0) (hold
       asked = asked_once (configuring config moment) left.orders ahead ahead' left.allowed told;
       runs_left = runs;
       hold = left.all.hold;
-      stood = over_mount is.count (given_all choose (take is.count h) left.orders) first mid last is.most before left.all.stood;
+      number = numbered image mounted store first mid is seen same_run;
+      passes = over_mount is.count left.orders first mid last is.most (all_mounted image mounted mid is) before left.all.stood;
     }
 
     -- the run stops where settings are to be put in force
@@ -132,8 +171,9 @@ module _ {D : Type 0} (g : Ghosts D) {M : Type 0} (fits : Book → Type 0) (hold
         none = refl;
       }
 
-      shut_by : (lost : Bool) → Ends lost g fits holds choose (take is.count h) is.count (AtMost (configuring config moment)) store mid last → HasRun lost g fits choose h k (WhenShut choose config stop ahead ahead') first last
-      shut_by true ends = record {
+      shut_by : (takes : Order → Type 0) → ((orders : List Order) → AtMost (configuring config moment) orders → AllByRecursion takes (given_all choose (take is.count h) orders)) →
+          (lost : Bool) → Ends lost g fits holds choose (take is.count h) is.count (AtMost (configuring config moment)) store mid last → HasRun lost g takes fits choose h k (WhenShut choose config stop ahead ahead') first last
+      shut_by takes given true ends = record {
         count = is.count;
         least = is.least;
         most = is.most;
@@ -141,10 +181,11 @@ module _ {D : Type 0} (g : Ghosts D) {M : Type 0} (fits : Book → Type 0) (hold
         orders = [];
         runs_left = runs;
         allowed = shut ends.orders ends.allowed;
-        stood = over_mount is.count (given_all choose (take is.count h) ends.orders) first mid last is.most before ends.stood;
+        given = given ends.orders ends.allowed;
+        passes = over_mount is.count ends.orders first mid last is.most (all_mounted image mounted mid is) before ends.stood;
         exit = λ image left. (fewer g fits holds choose (given_all choose (take is.count h) ends.orders) (length (take is.count h)) is.count mid last (omega (arith, taken is.count h is.most)) ends.stood).now image left;
       }
-      shut_by false ends = record {
+      shut_by takes given false ends = record {
         count = is.count;
         least = is.least;
         most = is.most;
@@ -152,12 +193,14 @@ module _ {D : Type 0} (g : Ghosts D) {M : Type 0} (fits : Book → Type 0) (hold
         orders = [];
         runs_left = runs;
         allowed = shut ends.orders ends.allowed;
-        stood = over_mount is.count (given_all choose (take is.count h) ends.orders) first mid last is.most before ends.all.stood;
+        given = given ends.orders ends.allowed;
+        passes = over_mount is.count ends.orders first mid last is.most (all_mounted image mounted mid is) before ends.all.stood;
         exit = all_stand (given_all choose (take is.count h) ends.orders) is.count store last ends.all.hold;
       }
 
-      pub stopped_by : Ends (loses stop) g fits holds choose (take is.count h) is.count (AtMost (configuring config moment)) store mid last → HasShut stop g fits choose h k config ahead ahead' first last
-      stopped_by ends = inr (shut_by (loses stop) ends)
+      pub stopped_by : (takes : Order → Type 0) → ((orders : List Order) → AtMost (configuring config moment) orders → AllByRecursion takes (given_all choose (take is.count h) orders)) →
+          Ends (loses stop) g fits holds choose (take is.count h) is.count (AtMost (configuring config moment)) store mid last → HasShut stop g takes fits choose h k config ahead ahead' first last
+      stopped_by takes given ends = inr (shut_by takes given (loses stop) ends)
 
     -- ---- commands behind these
 
@@ -171,15 +214,21 @@ module _ {D : Type 0} (g : Ghosts D) {M : Type 0} (fits : Book → Type 0) (hold
       since : (orders : List Order) → HasStood g fits choose (given_all choose begun orders) (length begun) mid last → HasStood g fits choose (given_all choose begun orders) opened.count mid last
       since orders stood = fewer g fits holds choose (given_all choose begun orders) (length begun) opened.count mid last at_least stood
 
-      still : (orders : List Order) (image : Image) → StandsInRun fits choose h k begun opened.count image → StandsInRun fits choose h k (given_all choose begun orders) opened.count image
-      still orders image (inl stands) = inl stands
-      still orders image (inr stands) = inr (subst (λ (some : List Order). StandsFrom fits choose some opened.count image) (sym (given_more choose begun orders))
-          (longer fits choose begun (more_of choose begun orders) opened.count opened.count image (omega arith) stands))
+      still : (orders : List Order) (image : Image) → StandsFrom fits choose begun opened.count image → StandsFrom fits choose (given_all choose begun orders) opened.count image
+      still orders image stands = subst (λ (some : List Order). StandsFrom fits choose some opened.count image) (sym (given_more choose begun orders))
+          (longer fits choose begun (more_of choose begun orders) opened.count opened.count image (omega arith) stands)
 
-      over_opened : (orders : List Order) → HasStood g fits choose (given_all choose begun orders) (length begun) mid last → Always g first last (StandsInRun fits choose h k (given_all choose begun orders) opened.count)
-      over_opened orders stood = always_on g first mid last (StandsInRun fits choose h k (given_all choose begun orders) opened.count)
-          (always_weaker g first mid _ _ (still orders) opened.stood)
-          (always_weaker g mid last _ _ (λ image stands. inr stands) (since orders stood))
+      over_opened : (orders : List Order) → HasStood g fits choose (given_all choose begun orders) (length begun) mid last → Passes g fits choose h k (given_all choose begun orders) opened.count first last
+      over_opened orders stood = record {
+        mounted = opened.passes.mounted;
+        first = ap (take opened.count) (given_more choose begun orders) ∙ (take_more opened.count begun (more_of choose begun orders) opened.passes.within ∙ opened.passes.first);
+        within = subst (λ (l : List Order). opened.count ≤ length l) (sym (given_more choose begun orders)) (omega (arith, opened.passes.within, length-append begun (more_of choose begun orders)));
+        up_to = opened.passes.up_to;
+        at_mount = λ image may. still orders image (opened.passes.at_mount image may);
+        from_on = always_on g opened.passes.mounted mid last (StandsFrom fits choose (given_all choose begun orders) opened.count)
+            (always_weaker g opened.passes.mounted mid _ _ (still orders) opened.passes.from_on)
+            (since orders stood);
+      }
 
       when_open : (may : Doing) (orders : List Order) → may opened.count ahead' begun orders → WhenOpen choose config ahead may (take opened.count h) opened.configured orders
       when_open may orders so = record {
@@ -189,28 +238,34 @@ module _ {D : Type 0} (g : Ghosts D) {M : Type 0} (fits : Book → Type 0) (hold
         behind = subst (λ (n : ℕ). may n ahead' begun orders) (sym (taken opened.count h opened.most)) so;
       }
 
-      pub run_by : (store : Store M) (may : Doing) (lost : Bool) → Ends lost g fits holds choose begun opened.count (may opened.count ahead' begun) store mid last →
-          HasRun lost g fits choose h k (WhenOpen choose config ahead may) first last
-      run_by store may true ends = record {
+      -- what was given, and may be given
+      abbrev pub AndGiven : (Order → Type 0) → (List Order → Type 0) → List Order → Type 0
+      AndGiven takes may orders = may orders × AllByRecursion takes (given_all choose begun orders)
+
+      pub run_by : (takes : Order → Type 0) (store : Store M) (may : Doing) (lost : Bool) → Ends lost g fits holds choose begun opened.count (AndGiven takes (may opened.count ahead' begun)) store mid last →
+          HasRun lost g takes fits choose h k (WhenOpen choose config ahead may) first last
+      run_by takes store may true ends = record {
         count = opened.count;
         least = opened.least;
         most = opened.most;
         configured = opened.configured;
         orders = ends.orders;
         runs_left = opened.runs_left;
-        allowed = when_open may ends.orders ends.allowed;
-        stood = over_opened ends.orders ends.stood;
+        allowed = when_open may ends.orders ends.allowed.0;
+        given = ends.allowed.1;
+        passes = over_opened ends.orders ends.stood;
         exit = λ image left. (since ends.orders ends.stood).now image left;
       }
-      run_by store may false ends = record {
+      run_by takes store may false ends = record {
         count = opened.count;
         least = opened.least;
         most = opened.most;
         configured = opened.configured;
         orders = ends.orders;
         runs_left = opened.runs_left;
-        allowed = when_open may ends.orders ends.allowed;
-        stood = over_opened ends.orders ends.all.stood;
+        allowed = when_open may ends.orders ends.allowed.0;
+        given = ends.allowed.1;
+        passes = over_opened ends.orders ends.all.stood;
         exit = all_stand (given_all choose begun ends.orders) opened.count store last ends.all.hold;
       }
 
@@ -219,29 +274,31 @@ module _ {D : Type 0} (g : Ghosts D) {M : Type 0} (fits : Book → Type 0) (hold
       module _ (store : Store M) (task : Task) (moment : ℤ) (ahead'' : Option Moments) (asked : Asks (orders_in task moment) ahead' ahead'') (out out' : Option (List ℕ)) where
         pub done_when : (result : Result Unit Stop) (done : Unit) → result ≡ Ok done → IsFine choose begun task moment → HasPrinted HasWritten g choose begun task moment last out out' →
             Ends (loses_in result) g fits holds choose begun opened.count (Gave result (orders_in task moment)) store mid last →
-            HasRun false g fits choose h k (WhenOpen choose config ahead (HasDone g choose task ahead'' out out' last)) first last
-        done_when result done is fine printed ends =
-            run_by store (HasDone g choose task ahead'' out out' last) false
-            (left_weaker g fits holds choose begun opened.count store mid last (λ orders. orders ≡ orders_in task moment) (HasDone g choose task ahead'' out out' last opened.count ahead' begun)
-            (λ orders are. record { moment = moment; orders_are = are; asked = asked; fine = fine; printed = printed })
+            (takes : Order → Type 0) → ((orders : List Order) (moment : ℤ) → orders ≡ orders_in task moment → AllByRecursion takes (given_all choose begun orders)) →
+            HasRun false g takes fits choose h k (WhenOpen choose config ahead (HasDone g choose task ahead'' out out' last)) first last
+        done_when result done is fine printed ends takes given =
+            run_by takes store (HasDone g choose task ahead'' out out' last) false
+            (left_weaker g fits holds choose begun opened.count store mid last (λ orders. orders ≡ orders_in task moment) (AndGiven takes (HasDone g choose task ahead'' out out' last opened.count ahead' begun))
+            (λ orders are. (record { moment = moment; orders_are = are; asked = asked; fine = fine; printed = printed }, given orders moment are))
             (subst (λ (r : Result Unit Stop). Ends (loses_in r) g fits holds choose begun opened.count (Gave r (orders_in task moment)) store mid last) is ends))
 
         pub halted_when : (result : Result Unit Stop) (stop : Stop) → result ≡ Err stop → IsWhy choose begun task moment stop → (says task stop ≡ true → HasPrinted HasBegun g choose begun task moment last out out') →
             Ends (loses_in result) g fits holds choose begun opened.count (Gave result (orders_in task moment)) store mid last →
-            HasRun (loses stop) g fits choose h k (WhenOpen choose config ahead (HasHalted g choose task stop ahead'' out out' last)) first last
-        halted_when result stop is why printed ends =
-            run_by store (HasHalted g choose task stop ahead'' out out' last) (loses stop)
-            (ends_weaker g fits holds choose begun opened.count store mid last (loses stop) (GaveAll (is_output stop) (orders_in task moment)) (HasHalted g choose task stop ahead'' out out' last opened.count ahead' begun)
-            (λ orders are. record { moment = moment; orders_are = are; asked = asked; why = why; printed = printed })
+            (takes : Order → Type 0) → ((orders : List Order) (moment : ℤ) → GaveAll (is_output stop) (orders_in task moment) orders → AllByRecursion takes (given_all choose begun orders)) →
+            HasRun (loses stop) g takes fits choose h k (WhenOpen choose config ahead (HasHalted g choose task stop ahead'' out out' last)) first last
+        halted_when result stop is why printed ends takes given =
+            run_by takes store (HasHalted g choose task stop ahead'' out out' last) (loses stop)
+            (ends_weaker g fits holds choose begun opened.count store mid last (loses stop) (GaveAll (is_output stop) (orders_in task moment)) (AndGiven takes (HasHalted g choose task stop ahead'' out out' last opened.count ahead' begun))
+            (λ orders are. (record { moment = moment; orders_are = are; asked = asked; why = why; printed = printed }, given orders moment are))
             (subst (λ (r : Result Unit Stop). Ends (loses_in r) g fits holds choose begun opened.count (Gave r (orders_in task moment)) store mid last) is ends))
 
       -- ---- an input
 
       module _ (store : Store M) (origin : ChannelMeta) (moment : ℤ) (ahead'' : Option Moments) (told : Told (Answered moment) ahead' ahead'') (left left' : Option (List ℕ)) where
-        abbrev fed_of : Result Unit Stop → Type 0
-        fed_of result = Ends (loses_in result) g fits holds choose begun opened.count (Fed choose opened.count begun origin moment result left left') store mid last
+        abbrev fed_of : (Order → Type 0) → Result Unit Stop → Type 0
+        fed_of takes result = Ends (loses_in result) g fits holds choose begun opened.count (AndGiven takes (Fed choose opened.count begun origin moment result left left')) store mid last
 
-        pub fed_when : (result : Result Unit Stop) → fed_of result → HasRun (loses_in result) g fits choose h k (WhenOpen choose config ahead (HasFed choose origin result ahead'' left left')) first last
-        fed_when result ends = run_by store (HasFed choose origin result ahead'' left left') (loses_in result)
-            (ends_weaker g fits holds choose begun opened.count store mid last (loses_in result) (Fed choose opened.count begun origin moment result left left') (HasFed choose origin result ahead'' left left' opened.count ahead' begun)
-            (λ orders fed. record { moment = moment; asked = told; fed = fed }) ends)
+        pub fed_when : (takes : Order → Type 0) (result : Result Unit Stop) → fed_of takes result → HasRun (loses_in result) g takes fits choose h k (WhenOpen choose config ahead (HasFed choose origin result ahead'' left left')) first last
+        fed_when takes result ends = run_by takes store (HasFed choose origin result ahead'' left left') (loses_in result)
+            (ends_weaker g fits holds choose begun opened.count store mid last (loses_in result) (AndGiven takes (Fed choose opened.count begun origin moment result left left')) (AndGiven takes (HasFed choose origin result ahead'' left left' opened.count ahead' begun))
+            (λ orders fed. (record { moment = moment; asked = told; fed = fed.0 }, fed.1)) ends)

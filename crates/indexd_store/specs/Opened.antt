@@ -1,5 +1,6 @@
 -- A run of the program over whatever stands on the disk at its start: a store is mounted, settings are put in force, and commands are given.
-use Rattle.std.specs.Prelude.{◌≡◌, ◌≤◌, ◌⊎◌, ℕ, ℤ, Bool, true, false, List, [], ◌∷◌, length, take, Option}
+use Rattle.std.specs.Prelude.{◌≡◌, ◌≤◌, ◌⊎◌, ℕ, ℤ, Bool, true, false, List, [], ◌∷◌, length, take, Option, Some}
+use Rattle.std.specs.List.{AllByRecursion}
 use Rattle.ix_base.specs.Clocks.{Moments}
 use Rattle.ix_disk.specs.Image.{Image}
 use Rattle.ix_disk.specs.Moments.{Always}
@@ -13,7 +14,7 @@ use Rattle.ix_machine.specs.declared.commands.Config.{Config}
 use Rattle.ix_machine.specs.declared.commands.Order.{Order}
 use Rattle.ix_run.specs.Giving.{given_all}
 use Rattle.ix_store.specs.Holding.{Holds}
-use Rattle.ix_store.specs.Written.{StandsFrom}
+use Rattle.ix_store.specs.Written.{IsNextRun, StandsFrom}
 use Rattle.ix_store.specs.declared.fault.MountFault.{MountFault}
 use Rattle.ix_store.specs.declared.store.Store.{Store}
 use Rattle.indexd_store.specs.Asked.{Asks}
@@ -78,9 +79,20 @@ pub record WhenShut (choose : Chooser) (config : Config) (stop : Stop) (ahead ah
 
 -- ---- runs
 
--- The image stands for a prefix of what was there at the start; or for one of what was mounted and accepted since, with all that was mounted.
-abbrev pub StandsInRun : (Book → Type 0) → Chooser → List Order → ℕ → List Order → ℕ → Image → Type 0
-StandsInRun fits choose history k now count image = StandsFrom fits choose history k image ⊎ StandsFrom fits choose now count image
+-- Every image up to the answer of the mount stands for a prefix of what was there at the start; and every image from then on for one of what was mounted and
+-- accepted since, with all that was mounted.
+pub record Passes {D : Type 0} (d : Ghosts D) (fits : Book → Type 0) (choose : Chooser) (history : List Order) (k : ℕ) (now : List Order) (count : ℕ) (before disk : D) : Type 0 where
+  pub mounted : D
+  -- what was mounted stands first
+  pub first : take count now ≡ take count history
+  pub within : count ≤ length now
+  pub up_to : Always d before mounted (StandsFrom fits choose history k)
+  pub at_mount : (image : Image) → d.may_leave mounted image → StandsFrom fits choose now count image
+  pub from_on : Always d mounted disk (StandsFrom fits choose now count)
+
+-- as the disk reads, this is the run behind the one that it keeps: so it has another number than each run before it
+abbrev pub IsNewRun : {D : Type 0} → Ghosts D → (Book → Type 0) → ℕ → D → Type 0
+IsNewRun d fits run before = (image : Image) → d.seen before ≡ Some image → IsNextRun fits run image
 
 -- A store was mounted with the first `count` commands of the history, and the settings are in force, for whose command alone the clock was
 -- asked. All is committed.
@@ -93,7 +105,8 @@ pub record HasOpened {D : Type 0} (d : Ghosts D) {M : Type 0} (fits : Book → T
   pub asked : Asks configured ahead ahead'
   pub runs_left : HasRunsLeft d fits before
   pub hold : Holds d fits holds choose (given_all choose (take count history) configured) count (length (given_all choose (take count history) configured)) store disk
-  pub stood : Always d before disk (StandsInRun fits choose history k (given_all choose (take count history) configured) count)
+  pub number : IsNewRun d fits store.run before
+  pub passes : Passes d fits choose history k (given_all choose (take count history) configured) count before disk
 
 -- how many of all commands every image at the exit has: all, or where the disk failed those that were mounted
 abbrev pub lasting : Bool → ℕ → ℕ → ℕ
@@ -101,7 +114,7 @@ lasting true mounted all = mounted
 lasting false mounted all = all
 
 -- A run has mounted the first `count` commands of the history, put settings in force, and given orders.
-pub record HasRun (lost : Bool) {D : Type 0} (d : Ghosts D) (fits : Book → Type 0) (choose : Chooser) (history : List Order) (k : ℕ) (may : List Order → List Order → List Order → Type 0) (before disk : D) : Type 0 where
+pub record HasRun (lost : Bool) {D : Type 0} (d : Ghosts D) (takes : Order → Type 0) (fits : Book → Type 0) (choose : Chooser) (history : List Order) (k : ℕ) (may : List Order → List Order → List Order → Type 0) (before disk : D) : Type 0 where
   pub count : ℕ
   pub least : k ≤ count
   pub most : count ≤ length history
@@ -110,7 +123,8 @@ pub record HasRun (lost : Bool) {D : Type 0} (d : Ghosts D) (fits : Book → Typ
   -- a run was left to mount
   pub runs_left : HasRunsLeft d fits before
   pub allowed : may (take count history) configured orders
-  pub stood : Always d before disk (StandsInRun fits choose history k (given_all choose (given_all choose (take count history) configured) orders) count)
+  pub given : AllByRecursion takes (given_all choose (given_all choose (take count history) configured) orders)
+  pub passes : Passes d fits choose history k (given_all choose (given_all choose (take count history) configured) orders) count before disk
   pub exit : (image : Image) → d.may_leave disk image →
       StandsFrom fits choose (given_all choose (given_all choose (take count history) configured) orders)
       (lasting lost count (length (given_all choose (given_all choose (take count history) configured) orders))) image
@@ -126,11 +140,11 @@ pub record HasNotMounted (stop : Stop) {D : Type 0} (d : Ghosts D) (fits : Book 
   pub stood : Always d before disk (StandsFrom fits choose history k)
 
 -- A run stopped before its settings were in force.
-abbrev pub HasShut : Stop → {D : Type 0} → Ghosts D → (Book → Type 0) → Chooser → List Order → ℕ → Config → Option Moments → Option Moments → D → D → Type 0
-HasShut stop d fits choose history k config ahead ahead' before disk =
-    HasNotMounted stop d fits choose history k ahead ahead' before disk ⊎ HasRun (loses stop) d fits choose history k (WhenShut choose config stop ahead ahead') before disk
+abbrev pub HasShut : Stop → {D : Type 0} → Ghosts D → (Order → Type 0) → (Book → Type 0) → Chooser → List Order → ℕ → Config → Option Moments → Option Moments → D → D → Type 0
+HasShut stop d takes fits choose history k config ahead ahead' before disk =
+    HasNotMounted stop d fits choose history k ahead ahead' before disk ⊎ HasRun (loses stop) d takes fits choose history k (WhenShut choose config stop ahead ahead') before disk
 
 -- It stopped so, and what else it works on is untouched; or behind that.
-abbrev pub HasStopped : Stop → {D : Type 0} → Ghosts D → (Book → Type 0) → Chooser → List Order → ℕ → Config → Option Moments → Option Moments → Type 0 → Doing → D → D → Type 0
-HasStopped stop d fits choose history k config ahead ahead' untouched may before disk =
-    (HasShut stop d fits choose history k config ahead ahead' before disk × untouched) ⊎ HasRun (loses stop) d fits choose history k (WhenOpen choose config ahead may) before disk
+abbrev pub HasStopped : Stop → {D : Type 0} → Ghosts D → (Order → Type 0) → (Book → Type 0) → Chooser → List Order → ℕ → Config → Option Moments → Option Moments → Type 0 → Doing → D → D → Type 0
+HasStopped stop d takes fits choose history k config ahead ahead' untouched may before disk =
+    (HasShut stop d takes fits choose history k config ahead ahead' before disk × untouched) ⊎ HasRun (loses stop) d takes fits choose history k (WhenOpen choose config ahead may) before disk

@@ -127,12 +127,12 @@ pub fn run_preview<M: Listing + Drop, D: Disk, C: Clock, S: Source>(
     // A run that is done has given all the commands that store the whole input, and every image at the exit has them.
     ensures done { OnOk result ((choose : Chooser) (history : List Order) (k : ℕ) → M.is_chooser choose → AllByRecursion M.takes history →
         Begins D.Disk M.Book.fits choose history k disk.old → (image : Image) → D.Disk.seen disk.old ≡ Some image →
-        HasRun false D.Disk M.Book.fits choose history k
+        HasRun false D.Disk M.takes M.Book.fits choose history k
         (WhenOpen choose config (C.ahead clock.old) (HasFed choose origin result (C.ahead clock.new) (S.left input.old) (S.left input.new))) disk.old disk.new) }
     // One that stops has a cause, and has given a front of those that store what it has read.
     ensures stopped { IfErr result (λ stop. (choose : Chooser) (history : List Order) (k : ℕ) → M.is_chooser choose → AllByRecursion M.takes history →
         Begins D.Disk M.Book.fits choose history k disk.old → (image : Image) → D.Disk.seen disk.old ≡ Some image →
-        HasStopped stop D.Disk M.Book.fits choose history k config (C.ahead clock.old) (C.ahead clock.new) (S.left input.new ≡ S.left input.old)
+        HasStopped stop D.Disk M.takes M.Book.fits choose history k config (C.ahead clock.old) (C.ahead clock.new) (S.left input.new ≡ S.left input.old)
         (HasFed choose origin result (C.ahead clock.new) (S.left input.old) (S.left input.new)) disk.old disk.new) }
     // What is on the disk is not damaged where it keeps what was committed and tells what it reads,
     ensures undamaged { (file : File) (at : ℕ) → result ≡ Err (Stop.Damaged file at) → (choose : Chooser) (history : List Order) (k : ℕ) → M.is_chooser choose → AllByRecursion M.takes history →

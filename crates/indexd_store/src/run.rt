@@ -226,12 +226,12 @@ pub fn run_task<M: Listing + Drop, D: Disk, C: Clock, W: Sink>(
     // A run that is done has given the task behind the settings and written its text, and every image at the exit has all.
     ensures done { OnOk result ((choose : Chooser) (history : List Order) (k : ℕ) → M.is_chooser choose → AllByRecursion M.takes history →
         Begins D.Disk M.Book.fits choose history k disk.old → (image : Image) → D.Disk.seen disk.old ≡ Some image →
-        HasRun false D.Disk M.Book.fits choose history k
+        HasRun false D.Disk M.takes M.Book.fits choose history k
         (WhenOpen choose config (C.ahead clock.old) (HasDone D.Disk choose task.entry (C.ahead clock.new) (W.given output.old) (W.given output.new) disk.new)) disk.old disk.new) }
     // One that stops has a cause. It has lost nothing of what was mounted, and where the disk is not at fault nothing that was accepted since.
     ensures stopped { IfErr result (λ stop. (choose : Chooser) (history : List Order) (k : ℕ) → M.is_chooser choose → AllByRecursion M.takes history →
         Begins D.Disk M.Book.fits choose history k disk.old → (image : Image) → D.Disk.seen disk.old ≡ Some image →
-        HasStopped stop D.Disk M.Book.fits choose history k config (C.ahead clock.old) (C.ahead clock.new) (W.given output.new ≡ W.given output.old)
+        HasStopped stop D.Disk M.takes M.Book.fits choose history k config (C.ahead clock.old) (C.ahead clock.new) (W.given output.new ≡ W.given output.old)
         (HasHalted D.Disk choose task.entry stop (C.ahead clock.new) (W.given output.old) (W.given output.new) disk.new) disk.old disk.new) }
     // Only an export, and an output that fails, leave a part of a text.
     ensures quiet { IfErr result (λ stop. says task.entry stop ≡ false → W.given output.new ≡ W.given output.old) }

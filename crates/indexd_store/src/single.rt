@@ -46,6 +46,7 @@ pub fn run_last<M: Listing + Drop, D: Disk>(
         Holds D.Disk M.Book.fits M.holds choose history base (length history) store.old disk.old →
         Caused choose store.old.drawn history (record { command = command; moment = moment }) stop) }
     ensures over { OnOk result (IsOver D.Disk store.new.keeper disk.new) }
+    ensures run { store.new.run ≡ store.old.run }
     // What the end of a run asks for, unless the disk is at fault.
     ensures rest { loses_in result ≡ false → IsAtRest D.Disk store.old.keeper disk.old → IsAtRest D.Disk store.new.keeper disk.new }
     // A disk that keeps what was committed is not damaged.

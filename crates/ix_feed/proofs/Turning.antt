@@ -12,7 +12,7 @@ use Rattle.ix_book.specs.Book.{Book}
 use Rattle.ix_disk.specs.Image.{Image}
 use Rattle.ix_disk.specs.Moments.{Always}
 use Rattle.ix_disk.specs.declared.disk.Disk.{Ghosts}
-use Rattle.ix_disk.proofs.Runs.{always_on, always_weaker, rose_earlier, rose_later}
+use Rattle.ix_disk.proofs.Runs.{always_begins, always_on, always_weaker, rose_earlier, rose_later}
 use Rattle.ix_keep.specs.declared.fault.CommitFault.{CommitFault}
 use Rattle.ix_keep.specs.declared.fault.CommitFault.TheVariants as commits
 use Rattle.ix_machine.specs.Given.{Chooser}
@@ -22,9 +22,9 @@ use Rattle.ix_store.specs.Written.{Stands}
 use Rattle.ix_store.specs.declared.store.Store.{Store}
 use Rattle.ix_store.proofs.Counted.{take_whole}
 use Rattle.ix_store.proofs.Lawful.{held_stands}
-use Rattle.ix_serve.specs.Answer.{Says}
+use Rattle.ix_serve.specs.Answer.{Says, is_whole}
 use Rattle.ix_serve.specs.Entries.{entry}
-use Rattle.ix_feed.specs.Feeding.{Comes, Turn, history_after, reply_text, known, AreTurns, EndsAs, AreTold, IsUndamagedEnd, Reaches, Feeds, Runs, IsWholeEnd, is_open_end, end_of, most_requests}
+use Rattle.ix_feed.specs.Feeding.{Comes, Kind, Start, Coming, Turn, IsTurn, AreSafe, Came, Has, history_after, disk_after, reply_text, known, AreTurns, EndsAs, AreTold, IsUndamagedEnd, Reaches, Feeds, Runs, IsWholeEnd, is_open_end, end_of, most_requests}
 use Rattle.ix_serve.specs.Prefixes.{StandsIn}
 use Rattle.ix_serve.specs.Replies.{Reply, text_of}
 use Rattle.ix_serve.specs.Serving.{Wrote, Gave, IsOpen, IsTold, Serves}
@@ -36,7 +36,7 @@ use Rattle.ix_serve.specs.declared.served.ServeFault.{ServeFault}
 use Rattle.ix_serve.specs.declared.served.ServeFault.TheVariants as fault
 use Rattle.ix_serve.proofs.Answering.{wrote_begun, wrote_clean}
 use Rattle.ix_serve.proofs.Standing.{of_all}
-use Rattle.ix_feed.proofs.Growing.{AreGrowing, acknowledging, images_behind, held_in}
+use Rattle.ix_feed.proofs.Growing.{held_in, knows_on, safe_on}
 
 -- ---- what is written
 
@@ -113,51 +113,53 @@ damaged_turn n (Err fault.Cut) file at is = absurd (cc)
 
 -- ---- turns that follow each other
 
-growing : {D : Type 0} (g : Ghosts D) (choose : Chooser) (h : List Order) (base k run : ℕ) (turns : List (Turn D)) (left left' : Option (List ℕ)) (ahead ahead' : Option Moments) →
-    AreTurns g choose h base k run turns left left' ahead ahead' → AreGrowing h k turns
-growing g choose h base k run [] left left' ahead ahead' are = tt
-growing g choose h base k run (turn ∷ earlier) left left' ahead ahead' are = (growing g choose h base k run earlier left are.0 ahead are.1 are.2, are.3.least, are.3.within)
+pub safe_turns : {D : Type 0} (g : Ghosts D) (fits : Book → Type 0) (s : Start D) (turns : List (Turn D)) (from to : Coming) → AreTurns g fits s turns from to → AreSafe g fits s turns
+safe_turns g fits s [] from to are = tt
+safe_turns g fits s (turn ∷ earlier) from to are = (safe_turns g fits s earlier from are.0 are.1, are.2.safe)
+
+-- what comes of a request is what was written
+pub gave_came : (r : Option Reply) (delimited : Bool) (clean : Type 0) (result : Result Served ServeFault) (given given' : Option (List ℕ)) → Gave r delimited clean result given given' → Came r delimited result
+gave_came None delimited clean result given given' is = tt
+gave_came (Some r) delimited clean (Ok served.Ended) given given' is = is
+gave_came (Some r) delimited clean (Ok (served.Reply status whole unshortened)) given given' is = (is.0, is.1)
+gave_came (Some r) delimited clean (Err fault.Disk) given given' is = tt
+gave_came (Some r) delimited clean (Err (fault.Damaged file at)) given given' is = tt
+gave_came (Some r) delimited clean (Err fault.Link) given given' is = tt
+gave_came (Some r) delimited clean (Err fault.Cut) given given' is = is
 
 -- ---- one turn more
 
-module _ {D : Type 0} (g : Ghosts D) {M : Type 0} (takes : Order → Type 0) (fits : Book → Type 0) (holds : Chooser → List Order → M → Type 0) (choose : Chooser) (h : List Order) (base k run count : ℕ)
-    (left left' left'' : Option (List ℕ)) (ahead ahead' ahead'' : Option Moments) (given given' given'' : Option (List ℕ)) (before store : Store M) (old mid new : D)
+module _ {D : Type 0} (g : Ghosts D) {M : Type 0} (kind : Kind M) (s : Start D) (count : ℕ) (from mid to : Coming) (given given' given'' : Option (List ℕ)) (before store : Store M) (disk new : D)
     (moment : ℤ) (clean clean' : Type 0) (result : Result Served ServeFault)
-    (same : before.run ≡ run) (shown : Told (Answered moment) ahead' ahead'')
-    (reached : Reaches g takes fits holds choose h base k run count left left' ahead ahead' given given' before old mid)
-    (serves : Serves g fits holds (entry choose (history_after h reached.turns) base reached.kept before.run moment) clean result left' left'' given' given'' store mid new)
-    (tells : IsTold g mid → IsTold g new) (taken : AllByRecursion takes (history_after h reached.turns ++ serves.answers.answer.more)) where
+    (same : before.run ≡ s.run) (goes_on : store.run ≡ before.run) (shown : Told (Answered moment) mid.ahead to.ahead)
+    (reached : Reaches g kind s count from mid given given' before disk)
+    (serves : Serves g kind.fits kind.holds (entry s.choose (history_after s reached.turns) s.base reached.kept before.run moment) clean result mid.left to.left given' given'' store disk new)
+    (tells : IsTold g disk → IsTold g new) (taken : AllByRecursion kind.takes (history_after s reached.turns ++ serves.answers.answer.more)) where
   turn : Turn D
   turn = record { kept = reached.kept; moment = moment; read = serves.read; answer = serves.answers.answer; result = result; disk = new }
 
-  turns_on : AreTurns g choose h base k run (turn ∷ reached.turns) left left'' ahead ahead''
+  turn_on : IsTurn g kind.fits s reached.turns turn mid to
   unfolding turn
-  turns_on = (
-    left',
-    ahead',
-    reached.are,
-    record {
-      least = reached.knows;
-      within = reached.hold.staged.within;
-      took = serves.took;
-      shown = shown;
-      says = subst (λ (r : ℕ). Says (entry choose (history_after h reached.turns) base reached.kept r moment) (IsTold g new) serves.read result serves.answers.answer) same serves.answers.may_be;
-    },
-  )
+  turn_on = record {
+    safe = safe_on g kind s reached.turns turn before store disk same goes_on reached.at reached.knows reached.hold.staged.within serves.answers.held serves.answers.images;
+    took = serves.took;
+    shown = shown;
+    says = subst (λ (r : ℕ). Says (entry s.choose (history_after s reached.turns) s.base reached.kept r moment) (IsTold g new) serves.read result serves.answers.answer) same serves.answers.may_be;
+    came = gave_came serves.answers.answer.reply (is_whole serves.read) clean result given' given'' serves.answers.gave;
+  }
 
-  images_on : Always g old new (StandsIn fits run choose (history_after h (turn ∷ reached.turns)) k)
+  turns_on : AreTurns g kind.fits s (turn ∷ reached.turns) from to
+  turns_on = (mid, reached.are, turn_on)
+
+  behind_on : Always g (disk_after s (turn ∷ reached.turns)) new (Has kind.fits s (turn ∷ reached.turns) (known s (turn ∷ reached.turns)))
   unfolding turn
-  images_on =
-      let past = history_after h reached.turns in
-      let more = serves.answers.answer.more in
-      images_behind g fits choose past more k reached.kept run old mid new reached.least reached.images
-      (subst (λ (r : ℕ). Always g mid new (StandsIn fits r choose (past ++ more) reached.kept)) same serves.answers.images)
+  behind_on = always_begins g new (Has kind.fits s (turn ∷ reached.turns) (known s (turn ∷ reached.turns))) turn_on.safe.settled
 
-  told_on : IsTold g old → IsTold g new × AreTold g (turn ∷ reached.turns)
+  told_on : IsTold g s.disk → IsTold g new × AreTold g (turn ∷ reached.turns)
   unfolding turn
   told_on is = let before = reached.told is in (tells before.0, (tells before.0, before.1))
 
-  pub reach_on : end_of (count + 1) result ≡ None → Reaches g takes fits holds choose h base k run (count + 1) left left'' ahead ahead'' given given'' store old new
+  pub reach_on : end_of (count + 1) result ≡ None → Reaches g kind s (count + 1) from to given given'' store new
   unfolding turn
   reach_on none =
       let fine = stays_open (count + 1) result none in
@@ -168,16 +170,14 @@ module _ {D : Type 0} (g : Ghosts D) {M : Type 0} (takes : Order → Type 0) (fi
         served = omega (arith, reached.served);
         on = (subst (λ (n : ℕ). end_of (n + 1) result ≡ None) (sym reached.served) none, reached.on);
         written = then_written reached.written (gave_whole serves.answers.answer.reply _ clean result given' given'' fine.1 serves.answers.gave);
+        at = refl;
         kept = held.count;
-        least = omega (arith, reached.least, held.least);
-        knows = held.least;
+        knows = knows_on g kind s reached.turns turn before store disk same goes_on reached.at reached.knows reached.hold.staged.within serves.answers.held serves.answers.images fine.0;
         hold = held.hold;
-        images = images_on;
         told = told_on;
       }
 
-  pub feeds_on : (clean' → clean) →
-      (end : Fed) → end_of (count + 1) result ≡ Some end → Feeds g takes fits holds choose h base k run end clean' left left'' ahead ahead'' given given'' store old new
+  pub feeds_on : (clean' → clean) → (end : Fed) → end_of (count + 1) result ≡ Some end → Feeds g kind s end clean' from to given given'' store new
   unfolding turn
   feeds_on cleaner end is = record {
     turns = turn ∷ reached.turns;
@@ -189,21 +189,17 @@ module _ {D : Type 0} (g : Ghosts D) {M : Type 0} (takes : Order → Type 0) (fi
     begun = then_begun reached.written (gave_begun serves.answers.answer.reply _ clean result given' given'' serves.answers.gave);
     told = λ is. (told_on is).1;
     held = λ up.
-        let held = serves.answers.held (open_end (count + 1) result end is up) in
-        (held.count, held.least, omega (arith, reached.least, held.least), held.hold);
-    images = images_on;
-    acknowledged = λ image may.
-        acknowledging h k fits run choose (turn ∷ reached.turns) (growing g choose h base k run (turn ∷ reached.turns) left left'' ahead ahead'' turns_on) image
-        (subst (λ (r : ℕ). StandsIn fits r choose (history_after h (turn ∷ reached.turns)) reached.kept image) same (serves.answers.images.now image may));
+        let stays = open_end (count + 1) result end is up in
+        let held = serves.answers.held stays in
+        (held.count, knows_on g kind s reached.turns turn before store disk same goes_on reached.at reached.knows reached.hold.staged.within serves.answers.held serves.answers.images stays, held.hold);
+    behind = behind_on;
     undamaged = λ file at broken image seen. serves.answers.undamaged file at (damaged_turn (count + 1) result file at (is ∙ ap (λ (e : Fed). Some e) broken)) image seen;
   }
 
 -- a run that was not ended by a turn
-pub feeds_all : {D : Type 0} (g : Ghosts D) {M : Type 0} (takes : Order → Type 0) (fits : Book → Type 0) (holds : Chooser → List Order → M → Type 0) (choose : Chooser) (h : List Order) (base k run : ℕ) (clean : Type 0)
-    (left left' : Option (List ℕ)) (ahead ahead' : Option Moments) (given given' : Option (List ℕ)) (store : Store M) (old new : D) (count : ℕ) → count ≡ most_requests → store.run ≡ run →
-    (reached : Reaches g takes fits holds choose h base k run count left left' ahead ahead' given given' store old new) →
-    Feeds g takes fits holds choose h base k run fed.Endless clean left left' ahead ahead' given given' store old new
-feeds_all g takes fits holds choose h base k run clean left left' ahead ahead' given given' store old new count most same reached = record {
+pub feeds_all : {D : Type 0} (g : Ghosts D) {M : Type 0} (kind : Kind M) (s : Start D) (clean : Type 0) (from to : Coming) (given given' : Option (List ℕ)) (store : Store M) (new : D) (count : ℕ) → count ≡ most_requests → store.run ≡ s.run →
+    (reached : Reaches g kind s count from to given given' store new) → Feeds g kind s fed.Endless clean from to given given' store new
+feeds_all g kind s clean from to given given' store new count most same reached = record {
   turns = reached.turns;
   are = reached.are;
   taken = reached.taken;
@@ -212,11 +208,10 @@ feeds_all g takes fits holds choose h base k run clean left left' ahead ahead' g
   sent = λ _. reached.written;
   begun = written_is_begun reached.written;
   told = λ is. (reached.told is).1;
-  held = λ _. (reached.kept, reached.knows, reached.least, reached.hold);
-  images = reached.images;
-  acknowledged = λ image may.
-      acknowledging h k fits run choose reached.turns (growing g choose h base k run reached.turns left left' ahead ahead' reached.are) image
-      (held_in g fits holds choose (history_after h reached.turns) base reached.kept (known k reached.turns) run store new same reached.knows reached.hold image may);
+  held = λ _. (reached.kept, reached.knows, reached.hold);
+  behind = subst (λ (d : _). Always g d new (Has kind.fits s reached.turns (known s reached.turns))) (sym reached.at)
+      (always_begins g new (Has kind.fits s reached.turns (known s reached.turns))
+      (held_in g kind.fits kind.holds s.choose (history_after s reached.turns) s.base reached.kept (known s reached.turns) s.run store new same reached.knows reached.hold));
   undamaged = λ file at is image seen. cc is;
 }
 
@@ -225,11 +220,35 @@ feeds_all g takes fits holds choose h base k run clean left left' ahead ahead' g
 broken_is : (a b : CommitFault) → fed.Broken a ≡ fed.Broken b → a ≡ b
 broken_is a b is = cc
 
-module _ {D : Type 0} (g : Ghosts D) {M : Type 0} (takes : Order → Type 0) (fits : Book → Type 0) (holds : Chooser → List Order → M → Type 0) (choose : Chooser) (h : List Order) (base k run : ℕ) (end : Fed) (clean : Type 0)
-    (left left' : Option (List ℕ)) (ahead ahead' : Option Moments) (given given' : Option (List ℕ)) (store : Store M) (old mid : D)
-    (feeds : Feeds g takes fits holds choose h base k run end clean left left' ahead ahead' given given' store old mid) where
+-- what a commit says of the images, of which the first `kept` commands were committed before
+abbrev pub Either : (Book → Type 0) → Chooser → List Order → ℕ → ℕ → Image → Type 0
+Either fits choose after r kept image = Stands fits r choose (take kept after) image ⊎ Stands fits r choose after image
+
+-- each image has what is known, and goes on having it through a commit
+pub behind_commit : {D : Type 0} (g : Ghosts D) {M : Type 0} (kind : Kind M) (s : Start D) (turns : List (Turn D)) (store : Store M) (mid new : D) (kept : ℕ) → store.run ≡ s.run → known s turns ≤ kept →
+    Holds g kind.fits kind.holds s.choose (history_after s turns) s.base kept store mid → Always g mid new (Either kind.fits s.choose (history_after s turns) store.run kept) →
+    Always g (disk_after s turns) mid (Has kind.fits s turns (known s turns)) → Always g (disk_after s turns) new (Has kind.fits s turns (known s turns))
+behind_commit g kind s turns store mid new kept same knows hold images before =
+    let after = history_after s turns in
+    let within = hold.staged.within in
+    always_on g (disk_after s turns) mid new (Has kind.fits s turns (known s turns)) before
+    (always_weaker g mid new (Either kind.fits s.choose after store.run kept) (Has kind.fits s turns (known s turns))
+    (λ image. subst (λ (r : ℕ). Either kind.fits s.choose after r kept image → StandsIn kind.fits s.run s.choose after (known s turns) image) (sym same)
+    (⊎_elim (λ some. record { count = kept; least = knows; most = within; stands = some }) (of_all kind.fits s.run s.choose after (known s turns) (omega (arith, knows, within)) image)))
+    images)
+
+-- all is in every image
+pub all_held : {D : Type 0} (g : Ghosts D) {M : Type 0} (kind : Kind M) (s : Start D) (turns : List (Turn D)) (store : Store M) (disk : D) → store.run ≡ s.run →
+    Holds g kind.fits kind.holds s.choose (history_after s turns) s.base (length (history_after s turns)) store disk → (image : Image) → g.may_leave disk image → Stands kind.fits s.run s.choose (history_after s turns) image
+all_held g kind s turns store disk same hold image may =
+    let after = history_after s turns in
+    subst (λ (r : ℕ). Stands kind.fits r s.choose after image) same
+    (subst (λ (l : List Order). Stands kind.fits store.run s.choose l image) (take_whole after) (held_stands g kind.fits kind.holds s.choose after s.base (length after) store disk hold image may))
+
+module _ {D : Type 0} (g : Ghosts D) {M : Type 0} (kind : Kind M) (s : Start D) (end : Fed) (clean : Type 0) (from to : Coming) (given given' : Option (List ℕ)) (store : Store M) (mid : D)
+    (feeds : Feeds g kind s end clean from to given given' store mid) where
   -- the store was not open for a commit
-  pub runs_closed : is_open_end end ≡ false → Runs g takes fits holds choose h base k run end clean left left' ahead ahead' given given' store old mid
+  pub runs_closed : is_open_end end ≡ false → Runs g kind s end clean from to given given' store mid
   runs_closed down = record {
     turns = feeds.turns;
     are = feeds.are;
@@ -239,41 +258,23 @@ module _ {D : Type 0} (g : Ghosts D) {M : Type 0} (takes : Order → Type 0) (fi
     sent = feeds.sent;
     begun = feeds.begun;
     told = feeds.told;
-    images = feeds.images;
-    acknowledged = feeds.acknowledged;
+    behind = feeds.behind;
     undamaged = feeds.undamaged;
     held = λ up. absurd (false≢true (sym down ∙ up));
     all = λ up. absurd (false≢true (sym down ∙ up));
   }
 
   abbrev after : List Order
-  after = history_after h feeds.turns
+  after = history_after s feeds.turns
 
-  -- what a commit says of the images, of which the first `kept` commands were committed before
-  abbrev Either : ℕ → ℕ → Image → Type 0
-  Either r kept image = Stands fits r choose (take kept after) image ⊎ Stands fits r choose after image
-
-  module _ (up : is_open_end end ≡ true) (same : store.run ≡ run) (later : Store M) (new : D)
-      (images : (kept : ℕ) → Holds g fits holds choose after base kept store mid → Always g mid new (Either store.run kept)) where
-    abbrev kept : ℕ
-    kept = (feeds.held up).0
-
-    commits_from : (n : ℕ) → n ≤ kept → Always g mid new (StandsIn fits run choose after n)
-    commits_from n least =
-        let hold = (feeds.held up).3 in
-        let within = hold.staged.within in
-        always_weaker g mid new (Either store.run kept) (StandsIn fits run choose after n)
-        (λ image. subst (λ (r : ℕ). Either r kept image → StandsIn fits run choose after n image) (sym same)
-        (⊎_elim (λ some. record { count = kept; least = least; most = within; stands = some }) (of_all fits run choose after n (omega (arith, least, within)) image)))
-        (images kept hold)
-
+  module _ (up : is_open_end end ≡ true) (same : store.run ≡ s.run) (later : Store M) (new : D)
+      (images : (kept : ℕ) → Holds g kind.fits kind.holds s.choose after s.base kept store mid → Always g mid new (Either kind.fits s.choose after store.run kept)) where
     -- a commit behind the turns
     runs_on : (last : Fed) → EndsAs last feeds.turns → (IsWholeEnd last → IsWholeEnd end) → IsUndamagedEnd g new last →
-        (is_open_end last ≡ true → Holds g fits holds choose after base (length after) later new) → (is_open_end last ≡ true → later.run ≡ run) →
-        Runs g takes fits holds choose h base k run last clean left left' ahead ahead' given given' later old new
+        (is_open_end last ≡ true → Holds g kind.fits kind.holds s.choose after s.base (length after) later new) → (is_open_end last ≡ true → later.run ≡ s.run) →
+        Runs g kind s last clean from to given given' later new
     runs_on last ends whole undamaged held goes_on =
-        let knows = (feeds.held up).1 in
-        let least = (feeds.held up).2 in
+        let was = feeds.held up in
         record {
           turns = feeds.turns;
           are = feeds.are;
@@ -283,29 +284,24 @@ module _ {D : Type 0} (g : Ghosts D) {M : Type 0} (takes : Order → Type 0) (fi
           sent = feeds.sent;
           begun = feeds.begun;
           told = feeds.told;
-          images = always_on g old mid new (StandsIn fits run choose after k) feeds.images (commits_from k least);
-          acknowledged = λ image may.
-              acknowledging h k fits run choose feeds.turns (growing g choose h base k run feeds.turns left left' ahead ahead' feeds.are) image ((commits_from (known k feeds.turns) knows).now image may);
+          behind = behind_commit g kind s feeds.turns store mid new was.0 same was.1 was.2 (images was.0 was.2) feeds.behind;
           undamaged = undamaged;
           held = held;
-          all = λ is image may.
-              subst (λ (r : ℕ). Stands fits r choose after image) (goes_on is)
-              (subst (λ (l : List Order). Stands fits later.run choose l image) (take_whole after)
-              (held_stands g fits holds choose after base (length after) later new (held is) image may));
+          all = λ is. all_held g kind s feeds.turns later new (goes_on is) (held is);
         }
 
     -- the commit was made
-    pub runs_committed : later.run ≡ run → ((kept : ℕ) → Holds g fits holds choose after base kept store mid → Holds g fits holds choose after base (length after) later new) →
-        Runs g takes fits holds choose h base k run end clean left left' ahead ahead' given given' later old new
+    pub runs_committed : later.run ≡ s.run → ((kept : ℕ) → Holds g kind.fits kind.holds s.choose after s.base kept store mid → Holds g kind.fits kind.holds s.choose after s.base (length after) later new) →
+        Runs g kind s end clean from to given given' later new
     runs_committed same_run done = runs_on end (inl feeds.ends) (λ is. is)
         (λ file at is image seen. absurd (false≢true (sym (ap is_open_end is) ∙ up)))
-        (λ _. done kept (feeds.held up).3) (λ _. same_run)
+        (λ _. done (feeds.held up).0 (feeds.held up).2) (λ _. same_run)
 
     -- the commit met a fault
-    pub runs_broken : (cause : CommitFault) → ((kept : ℕ) → Holds g fits holds choose after base kept store mid → (file : File) (at : ℕ) → cause ≡ commits.Damaged file at → (image : Image) → g.seen new ≡ Some image → ⊥) →
-        Runs g takes fits holds choose h base k run (fed.Broken cause) clean left left' ahead ahead' given given' later old new
+    pub runs_broken : (cause : CommitFault) → ((kept : ℕ) → Holds g kind.fits kind.holds s.choose after s.base kept store mid → (file : File) (at : ℕ) → cause ≡ commits.Damaged file at → (image : Image) → g.seen new ≡ Some image → ⊥) →
+        Runs g kind s (fed.Broken cause) clean from to given given' later new
     runs_broken cause undamaged = runs_on (fed.Broken cause) (inr (cause, refl, end, up, feeds.ends)) (λ is. absurd is)
-        (λ file at is image seen. undamaged kept (feeds.held up).3 file at (broken_is _ _ is) image seen)
+        (λ file at is image seen. undamaged (feeds.held up).0 (feeds.held up).2 file at (broken_is _ _ is) image seen)
         (λ is. absurd (false≢true is)) (λ is. absurd (false≢true is))
 
 -- ---- the counts of faults

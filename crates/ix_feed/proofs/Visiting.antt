@@ -12,7 +12,7 @@ use Rattle.ix_book.specs.Book.{Book}
 use Rattle.ix_disk.specs.Image.{Image}
 use Rattle.ix_disk.specs.Moments.{Always}
 use Rattle.ix_disk.specs.declared.disk.Disk.{Ghosts}
-use Rattle.ix_disk.proofs.Runs.{always_on, always_weaker, rose_earlier, rose_later}
+use Rattle.ix_disk.proofs.Runs.{always_begins, rose_earlier, rose_later}
 use Rattle.ix_http.specs.Asked.{Fits}
 use Rattle.ix_keep.specs.Snapshot.{IsMeasured, IsOver}
 use Rattle.ix_keep.specs.declared.fault.CommitFault.{CommitFault}
@@ -27,7 +27,7 @@ use Rattle.ix_store.specs.Written.{Stands}
 use Rattle.ix_store.specs.declared.store.Store.{Store}
 use Rattle.ix_store.proofs.Counted.{take_whole}
 use Rattle.ix_store.proofs.Lawful.{held_stands}
-use Rattle.ix_serve.specs.Answer.{Says}
+use Rattle.ix_serve.specs.Answer.{Says, is_whole}
 use Rattle.ix_serve.specs.Entries.{entry}
 use Rattle.ix_serve.specs.Prefixes.{StandsIn}
 use Rattle.ix_serve.specs.Serving.{IsClean, IsOpen, IsTold, Serves}
@@ -35,12 +35,12 @@ use Rattle.ix_serve.specs.declared.served.Served.{Served}
 use Rattle.ix_serve.specs.declared.served.ServeFault.{ServeFault}
 use Rattle.ix_serve.specs.declared.served.ServeFault.TheVariants as fault
 use Rattle.ix_serve.proofs.Standing.{of_all}
-use Rattle.ix_feed.specs.Connections.{Comes, Visit, turns_of, backs_of, held_by, IsVisit, AreVisits, EndsAt, EndsIn, IsUndamagedEnd, Taken, HandedBack, Attends, Visits, Hears, Listens, break_of, is_open_end}
-use Rattle.ix_feed.specs.Feeding.{AreTold, history_after, known, reply_text}
+use Rattle.ix_feed.specs.Connections.{Comes, Visit, Listened, listened, HasHeard, turns_of, backs_of, held_by, IsVisit, AreVisits, EndsAt, EndsIn, IsUndamagedEnd, Taken, HandedBack, Attends, Visits, Hears, Listens, break_of, is_open_end}
+use Rattle.ix_feed.specs.Feeding.{Kind, Start, start, Turn, AreSafe, AreTold, Has, first_entry, history_after, disk_after, known, reply_text}
 use Rattle.ix_feed.specs.declared.serve.Heard.{Heard}
 use Rattle.ix_feed.specs.declared.serve.Heard.TheVariants as heard
-use Rattle.ix_feed.proofs.Growing.{AreGrowing, acknowledging, images_behind, held_in}
-use Rattle.ix_feed.proofs.Turning.{gave_begun, gave_clean}
+use Rattle.ix_feed.proofs.Growing.{held_in, knows_on, safe_on}
+use Rattle.ix_feed.proofs.Turning.{Either, behind_commit, all_held, gave_begun, gave_clean, gave_came}
 
 -- ---- what the listener tells
 
@@ -86,45 +86,36 @@ rose_risen : (before now : ℕ) → Rose before now → has_risen before now ≡
 rose_risen before now (inl less) = grind (arith, nat_tests)
 rose_risen before now (inr most) = grind (arith, nat_tests)
 
-pub attends : {D : Type 0} (g : Ghosts D) {M : Type 0} (takes : Order → Type 0) (fits : Book → Type 0) (holds : Chooser → List Order → M → Type 0) (choose : Chooser) (h : List Order) (base k run : ℕ)
-    (came : Result Served ServeFault) (waiting waiting' : Option (List (Option (List ℕ)))) (handed handed' : Option (List Handed)) (ahead ahead' : Option Moments)
-    (begun ended : Standing) (faults faults' : ℕ) (left left' given given' : Option (List ℕ)) (store : Store M) (old new : D) (moment : ℤ) →
-    k ≤ length h → Begins begun left given faults → Goes begun ended → Told (TakesFirst left) waiting waiting' → Told (Adds (handed_back ended given' faults')) handed handed' →
+pub attends : {D : Type 0} (g : Ghosts D) {M : Type 0} (kind : Kind M) (s : Start D) (came : Result Served ServeFault) (from to : Listened) (ahead ahead' : Option Moments)
+    (begun ended : Standing) (faults faults' : ℕ) (left left' given given' : Option (List ℕ)) (store : Store M) (new : D) (moment : ℤ) →
+    Begins begun left given faults → Goes begun ended → Told (TakesFirst left) from.waiting to.waiting → Told (Adds (handed_back ended given' faults')) from.handed to.handed →
     Told (Answered moment) ahead ahead' →
-    (serves : Serves g fits holds (entry choose h base k run moment) (IsClean faults faults' begun ended) came left left' given given' store old new) →
-    (came ≡ Err fault.Link → Rose faults faults') → AllByRecursion takes (h ++ serves.answers.answer.more) →
-    Attends g takes fits holds choose h base k run came waiting waiting' handed handed' ahead ahead' store old new
-attends g takes fits holds choose h base k run came waiting waiting' handed handed' ahead ahead' begun ended faults faults' left left' given given' store old new moment within begins goes waits backs shown serves by_link taken =
+    (serves : Serves g kind.fits kind.holds (first_entry s moment) (IsClean faults faults' begun ended) came left left' given given' store s.disk new) →
+    (came ≡ Err fault.Link → Rose faults faults') → AllByRecursion kind.takes (s.history ++ serves.answers.answer.more) →
+    Attends g kind s came from to ahead ahead' store new
+attends g kind s came from to ahead ahead' begun ended faults faults' left left' given given' store new moment begins goes waits backs shown serves by_link taken =
     let held : ended.held ≡ left = goes.held ∙ begins.held in
     let start : ended.start ≡ faults = goes.start ∙ begins.start in
     let answer = serves.answers.answer in
     record {
-      visit = record {
-        turn = record { kept = k; moment = moment; read = serves.read; answer = answer; result = came; disk = new };
-        back = handed_back ended given' faults';
+      read = serves.read;
+      answer = answer;
+      left = left';
+      back = handed_back ended given' faults';
+      moment = moment;
+      took = subst (λ (x : Option (List ℕ)). Told (Fits serves.read) x left') (sym held) serves.took;
+      shown = shown;
+      says = serves.answers.may_be;
+      reply_came = gave_came answer.reply (is_whole serves.read) (IsClean faults faults' begun ended) came given given' serves.answers.gave;
+      replied = record {
+        whole = λ unrisen.
+            written_alone (reply_text answer.reply) given given' begins.written
+            (gave_clean answer.reply _ (IsClean faults faults' begun ended) came given given' serves.answers.gave
+            (inl (λ rose. not_risen ended.start faults' unrisen (subst (λ (n : ℕ). Rose n faults') (sym start) rose)))).told;
+        front = begun_alone (reply_text answer.reply) given given' begins.written (gave_begun answer.reply _ (IsClean faults faults' begun ended) came given given' serves.answers.gave).told;
       };
-      result = refl;
-      kept = refl;
-      disk = refl;
-      is = record {
-        left = left';
-        turn = record {
-          least = omega arith;
-          within = within;
-          took = subst (λ (x : Option (List ℕ)). Told (Fits serves.read) x left') (sym held) serves.took;
-          shown = shown;
-          says = serves.answers.may_be;
-        };
-        replied = record {
-          whole = λ unrisen.
-              written_alone (reply_text answer.reply) given given' begins.written
-              (gave_clean answer.reply _ (IsClean faults faults' begun ended) came given given' serves.answers.gave
-              (inl (λ rose. not_risen ended.start faults' unrisen (subst (λ (n : ℕ). Rose n faults') (sym start) rose)))).told;
-          front = begun_alone (reply_text answer.reply) given given' begins.written (gave_begun answer.reply _ (IsClean faults faults' begun ended) came given given' serves.answers.gave).told;
-        };
-        by_link = λ failed. rose_risen ended.start faults' (subst (λ (n : ℕ). Rose n faults') (sym start) (by_link failed));
-      };
-      waits = subst (λ (x : Option (List ℕ)). Told (TakesFirst x) waiting waiting') (sym held) waits;
+      by_link = λ failed. rose_risen ended.start faults' (subst (λ (n : ℕ). Rose n faults') (sym start) (by_link failed));
+      waits = subst (λ (x : Option (List ℕ)). Told (TakesFirst x) from.waiting to.waiting) (sym held) waits;
       backs = backs;
       taken = taken;
       held = serves.answers.held;
@@ -161,126 +152,115 @@ broken_is a b is = cc
 
 -- ---- visits that follow each other
 
-growing : {D : Type 0} (g : Ghosts D) (choose : Chooser) (h : List Order) (base k run : ℕ) (visits : List (Visit D)) (ahead ahead' : Option Moments) →
-    AreVisits g choose h base k run visits ahead ahead' → AreGrowing h k (turns_of visits)
-growing g choose h base k run [] ahead ahead' are = tt
-growing g choose h base k run (visit ∷ earlier) ahead ahead' are = (growing g choose h base k run earlier ahead are.0 are.1, are.2.turn.least, are.2.turn.within)
+pub safe_visits : {D : Type 0} (g : Ghosts D) (fits : Book → Type 0) (s : Start D) (visits : List (Visit D)) (ahead ahead' : Option Moments) → AreVisits g fits s visits ahead ahead' → AreSafe g fits s (turns_of visits)
+safe_visits g fits s [] ahead ahead' are = tt
+safe_visits g fits s (visit ∷ earlier) ahead ahead' are = (safe_visits g fits s earlier ahead are.0 are.1, are.2.turn.safe)
 
--- said with fewer commands that are known, and of the run of the store before it
-visit_from : {D : Type 0} (g : Ghosts D) (choose : Chooser) (h : List Order) (base k kept run now : ℕ) (visit : Visit D) (ahead ahead' : Option Moments) → k ≤ kept → now ≡ run →
-    IsVisit g choose h base kept now visit ahead ahead' → IsVisit g choose h base k run visit ahead ahead'
-visit_from g choose h base k kept run now visit ahead ahead' le same is = record {
-  left = is.left;
-  turn = record {
-    least = omega (arith, le, is.turn.least);
-    within = is.turn.within;
-    took = is.turn.took;
-    shown = is.turn.shown;
-    says = subst (λ (r : ℕ). Says (entry choose h base visit.turn.kept r visit.turn.moment) (IsTold g visit.turn.disk) visit.turn.read visit.turn.result visit.turn.answer) same is.turn.says;
-  };
-  replied = is.replied;
-  by_link = is.by_link;
-}
+module _ {D : Type 0} (g : Ghosts D) {M : Type 0} (kind : Kind M) (s : Start D) (count : ℕ) (from mid to : Listened) (ahead ahead' ahead'' : Option Moments) (before store : Store M) (disk new : D)
+    (came : Result Served ServeFault) (same : before.run ≡ s.run) (goes_on : store.run ≡ before.run)
+    (visited : Visits g kind s count from mid ahead ahead' before disk)
+    (next : Attends g kind (start s.choose (history_after s (turns_of visited.visits)) s.base visited.kept before.run disk) came mid to ahead' ahead'' store new)
+    (tells : IsTold g disk → IsTold g new) where
+  turn : Turn D
+  turn = record { kept = visited.kept; moment = next.moment; read = next.read; answer = next.answer; result = came; disk = new }
 
-module _ {D : Type 0} (g : Ghosts D) {M : Type 0} (takes : Order → Type 0) (fits : Book → Type 0) (holds : Chooser → List Order → M → Type 0) (choose : Chooser) (h : List Order) (base k run count : ℕ)
-    (waiting waiting' waiting'' : Option (List (Option (List ℕ)))) (handed handed' handed'' : Option (List Handed)) (ahead ahead' ahead'' : Option Moments) (before store : Store M) (old mid new : D)
-    (came : Result Served ServeFault) (same : before.run ≡ run)
-    (visited : Visits g takes fits holds choose h base k run count waiting waiting' handed handed' ahead ahead' before old mid)
-    (next : Attends g takes fits holds choose (history_after h (turns_of visited.visits)) base visited.kept before.run came waiting' waiting'' handed' handed'' ahead' ahead'' store mid new)
-    (tells : IsTold g mid → IsTold g new) where
-  abbrev visits : List (Visit D)
-  visits = next.visit ∷ visited.visits
+  visit : Visit D
+  visit = record { turn = turn; back = next.back }
 
-  visits_are : AreVisits g choose h base k run visits ahead ahead''
-  visits_are = (ahead', visited.are, visit_from g choose (history_after h (turns_of visited.visits)) base (known k (turns_of visited.visits)) visited.kept run before.run next.visit ahead' ahead'' visited.knows same next.is)
+  visit_on : IsVisit g kind.fits s visited.visits visit ahead' ahead''
+  unfolding turn visit
+  visit_on = record {
+    left = next.left;
+    turn = record {
+      safe = safe_on g kind s (turns_of visited.visits) turn before store disk same goes_on visited.at visited.knows visited.hold.staged.within next.held next.images;
+      took = next.took;
+      shown = next.shown;
+      says = subst (λ (r : ℕ). Says (entry s.choose (history_after s (turns_of visited.visits)) s.base visited.kept r next.moment) (IsTold g new) next.read came next.answer) same next.says;
+      came = next.reply_came;
+    };
+    replied = next.replied;
+    by_link = next.by_link;
+  }
 
-  visits_images : Always g mid new (StandsIn fits run choose (history_after h (turns_of visits)) visited.kept)
-  visits_images = subst (λ (r : ℕ). Always g mid new (StandsIn fits r choose (history_after h (turns_of visits)) visited.kept)) same next.images
+  visits_on_are : AreVisits g kind.fits s (visit ∷ visited.visits) ahead ahead''
+  visits_on_are = (ahead', visited.are, visit_on)
 
-  visits_stand : Always g old new (StandsIn fits run choose (history_after h (turns_of visits)) k)
-  visits_stand = images_behind g fits choose (history_after h (turns_of visited.visits)) next.visit.turn.answer.more k visited.kept run old mid new visited.least visited.images visits_images
+  heard_on : HasHeard (visit ∷ visited.visits) from to
+  unfolding turn visit
+  heard_on = record {
+    waits = taken_on (held_by visited.visits) next.back.held from.waiting mid.waiting to.waiting visited.heard.waits next.waits;
+    backs = handed_on (backs_of visited.visits) next.back from.handed mid.handed to.handed visited.heard.backs next.backs;
+  }
 
-  visits_told : IsTold g old → IsTold g new × AreTold g (turns_of visits)
-  visits_told is = let past = visited.told is in (tells past.0, (subst (λ (d : D). IsTold g d) (sym next.disk) (tells past.0), past.1))
+  visits_told : IsTold g s.disk → IsTold g new × AreTold g (turns_of (visit ∷ visited.visits))
+  unfolding turn visit
+  visits_told is = let past = visited.told is in (tells past.0, (tells past.0, past.1))
 
-  waits_on : Told (Taken (held_by visits)) waiting waiting''
-  waits_on = taken_on (held_by visited.visits) next.visit.back.held waiting waiting' waiting'' visited.waits next.waits
-
-  backs_on : Told (HandedBack (backs_of visits)) handed handed''
-  backs_on = handed_on (backs_of visited.visits) next.visit.back handed handed' handed'' visited.backs next.backs
-
-  pub visits_on : break_of came ≡ None → Visits g takes fits holds choose h base k run (count + 1) waiting waiting'' handed handed'' ahead ahead'' store old new
+  pub visits_on : break_of came ≡ None → Visits g kind s (count + 1) from to ahead ahead'' store new
+  unfolding turn visit
   visits_on none =
-      let held = next.held (stays_open came none) in
+      let fine = stays_open came none in
+      let held = next.held fine in
       record {
-        visits = visits;
-        are = visits_are;
+        visits = visit ∷ visited.visits;
+        are = visits_on_are;
         made = omega (arith, visited.made);
-        on = (subst (λ (r : Result Served ServeFault). break_of r ≡ None) (sym next.result) none, visited.on);
-        waits = waits_on;
-        backs = backs_on;
+        on = (none, visited.on);
+        heard = heard_on;
         taken = next.taken;
+        at = refl;
         kept = held.count;
-        least = omega (arith, visited.least, held.least);
-        knows = omega (arith, next.kept, held.least);
+        knows = knows_on g kind s (turns_of visited.visits) turn before store disk same goes_on visited.at visited.knows visited.hold.staged.within next.held next.images fine;
         hold = held.hold;
-        images = visits_stand;
         told = visits_told;
       }
 
-  pub hears_broken : (requests : ℕ) (cause : CommitFault) → count < requests → break_of came ≡ Some cause →
-      Hears g takes fits holds choose h base k run requests (heard.Broken cause) waiting waiting'' handed handed'' ahead ahead'' store old new
+  pub hears_broken : (requests : ℕ) (cause : CommitFault) → count < requests → break_of came ≡ Some cause → Hears g kind s requests (heard.Broken cause) from to ahead ahead'' store new
+  unfolding turn visit
   hears_broken requests cause less is = record {
-    visits = visits;
-    are = visits_are;
-    ends = (omega (arith, less, visited.made), subst (λ (r : Result Served ServeFault). break_of r ≡ Some cause) (sym next.result) is, visited.on);
-    waits = waits_on;
-    backs = backs_on;
+    visits = visit ∷ visited.visits;
+    are = visits_on_are;
+    ends = (omega (arith, less, visited.made), is, visited.on);
+    heard = heard_on;
     taken = next.taken;
     told = λ t. (visits_told t).1;
     held = λ up. absurd (false≢true up);
-    images = visits_stand;
-    acknowledged = λ image may.
-        acknowledging h k fits run choose (turns_of visits) (growing g choose h base k run visits ahead ahead'' visits_are) image
-        (subst (λ (n : ℕ). StandsIn fits run choose (history_after h (turns_of visits)) n image) (sym next.kept) (visits_images.now image may));
+    behind = always_begins g new (Has kind.fits s (turn ∷ turns_of visited.visits) (known s (turn ∷ turns_of visited.visits))) visit_on.turn.safe.settled;
     undamaged = λ file at damaged image seen. next.undamaged file at (damaged_visit came cause file at is (broken_is _ _ damaged)) image seen;
   }
 
-module _ {D : Type 0} (g : Ghosts D) {M : Type 0} (takes : Order → Type 0) (fits : Book → Type 0) (holds : Chooser → List Order → M → Type 0) (choose : Chooser) (h : List Order) (base k run count : ℕ)
-    (waiting waiting' : Option (List (Option (List ℕ)))) (handed handed' : Option (List Handed)) (ahead ahead' : Option Moments) (store : Store M) (old new : D) (same : store.run ≡ run)
-    (visited : Visits g takes fits holds choose h base k run count waiting waiting' handed handed' ahead ahead' store old new) where
-  hears : (requests : ℕ) (end : Heard) → EndsAt requests end visited.visits → IsUndamagedEnd g new end →
-      Hears g takes fits holds choose h base k run requests end waiting waiting' handed handed' ahead ahead' store old new
-  hears requests end ends undamaged = record {
-    visits = visited.visits;
-    are = visited.are;
-    ends = ends;
-    waits = visited.waits;
-    backs = visited.backs;
-    taken = visited.taken;
-    told = λ t. (visited.told t).1;
-    held = λ up. (visited.kept, visited.knows, visited.least, visited.hold);
-    images = visited.images;
-    acknowledged = λ image may.
-        acknowledging h k fits run choose (turns_of visited.visits) (growing g choose h base k run visited.visits ahead ahead' visited.are) image
-        (held_in g fits holds choose (history_after h (turns_of visited.visits)) base visited.kept (known k (turns_of visited.visits)) run store new same visited.knows visited.hold image may);
-    undamaged = undamaged;
-  }
+module _ {D : Type 0} (g : Ghosts D) {M : Type 0} (kind : Kind M) (s : Start D) (count : ℕ) (from to : Listened) (ahead ahead' : Option Moments) (store : Store M) (new : D) (same : store.run ≡ s.run)
+    (visited : Visits g kind s count from to ahead ahead' store new) where
+  hears : (requests : ℕ) (end : Heard) → EndsAt requests end visited.visits → IsUndamagedEnd g new end → Hears g kind s requests end from to ahead ahead' store new
+  hears requests end ends undamaged =
+      let turns = turns_of visited.visits in
+      record {
+        visits = visited.visits;
+        are = visited.are;
+        ends = ends;
+        heard = visited.heard;
+        taken = visited.taken;
+        told = λ t. (visited.told t).1;
+        held = λ up. (visited.kept, visited.knows, visited.hold);
+        behind = subst (λ (d : D). Always g d new (Has kind.fits s turns (known s turns))) (sym visited.at)
+            (always_begins g new (Has kind.fits s turns (known s turns))
+            (held_in g kind.fits kind.holds s.choose (history_after s turns) s.base visited.kept (known s turns) s.run store new same visited.knows visited.hold));
+        undamaged = undamaged;
+      }
 
   -- all were served
-  pub hears_all : (requests : ℕ) → count ≡ requests → Hears g takes fits holds choose h base k run requests heard.Done waiting waiting' handed handed' ahead ahead' store old new
+  pub hears_all : (requests : ℕ) → count ≡ requests → Hears g kind s requests heard.Done from to ahead ahead' store new
   hears_all requests most = hears requests heard.Done (visited.made ∙ most, visited.on) (λ file at is image seen. cc is)
 
   -- the listener failed, which left all as it was
-  pub hears_stopped : (requests : ℕ) → count < requests → (waiting'' : Option (List (Option (List ℕ)))) (handed'' : Option (List Handed)) (ahead'' : Option Moments) (later : Store M) (last : D) →
-      waiting'' ≡ waiting' → handed'' ≡ handed' → ahead'' ≡ ahead' → later ≡ store → last ≡ new →
-      Hears g takes fits holds choose h base k run requests heard.Listener waiting waiting'' handed handed'' ahead ahead'' later old last
-  hears_stopped requests less waiting'' handed'' ahead'' later last w b a s d =
-      subst (λ (x : Option (List (Option (List ℕ)))). Hears g takes fits holds choose h base k run requests heard.Listener waiting x handed handed'' ahead ahead'' later old last) (sym w)
-      (subst (λ (x : Option (List Handed)). Hears g takes fits holds choose h base k run requests heard.Listener waiting waiting' handed x ahead ahead'' later old last) (sym b)
-      (subst (λ (x : Option Moments). Hears g takes fits holds choose h base k run requests heard.Listener waiting waiting' handed handed' ahead x later old last) (sym a)
-      (subst (λ (x : Store M). Hears g takes fits holds choose h base k run requests heard.Listener waiting waiting' handed handed' ahead ahead' x old last) (sym s)
-      (subst (λ (x : D). Hears g takes fits holds choose h base k run requests heard.Listener waiting waiting' handed handed' ahead ahead' store old x) (sym d)
+  pub hears_stopped : (requests : ℕ) → count < requests → (waiting : Option (List (Option (List ℕ)))) (handed : Option (List Handed)) (ahead'' : Option Moments) (later : Store M) (last : D) →
+      waiting ≡ to.waiting → handed ≡ to.handed → ahead'' ≡ ahead' → later ≡ store → last ≡ new → Hears g kind s requests heard.Listener from (listened waiting handed) ahead ahead'' later last
+  hears_stopped requests less waiting handed ahead'' later last w b a l d =
+      subst (λ (x : Option (List (Option (List ℕ)))). Hears g kind s requests heard.Listener from (listened x handed) ahead ahead'' later last) (sym w)
+      (subst (λ (x : Option (List Handed)). Hears g kind s requests heard.Listener from (listened to.waiting x) ahead ahead'' later last) (sym b)
+      (subst (λ (x : Option Moments). Hears g kind s requests heard.Listener from to ahead x later last) (sym a)
+      (subst (λ (x : Store M). Hears g kind s requests heard.Listener from to ahead ahead' x last) (sym l)
+      (subst (λ (x : D). Hears g kind s requests heard.Listener from to ahead ahead' store x) (sym d)
       (hears requests heard.Listener (omega (arith, less, visited.made), visited.on) (λ file at is image seen. cc is))))))
 
 -- what is so of a store and a disk that were left alone
@@ -292,86 +272,59 @@ measured_still {D} g {M} store later disk last s d is = subst (λ (x : Store M).
 
 -- ---- the commit at the end
 
-module _ {D : Type 0} (g : Ghosts D) {M : Type 0} (takes : Order → Type 0) (fits : Book → Type 0) (holds : Chooser → List Order → M → Type 0) (choose : Chooser) (h : List Order) (base k run requests : ℕ) (end : Heard)
-    (waiting waiting' : Option (List (Option (List ℕ)))) (handed handed' : Option (List Handed)) (ahead ahead' : Option Moments) (store : Store M) (old mid : D)
-    (heard_all : Hears g takes fits holds choose h base k run requests end waiting waiting' handed handed' ahead ahead' store old mid) where
+module _ {D : Type 0} (g : Ghosts D) {M : Type 0} (kind : Kind M) (s : Start D) (requests : ℕ) (end : Heard) (from to : Listened) (ahead ahead' : Option Moments) (store : Store M) (mid : D)
+    (heard_all : Hears g kind s requests end from to ahead ahead' store mid) where
   -- the store was not open for a commit
-  pub listens_closed : is_open_end end ≡ false → Listens g takes fits holds choose h base k run requests end waiting waiting' handed handed' ahead ahead' store old mid
+  pub listens_closed : is_open_end end ≡ false → Listens g kind s requests end from to ahead ahead' store mid
   listens_closed down = record {
     visits = heard_all.visits;
     are = heard_all.are;
     ends = inl heard_all.ends;
-    waits = heard_all.waits;
-    backs = heard_all.backs;
+    heard = heard_all.heard;
     taken = heard_all.taken;
     told = heard_all.told;
-    images = heard_all.images;
-    acknowledged = heard_all.acknowledged;
+    behind = heard_all.behind;
     undamaged = heard_all.undamaged;
     held = λ up. absurd (false≢true (sym down ∙ up));
     all = λ up. absurd (false≢true (sym down ∙ up));
   }
 
   abbrev after : List Order
-  after = history_after h (turns_of heard_all.visits)
+  after = history_after s (turns_of heard_all.visits)
 
-  -- what a commit says of the images, of which the first `kept` commands were committed before
-  abbrev Either : ℕ → ℕ → Image → Type 0
-  Either r kept image = Stands fits r choose (take kept after) image ⊎ Stands fits r choose after image
-
-  module _ (up : is_open_end end ≡ true) (same : store.run ≡ run) (later : Store M) (new : D)
-      (images : (kept : ℕ) → Holds g fits holds choose after base kept store mid → Always g mid new (Either store.run kept)) where
-    abbrev kept : ℕ
-    kept = (heard_all.held up).0
-
-    commits_from : (n : ℕ) → n ≤ kept → Always g mid new (StandsIn fits run choose after n)
-    commits_from n least =
-        let hold = (heard_all.held up).3 in
-        let within = hold.staged.within in
-        always_weaker g mid new (Either store.run kept) (StandsIn fits run choose after n)
-        (λ image. subst (λ (r : ℕ). Either r kept image → StandsIn fits run choose after n image) (sym same)
-        (⊎_elim (λ some. record { count = kept; least = least; most = within; stands = some }) (of_all fits run choose after n (omega (arith, least, within)) image)))
-        (images kept hold)
-
+  module _ (up : is_open_end end ≡ true) (same : store.run ≡ s.run) (later : Store M) (new : D)
+      (images : (kept : ℕ) → Holds g kind.fits kind.holds s.choose after s.base kept store mid → Always g mid new (Either kind.fits s.choose after store.run kept)) where
     -- a commit behind the visits
     listens_on : (last : Heard) → EndsIn requests last heard_all.visits → IsUndamagedEnd g new last →
-        (is_open_end last ≡ true → Holds g fits holds choose after base (length after) later new) → (is_open_end last ≡ true → later.run ≡ run) →
-        Listens g takes fits holds choose h base k run requests last waiting waiting' handed handed' ahead ahead' later old new
+        (is_open_end last ≡ true → Holds g kind.fits kind.holds s.choose after s.base (length after) later new) → (is_open_end last ≡ true → later.run ≡ s.run) →
+        Listens g kind s requests last from to ahead ahead' later new
     listens_on last ends undamaged held goes_on =
-        let knows = (heard_all.held up).1 in
-        let least = (heard_all.held up).2 in
+        let was = heard_all.held up in
         record {
           visits = heard_all.visits;
           are = heard_all.are;
           ends = ends;
-          waits = heard_all.waits;
-          backs = heard_all.backs;
+          heard = heard_all.heard;
           taken = heard_all.taken;
           told = heard_all.told;
-          images = always_on g old mid new (StandsIn fits run choose after k) heard_all.images (commits_from k least);
-          acknowledged = λ image may.
-              acknowledging h k fits run choose (turns_of heard_all.visits) (growing g choose h base k run heard_all.visits ahead ahead' heard_all.are) image
-              ((commits_from (known k (turns_of heard_all.visits)) knows).now image may);
+          behind = behind_commit g kind s (turns_of heard_all.visits) store mid new was.0 same was.1 was.2 (images was.0 was.2) heard_all.behind;
           undamaged = undamaged;
           held = held;
-          all = λ is image may.
-              subst (λ (r : ℕ). Stands fits r choose after image) (goes_on is)
-              (subst (λ (l : List Order). Stands fits later.run choose l image) (take_whole after)
-              (held_stands g fits holds choose after base (length after) later new (held is) image may));
+          all = λ is. all_held g kind s (turns_of heard_all.visits) later new (goes_on is) (held is);
         }
 
     -- the commit was made
-    pub listens_committed : later.run ≡ run → ((kept : ℕ) → Holds g fits holds choose after base kept store mid → Holds g fits holds choose after base (length after) later new) →
-        Listens g takes fits holds choose h base k run requests end waiting waiting' handed handed' ahead ahead' later old new
+    pub listens_committed : later.run ≡ s.run → ((kept : ℕ) → Holds g kind.fits kind.holds s.choose after s.base kept store mid → Holds g kind.fits kind.holds s.choose after s.base (length after) later new) →
+        Listens g kind s requests end from to ahead ahead' later new
     listens_committed same_run done = listens_on end (inl heard_all.ends)
         (λ file at is image seen. absurd (false≢true (sym (ap is_open_end is) ∙ up)))
-        (λ _. done kept (heard_all.held up).3) (λ _. same_run)
+        (λ _. done (heard_all.held up).0 (heard_all.held up).2) (λ _. same_run)
 
     -- the commit met a fault
-    pub listens_broken : (cause : CommitFault) → ((kept : ℕ) → Holds g fits holds choose after base kept store mid → (file : File) (at : ℕ) → cause ≡ commits.Damaged file at → (image : Image) → g.seen new ≡ Some image → ⊥) →
-        Listens g takes fits holds choose h base k run requests (heard.Broken cause) waiting waiting' handed handed' ahead ahead' later old new
+    pub listens_broken : (cause : CommitFault) → ((kept : ℕ) → Holds g kind.fits kind.holds s.choose after s.base kept store mid → (file : File) (at : ℕ) → cause ≡ commits.Damaged file at → (image : Image) → g.seen new ≡ Some image → ⊥) →
+        Listens g kind s requests (heard.Broken cause) from to ahead ahead' later new
     listens_broken cause undamaged = listens_on (heard.Broken cause) (inr (cause, refl, end, up, heard_all.ends))
-        (λ file at is image seen. undamaged kept (heard_all.held up).3 file at (broken_is _ _ is) image seen)
+        (λ file at is image seen. undamaged (heard_all.held up).0 (heard_all.held up).2 file at (broken_is _ _ is) image seen)
         (λ is. absurd (false≢true is)) (λ is. absurd (false≢true is))
 
 -- ---- the counts of faults

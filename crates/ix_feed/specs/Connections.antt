@@ -1,7 +1,7 @@
 -- Requests served over a connection each.
-use Rattle.std.specs.Prelude.{◌≡◌, ◌≤◌, ◌<◌, ◌⊎◌, ℕ, Bool, true, false, List, [], ◌∷◌, ◌++◌, length, Option, Some, None, Result, Ok, Err, IfSome}
+use Rattle.std.specs.Prelude.{◌≡◌, ◌≤◌, ◌<◌, ◌⊎◌, ℕ, ℤ, Bool, true, false, List, [], ◌∷◌, ◌++◌, length, Option, Some, None, Result, Ok, Err, IfSome}
 use Rattle.std.specs.List.{AllByRecursion}
-use Rattle.ix_base.specs.Clocks.{Moments}
+use Rattle.ix_base.specs.Clocks.{Moments, Answered}
 use Rattle.ix_base.specs.Faults.{Rose}
 use Rattle.ix_base.specs.Told.{Told, IsFrontOf}
 use Rattle.ix_base.specs.declared.files.File.{File}
@@ -9,6 +9,7 @@ use Rattle.ix_book.specs.Book.{Book}
 use Rattle.ix_disk.specs.Image.{Image}
 use Rattle.ix_disk.specs.Moments.{Always}
 use Rattle.ix_disk.specs.declared.disk.Disk.{Ghosts}
+use Rattle.ix_http.specs.Asked.{Fits}
 use Rattle.ix_keep.specs.declared.fault.CommitFault.{CommitFault}
 use Rattle.ix_keep.specs.declared.fault.CommitFault.TheVariants as commits
 use Rattle.ix_link.specs.Listeners.{Handed, TakesFirst, Adds}
@@ -17,14 +18,14 @@ use Rattle.ix_machine.specs.declared.commands.Order.{Order}
 use Rattle.ix_store.specs.Holding.{Holds}
 use Rattle.ix_store.specs.Written.{Stands}
 use Rattle.ix_store.specs.declared.store.Store.{Store}
-use Rattle.ix_serve.specs.Entries.{entry}
+use Rattle.ix_serve.specs.Answer.{Answer, Found, Says, is_whole}
 use Rattle.ix_serve.specs.Prefixes.{StandsIn}
 use Rattle.ix_serve.specs.Replies.{Reply}
 use Rattle.ix_serve.specs.Serving.{HoldsFrom, IsOpen, IsTold, IsUndamaged}
 use Rattle.ix_serve.specs.declared.served.Served.{Served}
 use Rattle.ix_serve.specs.declared.served.ServeFault.{ServeFault}
 use Rattle.ix_serve.specs.declared.served.ServeFault.TheVariants as fault
-use Rattle.ix_feed.specs.Feeding.{Turn, IsTurn, Acknowledges, AreTold, history_after, known, reply_text}
+use Rattle.ix_feed.specs.Feeding.{Kind, Start, Turn, IsTurn, AreTold, Came, Has, coming, history_after, disk_after, known, reply_text, first_entry}
 use Rattle.ix_feed.specs.declared.serve.Heard.{Heard}
 use Rattle.ix_feed.specs.declared.serve.Heard.TheVariants as heard
 
@@ -71,19 +72,16 @@ pub record IsReplied (back : Handed) (reply : Option Reply) : Type 0 where
   pub whole : back.rose ≡ false → IfSome back.written (λ bytes. bytes ≡ reply_text reply)
   pub front : IfSome back.written (λ bytes. IsFrontOf bytes (reply_text reply))
 
--- A visit that begins with this history. Its request is the one that is read of what the connection held, and a fault of the link comes only
--- where its count rose.
-pub record IsVisit {D : Type 0} (d : Ghosts D) (choose : Chooser) (h : List Order) (base k run : ℕ) (visit : Visit D) (ahead ahead' : Option Moments) : Type 0 where
+-- A visit behind others. Its request is the one that is read of what the connection held, and a fault of the link comes only where its count rose.
+pub record IsVisit {D : Type 0} (d : Ghosts D) (fits : Book → Type 0) (s : Start D) (earlier : List (Visit D)) (visit : Visit D) (ahead ahead' : Option Moments) : Type 0 where
   pub left : Option (List ℕ)
-  pub turn : IsTurn d choose h base k run visit.turn visit.back.held left ahead ahead'
+  pub turn : IsTurn d fits s (turns_of earlier) visit.turn (coming visit.back.held ahead) (coming left ahead')
   pub replied : IsReplied visit.back visit.turn.answer.reply
   pub by_link : visit.turn.result ≡ Err fault.Link → visit.back.rose ≡ true
 
-abbrev pub AreVisits : {D : Type 0} → Ghosts D → Chooser → List Order → ℕ → ℕ → ℕ → List (Visit D) → Option Moments → Option Moments → Type 0
-AreVisits d choose h base k run [] ahead ahead' = ahead' ≡ ahead
-AreVisits d choose h base k run (visit ∷ earlier) ahead ahead' =
-    (shown : Option Moments) × AreVisits d choose h base k run earlier ahead shown
-    × IsVisit d choose (history_after h (turns_of earlier)) base (known k (turns_of earlier)) run visit shown ahead'
+abbrev pub AreVisits : {D : Type 0} → Ghosts D → (Book → Type 0) → Start D → List (Visit D) → Option Moments → Option Moments → Type 0
+AreVisits d fits s [] ahead ahead' = ahead' ≡ ahead
+AreVisits d fits s (visit ∷ earlier) ahead ahead' = (shown : Option Moments) × AreVisits d fits s earlier ahead shown × IsVisit d fits s earlier visit shown ahead'
 
 -- behind none of them the run ended
 abbrev pub HaveGoneOn : {D : Type 0} → List (Visit D) → Type 0
@@ -117,73 +115,83 @@ Taken held old new = old ≡ held ++ new
 abbrev pub HandedBack : List Handed → List Handed → List Handed → Type 0
 HandedBack backs old new = new ≡ old ++ backs
 
+-- What the listener tells: what each connection that waits holds, and those that were handed back.
+pub record Listened : Type 0 where
+  pub waiting : Option (List (Option (List ℕ)))
+  pub handed : Option (List Handed)
+
+abbrev pub listened : Option (List (Option (List ℕ))) → Option (List Handed) → Listened
+listened waiting handed = record { waiting = waiting; handed = handed }
+
+-- the connections of these visits were taken, and handed back
+pub record HasHeard {D : Type 0} (visits : List (Visit D)) (from to : Listened) : Type 0 where
+  pub waits : Told (Taken (held_by visits)) from.waiting to.waiting
+  pub backs : Told (HandedBack (backs_of visits)) from.handed to.handed
+
 -- ---- one visit
 
 -- One connection: it was the first that waited, its request was served, and it was handed back.
-pub record Attends {D : Type 0} (d : Ghosts D) {M : Type 0} (takes : Order → Type 0) (fits : Book → Type 0) (holds : Chooser → List Order → M → Type 0) (choose : Chooser) (h : List Order) (base k run : ℕ)
-    (came : Result Served ServeFault) (waiting waiting' : Option (List (Option (List ℕ)))) (handed handed' : Option (List Handed)) (ahead ahead' : Option Moments) (store : Store M) (old new : D) : Type 0 where
-  pub visit : Visit D
-  pub result : visit.turn.result ≡ came
-  pub kept : visit.turn.kept ≡ k
-  pub disk : visit.turn.disk ≡ new
-  pub is : IsVisit d choose h base k run visit ahead ahead'
-  pub waits : Told (TakesFirst visit.back.held) waiting waiting'
-  pub backs : Told (Adds visit.back) handed handed'
-  pub taken : AllByRecursion takes (h ++ visit.turn.answer.more)
-  pub held : IsOpen came → HoldsFrom d fits holds (entry choose h base k run visit.turn.moment) visit.turn.answer.commits (h ++ visit.turn.answer.more) store new
-  pub images : Always d old new (StandsIn fits run choose (h ++ visit.turn.answer.more) k)
+pub record Attends {D : Type 0} (d : Ghosts D) {M : Type 0} (kind : Kind M) (s : Start D) (came : Result Served ServeFault) (from to : Listened) (ahead ahead' : Option Moments) (store : Store M) (new : D) : Type 0 where
+  pub read : Found
+  pub answer : Answer
+  pub left : Option (List ℕ)
+  pub back : Handed
+  pub moment : ℤ
+  pub took : Told (Fits read) back.held left
+  pub shown : Told (Answered moment) ahead ahead'
+  pub says : Says (first_entry s moment) (IsTold d new) read came answer
+  pub reply_came : Came answer.reply (is_whole read) came
+  pub replied : IsReplied back answer.reply
+  pub by_link : came ≡ Err fault.Link → back.rose ≡ true
+  pub waits : Told (TakesFirst back.held) from.waiting to.waiting
+  pub backs : Told (Adds back) from.handed to.handed
+  pub taken : AllByRecursion kind.takes (s.history ++ answer.more)
+  pub held : IsOpen came → HoldsFrom d kind.fits kind.holds (first_entry s moment) answer.commits (s.history ++ answer.more) store new
+  pub images : Always d s.disk new (StandsIn kind.fits s.run s.choose (s.history ++ answer.more) s.kept)
   pub undamaged : IsUndamaged d new came
 
 -- ---- the whole
 
 -- Since the start these visits were made, behind none of which the run ended.
-pub record Visits {D : Type 0} (d : Ghosts D) {M : Type 0} (takes : Order → Type 0) (fits : Book → Type 0) (holds : Chooser → List Order → M → Type 0) (choose : Chooser) (h : List Order) (base k run count : ℕ)
-    (waiting waiting' : Option (List (Option (List ℕ)))) (handed handed' : Option (List Handed)) (ahead ahead' : Option Moments) (store : Store M) (old new : D) : Type 0 where
+pub record Visits {D : Type 0} (d : Ghosts D) {M : Type 0} (kind : Kind M) (s : Start D) (count : ℕ) (from to : Listened) (ahead ahead' : Option Moments) (store : Store M) (new : D) : Type 0 where
   pub visits : List (Visit D)
-  pub are : AreVisits d choose h base k run visits ahead ahead'
+  pub are : AreVisits d kind.fits s visits ahead ahead'
   pub made : length visits ≡ count
   pub on : HaveGoneOn visits
-  pub waits : Told (Taken (held_by visits)) waiting waiting'
-  pub backs : Told (HandedBack (backs_of visits)) handed handed'
-  pub taken : AllByRecursion takes (history_after h (turns_of visits))
+  pub heard : HasHeard visits from to
+  pub taken : AllByRecursion kind.takes (history_after s (turns_of visits))
+  pub at : disk_after s (turns_of visits) ≡ new
   pub kept : ℕ
-  pub least : k ≤ kept
-  pub knows : known k (turns_of visits) ≤ kept
-  pub hold : Holds d fits holds choose (history_after h (turns_of visits)) base kept store new
-  pub images : Always d old new (StandsIn fits run choose (history_after h (turns_of visits)) k)
-  pub told : IsTold d old → IsTold d new × AreTold d (turns_of visits)
+  pub knows : known s (turns_of visits) ≤ kept
+  pub hold : Holds d kind.fits kind.holds s.choose (history_after s (turns_of visits)) s.base kept store new
+  pub told : IsTold d s.disk → IsTold d new × AreTold d (turns_of visits)
 
 -- Visits to the end of a run.
-pub record Hears {D : Type 0} (d : Ghosts D) {M : Type 0} (takes : Order → Type 0) (fits : Book → Type 0) (holds : Chooser → List Order → M → Type 0) (choose : Chooser) (h : List Order) (base k run requests : ℕ) (end : Heard)
-    (waiting waiting' : Option (List (Option (List ℕ)))) (handed handed' : Option (List Handed)) (ahead ahead' : Option Moments) (store : Store M) (old new : D) : Type 0 where
+pub record Hears {D : Type 0} (d : Ghosts D) {M : Type 0} (kind : Kind M) (s : Start D) (requests : ℕ) (end : Heard) (from to : Listened) (ahead ahead' : Option Moments) (store : Store M) (new : D) : Type 0 where
   pub visits : List (Visit D)
-  pub are : AreVisits d choose h base k run visits ahead ahead'
+  pub are : AreVisits d kind.fits s visits ahead ahead'
   pub ends : EndsAt requests end visits
-  pub waits : Told (Taken (held_by visits)) waiting waiting'
-  pub backs : Told (HandedBack (backs_of visits)) handed handed'
-  pub taken : AllByRecursion takes (history_after h (turns_of visits))
-  pub told : IsTold d old → AreTold d (turns_of visits)
-  pub held : is_open_end end ≡ true → (kept : ℕ) × (known k (turns_of visits) ≤ kept) × (k ≤ kept) × Holds d fits holds choose (history_after h (turns_of visits)) base kept store new
-  pub images : Always d old new (StandsIn fits run choose (history_after h (turns_of visits)) k)
-  pub acknowledged : (image : Image) → d.may_leave new image → Acknowledges fits run choose h (turns_of visits) image
+  pub heard : HasHeard visits from to
+  pub taken : AllByRecursion kind.takes (history_after s (turns_of visits))
+  pub told : IsTold d s.disk → AreTold d (turns_of visits)
+  pub held : is_open_end end ≡ true → (kept : ℕ) × (known s (turns_of visits) ≤ kept) × Holds d kind.fits kind.holds s.choose (history_after s (turns_of visits)) s.base kept store new
+  pub behind : Always d (disk_after s (turns_of visits)) new (Has kind.fits s (turns_of visits) (known s (turns_of visits)))
   pub undamaged : IsUndamagedEnd d new end
 
--- A run with the commit at its end. The listener tells of each connection what it held and what was written on it.
-pub record Listens {D : Type 0} (d : Ghosts D) {M : Type 0} (takes : Order → Type 0) (fits : Book → Type 0) (holds : Chooser → List Order → M → Type 0) (choose : Chooser) (h : List Order) (base k run requests : ℕ) (end : Heard)
-    (waiting waiting' : Option (List (Option (List ℕ)))) (handed handed' : Option (List Handed)) (ahead ahead' : Option Moments) (store : Store M) (old new : D) : Type 0 where
+-- A run with the commit at its end. The listener tells of each connection what it held and what was written on it. Behind the visits each image has
+-- all that is known as committed then: so it has each command that a reply tells as stored.
+pub record Listens {D : Type 0} (d : Ghosts D) {M : Type 0} (kind : Kind M) (s : Start D) (requests : ℕ) (end : Heard) (from to : Listened) (ahead ahead' : Option Moments) (store : Store M) (new : D) : Type 0 where
   pub visits : List (Visit D)
-  pub are : AreVisits d choose h base k run visits ahead ahead'
+  pub are : AreVisits d kind.fits s visits ahead ahead'
   pub ends : EndsIn requests end visits
-  pub waits : Told (Taken (held_by visits)) waiting waiting'
-  pub backs : Told (HandedBack (backs_of visits)) handed handed'
-  pub taken : AllByRecursion takes (history_after h (turns_of visits))
-  pub told : IsTold d old → AreTold d (turns_of visits)
-  pub images : Always d old new (StandsIn fits run choose (history_after h (turns_of visits)) k)
-  pub acknowledged : (image : Image) → d.may_leave new image → Acknowledges fits run choose h (turns_of visits) image
+  pub heard : HasHeard visits from to
+  pub taken : AllByRecursion kind.takes (history_after s (turns_of visits))
+  pub told : IsTold d s.disk → AreTold d (turns_of visits)
+  pub behind : Always d (disk_after s (turns_of visits)) new (Has kind.fits s (turns_of visits) (known s (turns_of visits)))
   pub undamaged : IsUndamagedEnd d new end
   -- all that was accepted is committed, and in every image, unless the disk is at fault
-  pub held : is_open_end end ≡ true → Holds d fits holds choose (history_after h (turns_of visits)) base (length (history_after h (turns_of visits))) store new
-  pub all : is_open_end end ≡ true → (image : Image) → d.may_leave new image → Stands fits run choose (history_after h (turns_of visits)) image
+  pub held : is_open_end end ≡ true → Holds d kind.fits kind.holds s.choose (history_after s (turns_of visits)) s.base (length (history_after s (turns_of visits))) store new
+  pub all : is_open_end end ≡ true → (image : Image) → d.may_leave new image → Stands kind.fits s.run s.choose (history_after s (turns_of visits)) image
 
 -- the counts of faults never fall, and these ends come only where theirs rose
 pub record Comes (listener listener' disk disk' : ℕ) (end : Heard) : Type 0 where

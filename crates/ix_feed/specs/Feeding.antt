@@ -1,5 +1,5 @@
 -- Requests served one behind the other over one link.
-use Rattle.std.specs.Prelude.{◌≡◌, ◌≤◌, ◌+◌, ◌⊎◌, ℕ, ℤ, Bool, true, false, List, [], ◌∷◌, ◌++◌, length, take, nat_eq, if◌then◌else◌, Option, Some, None, Result, Ok, Err}
+use Rattle.std.specs.Prelude.{◌≡◌, ◌≤◌, ◌+◌, ◌⊎◌, ◌&&◌, ℕ, ℤ, Bool, true, false, List, [], ◌∷◌, ◌++◌, length, nat_eq, if◌then◌else◌, Option, Some, None, Result, Ok, Err}
 use Rattle.std.specs.List.{AllByRecursion}
 use Rattle.ix_base.specs.Clocks.{Moments, Answered}
 use Rattle.ix_base.specs.Faults.{Rose}
@@ -17,11 +17,11 @@ use Rattle.ix_machine.specs.declared.commands.Order.{Order}
 use Rattle.ix_store.specs.Holding.{Holds}
 use Rattle.ix_store.specs.Written.{Stands}
 use Rattle.ix_store.specs.declared.store.Store.{Store}
-use Rattle.ix_serve.specs.Answer.{Answer, Found, Says}
-use Rattle.ix_serve.specs.Entries.{entry}
+use Rattle.ix_serve.specs.Answer.{Answer, Found, Says, is_whole}
+use Rattle.ix_serve.specs.Entries.{Entry, entry}
 use Rattle.ix_serve.specs.Prefixes.{StandsIn}
 use Rattle.ix_serve.specs.Replies.{Reply, text_of}
-use Rattle.ix_serve.specs.Serving.{IsTold}
+use Rattle.ix_serve.specs.Serving.{IsTold, still_open}
 use Rattle.ix_feed.specs.declared.feed.Fed.{Fed}
 use Rattle.ix_feed.specs.declared.feed.Fed.TheVariants as fed
 use Rattle.ix_serve.specs.declared.served.Served.{Served}
@@ -62,6 +62,42 @@ is_open_end fed.Endless = true
 is_open_end fed.Link = true
 is_open_end (fed.Broken cause) = false
 
+-- ---- what a run is about
+
+-- what a state in memory takes, what its book may be, and whether it is that of a history
+pub record Kind (M : Type 0) : Type 1 where
+  pub takes : Order → Type 0
+  pub fits : Book → Type 0
+  pub holds : Chooser → List Order → M → Type 0
+
+abbrev pub kind : {M : Type 0} → (Order → Type 0) → (Book → Type 0) → (Chooser → List Order → M → Type 0) → Kind M
+kind takes fits holds = record { takes = takes; fits = fits; holds = holds }
+
+-- What a run of requests begins with: the history that store and disk hold, of which the first `base` commands were there when the store was
+-- mounted and the first `kept` are committed; the number of the run; and the disk.
+pub record Start (D : Type 0) : Type 0 where
+  pub choose : Chooser
+  pub history : List Order
+  pub base : ℕ
+  pub kept : ℕ
+  pub run : ℕ
+  pub disk : D
+
+abbrev pub start : {D : Type 0} → Chooser → List Order → ℕ → ℕ → ℕ → D → Start D
+start choose history base kept run disk = record { choose = choose; history = history; base = base; kept = kept; run = run; disk = disk }
+
+-- store and disk hold what the run begins with
+abbrev pub HoldsStart : {D : Type 0} → Ghosts D → {M : Type 0} → Kind M → Start D → Store M → Type 0
+HoldsStart d kind s store = Holds d kind.fits kind.holds s.choose s.history s.base s.kept store s.disk
+
+-- what a link has left to be read, and what the clock is to tell
+pub record Coming : Type 0 where
+  pub left : Option (List ℕ)
+  pub ahead : Option Moments
+
+abbrev pub coming : Option (List ℕ) → Option Moments → Coming
+coming left ahead = record { left = left; ahead = ahead }
+
 -- ---- turns
 
 -- One request: how many commands were known as committed before it, its moment, what was read, what was answered, what came of it, and the
@@ -75,9 +111,19 @@ pub record Turn (D : Type 0) : Type 0 where
   pub disk : D
 
 -- the history behind them
-abbrev pub history_after : {D : Type 0} → List Order → List (Turn D) → List Order
-history_after h [] = h
-history_after h (turn ∷ earlier) = history_after h earlier ++ turn.answer.more
+abbrev pub history_after : {D : Type 0} → Start D → List (Turn D) → List Order
+history_after s [] = s.history
+history_after s (turn ∷ earlier) = history_after s earlier ++ turn.answer.more
+
+-- the disk behind them
+abbrev pub disk_after : {D : Type 0} → Start D → List (Turn D) → D
+disk_after s [] = s.disk
+disk_after s (turn ∷ earlier) = turn.disk
+
+-- how many commands are known as committed behind them: all, where the last of them commits
+abbrev pub known : {D : Type 0} → Start D → List (Turn D) → ℕ
+known s [] = s.kept
+known s (turn ∷ earlier) = if turn.answer.commits && still_open turn.result then length (history_after s earlier ++ turn.answer.more) else turn.kept
 
 abbrev pub reply_text : Option Reply → List ℕ
 reply_text None = []
@@ -88,24 +134,66 @@ abbrev pub output : {D : Type 0} → List (Turn D) → List ℕ
 output [] = []
 output (turn ∷ earlier) = output earlier ++ reply_text turn.answer.reply
 
--- how many commands were known as committed before the last of them
-abbrev pub known : {D : Type 0} → ℕ → List (Turn D) → ℕ
-known k [] = k
-known k (turn ∷ earlier) = turn.kept
+-- what there was when the request of a turn came
+abbrev pub entry_of : {D : Type 0} → Start D → List (Turn D) → Turn D → Entry
+entry_of s earlier turn = entry s.choose (history_after s earlier) s.base turn.kept s.run turn.moment
 
--- a turn that begins with this history
-pub record IsTurn {D : Type 0} (d : Ghosts D) (choose : Chooser) (h : List Order) (base k run : ℕ) (turn : Turn D) (left left' : Option (List ℕ)) (ahead ahead' : Option Moments) : Type 0 where
-  pub least : k ≤ turn.kept
-  pub within : turn.kept ≤ length h
-  pub took : Told (Fits turn.read) left left'
-  pub shown : Told (Answered turn.moment) ahead ahead'
-  pub says : Says (entry choose h base turn.kept run turn.moment) (IsTold d turn.disk) turn.read turn.result turn.answer
+-- and when one comes at the start
+abbrev pub first_entry : {D : Type 0} → Start D → ℤ → Entry
+first_entry s moment = entry s.choose s.history s.base s.kept s.run moment
 
-abbrev pub AreTurns : {D : Type 0} → Ghosts D → Chooser → List Order → ℕ → ℕ → ℕ → List (Turn D) → Option (List ℕ) → Option (List ℕ) → Option Moments → Option Moments → Type 0
-AreTurns d choose h base k run [] left left' ahead ahead' = (left' ≡ left) × (ahead' ≡ ahead)
-AreTurns d choose h base k run (turn ∷ earlier) left left' ahead ahead' =
-    (mid : Option (List ℕ)) × (shown : Option Moments) × AreTurns d choose h base k run earlier left mid ahead shown
-    × IsTurn d choose (history_after h earlier) base (known k earlier) run turn mid left' shown ahead'
+-- what comes of a request to which this is replied: the reply was written, or the link or the disk failed
+abbrev pub Came : Option Reply → Bool → Result Served ServeFault → Type 0
+Came None delimited result = Unit {0}
+Came (Some reply) delimited (Ok served.Ended) = ⊥
+Came (Some reply) delimited (Ok (served.Reply status whole unshortened)) = (status ≡ reply.status) × (whole ≡ delimited)
+Came (Some reply) delimited (Err fault.Disk) = Unit {0}
+Came (Some reply) delimited (Err (fault.Damaged file at)) = Unit {0}
+Came (Some reply) delimited (Err fault.Link) = Unit {0}
+Came (Some reply) delimited (Err fault.Cut) = ⊥
+
+-- each image has the first so many commands of the history behind these turns
+abbrev pub Has : {D : Type 0} → (Book → Type 0) → Start D → List (Turn D) → ℕ → Image → Type 0
+Has fits s turns = StandsIn fits s.run s.choose (history_after s turns)
+
+-- What is so of the images at a turn behind others. Since the one before each of them stands for the run and a prefix of what was accepted up to then, with
+-- all that was known as committed when the request came; and behind it with all that is known then.
+pub record IsSafe {D : Type 0} (d : Ghosts D) (fits : Book → Type 0) (s : Start D) (earlier : List (Turn D)) (turn : Turn D) : Type 0 where
+  pub least : known s earlier ≤ turn.kept
+  pub within : turn.kept ≤ length (history_after s earlier)
+  pub images : Always d (disk_after s earlier) turn.disk (Has fits s (turn ∷ earlier) turn.kept)
+  pub settled : (image : Image) → d.may_leave turn.disk image → Has fits s (turn ∷ earlier) (known s (turn ∷ earlier)) image
+
+abbrev pub AreSafe : {D : Type 0} → Ghosts D → (Book → Type 0) → Start D → List (Turn D) → Type 0
+AreSafe d fits s [] = Unit {0}
+AreSafe d fits s (turn ∷ earlier) = AreSafe d fits s earlier × IsSafe d fits s earlier turn
+
+-- a turn behind others
+pub record IsTurn {D : Type 0} (d : Ghosts D) (fits : Book → Type 0) (s : Start D) (earlier : List (Turn D)) (turn : Turn D) (from to : Coming) : Type 0 where
+  pub safe : IsSafe d fits s earlier turn
+  pub took : Told (Fits turn.read) from.left to.left
+  pub shown : Told (Answered turn.moment) from.ahead to.ahead
+  pub says : Says (entry_of s earlier turn) (IsTold d turn.disk) turn.read turn.result turn.answer
+  pub came : Came turn.answer.reply (is_whole turn.read) turn.result
+
+abbrev pub AreTurns : {D : Type 0} → Ghosts D → (Book → Type 0) → Start D → List (Turn D) → Coming → Coming → Type 0
+AreTurns d fits s [] from to = to ≡ from
+AreTurns d fits s (turn ∷ earlier) from to = (mid : Coming) × AreTurns d fits s earlier from mid × IsTurn d fits s earlier turn mid to
+
+-- so many commands are no fewer than were known as committed at each of them
+abbrev pub HasKnown : {D : Type 0} → ℕ → List (Turn D) → Type 0
+HasKnown count [] = Unit {0}
+HasKnown count (turn ∷ earlier) = (turn.kept ≤ count) × HasKnown count earlier
+
+-- From this disk on to the other, every image stands for the run and a prefix of this history with at least so many commands.
+pub record HasSince {D : Type 0} (d : Ghosts D) (fits : Book → Type 0) (s : Start D) (now : List Order) (n : ℕ) (from to : D) : Type 0 where
+  pub at_first : (image : Image) → d.may_leave from image → StandsIn fits s.run s.choose now n image
+  pub since : Always d from to (StandsIn fits s.run s.choose now n)
+
+-- from the disk behind each of them on, every image has all that was known as committed then
+abbrev pub Lasts : {D : Type 0} → Ghosts D → (Book → Type 0) → Start D → List Order → D → List (Turn D) → Type 0
+Lasts d fits s now new [] = Unit {0}
+Lasts d fits s now new (turn ∷ earlier) = HasSince d fits s now (known s (turn ∷ earlier)) turn.disk new × Lasts d fits s now new earlier
 
 -- at each of them the disk tells what it reads
 abbrev pub AreTold : {D : Type 0} → Ghosts D → List (Turn D) → Type 0
@@ -129,57 +217,34 @@ EndsBy end turns = EndsWith end turns ⊎ ((end ≡ fed.Endless) × (length turn
 abbrev pub IsUndamagedEnd : {D : Type 0} → Ghosts D → D → Fed → Type 0
 IsUndamagedEnd d disk end = (file : File) (at : ℕ) → end ≡ fed.Broken (commits.Damaged file at) → (image : Image) → d.seen disk ≡ Some image → ⊥
 
--- ---- what is acknowledged
-
--- these come first
-pub record BeginsWith (part whole : List Order) : Type 0 where
-  pub rest : List Order
-  pub whole_is : whole ≡ part ++ rest
-
--- a history begins with all that was known as committed at each turn
-abbrev pub HasKnown : {D : Type 0} → List Order → List (Turn D) → List Order → Type 0
-HasKnown h [] whole = Unit {0}
-HasKnown h (turn ∷ earlier) whole = BeginsWith (take turn.kept (history_after h earlier)) whole × HasKnown h earlier whole
-
--- An image stands for such a history. So it holds each command that an acks reply of these turns names.
-pub record Acknowledges {D : Type 0} (fits : Book → Type 0) (run : ℕ) (choose : Chooser) (h : List Order) (turns : List (Turn D)) (image : Image) : Type 0 where
-  pub history : List Order
-  pub stands : Stands fits run choose history image
-  pub has : HasKnown h turns history
-
 -- ---- the whole
 
--- Since the start these turns were served, behind none of which the run ended. Their replies were written, their commands are held, and every
--- image stands for a prefix of what they led to.
-pub record Reaches {D : Type 0} (d : Ghosts D) {M : Type 0} (takes : Order → Type 0) (fits : Book → Type 0) (holds : Chooser → List Order → M → Type 0) (choose : Chooser) (h : List Order) (base k run count : ℕ)
-    (left left' : Option (List ℕ)) (ahead ahead' : Option Moments) (given given' : Option (List ℕ)) (store : Store M) (old new : D) : Type 0 where
+-- Since the start these turns were served, behind none of which the run ended. Their replies were written, and their commands are held.
+pub record Reaches {D : Type 0} (d : Ghosts D) {M : Type 0} (kind : Kind M) (s : Start D) (count : ℕ) (from to : Coming) (given given' : Option (List ℕ)) (store : Store M) (new : D) : Type 0 where
   pub turns : List (Turn D)
-  pub are : AreTurns d choose h base k run turns left left' ahead ahead'
-  pub taken : AllByRecursion takes (history_after h turns)
+  pub are : AreTurns d kind.fits s turns from to
+  pub taken : AllByRecursion kind.takes (history_after s turns)
   pub served : length turns ≡ count
   pub on : GoOn turns
   pub written : HasWritten (output turns) given given'
+  pub at : disk_after s turns ≡ new
   pub kept : ℕ
-  pub least : k ≤ kept
-  pub knows : known k turns ≤ kept
-  pub hold : Holds d fits holds choose (history_after h turns) base kept store new
-  pub images : Always d old new (StandsIn fits run choose (history_after h turns) k)
-  pub told : IsTold d old → IsTold d new × AreTold d turns
+  pub knows : known s turns ≤ kept
+  pub hold : Holds d kind.fits kind.holds s.choose (history_after s turns) s.base kept store new
+  pub told : IsTold d s.disk → IsTold d new × AreTold d turns
 
 -- Turns to the end of a run.
-pub record Feeds {D : Type 0} (d : Ghosts D) {M : Type 0} (takes : Order → Type 0) (fits : Book → Type 0) (holds : Chooser → List Order → M → Type 0) (choose : Chooser) (h : List Order) (base k run : ℕ) (end : Fed) (clean : Type 0)
-    (left left' : Option (List ℕ)) (ahead ahead' : Option Moments) (given given' : Option (List ℕ)) (store : Store M) (old new : D) : Type 0 where
+pub record Feeds {D : Type 0} (d : Ghosts D) {M : Type 0} (kind : Kind M) (s : Start D) (end : Fed) (clean : Type 0) (from to : Coming) (given given' : Option (List ℕ)) (store : Store M) (new : D) : Type 0 where
   pub turns : List (Turn D)
-  pub are : AreTurns d choose h base k run turns left left' ahead ahead'
-  pub taken : AllByRecursion takes (history_after h turns)
+  pub are : AreTurns d kind.fits s turns from to
+  pub taken : AllByRecursion kind.takes (history_after s turns)
   pub ends : EndsBy end turns
   pub written : IsWholeEnd end → HasWritten (output turns) given given'
   pub sent : clean → HasWritten (output turns) given given'
   pub begun : HasBegun (output turns) given given'
-  pub told : IsTold d old → AreTold d turns
-  pub held : is_open_end end ≡ true → (kept : ℕ) × (known k turns ≤ kept) × (k ≤ kept) × Holds d fits holds choose (history_after h turns) base kept store new
-  pub images : Always d old new (StandsIn fits run choose (history_after h turns) k)
-  pub acknowledged : (image : Image) → d.may_leave new image → Acknowledges fits run choose h turns image
+  pub told : IsTold d s.disk → AreTold d turns
+  pub held : is_open_end end ≡ true → (kept : ℕ) × (known s turns ≤ kept) × Holds d kind.fits kind.holds s.choose (history_after s turns) s.base kept store new
+  pub behind : Always d (disk_after s turns) new (Has kind.fits s turns (known s turns))
   pub undamaged : IsUndamagedEnd d new end
 
 -- the end of a run with a commit behind its turns: that of the turns, or the fault of the commit
@@ -187,23 +252,22 @@ abbrev pub EndsAs : {D : Type 0} → Fed → List (Turn D) → Type 0
 EndsAs end turns = EndsBy end turns ⊎ ((cause : CommitFault) × (end ≡ fed.Broken cause) × (first : Fed) × (is_open_end first ≡ true) × EndsBy first turns)
 
 -- A run with the commit at its end. What was written of its replies is all of them where the end is no fault of the link or the disk, and
--- also where the link is clean; else a front of them.
-pub record Runs {D : Type 0} (d : Ghosts D) {M : Type 0} (takes : Order → Type 0) (fits : Book → Type 0) (holds : Chooser → List Order → M → Type 0) (choose : Chooser) (h : List Order) (base k run : ℕ) (end : Fed) (clean : Type 0)
-    (left left' : Option (List ℕ)) (ahead ahead' : Option Moments) (given given' : Option (List ℕ)) (store : Store M) (old new : D) : Type 0 where
+-- also where the link is clean; else a front of them. Behind the turns each image has all that is known as committed then: so it has each command
+-- that a reply tells as stored.
+pub record Runs {D : Type 0} (d : Ghosts D) {M : Type 0} (kind : Kind M) (s : Start D) (end : Fed) (clean : Type 0) (from to : Coming) (given given' : Option (List ℕ)) (store : Store M) (new : D) : Type 0 where
   pub turns : List (Turn D)
-  pub are : AreTurns d choose h base k run turns left left' ahead ahead'
-  pub taken : AllByRecursion takes (history_after h turns)
+  pub are : AreTurns d kind.fits s turns from to
+  pub taken : AllByRecursion kind.takes (history_after s turns)
   pub ends : EndsAs end turns
   pub written : IsWholeEnd end → HasWritten (output turns) given given'
   pub sent : clean → HasWritten (output turns) given given'
   pub begun : HasBegun (output turns) given given'
-  pub told : IsTold d old → AreTold d turns
-  pub images : Always d old new (StandsIn fits run choose (history_after h turns) k)
-  pub acknowledged : (image : Image) → d.may_leave new image → Acknowledges fits run choose h turns image
+  pub told : IsTold d s.disk → AreTold d turns
+  pub behind : Always d (disk_after s turns) new (Has kind.fits s turns (known s turns))
   pub undamaged : IsUndamagedEnd d new end
   -- all that was accepted is committed, and in every image, unless the disk is at fault
-  pub held : is_open_end end ≡ true → Holds d fits holds choose (history_after h turns) base (length (history_after h turns)) store new
-  pub all : is_open_end end ≡ true → (image : Image) → d.may_leave new image → Stands fits run choose (history_after h turns) image
+  pub held : is_open_end end ≡ true → Holds d kind.fits kind.holds s.choose (history_after s turns) s.base (length (history_after s turns)) store new
+  pub all : is_open_end end ≡ true → (image : Image) → d.may_leave new image → Stands kind.fits s.run s.choose (history_after s turns) image
 
 -- the counts of faults never fall, and these ends come only where theirs rose
 pub record Comes (link link' disk disk' : ℕ) (end : Fed) : Type 0 where

@@ -6,7 +6,8 @@ ghost use Rattle.ix_keep.specs.Snapshot.{IsOver, IsIdle, IsMeasured};
 ghost use Rattle.ix_machine.specs.Given.{Chooser};
 ghost use Rattle.ix_machine.specs.declared.commands.Order.{Order};
 ghost use Rattle.ix_feed.specs.Feeding as defs;
-ghost use Rattle.ix_feed.specs.Feeding.{Feeds, Runs};
+ghost use Rattle.ix_feed.specs.Feeding.{Feeds, Runs, kind, start, coming};
+ghost use Rattle.ix_feed.specs.Reading.{ReadsTo};
 ghost use Rattle.ix_link.specs.Links.{Goes};
 ghost use Rattle.ix_serve.specs.Serving.{IsClean, IsTold};
 ghost use Rattle.ix_serve.specs.Taking.{TakesAsks};
@@ -111,9 +112,10 @@ fn feed_all<K: Link, M: Listing + Drop, C: Clock, D: Disk>(
     requires takes { TakesAsks M.takes }
     ensures feeds { (choose : Chooser) (history : List Order) (base k : ℕ) → M.is_chooser choose → AllByRecursion M.takes history →
         Holds D.Disk M.Book.fits M.holds choose history base k store.old disk.old →
-        Feeds D.Disk M.takes M.Book.fits M.holds choose history base k store.old.run result (IsClean (K.faults link.old) (K.faults link.new) (K.standing link.old) (K.standing link.new))
-        (K.left link.old) (K.left link.new) (C.ahead clock.old) (C.ahead clock.new)
-        (K.given link.old) (K.given link.new) store.new disk.old disk.new }
+        Feeds D.Disk (kind M.takes M.Book.fits M.holds) (start choose history base k store.old.run disk.old) result
+        (IsClean (K.faults link.old) (K.faults link.new) (K.standing link.old) (K.standing link.new))
+        (coming (K.left link.old) (C.ahead clock.old)) (coming (K.left link.new) (C.ahead clock.new)) (K.given link.old) (K.given link.new) store.new disk.new }
+    ensures reads { ReadsTo result (K.left link.old) (K.left link.new) }
     ensures run { store.new.run ≡ store.old.run }
     ensures over { defs.is_open_end result ≡ true → IsOver D.Disk store.new.keeper disk.new }
     ensures measured { IsMeasured D.Disk store.old.keeper disk.old → defs.is_open_end result ≡ true → IsMeasured D.Disk store.new.keeper disk.new }
@@ -146,9 +148,11 @@ pub fn run_feed<K: Link, M: Listing + Drop, C: Clock, D: Disk>(
     // each acknowledged command; and at the end every image has all, unless the disk is at fault.
     ensures runs { (choose : Chooser) (history : List Order) (base k : ℕ) → M.is_chooser choose → AllByRecursion M.takes history →
         Holds D.Disk M.Book.fits M.holds choose history base k store.old disk.old →
-        Runs D.Disk M.takes M.Book.fits M.holds choose history base k store.old.run result (IsClean (K.faults link.old) (K.faults link.new) (K.standing link.old) (K.standing link.new))
-        (K.left link.old) (K.left link.new) (C.ahead clock.old) (C.ahead clock.new)
-        (K.given link.old) (K.given link.new) store.new disk.old disk.new }
+        Runs D.Disk (kind M.takes M.Book.fits M.holds) (start choose history base k store.old.run disk.old) result
+        (IsClean (K.faults link.old) (K.faults link.new) (K.standing link.old) (K.standing link.new))
+        (coming (K.left link.old) (C.ahead clock.old)) (coming (K.left link.new) (C.ahead clock.new)) (K.given link.old) (K.given link.new) store.new disk.new }
+    // Which requests were read, and where the run ended by them, goes by the bytes of the link, also where the disk holds no history.
+    ensures reads { ReadsTo result (K.left link.old) (K.left link.new) }
     // What the next request or a checkpoint asks for.
     ensures over { defs.is_open_end result ≡ true → IsOver D.Disk store.new.keeper disk.new }
     ensures idle { defs.is_open_end result ≡ true → IsIdle store.new.keeper }

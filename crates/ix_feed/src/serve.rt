@@ -1,15 +1,18 @@
 //! Requests are served over a connection each. The program calls `run_serve`.
 
-ghost use Rattle.std.specs.Prelude.{◌≡◌, ◌≤◌, ℕ, List, Err, IfOk, OnErr, true};
+ghost use Rattle.std.specs.Prelude.{◌≡◌, ◌≤◌, ℕ, List, Err, IfOk, OnOk, OnErr, true};
 ghost use Rattle.std.specs.List.{AllByRecursion};
 ghost use Rattle.ix_base.specs.Faults.{HasCause, Rose};
 ghost use Rattle.ix_keep.specs.Snapshot.{IsIdle, IsMeasured, IsOver};
 ghost use Rattle.ix_machine.specs.Given.{Chooser};
 ghost use Rattle.ix_machine.specs.declared.commands.Order.{Order};
+ghost use Rattle.ix_serve.specs.Answer.{Found};
 ghost use Rattle.ix_serve.specs.Serving.{IsOpen, IsTold};
 ghost use Rattle.ix_serve.specs.Taking.{TakesAsks};
 ghost use Rattle.ix_feed.specs.Connections as defs;
-ghost use Rattle.ix_feed.specs.Connections.{Attends, Hears, Listens};
+ghost use Rattle.ix_feed.specs.Connections.{Attends, Hears, Listens, listened};
+ghost use Rattle.ix_feed.specs.Feeding.{kind, start};
+ghost use Rattle.ix_feed.specs.Reading.{AsMany, HearsMany, IsHeard};
 ghost use Rattle.ix_store.specs.Holding.{Holds};
 
 use ix_base::{Clock, Failed};
@@ -67,8 +70,9 @@ fn serve_next<L: Listener, M: Listing + Drop, C: Clock, D: Disk>(
     requires takes { TakesAsks M.takes }
     ensures attends { IfOk result (λ came. (choose : Chooser) (history : List Order) (base k : ℕ) → M.is_chooser choose → AllByRecursion M.takes history →
         Holds D.Disk M.Book.fits M.holds choose history base k store.old disk.old →
-        Attends D.Disk M.takes M.Book.fits M.holds choose history base k store.old.run came (L.waiting listener.old) (L.waiting listener.new) (L.handed listener.old) (L.handed listener.new)
-        (C.ahead clock.old) (C.ahead clock.new) store.new disk.old disk.new) }
+        Attends D.Disk (kind M.takes M.Book.fits M.holds) (start choose history base k store.old.run disk.old) came
+        (listened (L.waiting listener.old) (L.handed listener.old)) (listened (L.waiting listener.new) (L.handed listener.new)) (C.ahead clock.old) (C.ahead clock.new) store.new disk.new) }
+    ensures reads { OnOk result ((read : Found) × IsHeard read (listened (L.waiting listener.old) (L.handed listener.old)) (listened (L.waiting listener.new) (L.handed listener.new))) }
     ensures over { IfOk result (λ came. IsOpen came → IsOver D.Disk store.new.keeper disk.new) }
     ensures measured { IfOk result (λ came. IsMeasured D.Disk store.old.keeper disk.old → IsOpen came → IsMeasured D.Disk store.new.keeper disk.new) }
     ensures later { D.Disk.faults disk.old ≤ D.Disk.faults disk.new }
@@ -103,8 +107,9 @@ fn serve_all<L: Listener, M: Listing + Drop, C: Clock, D: Disk>(
     requires takes { TakesAsks M.takes }
     ensures hears { (choose : Chooser) (history : List Order) (base k : ℕ) → M.is_chooser choose → AllByRecursion M.takes history →
         Holds D.Disk M.Book.fits M.holds choose history base k store.old disk.old →
-        Hears D.Disk M.takes M.Book.fits M.holds choose history base k store.old.run requests result (L.waiting listener.old) (L.waiting listener.new) (L.handed listener.old) (L.handed listener.new)
-        (C.ahead clock.old) (C.ahead clock.new) store.new disk.old disk.new }
+        Hears D.Disk (kind M.takes M.Book.fits M.holds) (start choose history base k store.old.run disk.old) requests result
+        (listened (L.waiting listener.old) (L.handed listener.old)) (listened (L.waiting listener.new) (L.handed listener.new)) (C.ahead clock.old) (C.ahead clock.new) store.new disk.new }
+    ensures reads { HearsMany (AsMany requests result) (listened (L.waiting listener.old) (L.handed listener.old)) (listened (L.waiting listener.new) (L.handed listener.new)) }
     ensures over { defs.is_open_end result ≡ true → IsOver D.Disk store.new.keeper disk.new }
     ensures measured { IsMeasured D.Disk store.old.keeper disk.old → defs.is_open_end result ≡ true → IsMeasured D.Disk store.new.keeper disk.new }
     ensures run { store.new.run ≡ store.old.run }
@@ -143,8 +148,10 @@ pub fn run_serve<L: Listener, M: Listing + Drop, C: Clock, D: Disk>(
     // each acknowledged command; and at the end every image has all, unless the disk is at fault.
     ensures listens { (choose : Chooser) (history : List Order) (base k : ℕ) → M.is_chooser choose → AllByRecursion M.takes history →
         Holds D.Disk M.Book.fits M.holds choose history base k store.old disk.old →
-        Listens D.Disk M.takes M.Book.fits M.holds choose history base k store.old.run requests result (L.waiting listener.old) (L.waiting listener.new) (L.handed listener.old) (L.handed listener.new)
-        (C.ahead clock.old) (C.ahead clock.new) store.new disk.old disk.new }
+        Listens D.Disk (kind M.takes M.Book.fits M.holds) (start choose history base k store.old.run disk.old) requests result
+        (listened (L.waiting listener.old) (L.handed listener.old)) (listened (L.waiting listener.new) (L.handed listener.new)) (C.ahead clock.old) (C.ahead clock.new) store.new disk.new }
+    // Which connections were taken, and what came of each, goes by what they held, also where the disk holds no history.
+    ensures reads { HearsMany (AsMany requests result) (listened (L.waiting listener.old) (L.handed listener.old)) (listened (L.waiting listener.new) (L.handed listener.new)) }
     // What the next request or a checkpoint asks for.
     ensures over { defs.is_open_end result ≡ true → IsOver D.Disk store.new.keeper disk.new }
     ensures idle { defs.is_open_end result ≡ true → IsIdle store.new.keeper }

@@ -47,6 +47,7 @@ fn commit_due<M: Listing + Drop, D: Disk>(
     ensures over { OnOk result (IsOver D.Disk store.new.keeper disk.new) }
     ensures measured { IsMeasured D.Disk store.old.keeper disk.old → OnOk result (IsMeasured D.Disk store.new.keeper disk.new) }
     ensures closed { OnErr result (store.new.keeper.closed ≡ true) }
+    ensures run { store.new.run ≡ store.old.run }
     ensures undamaged { (file : File) (at : ℕ) → result ≡ Err (CommitFault.Damaged file at) → (choose : Chooser) (history : List Order) (base k : ℕ) →
         Holds D.Disk M.Book.fits M.holds choose history base k store.old disk.old → (image : Image) → D.Disk.seen disk.new ≡ Some image → ⊥ }
     // A disk that tells what it reads goes on telling.
@@ -87,7 +88,8 @@ pub fn give<M: Listing + Drop, D: Disk>(
     ensures over { OnOk result (IsOver D.Disk store.new.keeper disk.new) }
     ensures still { IfErr result (λ fault. (refusal : Refused) → fault ≡ GiveFault.Refused refusal → IsOver D.Disk store.new.keeper disk.new) }
     ensures unchanged { IfErr result (λ fault. (refusal : Refused) → fault ≡ GiveFault.Refused refusal → IsUnchanged store.old store.new × (disk.new ≡ disk.old)) }
-    // The keeper goes on to know how long its log is.
+    // The run goes on, and the keeper goes on to know how long its log is.
+    ensures run { store.new.run ≡ store.old.run }
     ensures measured { IsMeasured D.Disk store.old.keeper disk.old → OnOk result (IsMeasured D.Disk store.new.keeper disk.new) }
     // A disk that keeps what was committed is not damaged.
     ensures undamaged { (file : File) (at : ℕ) → result ≡ Err (GiveFault.Commit (CommitFault.Damaged file at)) → (choose : Chooser) (history : List Order) (base k : ℕ) → M.is_chooser choose →
@@ -118,6 +120,7 @@ pub fn commit_all<M: Memory + Drop, D: Disk>(
     ensures stood { (choose : Chooser) (history : List Order) (base k : ℕ) → Holds D.Disk M.Book.fits M.holds choose history base k store.old disk.old →
         HasStood D.Disk M.Book.fits choose history k disk.old disk.new }
     ensures over { OnOk result (IsOver D.Disk store.new.keeper disk.new) }
+    ensures run { store.new.run ≡ store.old.run }
     // What `shorten` asks for.
     ensures rest { IsMeasured D.Disk store.old.keeper disk.old → OnOk result (IsAtRest D.Disk store.new.keeper disk.new) }
     // A disk that keeps what was committed is not damaged.

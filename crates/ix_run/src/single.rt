@@ -39,6 +39,7 @@ pub fn give_last<M: Listing + Drop, D: Disk>(
         Holds D.Disk M.Book.fits M.holds choose history base k store.old disk.old →
         IsNotGiven D.Disk M.Book.fits M.holds choose history base k (record { command = command; moment = moment }) store.old fault store.new disk.old disk.new) }
     ensures over { OnOk result (IsOver D.Disk store.new.keeper disk.new) }
+    ensures run { store.new.run ≡ store.old.run }
     // What `shorten` asks for. A refused command leaves all as it was.
     ensures rest { IsMeasured D.Disk store.old.keeper disk.old → OnOk result (IsAtRest D.Disk store.new.keeper disk.new) }
     ensures unchanged { IfErr result (λ fault. (refusal : Refused) → fault ≡ GiveFault.Refused refusal → IsUnchanged store.old store.new × (disk.new ≡ disk.old)) }

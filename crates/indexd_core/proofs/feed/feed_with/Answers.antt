@@ -20,7 +20,7 @@ run_streams-requires-clause-asks g c = asks_taken
 pub returns-in-Ok : goal.returns-in-Ok
 returns-in-Ok g c = record {
   comes = served c.in-Ok.end (side (g.W.Sink.faults c.run_streams.new.output) (g.W.Sink.given c.run_streams.new.output)) c.say_end.ensures.status
-      c.run_streams.ensures.written_later c.say_end.ensures.later c.in-Ok.ensures.served c.say_end.ensures.said;
+      c.run_streams.ensures.written_later c.say_end.ensures.later c.in-Ok.ensures.reads c.in-Ok.ensures.served c.say_end.ensures.said;
   short = λ ok. inl (c.in-Ok.ensures.short (end_short c.say_end.result c.in-Ok.end c.say_end.ensures.status ok));
   output = λ is.
       rose-until (g.W.Sink.faults c.args.output.now) (g.W.Sink.faults c.run_streams.new.output) (g.W.Sink.faults c.say_end.new.output)

@@ -2,6 +2,10 @@ use Rattle.std.proofs.Common.{◌≡◌, ◌∙◌, List, ℕ, [], refl, sym, ap
 use Rattle.std.specs.Prelude.{Ok}
 use Rattle.ix_disk.proofs.Runs.{rose_later}
 use Rattle.ix_replay.specs.Fits.{fits}
+use Rattle.ix_feed.specs.Connections.{Listened, listened}
+use Rattle.ix_feed.specs.Reading.{HearsMany}
+use Rattle.indexd_feed.specs.Ends.{AsManyServed}
+use Rattle.ix_kept.specs.Taken.{IsTaken}
 use Rattle.indexd_feed.specs.Serving.{HasServed, Connections}
 use Rattle.indexd_store.specs.declared.stop.Stop.TheVariants as stops
 use Rattle.indexd_core.specs.Serves.{unbound, shut, served}
@@ -42,11 +46,13 @@ pub returns-in-Ok : goal.returns-in-Ok
 returns-in-Ok g c = record {
   comes = let run = c.run_serve.new in
       served c.in-Ok.end
-      (subst (λ w. FromStart g.D.Disk c.args.disk.now (λ choose history k. HasServed g.D.Disk fits choose history k c.args.config (g.C.Clock.ahead c.args.clock.now)
-      (Connections g.D.Disk fits choose c.args.serving.requests c.in-Ok.end w (g.L.Listener.waiting run.listener) (g.L.Listener.handed c.args.listener.now) (g.L.Listener.handed run.listener) (g.C.Clock.ahead run.clock) run.disk) c.args.disk.now run.disk))
+      (subst (λ (from : Listened). HearsMany (AsManyServed c.args.serving.requests c.in-Ok.end) from (listened (g.L.Listener.waiting run.listener) (g.L.Listener.handed run.listener)))
+      (same_listened _ _ _ _ c.bind.ensures.waiting c.bind.ensures.handed) c.in-Ok.ensures.reads)
+      (subst (λ w. FromStart g.D.Disk c.args.disk.now (λ choose history k. HasServed g.D.Disk IsTaken fits choose history k c.args.config (g.C.Clock.ahead c.args.clock.now)
+      (Connections g.D.Disk fits c.args.serving.requests c.in-Ok.end (listened w (g.L.Listener.handed c.args.listener.now)) (listened (g.L.Listener.waiting run.listener) (g.L.Listener.handed run.listener)) (g.C.Clock.ahead run.clock) run.disk) c.args.disk.now run.disk))
       c.bind.ensures.waiting
-      (subst (λ b. FromStart g.D.Disk c.args.disk.now (λ choose history k. HasServed g.D.Disk fits choose history k c.args.config (g.C.Clock.ahead c.args.clock.now)
-      (Connections g.D.Disk fits choose c.args.serving.requests c.in-Ok.end (g.L.Listener.waiting c.bind.new.self) (g.L.Listener.waiting run.listener) b (g.L.Listener.handed run.listener) (g.C.Clock.ahead run.clock) run.disk) c.args.disk.now run.disk))
+      (subst (λ b. FromStart g.D.Disk c.args.disk.now (λ choose history k. HasServed g.D.Disk IsTaken fits choose history k c.args.config (g.C.Clock.ahead c.args.clock.now)
+      (Connections g.D.Disk fits c.args.serving.requests c.in-Ok.end (listened (g.L.Listener.waiting c.bind.new.self) b) (listened (g.L.Listener.waiting run.listener) (g.L.Listener.handed run.listener)) (g.C.Clock.ahead run.clock) run.disk) c.args.disk.now run.disk))
       c.bind.ensures.handed c.in-Ok.ensures.served)) c.say_end.ensures.said;
   short = λ ok. inl (c.in-Ok.ensures.short (serve_short c.say_end.result _ c.in-Ok.end _ _ c.say_end.ensures.said ok));
   output = λ is. output_served c.say_end.result _ _ _ c.in-Ok.end c.say_end.ensures.said is;

@@ -1,5 +1,6 @@
 use Rattle.std.proofs.Common.{◌≡◌, ◌∙◌, false, refl, inl, le_trans}
 use Rattle.ix_disk.proofs.Runs.{rose_later}
+use Rattle.ix_kept.specs.Taken.{IsTaken}
 use Rattle.indexd_store.specs.Stops.{is_output, is_input}
 use Rattle.indexd_store.specs.declared.stop.Stop.{Stop}
 use Rattle.indexd_store.specs.declared.stop.Stop.TheVariants as stops
@@ -24,7 +25,7 @@ returns-in-Err g c = record {
   cause = λ is. c.open.ensures.cause (c.in-Err.is ∙ err_as c.in-Err.stop _ is);
   undamaged = λ is. by_blame c.in-Err.stop _ is
       (λ unsound. λ choose history k chooser taken begins image seen.
-      shut_sound c.in-Err.stop g.D.Disk _ choose history k c.args.config _ _ c.args.disk.now c.open.new.disk unsound (c.in-Err.ensures.stopped choose history k chooser taken begins image seen))
+      shut_sound c.in-Err.stop g.D.Disk IsTaken _ choose history k c.args.config _ _ c.args.disk.now c.open.new.disk unsound (c.in-Err.ensures.stopped choose history k chooser taken begins image seen))
       (λ file at damaged. c.open.ensures.undamaged file at (c.in-Err.is ∙ err_as c.in-Err.stop _ damaged));
   quiet = c.in-Err.ensures.quiet;
   unread = c.in-Err.ensures.unread;

@@ -2,6 +2,7 @@ use Rattle.std.proofs.Common.{◌≡◌, ◌∙◌, List, ℕ, false, refl, sym,
 use Rattle.std.specs.Prelude.{Ok, Err}
 use Rattle.ix_base.specs.declared.events.ChannelMeta.{ChannelMeta}
 use Rattle.ix_replay.specs.Fits.{fits}
+use Rattle.ix_kept.specs.Taken.{IsTaken}
 use Rattle.indexd_store.specs.Opened.{WhenOpen, HasRun, HasStopped}
 use Rattle.indexd_store.specs.Previews.{HasFed}
 use Rattle.indexd_store.proofs.Feeding.{none_taken}
@@ -38,7 +39,7 @@ returns-in_default g c = record {
 pub returns-in-Ok-store_input : goal.returns-in-Ok-store_input
 returns-in-Ok-store_input g c = record {
   comes = done refl
-      (subst (λ (meta : ChannelMeta). FromStart g.D.Disk c.args.disk.now (λ choose history k. HasRun false g.D.Disk fits choose history k
+      (subst (λ (meta : ChannelMeta). FromStart g.D.Disk c.args.disk.now (λ choose history k. HasRun false g.D.Disk IsTaken fits choose history k
       (WhenOpen choose c.args.config (g.C.Clock.ahead c.args.clock.now) (HasFed choose meta (Ok tt) (g.C.Clock.ahead c.store_input.new.clock) (g.S.Source.left c.args.input.now) (g.S.Source.left c.store_input.new.input)))
       c.args.disk.now c.store_input.new.disk)) c.in-Ok.ensures.meta c.in-Ok-store_input.ensures.done);
   silent = λ is. record { taken = c.in-Ok-store_input.ensures.read; same = refl };
@@ -59,7 +60,7 @@ pub returns : goal.returns
 returns g c = record {
   comes = let name : named_of c.of_index.result ≡ index_or_default (stated_of c.args.origin).index c.args.config.limits = cc (c.of_index.ensures, c.as_slice.ensures, c.in-Ok.ensures.index) in
       stopped c.in-Err.stop (side (g.W.Sink.faults c.args.output.now) (g.W.Sink.given c.args.output.now)) c.say_stop.ensures.status
-      (subst (λ (meta : ChannelMeta). FromStart g.D.Disk c.args.disk.now (λ choose history k. HasStopped c.in-Err.stop g.D.Disk fits choose history k c.args.config
+      (subst (λ (meta : ChannelMeta). FromStart g.D.Disk c.args.disk.now (λ choose history k. HasStopped c.in-Err.stop g.D.Disk IsTaken fits choose history k c.args.config
       (g.C.Clock.ahead c.args.clock.now) (g.C.Clock.ahead c.store_input.new.clock) (g.S.Source.left c.store_input.new.input ≡ g.S.Source.left c.args.input.now)
       (HasFed choose meta (Err c.in-Err.stop) (g.C.Clock.ahead c.store_input.new.clock) (g.S.Source.left c.args.input.now) (g.S.Source.left c.store_input.new.input))
       c.args.disk.now c.store_input.new.disk)) c.in-Ok.ensures.meta c.in-Err.ensures.stopped)

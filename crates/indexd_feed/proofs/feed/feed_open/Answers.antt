@@ -1,6 +1,7 @@
-use Rattle.std.proofs.Common.{◌∙◌, arith, sym}
+use Rattle.std.proofs.Common.{◌∙◌, arith, length, sym}
+use Rattle.indexd_feed.proofs.Reading.{reads_behind}
 use Rattle.ix_disk.proofs.Runs.{rose_later}
-use Rattle.ix_feed.specs.Feeding.{history_after}
+use Rattle.ix_feed.specs.Feeding.{history_after, kind, start}
 use Rattle.ix_serve.specs.Serving.{IsClean}
 use Rattle.indexd_feed.proofs.Behind.{requests_closed, requests_behind, closed_short, short_behind, undamaged_behind, disk_behind, link_behind}
 use Rattle.ix_serve.proofs.Standing.{tells_on}
@@ -9,10 +10,10 @@ use Rattle.indexd_feed.proofs.feed.feed_open.Goals as goal
 pub returns-then-not-is_open-clause-requests : goal.returns-then-not-is_open-clause-requests
 returns-then-not-is_open-clause-requests g c = λ choose h base chooser taken hold.
     let fed = c.run_feed-end in
-    requests_closed g.D.Disk g.M.Memory.takes g.M.Book.Replay.fits g.M.Memory.holds choose h base c.args.store.now.run fed.result
+    requests_closed g.D.Disk (kind g.M.Memory.takes g.M.Book.Replay.fits g.M.Memory.holds) (start choose h base (length h) c.args.store.now.run c.args.disk.now) fed.result
     (IsClean (g.K.Link.faults c.args.link.now) (g.K.Link.faults fed.new.link) (g.K.Link.standing c.args.link.now) (g.K.Link.standing fed.new.link))
     (g.K.Link.left c.args.link.now) (g.K.Link.left fed.new.link) (g.C.Clock.ahead c.args.clock.now) (g.C.Clock.ahead fed.new.clock)
-    (g.K.Link.given c.args.link.now) (g.K.Link.given fed.new.link) fed.new.store c.args.disk.now fed.new.disk (fed.ensures.runs choose h base _ chooser taken hold)
+    (g.K.Link.given c.args.link.now) (g.K.Link.given fed.new.link) fed.new.store fed.new.disk (fed.ensures.runs choose h base _ chooser taken hold)
 
 pub returns-then-not-is_open-clause-unbroken : goal.returns-then-not-is_open-clause-unbroken
 returns-then-not-is_open-clause-unbroken g c = λ file at is choose h base chooser taken hold image seen.
@@ -27,12 +28,12 @@ returns-clause-requests g c = λ choose h base chooser taken hold.
     let fed = c.run_feed-end in
     let runs = fed.ensures.runs choose h base _ chooser taken hold in
     let up = sym c.is_open.ensures ∙ c.if-not-is_open.false in
-    requests_behind g.D.Disk g.M.Memory.takes g.M.Book.Replay.fits g.M.Memory.holds choose h base c.args.store.now.run fed.result
+    requests_behind g.D.Disk (kind g.M.Memory.takes g.M.Book.Replay.fits g.M.Memory.holds) (start choose h base (length h) c.args.store.now.run c.args.disk.now) fed.result
     (IsClean (g.K.Link.faults c.args.link.now) (g.K.Link.faults fed.new.link) (g.K.Link.standing c.args.link.now) (g.K.Link.standing fed.new.link))
     (g.K.Link.left c.args.link.now) (g.K.Link.left fed.new.link) (g.C.Clock.ahead c.args.clock.now) (g.C.Clock.ahead fed.new.clock)
-    (g.K.Link.given c.args.link.now) (g.K.Link.given fed.new.link) fed.new.store c.args.disk.now fed.new.disk runs
-    c.shorten-shortened.result c.fed_behind.result c.shorten-shortened.new.disk c.fed_behind.ensures up fed.ensures.run
-    (c.shorten-shortened.ensures.images choose (history_after h runs.turns) base chooser runs.taken (runs.held up))
+    (g.K.Link.given c.args.link.now) (g.K.Link.given fed.new.link) fed.new.store fed.new.disk runs
+    c.shorten-shortened.result c.fed_behind.result c.shorten-shortened.new.disk c.fed_behind.ensures up fed.ensures.run (omega arith)
+    (c.shorten-shortened.ensures.images choose (history_after (start choose h base (length h) c.args.store.now.run c.args.disk.now) runs.turns) base chooser runs.taken (runs.held up))
 
 pub returns-clause-unbroken : goal.returns-clause-unbroken
 returns-clause-unbroken g c = λ file at is choose h base chooser taken hold image seen.
@@ -54,3 +55,6 @@ returns-clause-comes g c = record {
 
 pub returns-clause-told : goal.returns-clause-told
 returns-clause-told g c = λ is. tells_on g.D.Disk _ c.run_feed-end.new.disk c.shorten-shortened.new.disk c.shorten-shortened.ensures.told (c.run_feed-end.ensures.told is)
+
+pub returns-clause-reads : goal.returns-clause-reads
+returns-clause-reads g c = reads_behind c.run_feed-end.result c.shorten-shortened.result c.fed_behind.result (g.K.Link.left c.args.link.now) (g.K.Link.left c.run_feed-end.new.link) c.fed_behind.ensures c.run_feed-end.ensures.reads

@@ -8,6 +8,7 @@ use Rattle.indexd_store.specs.Opened.{is_configured}
 use Rattle.indexd_store.specs.declared.stop.Stop.TheVariants as stops
 use Rattle.indexd_store.proofs.Joining.{front_has, begun_taken, shut_sound}
 use Rattle.indexd_store.proofs.Undamaged.{seen_on}
+use Rattle.ix_feed.proofs.Turning.{safe_turns}
 use Rattle.indexd_feed.specs.Serving.{Requests}
 use Rattle.indexd_feed.proofs.Opening.{served_behind}
 use Rattle.indexd_feed.proofs.Ending.{same_ok}
@@ -20,11 +21,12 @@ returns-clause-served g c = λ choose history k chooser taken begins image seen.
     let taken_now = begun_taken g.M.Memory.takes g.met.M.Memory.ticks_are_taken choose (take opened.count history) c.args.config (is_configured choose (take opened.count history) c.args.config) opened.configured
     c.requires.settings (front_has g.M.Memory.takes opened.count history taken) opened.configures in
     let requests = c.feed_open.ensures.requests choose (given_all choose (take opened.count history) opened.configured) opened.count chooser taken_now opened.hold in
-    served_behind g.D.Disk g.M.Book.Replay.fits g.M.Memory.holds choose history k c.args.config c.in-Ok.store (g.C.Clock.ahead c.args.clock.now) (g.C.Clock.ahead c.open.new.clock) c.args.disk.now c.open.new.disk opened
-    (Requests g.D.Disk g.M.Book.Replay.fits choose c.feed_open.result
+    served_behind g.D.Disk g.M.Memory.takes g.M.Book.Replay.fits g.M.Memory.holds choose history k c.args.config c.in-Ok.store (g.C.Clock.ahead c.args.clock.now) (g.C.Clock.ahead c.open.new.clock) c.args.disk.now c.open.new.disk opened
+    (Requests g.D.Disk g.M.Book.Replay.fits c.feed_open.result
     (IsClean (g.K.Link.faults c.args.link.now) (g.K.Link.faults c.feed_open.new.link) (g.K.Link.standing c.args.link.now) (g.K.Link.standing c.feed_open.new.link))
     (g.K.Link.left c.args.link.now) (g.K.Link.left c.feed_open.new.link) (g.C.Clock.ahead c.feed_open.new.clock) (g.K.Link.given c.args.link.now) (g.K.Link.given c.feed_open.new.link) c.feed_open.new.disk)
-    requests.1.turns requests.0 c.feed_open.new.disk (tells_on g.D.Disk _ c.args.disk.now c.open.new.disk c.open.ensures.told) requests.1.now_is requests.1 requests.1.images
+    requests.1.1.turns requests.0 c.feed_open.new.disk (tells_on g.D.Disk _ c.args.disk.now c.open.new.disk c.open.ensures.told) requests.1.0 requests.1.1.now_is requests.1.1
+    (safe_turns g.D.Disk g.M.Book.Replay.fits _ requests.1.1.turns _ _ requests.1.1.are) requests.1.1.behind
 
 pub returns-clause-unbroken : goal.returns-clause-unbroken
 returns-clause-unbroken g c = λ file at is choose history k chooser taken begins image seen.
@@ -42,7 +44,7 @@ returns-clause-link g c = λ is. c.feed_open.ensures.comes.by_link (same_ok is)
 
 pub returns-in-Err-clause-sound : goal.returns-in-Err-clause-sound
 returns-in-Err-clause-sound g c = λ unsound choose history k chooser taken begins image seen.
-    shut_sound c.in-Err.stop g.D.Disk _ choose history k c.args.config _ _ c.args.disk.now c.open.new.disk (cc (unsound)) (c.in-Err.ensures.stopped choose history k chooser taken begins image seen)
+    shut_sound c.in-Err.stop g.D.Disk g.M.Memory.takes _ choose history k c.args.config _ _ c.args.disk.now c.open.new.disk (cc (unsound)) (c.in-Err.ensures.stopped choose history k chooser taken begins image seen)
 
 pub returns-in-Err-clause-undamaged : goal.returns-in-Err-clause-undamaged
 returns-in-Err-clause-undamaged g c = λ file at is.

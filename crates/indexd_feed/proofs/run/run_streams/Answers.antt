@@ -1,24 +1,26 @@
-use Rattle.std.proofs.Common.{rules, ◌∙◌, inr, ap, sym}
+use Rattle.std.proofs.Common.{rules, ◌∙◌, inr, ap, sym, subst}
 use Rattle.std.specs.Prelude.{Ok, Err}
 use Rattle.indexd_feed.specs.Ends.{fed_of, is_short}
 use Rattle.indexd_feed.specs.Serving.{HasServed, Requests}
 use Rattle.indexd_feed.specs.Sides.{IsSound}
 use Rattle.indexd_feed.proofs.Opening.{served_as, requests_where}
-use Rattle.indexd_feed.proofs.Ending.{told_end, of_disk, of_damaged, of_input, of_output, same_ok, same_err, read_failed, write_failed, has_failed, along}
+use Rattle.indexd_feed.proofs.Ending.{told_end, of_disk, of_damaged, of_input, of_output, same_ok, same_err, read_failed, write_failed, has_failed, along, along_two}
+use Rattle.ix_feed.specs.Reading.{ReadsTo}
+use Rattle.ix_feed.specs.declared.feed.Fed.{Fed}
 use Rattle.indexd_feed.proofs.run.run_streams.Goals as goal
 
 pub returns-in-Ok-clause-served : goal.returns-in-Ok-clause-served
 returns-in-Ok-clause-served g c = λ choose history k chooser taken begins image seen.
     let has = c.in-Ok.ensures.served choose history k chooser taken begins image seen in
     let requests = has.served in
-    let told = served_as g.D.Disk _ choose history k c.args.config _ _
-    (Requests g.D.Disk g.M.Book.Replay.fits choose (fed_of c.end_of.result) (IsSound (g.W.Sink.faults c.new-link.result.sink.now) (g.W.Sink.faults c.run_feed.new.link.sink.now))
+    let told = served_as g.D.Disk g.M.Memory.takes _ choose history k c.args.config _ _
+    (Requests g.D.Disk g.M.Book.Replay.fits (fed_of c.end_of.result) (IsSound (g.W.Sink.faults c.new-link.result.sink.now) (g.W.Sink.faults c.run_feed.new.link.sink.now))
     (g.S.Source.left c.new-link.result.source.now) (g.S.Source.left c.run_feed.new.link.source.now) (g.C.Clock.ahead c.run_feed.new.clock)
     (g.W.Sink.given c.new-link.result.sink.now) (g.W.Sink.given c.run_feed.new.link.sink.now) c.run_feed.new.disk) _ _ has
-    (requests_where g.D.Disk _ choose c.in-Ok.fed (fed_of c.end_of.result) _ _ _ _ _ _ _ _ _ _ _ _ _ _ (λ sound. inr sound)
+    (requests_where g.D.Disk _ c.in-Ok.fed (fed_of c.end_of.result) _ _ _ _ _ _ _ _ _ _ _ (λ sound. inr sound)
     (ap fed_of c.end_of.ensures ∙ told_end c.in-Ok.fed c.run_feed.new.link.failed) requests) in
-    along (λ s s' w w'. HasServed g.D.Disk g.M.Book.Replay.fits choose history k c.args.config (g.C.Clock.ahead c.args.clock.now)
-    (Requests g.D.Disk g.M.Book.Replay.fits choose (fed_of c.end_of.result) (IsSound (g.W.Sink.faults w) (g.W.Sink.faults w'))
+    along (λ s s' w w'. HasServed g.D.Disk g.M.Memory.takes g.M.Book.Replay.fits choose history k c.args.config (g.C.Clock.ahead c.args.clock.now)
+    (Requests g.D.Disk g.M.Book.Replay.fits (fed_of c.end_of.result) (IsSound (g.W.Sink.faults w) (g.W.Sink.faults w'))
     (g.S.Source.left s) (g.S.Source.left s') (g.C.Clock.ahead c.run_feed.new.clock) (g.W.Sink.given w) (g.W.Sink.given w') c.run_feed.new.disk) c.args.disk.now c.run_feed.new.disk)
     c.new-link.ensures.read (search rules) c.new-link.ensures.written (search rules) told
 
@@ -49,3 +51,9 @@ returns-in-Err-clause-undamaged g c = λ file at is. c.run_feed.ensures.undamage
 
 pub returns-in-Err-clause-sound : goal.returns-in-Err-clause-sound
 returns-in-Err-clause-sound g c = λ is. c.run_feed.ensures.sound (c.in-Err.is ∙ ap (λ s. Err s) (same_err is))
+
+pub returns-in-Ok-clause-reads : goal.returns-in-Ok-clause-reads
+returns-in-Ok-clause-reads g c =
+    let same = ap fed_of c.end_of.ensures ∙ told_end c.in-Ok.fed c.run_feed.new.link.failed in
+    let told = subst (λ (e : Fed). ReadsTo e (g.S.Source.left c.new-link.result.source.now) (g.S.Source.left c.run_feed.new.link.source.now)) (sym same) c.in-Ok.ensures.reads in
+    along_two (λ s s'. ReadsTo (fed_of c.end_of.result) (g.S.Source.left s) (g.S.Source.left s')) c.new-link.ensures.read (search rules) told

@@ -1,7 +1,8 @@
 use Rattle.std.proofs.Common.{◌≡◌, take}
 use Rattle.std.specs.Prelude.{Err}
 use Rattle.ix_disk.proofs.Runs.{rose_later}
-use Rattle.ix_feed.specs.Connections.{turns_of}
+use Rattle.ix_feed.specs.Connections.{turns_of, listened}
+use Rattle.ix_feed.proofs.Visiting.{safe_visits}
 use Rattle.ix_run.specs.Giving.{given_all}
 use Rattle.indexd_store.specs.Opened.{is_configured}
 use Rattle.indexd_store.specs.declared.stop.Stop.TheVariants as stops
@@ -19,11 +20,12 @@ returns-clause-served g c = λ choose history k chooser taken begins image seen.
     let taken_now = begun_taken g.M.Memory.takes g.met.M.Memory.ticks_are_taken choose (take opened.count history) c.args.config (is_configured choose (take opened.count history) c.args.config) opened.configured
     c.requires.settings (front_has g.M.Memory.takes opened.count history taken) opened.configures in
     let all = c.serve_open.ensures.connections choose (given_all choose (take opened.count history) opened.configured) opened.count chooser taken_now opened.hold in
-    served_behind g.D.Disk g.M.Book.Replay.fits g.M.Memory.holds choose history k c.args.config c.in-Ok.store (g.C.Clock.ahead c.args.clock.now) (g.C.Clock.ahead c.open.new.clock) c.args.disk.now c.open.new.disk opened
-    (Connections g.D.Disk g.M.Book.Replay.fits choose c.args.requests c.serve_open.result
-    (g.L.Listener.waiting c.args.listener.now) (g.L.Listener.waiting c.serve_open.new.listener) (g.L.Listener.handed c.args.listener.now) (g.L.Listener.handed c.serve_open.new.listener)
+    served_behind g.D.Disk g.M.Memory.takes g.M.Book.Replay.fits g.M.Memory.holds choose history k c.args.config c.in-Ok.store (g.C.Clock.ahead c.args.clock.now) (g.C.Clock.ahead c.open.new.clock) c.args.disk.now c.open.new.disk opened
+    (Connections g.D.Disk g.M.Book.Replay.fits c.args.requests c.serve_open.result
+    (listened (g.L.Listener.waiting c.args.listener.now) (g.L.Listener.handed c.args.listener.now)) (listened (g.L.Listener.waiting c.serve_open.new.listener) (g.L.Listener.handed c.serve_open.new.listener))
     (g.C.Clock.ahead c.serve_open.new.clock) c.serve_open.new.disk)
-    (turns_of all.1.visits) all.0 c.serve_open.new.disk (tells_on g.D.Disk _ c.args.disk.now c.open.new.disk c.open.ensures.told) all.1.now_is all.1 all.1.images
+    (turns_of all.1.1.visits) all.0 c.serve_open.new.disk (tells_on g.D.Disk _ c.args.disk.now c.open.new.disk c.open.ensures.told) all.1.0 all.1.1.now_is all.1.1
+    (safe_visits g.D.Disk g.M.Book.Replay.fits _ all.1.1.visits _ _ all.1.1.are) all.1.1.behind
 
 pub returns-clause-unbroken : goal.returns-clause-unbroken
 returns-clause-unbroken g c = λ file at is choose history k chooser taken begins image seen.
@@ -41,7 +43,7 @@ returns-clause-listener g c = λ is. c.serve_open.ensures.listener (same_ok is)
 
 pub returns-in-Err-clause-sound : goal.returns-in-Err-clause-sound
 returns-in-Err-clause-sound g c = λ unsound choose history k chooser taken begins image seen.
-    shut_sound c.in-Err.stop g.D.Disk _ choose history k c.args.config _ _ c.args.disk.now c.open.new.disk (cc (unsound)) (c.in-Err.ensures.stopped choose history k chooser taken begins image seen)
+    shut_sound c.in-Err.stop g.D.Disk g.M.Memory.takes _ choose history k c.args.config _ _ c.args.disk.now c.open.new.disk (cc (unsound)) (c.in-Err.ensures.stopped choose history k chooser taken begins image seen)
 
 pub returns-in-Err-clause-undamaged : goal.returns-in-Err-clause-undamaged
 returns-in-Err-clause-undamaged g c = λ file at is.

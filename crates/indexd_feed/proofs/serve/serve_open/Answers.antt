@@ -1,17 +1,18 @@
-use Rattle.std.proofs.Common.{◌∙◌, sym}
+use Rattle.std.proofs.Common.{◌∙◌, arith, length, sym}
 use Rattle.ix_disk.proofs.Runs.{rose_later}
-use Rattle.ix_feed.specs.Connections.{turns_of}
-use Rattle.ix_feed.specs.Feeding.{history_after}
+use Rattle.ix_feed.specs.Connections.{turns_of, listened}
+use Rattle.ix_feed.specs.Feeding.{history_after, kind, start}
 use Rattle.indexd_feed.proofs.Behind.{connections_closed, connections_behind, closed_served, short_served, damaged_heard, undamaged_served, disk_heard, disk_served, listener_heard, listener_served}
+use Rattle.indexd_feed.proofs.Reading.{hears_closed, hears_behind}
 use Rattle.ix_serve.proofs.Standing.{tells_on}
 use Rattle.indexd_feed.proofs.serve.serve_open.Goals as goal
 
 pub returns-then-not-is_open-clause-connections : goal.returns-then-not-is_open-clause-connections
 returns-then-not-is_open-clause-connections g c = λ choose h base chooser taken hold.
     let all = c.run_serve-end in
-    connections_closed g.D.Disk g.M.Memory.takes g.M.Book.Replay.fits g.M.Memory.holds choose h base c.args.store.now.run c.args.requests all.result
-    (g.L.Listener.waiting c.args.listener.now) (g.L.Listener.waiting all.new.listener) (g.L.Listener.handed c.args.listener.now) (g.L.Listener.handed all.new.listener)
-    (g.C.Clock.ahead c.args.clock.now) (g.C.Clock.ahead all.new.clock) all.new.store c.args.disk.now all.new.disk (all.ensures.listens choose h base _ chooser taken hold) c.heard_end.result c.heard_end.ensures
+    connections_closed g.D.Disk (kind g.M.Memory.takes g.M.Book.Replay.fits g.M.Memory.holds) (start choose h base (length h) c.args.store.now.run c.args.disk.now) c.args.requests all.result
+    (listened (g.L.Listener.waiting c.args.listener.now) (g.L.Listener.handed c.args.listener.now)) (listened (g.L.Listener.waiting all.new.listener) (g.L.Listener.handed all.new.listener))
+    (g.C.Clock.ahead c.args.clock.now) (g.C.Clock.ahead all.new.clock) all.new.store all.new.disk (all.ensures.listens choose h base _ chooser taken hold) c.heard_end.result c.heard_end.ensures
 
 pub returns-then-not-is_open-clause-unbroken : goal.returns-then-not-is_open-clause-unbroken
 returns-then-not-is_open-clause-unbroken g c = λ file at is choose h base chooser taken hold image seen.
@@ -32,11 +33,11 @@ returns-clause-connections g c = λ choose h base chooser taken hold.
     let all = c.run_serve-end in
     let listens = all.ensures.listens choose h base _ chooser taken hold in
     let up = sym c.is_open.ensures ∙ c.if-not-is_open.false in
-    connections_behind g.D.Disk g.M.Memory.takes g.M.Book.Replay.fits g.M.Memory.holds choose h base c.args.store.now.run c.args.requests all.result
-    (g.L.Listener.waiting c.args.listener.now) (g.L.Listener.waiting all.new.listener) (g.L.Listener.handed c.args.listener.now) (g.L.Listener.handed all.new.listener)
-    (g.C.Clock.ahead c.args.clock.now) (g.C.Clock.ahead all.new.clock) all.new.store c.args.disk.now all.new.disk listens
-    c.shorten-shortened.result c.heard_behind.result c.shorten-shortened.new.disk c.heard_behind.ensures up all.ensures.run
-    (c.shorten-shortened.ensures.images choose (history_after h (turns_of listens.visits)) base chooser listens.taken (listens.held up))
+    connections_behind g.D.Disk (kind g.M.Memory.takes g.M.Book.Replay.fits g.M.Memory.holds) (start choose h base (length h) c.args.store.now.run c.args.disk.now) c.args.requests all.result
+    (listened (g.L.Listener.waiting c.args.listener.now) (g.L.Listener.handed c.args.listener.now)) (listened (g.L.Listener.waiting all.new.listener) (g.L.Listener.handed all.new.listener))
+    (g.C.Clock.ahead c.args.clock.now) (g.C.Clock.ahead all.new.clock) all.new.store all.new.disk listens
+    c.shorten-shortened.result c.heard_behind.result c.shorten-shortened.new.disk c.heard_behind.ensures up all.ensures.run (omega arith)
+    (c.shorten-shortened.ensures.images choose (history_after (start choose h base (length h) c.args.store.now.run c.args.disk.now) (turns_of listens.visits)) base chooser listens.taken (listens.held up))
 
 pub returns-clause-unbroken : goal.returns-clause-unbroken
 returns-clause-unbroken g c = λ file at is choose h base chooser taken hold image seen.
@@ -57,3 +58,11 @@ returns-clause-disk g c = λ is.
 
 pub returns-clause-told : goal.returns-clause-told
 returns-clause-told g c = λ is. tells_on g.D.Disk _ c.run_serve-end.new.disk c.shorten-shortened.new.disk c.shorten-shortened.ensures.told (c.run_serve-end.ensures.told is)
+
+pub returns-then-not-is_open-clause-reads : goal.returns-then-not-is_open-clause-reads
+returns-then-not-is_open-clause-reads g c = hears_closed c.args.requests c.run_serve-end.result
+    (listened (g.L.Listener.waiting c.args.listener.now) (g.L.Listener.handed c.args.listener.now)) (listened (g.L.Listener.waiting c.run_serve-end.new.listener) (g.L.Listener.handed c.run_serve-end.new.listener)) c.run_serve-end.ensures.reads c.heard_end.result c.heard_end.ensures
+
+pub returns-clause-reads : goal.returns-clause-reads
+returns-clause-reads g c = hears_behind c.args.requests c.run_serve-end.result
+    (listened (g.L.Listener.waiting c.args.listener.now) (g.L.Listener.handed c.args.listener.now)) (listened (g.L.Listener.waiting c.run_serve-end.new.listener) (g.L.Listener.handed c.run_serve-end.new.listener)) c.run_serve-end.ensures.reads c.heard_behind.result c.shorten-shortened.result c.heard_behind.ensures

@@ -26,7 +26,7 @@ returns-then-same_kept g c = record {
   opened = λ choose history k chooser taken begins image seen.
       let is = c.in-Ok.ensures.mounted choose history k chooser taken begins image seen in
       let same : c.same_kept.result ≡ same_kept c.kept.result.now c.args.config.kept = c.same_kept.ensures ∙ ap₂ same_kept c.as_slice.ensures c.as_slice-2.ensures in
-      opened_same g.D.Disk _ g.M.Memory.holds choose history k c.args.config image c.in-Ok.store c.args.disk.now c.mount.new.disk (g.C.Clock.ahead c.args.clock.now) is (c.in-Ok.ensures.images choose history k begins) c.in-Ok.ensures.begun
+      opened_same g.D.Disk _ g.M.Memory.holds choose history k c.args.config image c.in-Ok.store c.args.disk.now c.mount.new.disk (g.C.Clock.ahead c.args.clock.now) seen is (c.in-Ok.ensures.images choose history k begins) c.in-Ok.ensures.begun
       (configured_as g.D.Disk _ g.M.Memory.holds choose history k c.args.config image c.in-Ok.store c.mount.new.disk is c.kept.result.now c.kept.ensures c.same_kept.result true same c.if-same_kept.true);
   stopped = tt;
   undamaged = λ file at is. absurd (not_err is);
@@ -49,7 +49,7 @@ returns-in-Ok-run_last g c = record {
       let left = simp to_z-of_z at (c.in-Ok-run_last.ensures.left choose (take is.count history) is.count chooser (front_has g.M.Memory.takes is.count history taken)
       (committed g.D.Disk _ g.M.Memory.holds choose history k c.args.config image c.in-Ok.store c.mount.new.disk is)) in
       opened_by g.D.Disk _ g.M.Memory.holds choose history k c.args.config image c.in-Ok.store c.run_last.new.store c.args.disk.now c.mount.new.disk c.run_last.new.disk
-      (g.C.Clock.ahead c.args.clock.now) (g.C.Clock.ahead c.now-moment.new.self) is (c.in-Ok.ensures.images choose history k begins) c.in-Ok.ensures.begun
+      (g.C.Clock.ahead c.args.clock.now) (g.C.Clock.ahead c.now-moment.new.self) seen c.run_last.ensures.run is (c.in-Ok.ensures.images choose history k begins) c.in-Ok.ensures.begun
       (configured_as g.D.Disk _ g.M.Memory.holds choose history k c.args.config image c.in-Ok.store c.mount.new.disk is c.kept.result.now c.kept.ensures c.same_kept.result false same c.if-same_kept.false)
       c.now-moment.result c.now-moment.ensures left;
   stopped = tt;
@@ -85,7 +85,8 @@ returns-in-Err-run_last g c = record {
       (configured_as g.D.Disk _ g.M.Memory.holds choose history k c.args.config image c.in-Ok.store c.mount.new.disk is c.kept.result.now c.kept.ensures c.same_kept.result false same c.if-same_kept.false)
       c.now-moment.result c.now-moment.ensures c.stop_run.result
       (by_end (λ (stop : Stop). IsUnset choose (take is.count history) order stop) c.in-Err-run_last.stop c.stop_run.result
-      (unset choose c.in-Ok.store.drawn (take is.count history) c.args.config c.now-moment.result c.in-Err-run_last.stop caused) tt tt c.stop_run.ensures.why) short;
+      (unset choose c.in-Ok.store.drawn (take is.count history) c.args.config c.now-moment.result c.in-Err-run_last.stop caused) tt tt c.stop_run.ensures.why) g.M.Memory.takes
+      (λ orders at_most. all_taken g.M.Memory.takes g.met.M.Memory.ticks_are_taken choose (take is.count history) orders front (most_taken g.M.Memory.takes order orders (c.requires c.now-moment.result) at_most)) short;
   undamaged = λ file at is choose history k chooser taken begins image seen.
       let mounted = seen_on _ (g.D.Disk.seen c.args.disk.now) (g.D.Disk.seen c.mount.new.disk) image c.mount.ensures.told seen in
       let later = seen_on _ (g.D.Disk.seen c.mount.new.disk) (g.D.Disk.seen c.run_last.new.disk) mounted.0 c.run_last.ensures.told mounted.1 in

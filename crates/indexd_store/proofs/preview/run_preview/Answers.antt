@@ -4,14 +4,17 @@ use Rattle.std.proofs.lemmas.Int.{to_z-of_z}
 use mir.Val.{SFits}
 use Rattle.ix_run.specs.Giving.{given_all}
 use Rattle.indexd_store.specs.Opened.{is_configured, WhenOpen, HasRun}
-use Rattle.indexd_store.specs.Previews.{HasFed}
+use Rattle.std.specs.List.{AllByRecursion}
+use Rattle.indexd_store.specs.Previews.{Fed, HasFed}
 use Rattle.indexd_store.specs.Stops.{loses_in}
 use Rattle.indexd_store.specs.declared.stop.Stop.TheVariants as stops
 use Rattle.indexd_store.proofs.Feeding.{none_taken, fed_sound}
+use Rattle.ix_run.proofs.Stored.{all_taken}
+use Rattle.indexd_store.proofs.Shortening.{fed_taken}
 use Rattle.indexd_store.proofs.Joining.{front_has, begun_taken, fed_when, shut_sound}
 use Rattle.indexd_store.proofs.Shortening.{ends_as}
 use Rattle.indexd_store.proofs.Undamaged.{seen_on}
-use Rattle.indexd_store.proofs.Tasks.{on_ok_by, if_err_by}
+use Rattle.indexd_store.proofs.Tasks.{ends_weaker, on_ok_by, if_err_by}
 use Rattle.indexd_store.proofs.preview.run_preview.Goals as goal
 
 pub returns-in-Err-clause-stopped : goal.returns-in-Err-clause-stopped
@@ -19,7 +22,7 @@ returns-in-Err-clause-stopped g c = λ choose history k chooser taken begins ima
 
 pub returns-in-Err-clause-sound : goal.returns-in-Err-clause-sound
 returns-in-Err-clause-sound g c = λ unsound choose history k chooser taken begins image seen.
-    shut_sound c.in-Err.stop g.D.Disk _ choose history k c.args.config _ _ c.args.disk.now c.open.new.disk (cc (unsound)) (c.in-Err.ensures.stopped choose history k chooser taken begins image seen)
+    shut_sound c.in-Err.stop g.D.Disk g.M.Memory.takes _ choose history k c.args.config _ _ c.args.disk.now c.open.new.disk (cc (unsound)) (c.in-Err.ensures.stopped choose history k chooser taken begins image seen)
 
 pub returns-clause-sound : goal.returns-clause-sound
 returns-clause-sound g c = λ unsound choose history k chooser taken begins image seen.
@@ -36,11 +39,20 @@ returns-clause-done g c = on_ok_by c.store_preview.result _ (λ done is. λ choo
     let opened = c.in-Ok.ensures.opened choose history k chooser taken begins image seen in
     let taken_now = begun_taken g.M.Memory.takes g.met.M.Memory.ticks_are_taken choose (take opened.count history) c.args.config (is_configured choose (take opened.count history) c.args.config) opened.configured
     c.requires.settings (front_has g.M.Memory.takes opened.count history taken) opened.configures in
+    let begun = given_all choose (take opened.count history) opened.configured in
+    let fed = Fed choose opened.count begun c.args.origin c.now-moment.result c.store_preview.result (g.S.Source.left c.args.input.now) (g.S.Source.left c.store_preview.new.input) in
     let ends = simp to_z-of_z at (c.store_preview.ensures.ends choose (given_all choose (take opened.count history) opened.configured) opened.count chooser taken_now opened.hold) in
-    subst (λ (lost : Bool). HasRun lost g.D.Disk g.M.Book.Replay.fits choose history k (WhenOpen choose c.args.config (g.C.Clock.ahead c.args.clock.now)
+    subst (λ (lost : Bool). HasRun lost g.D.Disk g.M.Memory.takes g.M.Book.Replay.fits choose history k (WhenOpen choose c.args.config (g.C.Clock.ahead c.args.clock.now)
     (HasFed choose c.args.origin c.store_preview.result (g.C.Clock.ahead c.now-moment.new.self) (g.S.Source.left c.args.input.now) (g.S.Source.left c.store_preview.new.input))) c.args.disk.now c.store_preview.new.disk) (ap loses_in is)
     (fed_when g.D.Disk _ g.M.Memory.holds choose history k c.args.config c.in-Ok.store (g.C.Clock.ahead c.args.clock.now) (g.C.Clock.ahead c.open.new.clock) c.args.disk.now c.open.new.disk c.store_preview.new.disk opened
-    c.store_preview.new.store c.args.origin c.now-moment.result (g.C.Clock.ahead c.now-moment.new.self) c.now-moment.ensures (g.S.Source.left c.args.input.now) (g.S.Source.left c.store_preview.new.input) c.store_preview.result ends))
+    c.store_preview.new.store c.args.origin c.now-moment.result (g.C.Clock.ahead c.now-moment.new.self) c.now-moment.ensures (g.S.Source.left c.args.input.now) (g.S.Source.left c.store_preview.new.input) g.M.Memory.takes c.store_preview.result
+    (ends_weaker g.D.Disk _ g.M.Memory.holds choose begun opened.count c.store_preview.new.store c.open.new.disk c.store_preview.new.disk (loses_in c.store_preview.result) fed (λ orders. fed orders × AllByRecursion g.M.Memory.takes (given_all choose begun orders))
+    (λ orders was. (
+      was,
+      all_taken g.M.Memory.takes g.met.M.Memory.ticks_are_taken choose begun orders taken_now
+          (fed_taken g.M.Memory.takes choose opened.count begun c.args.origin c.now-moment.result c.store_preview.result (g.S.Source.left c.args.input.now) (g.S.Source.left c.store_preview.new.input) orders
+          (c.requires.ends c.now-moment.result) (c.requires.begins c.now-moment.result) (c.requires.adds c.now-moment.result) was),
+    )) ends)))
 
 pub returns-clause-stopped : goal.returns-clause-stopped
 returns-clause-stopped g c = if_err_by c.store_preview.result _ (λ stop is. λ choose history k chooser taken begins image seen.
@@ -48,11 +60,20 @@ returns-clause-stopped g c = if_err_by c.store_preview.result _ (λ stop is. λ 
     let opened = c.in-Ok.ensures.opened choose history k chooser taken begins image seen in
     let taken_now = begun_taken g.M.Memory.takes g.met.M.Memory.ticks_are_taken choose (take opened.count history) c.args.config (is_configured choose (take opened.count history) c.args.config) opened.configured
     c.requires.settings (front_has g.M.Memory.takes opened.count history taken) opened.configures in
+    let begun = given_all choose (take opened.count history) opened.configured in
+    let fed = Fed choose opened.count begun c.args.origin c.now-moment.result c.store_preview.result (g.S.Source.left c.args.input.now) (g.S.Source.left c.store_preview.new.input) in
     let ends = simp to_z-of_z at (c.store_preview.ensures.ends choose (given_all choose (take opened.count history) opened.configured) opened.count chooser taken_now opened.hold) in
-    inr (subst (λ (lost : Bool). HasRun lost g.D.Disk g.M.Book.Replay.fits choose history k (WhenOpen choose c.args.config (g.C.Clock.ahead c.args.clock.now)
+    inr (subst (λ (lost : Bool). HasRun lost g.D.Disk g.M.Memory.takes g.M.Book.Replay.fits choose history k (WhenOpen choose c.args.config (g.C.Clock.ahead c.args.clock.now)
     (HasFed choose c.args.origin c.store_preview.result (g.C.Clock.ahead c.now-moment.new.self) (g.S.Source.left c.args.input.now) (g.S.Source.left c.store_preview.new.input))) c.args.disk.now c.store_preview.new.disk) (ap loses_in is)
     (fed_when g.D.Disk _ g.M.Memory.holds choose history k c.args.config c.in-Ok.store (g.C.Clock.ahead c.args.clock.now) (g.C.Clock.ahead c.open.new.clock) c.args.disk.now c.open.new.disk c.store_preview.new.disk opened
-    c.store_preview.new.store c.args.origin c.now-moment.result (g.C.Clock.ahead c.now-moment.new.self) c.now-moment.ensures (g.S.Source.left c.args.input.now) (g.S.Source.left c.store_preview.new.input) c.store_preview.result ends)))
+    c.store_preview.new.store c.args.origin c.now-moment.result (g.C.Clock.ahead c.now-moment.new.self) c.now-moment.ensures (g.S.Source.left c.args.input.now) (g.S.Source.left c.store_preview.new.input) g.M.Memory.takes c.store_preview.result
+    (ends_weaker g.D.Disk _ g.M.Memory.holds choose begun opened.count c.store_preview.new.store c.open.new.disk c.store_preview.new.disk (loses_in c.store_preview.result) fed (λ orders. fed orders × AllByRecursion g.M.Memory.takes (given_all choose begun orders))
+    (λ orders was. (
+      was,
+      all_taken g.M.Memory.takes g.met.M.Memory.ticks_are_taken choose begun orders taken_now
+          (fed_taken g.M.Memory.takes choose opened.count begun c.args.origin c.now-moment.result c.store_preview.result (g.S.Source.left c.args.input.now) (g.S.Source.left c.store_preview.new.input) orders
+          (c.requires.ends c.now-moment.result) (c.requires.begins c.now-moment.result) (c.requires.adds c.now-moment.result) was),
+    )) ends))))
 
 pub returns-in-Err-clause-read : goal.returns-in-Err-clause-read
 returns-in-Err-clause-read g c = none_taken c.in-Err.stop (g.S.Source.left c.args.input.now) c.in-Err.ensures.unread

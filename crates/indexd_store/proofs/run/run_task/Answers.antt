@@ -1,4 +1,4 @@
-use Rattle.std.proofs.Common.{rules, ◌≡◌, take, refl, inl, inr, w64}
+use Rattle.std.proofs.Common.{rules, ◌≡◌, take, refl, inl, inr, true, w64}
 use Rattle.std.specs.Prelude.{Err}
 use Rattle.std.proofs.lemmas.Int.{to_z-of_z}
 use mir.Val.{SFits}
@@ -6,7 +6,10 @@ use Rattle.ix_run.specs.Giving.{given_all}
 use Rattle.indexd_store.specs.Opened.{is_configured}
 use Rattle.indexd_store.specs.declared.stop.Stop.TheVariants as stops
 use Rattle.indexd_store.proofs.Joining.{front_has, begun_taken, done_when, halted_when, shut_sound}
-use Rattle.indexd_store.proofs.Shortening.{ends_as}
+use Rattle.ix_run.proofs.Stored.{all_taken}
+use Rattle.indexd_store.specs.Stops.{is_output}
+use Rattle.indexd_store.specs.Tasks.{orders_in}
+use Rattle.indexd_store.proofs.Shortening.{ends_as, gave_taken}
 use Rattle.indexd_store.proofs.Undamaged.{seen_on}
 use Rattle.indexd_store.proofs.Tasks.{on_ok_by, at_ok, if_err_by, at_err}
 use Rattle.indexd_store.proofs.run.run_task.Goals as goal
@@ -16,7 +19,7 @@ returns-in-Err-clause-stopped g c = λ choose history k chooser taken begins ima
 
 pub returns-in-Err-clause-sound : goal.returns-in-Err-clause-sound
 returns-in-Err-clause-sound g c = λ unsound choose history k chooser taken begins image seen.
-    shut_sound c.in-Err.stop g.D.Disk _ choose history k c.args.config _ _ c.args.disk.now c.open.new.disk (cc (unsound)) (c.in-Err.ensures.stopped choose history k chooser taken begins image seen)
+    shut_sound c.in-Err.stop g.D.Disk g.M.Memory.takes _ choose history k c.args.config _ _ c.args.disk.now c.open.new.disk (cc (unsound)) (c.in-Err.ensures.stopped choose history k chooser taken begins image seen)
 
 pub returns-clause-done : goal.returns-clause-done
 returns-clause-done g c = on_ok_by c.carry_out.result _ (λ done is. λ choose history k chooser taken begins image seen.
@@ -30,7 +33,8 @@ returns-clause-done g c = on_ok_by c.carry_out.result _ (λ done is. λ choose h
     let ends = simp to_z-of_z at (c.carry_out.ensures.ends choose now opened.count chooser taken_now opened.hold) in
     done_when g.D.Disk _ g.M.Memory.holds choose history k c.args.config c.in-Ok.store (g.C.Clock.ahead c.args.clock.now) (g.C.Clock.ahead c.open.new.clock) c.args.disk.now c.open.new.disk c.carry_out.new.disk opened
     c.carry_out.new.store c.args.task c.moment_of-moment.result (g.C.Clock.ahead c.moment_of-moment.new.clock) c.moment_of-moment.ensures
-    (g.W.Sink.given c.args.output.now) (g.W.Sink.given c.carry_out.new.output) c.carry_out.result done is fine printed ends)
+    (g.W.Sink.given c.args.output.now) (g.W.Sink.given c.carry_out.new.output) c.carry_out.result done is fine printed ends g.M.Memory.takes
+    (λ orders moment are. all_taken g.M.Memory.takes g.met.M.Memory.ticks_are_taken choose now orders taken_now (gave_taken g.M.Memory.takes true (orders_in c.args.task moment) orders (c.requires.takes moment) are)))
 
 pub returns-clause-stopped : goal.returns-clause-stopped
 returns-clause-stopped g c = if_err_by c.carry_out.result _ (λ stop is. λ choose history k chooser taken begins image seen.
@@ -44,7 +48,8 @@ returns-clause-stopped g c = if_err_by c.carry_out.result _ (λ stop is. λ choo
     inr (halted_when g.D.Disk _ g.M.Memory.holds choose history k c.args.config c.in-Ok.store (g.C.Clock.ahead c.args.clock.now) (g.C.Clock.ahead c.open.new.clock) c.args.disk.now c.open.new.disk c.carry_out.new.disk opened
     c.carry_out.new.store c.args.task c.moment_of-moment.result (g.C.Clock.ahead c.moment_of-moment.new.clock) c.moment_of-moment.ensures
     (g.W.Sink.given c.args.output.now) (g.W.Sink.given c.carry_out.new.output) c.carry_out.result stop is why
-    (λ says. simp to_z-of_z at (at_err c.carry_out.result stop _ is c.carry_out.ensures.begun says choose now opened.count chooser taken_now opened.hold)) ends))
+    (λ says. simp to_z-of_z at (at_err c.carry_out.result stop _ is c.carry_out.ensures.begun says choose now opened.count chooser taken_now opened.hold)) ends g.M.Memory.takes
+    (λ orders moment are. all_taken g.M.Memory.takes g.met.M.Memory.ticks_are_taken choose now orders taken_now (gave_taken g.M.Memory.takes (is_output stop) (orders_in c.args.task moment) orders (c.requires.takes moment) are))))
 
 pub returns-clause-sound : goal.returns-clause-sound
 returns-clause-sound g c = λ unsound choose history k chooser taken begins image seen.

@@ -25,6 +25,7 @@ returns-in-Ok g c = record {
   stopped = tt;
   caused = tt;
   over = c.in-Ok.ensures.over;
+  run = c.give_last.ensures.run;
   rest = λ kept rest. c.in-Ok.ensures.rest rest.measured;
   undamaged = λ file at is. absurd (not_err is);
   told = c.give_last.ensures.told;
@@ -47,6 +48,7 @@ returns-in-Err g c = record {
       let not = simp to_z-of_z at (c.in-Err.ensures.fault choose h base (length h) chooser taken hold) in
       caused g.D.Disk g.M.Book.Replay.fits g.M.Memory.holds choose h base (record { command = c.args.command; moment = c.args.moment }) c.give_last.new.store c.args.disk.now c.give_last.new.disk c.args.store.now c.in-Err.fault c.of_give.result c.of_give.ensures not;
   over = tt;
+  run = c.give_last.ensures.run;
   rest = λ kept rest.
       rest_of_give g.D.Disk g.M.Book.Replay.fits c.args.store.now c.give_last.new.store c.args.disk.now c.give_last.new.disk c.in-Err.fault c.in-Err.ensures.unchanged (ap loses (sym c.of_give.ensures) ∙ kept) rest;
   undamaged = λ file at is choose h base chooser taken hold.

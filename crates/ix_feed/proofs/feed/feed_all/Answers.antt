@@ -7,9 +7,9 @@ use Rattle.ix_link.proofs.GoesLemmas.{goes_nowhere, goes_on}
 use Rattle.ix_serve.specs.Entries.{entry}
 use Rattle.ix_serve.specs.Serving.{IsClean, IsTold}
 use Rattle.ix_serve.proofs.Answering.{clean_behind}
-use Rattle.ix_serve.proofs.Standing.{standing}
-use Rattle.ix_feed.specs.Feeding.{history_after}
+use Rattle.ix_feed.specs.Feeding.{history_after, kind, start, coming}
 use Rattle.ix_serve.proofs.Taking.{says_taken}
+use Rattle.ix_feed.proofs.Reading.{read_on, read_end, read_all}
 use Rattle.ix_feed.proofs.Turning.{comes_ended, comes_endless, reach_on, feeds_on, feeds_all, stays_open, open_end}
 use Rattle.ix_feed.proofs.feed.feed_all.Goals as goal
 
@@ -22,18 +22,18 @@ loop-served-init g c = record {
   measured = λ is. is;
   goes = goes_nowhere _;
   told = λ is. is;
+  reads = record { reads = []; are = refl; made = refl; whole = tt };
   reaches = λ choose h base k chooser taken hold. record {
     turns = [];
-    are = (refl, refl);
+    are = refl;
     taken = taken;
     served = refl;
     on = tt;
     written = nothing_written (g.K.Link.given c.args.link.now);
+    at = refl;
     kept = k;
-    least = omega arith;
     knows = omega arith;
     hold = hold;
-    images = standing g.D.Disk g.M.Book.Replay.fits g.M.Memory.holds choose h base k c.args.store.now c.args.disk.now hold;
     told = λ is. (is, tt);
   };
 }
@@ -43,22 +43,23 @@ returns-in-Some g c = record {
   feeds = λ choose h base k chooser taken hold.
       let l = c.loop-served in
       let moment : ℤ = c.now-moment.result in
+      let s = start choose h base k c.args.store.now.run c.args.disk.now in
       let reached = l.invariant.reaches choose h base k chooser taken hold in
       let fits : SFits w64 moment = search rules in
-      let serves = simp to_z-of_z at (c.serve_one-came.ensures.serves choose (history_after h reached.turns) base reached.kept chooser reached.taken reached.hold) in
-      let e = entry choose (history_after h reached.turns) base reached.kept l.store.run moment in
-      feeds_on g.D.Disk g.M.Memory.takes g.M.Book.Replay.fits g.M.Memory.holds choose h base k c.args.store.now.run l.served
-      (g.K.Link.left c.args.link.now) (g.K.Link.left l.link) (g.K.Link.left c.serve_one-came.new.link)
-      (g.C.Clock.ahead c.args.clock.now) (g.C.Clock.ahead l.clock) (g.C.Clock.ahead c.now-moment.new.self)
+      let serves = simp to_z-of_z at (c.serve_one-came.ensures.serves choose (history_after s reached.turns) base reached.kept chooser reached.taken reached.hold) in
+      let e = entry choose (history_after s reached.turns) base reached.kept l.store.run moment in
+      feeds_on g.D.Disk (kind g.M.Memory.takes g.M.Book.Replay.fits g.M.Memory.holds) s l.served
+      (coming (g.K.Link.left c.args.link.now) (g.C.Clock.ahead c.args.clock.now)) (coming (g.K.Link.left l.link) (g.C.Clock.ahead l.clock)) (coming (g.K.Link.left c.serve_one-came.new.link) (g.C.Clock.ahead c.now-moment.new.self))
       (g.K.Link.given c.args.link.now) (g.K.Link.given l.link) (g.K.Link.given c.serve_one-came.new.link)
-      l.store c.serve_one-came.new.store c.args.disk.now l.disk c.serve_one-came.new.disk moment
+      l.store c.serve_one-came.new.store l.disk c.serve_one-came.new.disk moment
       (IsClean (g.K.Link.faults l.link) (g.K.Link.faults c.serve_one-came.new.link) (g.K.Link.standing l.link) (g.K.Link.standing c.serve_one-came.new.link))
       (IsClean (g.K.Link.faults c.args.link.now) (g.K.Link.faults c.serve_one-came.new.link) (g.K.Link.standing c.args.link.now) (g.K.Link.standing c.serve_one-came.new.link))
-      c.serve_one-came.result l.invariant.run c.now-moment.ensures reached serves c.serve_one-came.ensures.told
+      c.serve_one-came.result l.invariant.run c.serve_one-came.ensures.run c.now-moment.ensures reached serves c.serve_one-came.ensures.told
       (says_taken g.M.Memory.takes g.met.M.Memory.ticks_are_taken c.requires.takes e reached.taken (IsTold g.D.Disk c.serve_one-came.new.disk) serves.read c.serve_one-came.result serves.answers.answer serves.within serves.answers.may_be)
       (clean_behind (g.K.Link.faults c.args.link.now) (g.K.Link.faults l.link) (g.K.Link.faults c.serve_one-came.new.link)
       (g.K.Link.standing c.args.link.now) (g.K.Link.standing l.link) (g.K.Link.standing c.serve_one-came.new.link) l.invariant.link_later l.invariant.goes.writing)
       c.in-Some.end (sym c.end_of.ensures ∙ c.in-Some.is);
+  reads = read_end _ (g.K.Link.left c.args.link.now) (g.K.Link.left c.loop-served.link) (g.K.Link.left c.serve_one-came.new.link) c.serve_one-came.result c.loop-served.invariant.reads c.serve_one-came.ensures.reads c.in-Some.end (sym c.end_of.ensures ∙ c.in-Some.is);
   run = c.serve_one-came.ensures.run ∙ c.loop-served.invariant.run;
   over = λ up. c.serve_one-came.ensures.over (open_end _ c.serve_one-came.result c.in-Some.end (sym c.end_of.ensures ∙ c.in-Some.is) up);
   measured = λ is up.
@@ -81,20 +82,21 @@ loop-served-preserved g c = let l = c.loop-served in
       measured = λ is. c.serve_one-came.ensures.measured (l.invariant.measured is) (stays_open _ c.serve_one-came.result none).0;
       goes = goes_on l.invariant.goes c.serve_one-came.ensures.goes;
       told = λ is. c.serve_one-came.ensures.told (l.invariant.told is);
+      reads = read_on _ (g.K.Link.left c.args.link.now) (g.K.Link.left l.link) (g.K.Link.left c.serve_one-came.new.link) c.serve_one-came.result l.invariant.reads c.serve_one-came.ensures.reads none;
       reaches = λ choose h base k chooser taken hold.
           let moment : ℤ = c.now-moment.result in
+          let s = start choose h base k c.args.store.now.run c.args.disk.now in
           let reached = l.invariant.reaches choose h base k chooser taken hold in
           let fits : SFits w64 moment = search rules in
-          let serves = simp to_z-of_z at (c.serve_one-came.ensures.serves choose (history_after h reached.turns) base reached.kept chooser reached.taken reached.hold) in
-          let e = entry choose (history_after h reached.turns) base reached.kept l.store.run moment in
-          reach_on g.D.Disk g.M.Memory.takes g.M.Book.Replay.fits g.M.Memory.holds choose h base k c.args.store.now.run l.served
-          (g.K.Link.left c.args.link.now) (g.K.Link.left l.link) (g.K.Link.left c.serve_one-came.new.link)
-          (g.C.Clock.ahead c.args.clock.now) (g.C.Clock.ahead l.clock) (g.C.Clock.ahead c.now-moment.new.self)
+          let serves = simp to_z-of_z at (c.serve_one-came.ensures.serves choose (history_after s reached.turns) base reached.kept chooser reached.taken reached.hold) in
+          let e = entry choose (history_after s reached.turns) base reached.kept l.store.run moment in
+          reach_on g.D.Disk (kind g.M.Memory.takes g.M.Book.Replay.fits g.M.Memory.holds) s l.served
+          (coming (g.K.Link.left c.args.link.now) (g.C.Clock.ahead c.args.clock.now)) (coming (g.K.Link.left l.link) (g.C.Clock.ahead l.clock)) (coming (g.K.Link.left c.serve_one-came.new.link) (g.C.Clock.ahead c.now-moment.new.self))
           (g.K.Link.given c.args.link.now) (g.K.Link.given l.link) (g.K.Link.given c.serve_one-came.new.link)
-          l.store c.serve_one-came.new.store c.args.disk.now l.disk c.serve_one-came.new.disk moment
+          l.store c.serve_one-came.new.store l.disk c.serve_one-came.new.disk moment
           (IsClean (g.K.Link.faults l.link) (g.K.Link.faults c.serve_one-came.new.link) (g.K.Link.standing l.link) (g.K.Link.standing c.serve_one-came.new.link))
           (IsClean (g.K.Link.faults c.args.link.now) (g.K.Link.faults c.serve_one-came.new.link) (g.K.Link.standing c.args.link.now) (g.K.Link.standing c.serve_one-came.new.link))
-          c.serve_one-came.result l.invariant.run c.now-moment.ensures reached serves c.serve_one-came.ensures.told
+          c.serve_one-came.result l.invariant.run c.serve_one-came.ensures.run c.now-moment.ensures reached serves c.serve_one-came.ensures.told
           (says_taken g.M.Memory.takes g.met.M.Memory.ticks_are_taken c.requires.takes e reached.taken (IsTold g.D.Disk c.serve_one-came.new.disk) serves.read c.serve_one-came.result serves.answers.answer serves.within serves.answers.may_be) none;
     }
 
@@ -102,10 +104,11 @@ pub returns : goal.returns
 returns g c = record {
   feeds = λ choose h base k chooser taken hold.
       let l = c.loop-served in
-      feeds_all g.D.Disk g.M.Memory.takes g.M.Book.Replay.fits g.M.Memory.holds choose h base k c.args.store.now.run
+      feeds_all g.D.Disk (kind g.M.Memory.takes g.M.Book.Replay.fits g.M.Memory.holds) (start choose h base k c.args.store.now.run c.args.disk.now)
       (IsClean (g.K.Link.faults c.args.link.now) (g.K.Link.faults l.link) (g.K.Link.standing c.args.link.now) (g.K.Link.standing l.link))
-      (g.K.Link.left c.args.link.now) (g.K.Link.left l.link) (g.C.Clock.ahead c.args.clock.now) (g.C.Clock.ahead l.clock)
-      (g.K.Link.given c.args.link.now) (g.K.Link.given l.link) l.store c.args.disk.now l.disk l.served (omega arith) l.invariant.run (l.invariant.reaches choose h base k chooser taken hold);
+      (coming (g.K.Link.left c.args.link.now) (g.C.Clock.ahead c.args.clock.now)) (coming (g.K.Link.left l.link) (g.C.Clock.ahead l.clock))
+      (g.K.Link.given c.args.link.now) (g.K.Link.given l.link) l.store l.disk l.served (omega arith) l.invariant.run (l.invariant.reaches choose h base k chooser taken hold);
+  reads = read_all c.loop-served.served (g.K.Link.left c.args.link.now) (g.K.Link.left c.loop-served.link) (omega arith) c.loop-served.invariant.reads;
   run = c.loop-served.invariant.run;
   over = λ up. c.loop-served.invariant.over;
   measured = λ is up. c.loop-served.invariant.measured is;

@@ -2,8 +2,10 @@ use Rattle.std.proofs.Common.{Err, sym, ap, ◌∙◌}
 use Rattle.std.proofs.lemmas.Bool.{false≢true}
 use Rattle.ix_keep.specs.declared.fault.CommitFault.{CommitFault}
 use Rattle.ix_serve.specs.Serving.{IsClean}
-use Rattle.ix_feed.specs.Feeding.{history_after}
+use Rattle.ix_feed.specs.Feeding.{history_after, kind, start, coming}
 use Rattle.ix_serve.proofs.Standing.{tells_on}
+use Rattle.ix_feed.specs.declared.feed.Fed.TheVariants as fed
+use Rattle.ix_feed.proofs.Reading.{read_failed}
 use Rattle.ix_feed.proofs.Turning.{comes_committed, comes_broken, runs_closed, runs_committed, runs_broken}
 use Rattle.ix_feed.proofs.feed.run_feed.Goals as goal
 
@@ -11,11 +13,13 @@ pub returns-then-not-open : goal.returns-then-not-open
 returns-then-not-open g c = record {
   runs = λ choose h base k chooser taken hold.
       let fed_all = c.feed_all-end in
+      let s = start choose h base k c.args.store.now.run c.args.disk.now in
       let clean = IsClean (g.K.Link.faults c.args.link.now) (g.K.Link.faults fed_all.new.link) (g.K.Link.standing c.args.link.now) (g.K.Link.standing fed_all.new.link) in
-      runs_closed g.D.Disk g.M.Memory.takes g.M.Book.Replay.fits g.M.Memory.holds choose h base k c.args.store.now.run fed_all.result clean
-      (g.K.Link.left c.args.link.now) (g.K.Link.left fed_all.new.link) (g.C.Clock.ahead c.args.clock.now) (g.C.Clock.ahead fed_all.new.clock)
-      (g.K.Link.given c.args.link.now) (g.K.Link.given fed_all.new.link) fed_all.new.store c.args.disk.now fed_all.new.disk
+      runs_closed g.D.Disk (kind g.M.Memory.takes g.M.Book.Replay.fits g.M.Memory.holds) s fed_all.result clean
+      (coming (g.K.Link.left c.args.link.now) (g.C.Clock.ahead c.args.clock.now)) (coming (g.K.Link.left fed_all.new.link) (g.C.Clock.ahead fed_all.new.clock))
+      (g.K.Link.given c.args.link.now) (g.K.Link.given fed_all.new.link) fed_all.new.store fed_all.new.disk
       (fed_all.ensures.feeds choose h base k chooser taken hold) (sym c.is_open-open.ensures ∙ c.if-not-open.true);
+  reads = c.feed_all-end.ensures.reads;
   over = c.feed_all-end.ensures.over;
   idle = λ up. absurd (false≢true (sym (sym c.is_open-open.ensures ∙ c.if-not-open.true) ∙ up));
   measured = c.feed_all-end.ensures.measured;
@@ -29,15 +33,17 @@ pub returns-in-Ok : goal.returns-in-Ok
 returns-in-Ok g c = record {
   runs = λ choose h base k chooser taken hold.
       let fed_all = c.feed_all-end in
+      let s = start choose h base k c.args.store.now.run c.args.disk.now in
       let clean = IsClean (g.K.Link.faults c.args.link.now) (g.K.Link.faults fed_all.new.link) (g.K.Link.standing c.args.link.now) (g.K.Link.standing fed_all.new.link) in
       let feeds = fed_all.ensures.feeds choose h base k chooser taken hold in
-      runs_committed g.D.Disk g.M.Memory.takes g.M.Book.Replay.fits g.M.Memory.holds choose h base k c.args.store.now.run fed_all.result clean
-      (g.K.Link.left c.args.link.now) (g.K.Link.left fed_all.new.link) (g.C.Clock.ahead c.args.clock.now) (g.C.Clock.ahead fed_all.new.clock)
-      (g.K.Link.given c.args.link.now) (g.K.Link.given fed_all.new.link) fed_all.new.store c.args.disk.now fed_all.new.disk feeds
+      runs_committed g.D.Disk (kind g.M.Memory.takes g.M.Book.Replay.fits g.M.Memory.holds) s fed_all.result clean
+      (coming (g.K.Link.left c.args.link.now) (g.C.Clock.ahead c.args.clock.now)) (coming (g.K.Link.left fed_all.new.link) (g.C.Clock.ahead fed_all.new.clock))
+      (g.K.Link.given c.args.link.now) (g.K.Link.given fed_all.new.link) fed_all.new.store fed_all.new.disk feeds
       (sym c.is_open-open.ensures ∙ c.if-not-open.false) fed_all.ensures.run c.commit.new.self c.commit.new.disk
-      (λ kept held. c.commit.ensures.images choose (history_after h feeds.turns) base kept held)
+      (λ kept held. c.commit.ensures.images choose (history_after s feeds.turns) base kept held)
       (c.commit.ensures.run ∙ fed_all.ensures.run)
-      (λ kept held. c.in-Ok.ensures.done choose (history_after h feeds.turns) base kept held);
+      (λ kept held. c.in-Ok.ensures.done choose (history_after s feeds.turns) base kept held);
+  reads = c.feed_all-end.ensures.reads;
   over = λ up. c.in-Ok.ensures.over;
   idle = λ up. c.in-Ok.ensures.idle;
   measured = λ measured up. c.in-Ok.ensures.measured (λ idle. c.feed_all-end.ensures.measured measured up);
@@ -51,15 +57,17 @@ pub returns-in-Err : goal.returns-in-Err
 returns-in-Err g c = record {
   runs = λ choose h base k chooser taken hold.
       let fed_all = c.feed_all-end in
+      let s = start choose h base k c.args.store.now.run c.args.disk.now in
       let clean = IsClean (g.K.Link.faults c.args.link.now) (g.K.Link.faults fed_all.new.link) (g.K.Link.standing c.args.link.now) (g.K.Link.standing fed_all.new.link) in
       let feeds = fed_all.ensures.feeds choose h base k chooser taken hold in
-      runs_broken g.D.Disk g.M.Memory.takes g.M.Book.Replay.fits g.M.Memory.holds choose h base k c.args.store.now.run fed_all.result clean
-      (g.K.Link.left c.args.link.now) (g.K.Link.left fed_all.new.link) (g.C.Clock.ahead c.args.clock.now) (g.C.Clock.ahead fed_all.new.clock)
-      (g.K.Link.given c.args.link.now) (g.K.Link.given fed_all.new.link) fed_all.new.store c.args.disk.now fed_all.new.disk feeds
+      runs_broken g.D.Disk (kind g.M.Memory.takes g.M.Book.Replay.fits g.M.Memory.holds) s fed_all.result clean
+      (coming (g.K.Link.left c.args.link.now) (g.C.Clock.ahead c.args.clock.now)) (coming (g.K.Link.left fed_all.new.link) (g.C.Clock.ahead fed_all.new.clock))
+      (g.K.Link.given c.args.link.now) (g.K.Link.given fed_all.new.link) fed_all.new.store fed_all.new.disk feeds
       (sym c.is_open-open.ensures ∙ c.if-not-open.false) fed_all.ensures.run c.commit.new.self c.commit.new.disk
-      (λ kept held. c.commit.ensures.images choose (history_after h feeds.turns) base kept held)
+      (λ kept held. c.commit.ensures.images choose (history_after s feeds.turns) base kept held)
       c.in-Err.cause
-      (λ kept held file at is image seen. c.in-Err.ensures.undamaged file at (ap (λ (f : CommitFault). Err f) is) choose (history_after h feeds.turns) base kept held image seen);
+      (λ kept held file at is image seen. c.in-Err.ensures.undamaged file at (ap (λ (f : CommitFault). Err f) is) choose (history_after s feeds.turns) base kept held image seen);
+  reads = read_failed c.feed_all-end.result (fed.Broken c.in-Err.cause) (g.K.Link.left c.args.link.now) (g.K.Link.left c.feed_all-end.new.link) tt c.feed_all-end.ensures.reads;
   over = λ up. absurd (false≢true up);
   idle = λ up. absurd (false≢true up);
   measured = λ measured up. absurd (false≢true up);

@@ -1,9 +1,10 @@
 use Rattle.std.proofs.Common.{Err, sym, ap, ◌∙◌}
 use Rattle.std.proofs.lemmas.Bool.{false≢true}
 use Rattle.ix_keep.specs.declared.fault.CommitFault.{CommitFault}
-use Rattle.ix_feed.specs.Connections.{turns_of}
-use Rattle.ix_feed.specs.Feeding.{history_after}
+use Rattle.ix_feed.specs.Connections.{turns_of, listened}
+use Rattle.ix_feed.specs.Feeding.{history_after, kind, start}
 use Rattle.ix_serve.proofs.Standing.{tells_on}
+use Rattle.ix_feed.proofs.Reading.{hear_failed}
 use Rattle.ix_feed.proofs.Visiting.{comes_committed, comes_broken, listens_closed, listens_committed, listens_broken}
 use Rattle.ix_feed.proofs.serve.run_serve.Goals as goal
 
@@ -11,10 +12,11 @@ pub returns-then-not-is_open : goal.returns-then-not-is_open
 returns-then-not-is_open g c = record {
   listens = λ choose h base k chooser taken hold.
       let all = c.serve_all-end in
-      listens_closed g.D.Disk g.M.Memory.takes g.M.Book.Replay.fits g.M.Memory.holds choose h base k c.args.store.now.run c.args.requests all.result
-      (g.L.Listener.waiting c.args.listener.now) (g.L.Listener.waiting all.new.listener) (g.L.Listener.handed c.args.listener.now) (g.L.Listener.handed all.new.listener)
-      (g.C.Clock.ahead c.args.clock.now) (g.C.Clock.ahead all.new.clock) all.new.store c.args.disk.now all.new.disk
+      listens_closed g.D.Disk (kind g.M.Memory.takes g.M.Book.Replay.fits g.M.Memory.holds) (start choose h base k c.args.store.now.run c.args.disk.now) c.args.requests all.result
+      (listened (g.L.Listener.waiting c.args.listener.now) (g.L.Listener.handed c.args.listener.now)) (listened (g.L.Listener.waiting all.new.listener) (g.L.Listener.handed all.new.listener))
+      (g.C.Clock.ahead c.args.clock.now) (g.C.Clock.ahead all.new.clock) all.new.store all.new.disk
       (all.ensures.hears choose h base k chooser taken hold) (sym c.is_open.ensures ∙ c.if-not-is_open.true);
+  reads = c.serve_all-end.ensures.reads;
   over = c.serve_all-end.ensures.over;
   idle = λ up. absurd (false≢true (sym (sym c.is_open.ensures ∙ c.if-not-is_open.true) ∙ up));
   measured = c.serve_all-end.ensures.measured;
@@ -29,13 +31,14 @@ returns-in-Ok g c = record {
   listens = λ choose h base k chooser taken hold.
       let all = c.serve_all-end in
       let hears = all.ensures.hears choose h base k chooser taken hold in
-      listens_committed g.D.Disk g.M.Memory.takes g.M.Book.Replay.fits g.M.Memory.holds choose h base k c.args.store.now.run c.args.requests all.result
-      (g.L.Listener.waiting c.args.listener.now) (g.L.Listener.waiting all.new.listener) (g.L.Listener.handed c.args.listener.now) (g.L.Listener.handed all.new.listener)
-      (g.C.Clock.ahead c.args.clock.now) (g.C.Clock.ahead all.new.clock) all.new.store c.args.disk.now all.new.disk hears
+      listens_committed g.D.Disk (kind g.M.Memory.takes g.M.Book.Replay.fits g.M.Memory.holds) (start choose h base k c.args.store.now.run c.args.disk.now) c.args.requests all.result
+      (listened (g.L.Listener.waiting c.args.listener.now) (g.L.Listener.handed c.args.listener.now)) (listened (g.L.Listener.waiting all.new.listener) (g.L.Listener.handed all.new.listener))
+      (g.C.Clock.ahead c.args.clock.now) (g.C.Clock.ahead all.new.clock) all.new.store all.new.disk hears
       (sym c.is_open.ensures ∙ c.if-not-is_open.false) all.ensures.run c.commit.new.self c.commit.new.disk
-      (λ kept held. c.commit.ensures.images choose (history_after h (turns_of hears.visits)) base kept held)
+      (λ kept held. c.commit.ensures.images choose (history_after (start choose h base k c.args.store.now.run c.args.disk.now) (turns_of hears.visits)) base kept held)
       (c.commit.ensures.run ∙ all.ensures.run)
-      (λ kept held. c.in-Ok.ensures.done choose (history_after h (turns_of hears.visits)) base kept held);
+      (λ kept held. c.in-Ok.ensures.done choose (history_after (start choose h base k c.args.store.now.run c.args.disk.now) (turns_of hears.visits)) base kept held);
+  reads = c.serve_all-end.ensures.reads;
   over = λ up. c.in-Ok.ensures.over;
   idle = λ up. c.in-Ok.ensures.idle;
   measured = λ measured up. c.in-Ok.ensures.measured (λ idle. c.serve_all-end.ensures.measured measured up);
@@ -50,13 +53,14 @@ returns-in-Err g c = record {
   listens = λ choose h base k chooser taken hold.
       let all = c.serve_all-end in
       let hears = all.ensures.hears choose h base k chooser taken hold in
-      listens_broken g.D.Disk g.M.Memory.takes g.M.Book.Replay.fits g.M.Memory.holds choose h base k c.args.store.now.run c.args.requests all.result
-      (g.L.Listener.waiting c.args.listener.now) (g.L.Listener.waiting all.new.listener) (g.L.Listener.handed c.args.listener.now) (g.L.Listener.handed all.new.listener)
-      (g.C.Clock.ahead c.args.clock.now) (g.C.Clock.ahead all.new.clock) all.new.store c.args.disk.now all.new.disk hears
+      listens_broken g.D.Disk (kind g.M.Memory.takes g.M.Book.Replay.fits g.M.Memory.holds) (start choose h base k c.args.store.now.run c.args.disk.now) c.args.requests all.result
+      (listened (g.L.Listener.waiting c.args.listener.now) (g.L.Listener.handed c.args.listener.now)) (listened (g.L.Listener.waiting all.new.listener) (g.L.Listener.handed all.new.listener))
+      (g.C.Clock.ahead c.args.clock.now) (g.C.Clock.ahead all.new.clock) all.new.store all.new.disk hears
       (sym c.is_open.ensures ∙ c.if-not-is_open.false) all.ensures.run c.commit.new.self c.commit.new.disk
-      (λ kept held. c.commit.ensures.images choose (history_after h (turns_of hears.visits)) base kept held)
+      (λ kept held. c.commit.ensures.images choose (history_after (start choose h base k c.args.store.now.run c.args.disk.now) (turns_of hears.visits)) base kept held)
       c.in-Err.cause
-      (λ kept held file at is image seen. c.in-Err.ensures.undamaged file at (ap (λ (f : CommitFault). Err f) is) choose (history_after h (turns_of hears.visits)) base kept held image seen);
+      (λ kept held file at is image seen. c.in-Err.ensures.undamaged file at (ap (λ (f : CommitFault). Err f) is) choose (history_after (start choose h base k c.args.store.now.run c.args.disk.now) (turns_of hears.visits)) base kept held image seen);
+  reads = hear_failed c.args.requests c.serve_all-end.result c.in-Err.cause (listened (g.L.Listener.waiting c.args.listener.now) (g.L.Listener.handed c.args.listener.now)) (listened (g.L.Listener.waiting c.serve_all-end.new.listener) (g.L.Listener.handed c.serve_all-end.new.listener)) c.serve_all-end.ensures.reads;
   over = λ up. absurd (false≢true up);
   idle = λ up. absurd (false≢true up);
   measured = λ measured up. absurd (false≢true up);

@@ -1,9 +1,11 @@
-use Rattle.std.proofs.Common.{[], refl, sym, ap, ◌∙◌, arith}
+use Rattle.std.proofs.Common.{◌≡◌, ◌≤◌, ◌+◌, [], refl, sym, ap, ◌∙◌, arith}
 use Rattle.std.proofs.lemmas.Bool.{false≢true}
-use Rattle.ix_feed.specs.Connections.{turns_of}
-use Rattle.ix_feed.specs.Feeding.{history_after}
+use Rattle.ix_feed.specs.Connections.{turns_of, listened}
+use Rattle.ix_feed.specs.Feeding.{history_after, kind, start}
+use Rattle.ix_feed.proofs.Reading.{hear_as, hear_on, hear_stopped}
+use Rattle.ix_feed.specs.Reading.{AsMany}
+use Rattle.ix_feed.specs.declared.serve.Heard.TheVariants as heard
 use Rattle.ix_feed.proofs.Visiting.{comes_done, comes_stopped, comes_visited, visits_on, hears_broken, hears_all, hears_stopped, stays_open, none_taken, none_handed, over_still, measured_still}
-use Rattle.ix_serve.proofs.Standing.{standing}
 use Rattle.ix_feed.proofs.serve.serve_all.Goals as goal
 
 pub loop-served-init : goal.loop-served-init
@@ -15,19 +17,18 @@ loop-served-init g c = record {
   out = refl;
   measured = λ is. is;
   told = λ is. is;
+  hears = record { reads = []; are = refl; made = refl };
   visits = λ choose h base k chooser taken hold. record {
     visits = [];
     are = refl;
     made = refl;
     on = tt;
-    waits = none_taken (g.L.Listener.waiting c.args.listener.now);
-    backs = none_handed (g.L.Listener.handed c.args.listener.now);
+    heard = record { waits = none_taken (g.L.Listener.waiting c.args.listener.now); backs = none_handed (g.L.Listener.handed c.args.listener.now) };
     taken = taken;
+    at = refl;
     kept = k;
-    least = omega arith;
     knows = omega arith;
     hold = hold;
-    images = standing g.D.Disk g.M.Book.Replay.fits g.M.Memory.holds choose h base k c.args.store.now c.args.disk.now hold;
     told = λ is. (is, tt);
   };
 }
@@ -37,13 +38,19 @@ returns-in-Some g c = record {
   hears = λ choose h base k chooser taken hold.
       let l = c.loop-served in
       let visited = l.invariant.visits choose h base k chooser taken hold in
-      hears_broken g.D.Disk g.M.Memory.takes g.M.Book.Replay.fits g.M.Memory.holds choose h base k c.args.store.now.run l._served
-      (g.L.Listener.waiting c.args.listener.now) (g.L.Listener.waiting l.listener) (g.L.Listener.waiting c.serve_next.new.listener)
-      (g.L.Listener.handed c.args.listener.now) (g.L.Listener.handed l.listener) (g.L.Listener.handed c.serve_next.new.listener)
+      hears_broken g.D.Disk (kind g.M.Memory.takes g.M.Book.Replay.fits g.M.Memory.holds) (start choose h base k c.args.store.now.run c.args.disk.now) l._served
+      (listened (g.L.Listener.waiting c.args.listener.now) (g.L.Listener.handed c.args.listener.now)) (listened (g.L.Listener.waiting l.listener) (g.L.Listener.handed l.listener))
+      (listened (g.L.Listener.waiting c.serve_next.new.listener) (g.L.Listener.handed c.serve_next.new.listener))
       (g.C.Clock.ahead c.args.clock.now) (g.C.Clock.ahead l.clock) (g.C.Clock.ahead c.serve_next.new.clock)
-      l.store c.serve_next.new.store c.args.disk.now l.disk c.serve_next.new.disk c.in-Ok.came l.invariant.run visited
-      (c.in-Ok.ensures.attends choose (history_after h (turns_of visited.visits)) base visited.kept chooser visited.taken visited.hold) c.serve_next.ensures.told
+      l.store c.serve_next.new.store l.disk c.serve_next.new.disk c.in-Ok.came l.invariant.run c.serve_next.ensures.run visited
+      (c.in-Ok.ensures.attends choose (history_after (start choose h base k c.args.store.now.run c.args.disk.now) (turns_of visited.visits)) base visited.kept chooser visited.taken visited.hold) c.serve_next.ensures.told
       c.args.requests c.in-Some.cause (omega arith) (sym c.break_of.ensures ∙ c.in-Some.is);
+  reads =
+      let most : c.loop-served._served + 1 ≤ c.args.requests = omega arith in
+      let from = listened (g.L.Listener.waiting c.args.listener.now) (g.L.Listener.handed c.args.listener.now) in
+      let to = listened (g.L.Listener.waiting c.serve_next.new.listener) (g.L.Listener.handed c.serve_next.new.listener) in
+      hear_as (c.loop-served._served + 1) (AsMany c.args.requests (heard.Broken c.in-Some.cause)) from to most
+      (hear_on c.loop-served._served from (listened (g.L.Listener.waiting c.loop-served.listener) (g.L.Listener.handed c.loop-served.listener)) to c.loop-served.invariant.hears c.in-Ok.ensures.reads);
   over = λ up. absurd (false≢true up);
   measured = λ is up. absurd (false≢true up);
   run = c.serve_next.ensures.run ∙ c.loop-served.invariant.run;
@@ -58,11 +65,14 @@ pub returns-in-Err : goal.returns-in-Err
 returns-in-Err g c = record {
   hears = λ choose h base k chooser taken hold.
       let l = c.loop-served in
-      hears_stopped g.D.Disk g.M.Memory.takes g.M.Book.Replay.fits g.M.Memory.holds choose h base k c.args.store.now.run l._served
-      (g.L.Listener.waiting c.args.listener.now) (g.L.Listener.waiting l.listener) (g.L.Listener.handed c.args.listener.now) (g.L.Listener.handed l.listener)
-      (g.C.Clock.ahead c.args.clock.now) (g.C.Clock.ahead l.clock) l.store c.args.disk.now l.disk l.invariant.run (l.invariant.visits choose h base k chooser taken hold)
+      hears_stopped g.D.Disk (kind g.M.Memory.takes g.M.Book.Replay.fits g.M.Memory.holds) (start choose h base k c.args.store.now.run c.args.disk.now) l._served
+      (listened (g.L.Listener.waiting c.args.listener.now) (g.L.Listener.handed c.args.listener.now)) (listened (g.L.Listener.waiting l.listener) (g.L.Listener.handed l.listener))
+      (g.C.Clock.ahead c.args.clock.now) (g.C.Clock.ahead l.clock) l.store l.disk l.invariant.run (l.invariant.visits choose h base k chooser taken hold)
       c.args.requests (omega arith) (g.L.Listener.waiting c.serve_next.new.listener) (g.L.Listener.handed c.serve_next.new.listener) (g.C.Clock.ahead c.serve_next.new.clock)
       c.serve_next.new.store c.serve_next.new.disk c.in-Err.ensures.waiting c.in-Err.ensures.handed (ap g.C.Clock.ahead c.in-Err.ensures.unasked) c.in-Err.ensures.store c.in-Err.ensures.left;
+  reads = hear_stopped c.loop-served._served c.args.requests
+      (listened (g.L.Listener.waiting c.args.listener.now) (g.L.Listener.handed c.args.listener.now)) (listened (g.L.Listener.waiting c.loop-served.listener) (g.L.Listener.handed c.loop-served.listener))
+      (listened (g.L.Listener.waiting c.serve_next.new.listener) (g.L.Listener.handed c.serve_next.new.listener)) (omega arith) c.in-Err.ensures.waiting c.in-Err.ensures.handed c.loop-served.invariant.hears;
   over = λ up.
       over_still g.D.Disk c.loop-served.store c.serve_next.new.store c.loop-served.disk c.serve_next.new.disk c.in-Err.ensures.store c.in-Err.ensures.left c.loop-served.invariant.over;
   measured = λ is up.
@@ -86,23 +96,30 @@ loop-served-preserved g c = let l = c.loop-served in
       out = c.serve_next.ensures.out ∙ l.invariant.out;
       measured = λ is. c.in-Ok.ensures.measured (l.invariant.measured is) (stays_open c.in-Ok.came none);
       told = λ is. c.serve_next.ensures.told (l.invariant.told is);
+      hears = hear_on l._served
+          (listened (g.L.Listener.waiting c.args.listener.now) (g.L.Listener.handed c.args.listener.now)) (listened (g.L.Listener.waiting l.listener) (g.L.Listener.handed l.listener))
+          (listened (g.L.Listener.waiting c.serve_next.new.listener) (g.L.Listener.handed c.serve_next.new.listener)) l.invariant.hears c.in-Ok.ensures.reads;
       visits = λ choose h base k chooser taken hold.
           let visited = l.invariant.visits choose h base k chooser taken hold in
-          visits_on g.D.Disk g.M.Memory.takes g.M.Book.Replay.fits g.M.Memory.holds choose h base k c.args.store.now.run l._served
-          (g.L.Listener.waiting c.args.listener.now) (g.L.Listener.waiting l.listener) (g.L.Listener.waiting c.serve_next.new.listener)
-          (g.L.Listener.handed c.args.listener.now) (g.L.Listener.handed l.listener) (g.L.Listener.handed c.serve_next.new.listener)
+          visits_on g.D.Disk (kind g.M.Memory.takes g.M.Book.Replay.fits g.M.Memory.holds) (start choose h base k c.args.store.now.run c.args.disk.now) l._served
+          (listened (g.L.Listener.waiting c.args.listener.now) (g.L.Listener.handed c.args.listener.now)) (listened (g.L.Listener.waiting l.listener) (g.L.Listener.handed l.listener))
+          (listened (g.L.Listener.waiting c.serve_next.new.listener) (g.L.Listener.handed c.serve_next.new.listener))
           (g.C.Clock.ahead c.args.clock.now) (g.C.Clock.ahead l.clock) (g.C.Clock.ahead c.serve_next.new.clock)
-          l.store c.serve_next.new.store c.args.disk.now l.disk c.serve_next.new.disk c.in-Ok.came l.invariant.run visited
-          (c.in-Ok.ensures.attends choose (history_after h (turns_of visited.visits)) base visited.kept chooser visited.taken visited.hold) c.serve_next.ensures.told none;
+          l.store c.serve_next.new.store l.disk c.serve_next.new.disk c.in-Ok.came l.invariant.run c.serve_next.ensures.run visited
+          (c.in-Ok.ensures.attends choose (history_after (start choose h base k c.args.store.now.run c.args.disk.now) (turns_of visited.visits)) base visited.kept chooser visited.taken visited.hold) c.serve_next.ensures.told none;
     }
 
 pub returns : goal.returns
 returns g c = record {
   hears = λ choose h base k chooser taken hold.
       let l = c.loop-served in
-      hears_all g.D.Disk g.M.Memory.takes g.M.Book.Replay.fits g.M.Memory.holds choose h base k c.args.store.now.run l._served
-      (g.L.Listener.waiting c.args.listener.now) (g.L.Listener.waiting l.listener) (g.L.Listener.handed c.args.listener.now) (g.L.Listener.handed l.listener)
-      (g.C.Clock.ahead c.args.clock.now) (g.C.Clock.ahead l.clock) l.store c.args.disk.now l.disk l.invariant.run (l.invariant.visits choose h base k chooser taken hold) c.args.requests (omega arith);
+      hears_all g.D.Disk (kind g.M.Memory.takes g.M.Book.Replay.fits g.M.Memory.holds) (start choose h base k c.args.store.now.run c.args.disk.now) l._served
+      (listened (g.L.Listener.waiting c.args.listener.now) (g.L.Listener.handed c.args.listener.now)) (listened (g.L.Listener.waiting l.listener) (g.L.Listener.handed l.listener))
+      (g.C.Clock.ahead c.args.clock.now) (g.C.Clock.ahead l.clock) l.store l.disk l.invariant.run (l.invariant.visits choose h base k chooser taken hold) c.args.requests (omega arith);
+  reads =
+      let all : c.loop-served._served ≡ c.args.requests = omega arith in
+      hear_as c.loop-served._served (AsMany c.args.requests heard.Done) (listened (g.L.Listener.waiting c.args.listener.now) (g.L.Listener.handed c.args.listener.now))
+      (listened (g.L.Listener.waiting c.loop-served.listener) (g.L.Listener.handed c.loop-served.listener)) all c.loop-served.invariant.hears;
   over = λ up. c.loop-served.invariant.over;
   measured = λ is up. c.loop-served.invariant.measured is;
   run = c.loop-served.invariant.run;

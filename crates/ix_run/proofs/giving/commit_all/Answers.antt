@@ -32,6 +32,7 @@ returns g c = record {
   stood = λ choose h base k hold.
       stood_either g.D.Disk _ g.M.Memory.holds choose h c.args.store.now.run k c.args.disk.now c.commit.new.disk hold.staged.within (c.commit.ensures.images choose h base k hold);
   over = c.commit.ensures.over;
+  run = c.commit.ensures.run;
   rest = λ measured.
       rests g.D.Disk c.commit.new.self.keeper c.commit.new.disk c.commit.result c.commit.ensures.over c.commit.ensures.idle (c.commit.ensures.measured (λ idle. measured));
   undamaged = c.commit.ensures.undamaged;

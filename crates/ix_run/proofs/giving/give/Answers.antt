@@ -1,4 +1,4 @@
-use Rattle.std.proofs.Common.{rules, refl, ap, arith}
+use Rattle.std.proofs.Common.{rules, refl, ap, ◌∙◌, arith}
 use Rattle.std.specs.Prelude.{Err}
 use Rattle.ix_keep.specs.declared.fault.CommitFault.{CommitFault}
 use Rattle.ix_keep.specs.declared.fault.CommitFault.TheVariants as commits
@@ -26,6 +26,7 @@ returns-in-Err g c = record {
   over = tt;
   still = λ refusal is. over_same g.D.Disk g.M.Book.Replay.fits c.args.store.now.keeper c.accept.new.self.keeper c.args.disk.now c.accept.ensures.logs c.requires.over;
   unchanged = λ refusal is. (c.in-Err.ensures.err, refl);
+  run = c.in-Err.ensures.err.run;
   measured = λ measured. tt;
   undamaged = λ file at is. absurd (not_commit is);
   told = anyhow_same (g.D.Disk.seen c.args.disk.now) (g.D.Disk.seen c.args.disk.now) refl;
@@ -44,6 +45,7 @@ returns-in-Ok-commit_due g c = record {
   over = c.in-Ok-commit_due.ensures.over;
   still = tt;
   unchanged = tt;
+  run = c.commit_due.ensures.run ∙ c.accept.ensures.run;
   measured = λ measured.
       c.in-Ok-commit_due.ensures.measured (measured_same g.D.Disk c.args.store.now.keeper c.accept.new.self.keeper c.args.disk.now c.accept.ensures.logs.log c.accept.ensures.bytes measured);
   undamaged = λ file at is. absurd (not_ok is);
@@ -63,6 +65,7 @@ returns-in-Err-commit_due g c = record {
   over = tt;
   still = λ refusal is. absurd (commit_or_refused is);
   unchanged = λ refusal is. absurd (commit_or_refused is);
+  run = c.commit_due.ensures.run ∙ c.accept.ensures.run;
   measured = λ measured. tt;
   undamaged = λ file at is choose h base k chooser taken hold.
       let fits : SFits w64 c.args.moment = search rules in

@@ -1,4 +1,4 @@
-use Rattle.std.proofs.Common.{rules, ap, arith}
+use Rattle.std.proofs.Common.{rules, ap, ◌∙◌, arith}
 use Rattle.std.specs.Prelude.{Err}
 use Rattle.ix_disk.proofs.Runs.{rose_later}
 use Rattle.ix_keep.specs.declared.fault.CommitFault.{CommitFault}
@@ -21,6 +21,7 @@ returns-in-Ok g c = record {
       (c.in-Ok.ensures.done choose _ base one.gone.count one.gone.hold) (c.commit_all.ensures.stood choose _ base one.gone.count one.gone.hold);
   fault = tt;
   over = c.in-Ok.ensures.over;
+  run = c.commit_all.ensures.run ∙ c.give.ensures.run;
   rest = λ measured. c.in-Ok.ensures.rest (c.in_ok-answer.ensures.measured measured);
   unchanged = tt;
   undamaged = λ file at is. absurd (not_ok is);
@@ -38,6 +39,7 @@ returns-in-Err g c = record {
       stood_last g.D.Disk _ g.M.Memory.holds choose h base k _ c.args.store.now c.give.new.store c.args.disk.now c.give.new.disk c.commit_all.new.disk c.in_ok-answer.answer one
       (c.commit_all.ensures.stood choose _ base one.gone.count one.gone.hold);
   over = tt;
+  run = c.commit_all.ensures.run ∙ c.give.ensures.run;
   rest = λ measured. tt;
   unchanged = λ refusal is. absurd (commit_or_refused is);
   undamaged = λ file at is choose h base k chooser taken hold.
@@ -64,6 +66,7 @@ returns-in_err-answer g c =
           let fits : SFits w64 c.args.moment = search rules in
           simp to_z-of_z at (c.in_err-answer.ensures.fault choose h base k chooser taken hold);
       over = tt;
+      run = c.give.ensures.run;
       rest = λ measured. tt;
       unchanged = c.in_err-answer.ensures.unchanged;
       undamaged = c.in_err-answer.ensures.undamaged;

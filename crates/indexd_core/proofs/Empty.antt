@@ -1,0 +1,36 @@
+-- An empty disk stands for the empty history.
+use Rattle.std.proofs.Common.{◌≡◌, ◌≢◌, ℕ, List, [], refl, subst, sym, inr, inl, arith, Option, Some, None}
+use Rattle.std.proofs.lemmas.List.Elements.{All-nil}
+use Rattle.ix_base.specs.declared.files.File.{File}
+use Rattle.ix_book.specs.Book.{Name, Book, empty, after_item}
+use Rattle.ix_disk.specs.Image.{Image, nothing, content}
+use Rattle.ix_items.specs.declared.items.Item.TheVariants as items
+use Rattle.ix_keep.specs.Contents.{BeginsWith, filling}
+use Rattle.ix_keep.specs.Snapshot.{Snapshot}
+use Rattle.ix_machine.specs.Given.{Chooser}
+use Rattle.ix_machine.specs.Snap.{first_snap, leaves}
+use Rattle.ix_store.specs.Written.{StandsFrom}
+
+none_filled : (file : File) → filling first_snap.contents file ≡ []
+none_filled file = grind arith
+
+books_first : (name : Name) → name.kind ≢ 2 → name.kind ≢ 12 → after_item (items.Settings []) empty name ≡ first_snap.book name
+books_first name not_run not_removals = refl
+
+pub empty_stands : (fits : Book → Type 0) (choose : Chooser) → StandsFrom fits choose [] 0 nothing
+empty_stands fits choose = record {
+  which = 0;
+  least = omega arith;
+  most = omega arith;
+  kept = record { book = empty; contents = first_snap.contents };
+  stands = inr (refl, record { books = books_first; contents = refl });
+  keeps = record {
+    checkpoints = 0;
+    in_root = inr (refl, omega arith);
+    bodies = [];
+    in_log = inr (refl, omega arith);
+    replayed = refl;
+    contents = record { begins = λ file. subst (λ (l : List ℕ). BeginsWith l []) (sym (none_filled file)) refl };
+    free = All-nil _;
+  };
+}

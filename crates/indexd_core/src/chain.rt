@@ -1,0 +1,48 @@
+//! Laws of runs over one disk, without code: each is the contract of a function that does nothing. So what `top` says of one run joins with what it says of the next.
+
+ghost use Rattle.std.specs.Prelude.{◌≡◌, ℕ, List, [], Option, Some};
+ghost use Rattle.ix_base.specs.Clocks.{Moments};
+ghost use Rattle.ix_disk.specs.Image.{Image, nothing};
+ghost use Rattle.ix_feed.specs.Connections.{Listened};
+ghost use Rattle.ix_kept.specs.Configs.{IsChooser};
+ghost use Rattle.ix_machine.specs.Given.{Chooser};
+ghost use Rattle.ix_machine.specs.declared.commands.Order.{Order};
+ghost use Rattle.ix_tree.specs.declared.trees.TreeFile.{TreeFile};
+ghost use Rattle.indexd_core.specs.Chain.{MayRun, Leaves, IsStopOf, MayGoOn};
+ghost use Rattle.indexd_core.specs.Feeds.{Feeds};
+ghost use Rattle.indexd_core.specs.Prepared.{Stated};
+ghost use Rattle.indexd_core.specs.Serves.{Serves};
+ghost use Rattle.indexd_core.specs.Sides.{Side};
+ghost use Rattle.indexd_core.specs.Stored.{Tasked, Stored};
+ghost use Rattle.indexd_core.specs.declared.status.Status.{Status};
+
+use indexd_store::Task;
+use ix_disk::Disk;
+
+/// A run may begin over an empty disk, with any way to choose the settings of channels.
+pub fn an_empty_disk_may_run<D: Disk>()
+    ensures { (choose : Chooser) (disk : D) → IsChooser choose → ((image : Image) → D.Disk.may_leave disk image → image ≡ nothing) → D.Disk.seen disk ≡ Some nothing → MayRun D.Disk choose [] 0 disk }
+{}
+
+/// What each run over a store leaves, wherever it is stopped.
+pub fn runs_leave<D: Disk>()
+    ensures fed { (choose : Chooser) (history : List Order) (k : ℕ) (before disk : D) (status : Status) (files : Option (List TreeFile)) (failed failed' : ℕ) (ahead ahead' : Option Moments) (input input' output output' : Side) →
+        MayRun D.Disk choose history k before → Feeds status files failed failed' ahead ahead' input input' output output' D.Disk before disk → Leaves D.Disk choose history k before disk }
+    ensures served { (choose : Chooser) (history : List Order) (k : ℕ) (before disk : D) (status : Status) (requests : ℕ) (files : Option (List TreeFile)) (failed failed' : ℕ) (ahead ahead' : Option Moments) (heard heard' : Listened) (output output' : Side) →
+        MayRun D.Disk choose history k before → Serves status requests files failed failed' ahead ahead' heard heard' output output' D.Disk before disk → Leaves D.Disk choose history k before disk }
+    ensures tasked { (choose : Chooser) (history : List Order) (k : ℕ) (before disk : D) (status : Status) (task : Task) (files : Option (List TreeFile)) (failed failed' : ℕ) (ahead ahead' : Option Moments) (output output' : Side) →
+        MayRun D.Disk choose history k before → Tasked status task files failed failed' ahead ahead' output output' D.Disk before disk → Leaves D.Disk choose history k before disk }
+    ensures stored { (choose : Chooser) (history : List Order) (k : ℕ) (before disk : D) (status : Status) (stated : Stated) (files : Option (List TreeFile)) (failed failed' : ℕ) (ahead ahead' : Option Moments) (input input' output output' : Side) →
+        MayRun D.Disk choose history k before → Stored status stated files failed failed' ahead ahead' input input' output output' D.Disk before disk → Leaves D.Disk choose history k before disk }
+{}
+
+/// A run that has ended was stopped at its exit.
+pub fn an_exit_is_a_stop<D: Disk>()
+    ensures { (choose : Chooser) (history : List Order) (k : ℕ) (before disk : D) (leaves : Leaves D.Disk choose history k before disk) → IsStopOf D.Disk choose history k before disk leaves D.Disk disk }
+{}
+
+/// Wherever a run was stopped, the next one may begin over what it left, on this disk or on another, and over a history that begins with all that was sure to be there.
+pub fn the_next_run_may_begin<D: Disk, E: Disk>()
+    ensures { (choose : Chooser) (history : List Order) (k : ℕ) (before disk : D) (later : E) (image : Image) → MayRun D.Disk choose history k before → (leaves : Leaves D.Disk choose history k before disk) →
+        E.Disk.seen later ≡ Some image → IsStopOf D.Disk choose history k before disk leaves E.Disk later → MayGoOn E.Disk choose history k later }
+{}
