@@ -3,6 +3,9 @@ use Rattle.std.proofs.Common.{◌≡◌, ◌⊎◌, ◌∙◌, ◌||◌, ℕ, Bo
 use Rattle.std.specs.Prelude.{IfOk}
 use Rattle.std.proofs.lemmas.Bool.{false≢true}
 use Rattle.ix_base.specs.Told.{Told}
+use Rattle.ix_base.specs.declared.files.File.{File}
+use Rattle.ix_disk.specs.Image.{Image}
+use Rattle.ix_disk.specs.declared.disk.Disk.{Ghosts}
 use Rattle.ix_heads.specs.declared.faults.LinkFault.TheVariants as link
 use Rattle.ix_http.specs.Asked.{Fits}
 use Rattle.ix_http.specs.Limits.{IsWithin}
@@ -13,7 +16,7 @@ use Rattle.ix_store.specs.Holding.{is_closed}
 use Rattle.ix_store.specs.declared.store.Store.{Store}
 use Rattle.ix_serve.specs.Answer.{Found, answer_of_fault}
 use Rattle.ix_serve.specs.Replies.{Reply}
-use Rattle.ix_serve.specs.Serving.{Wrote, Gave, ComesOf, HasStatus, IsOpen, IsReplied, Reads, still_open}
+use Rattle.ix_serve.specs.Serving.{Wrote, Gave, ComesOf, HasStatus, IsBadPlace, IsOpen, IsPlaced, IsReplied, Reads, still_open}
 use Rattle.ix_serve.specs.declared.served.Served.{Served}
 use Rattle.ix_serve.specs.declared.served.Served.TheVariants as served
 use Rattle.ix_serve.specs.declared.served.ServeFault.{ServeFault}
@@ -35,6 +38,20 @@ or_true false b is = is
 
 pub by_export : {M : Type 0} (store : Store M) (before closes : Bool) → is_closed store ≡ (before || closes) → closes ≡ true → is_closed store ≡ true
 by_export store before closes is so = is ∙ or_true before closes so
+
+-- ---- the place of damage
+
+pub open_placed : {D : Type 0} (g : Ghosts D) (disk : D) (result : Result Served ServeFault) → IsOpen result → IsPlaced g disk result
+open_placed g disk result up file at is = absurd (subst IsOpen is up)
+
+pub placed_as : (image : Image) (f file : File) (a at : ℕ) → commits.Damaged f a ≡ commits.Damaged file at → IsBadPlace image f a → IsBadPlace image file at
+placed_as image f file a at is bad =
+    let files : f ≡ file = cc in
+    let places : a ≡ at = cc in
+    subst (λ (x : File). IsBadPlace image x at) files (subst (IsBadPlace image f) places bad)
+
+pub not_damaged : (file : File) (at : ℕ) → fault.Disk ≡ fault.Damaged file at → ⊥
+not_damaged file at is = cc
 
 -- ---- replies
 

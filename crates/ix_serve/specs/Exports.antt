@@ -9,6 +9,7 @@ use Rattle.ix_keep.specs.declared.fault.CommitFault.{CommitFault}
 use Rattle.ix_keep.specs.declared.fault.CommitFault.TheVariants as commits
 use Rattle.ix_serve.specs.Answer.{IsExport}
 use Rattle.ix_serve.specs.Entries.{Entry}
+use Rattle.ix_serve.specs.Serving.{IsBadPlace}
 use Rattle.ix_serve.specs.Replies.{Reply, plain, unread, refused, no_memory}
 use Rattle.ix_serve.specs.declared.events.Exported.{Exported}
 use Rattle.ix_serve.specs.declared.events.Exported.TheVariants as exports
@@ -20,6 +21,10 @@ reply_of (exports.Refused refusal) = refused refusal
 
 abbrev pub MayReply : Type 0 → Entry → List ℕ → Range → Reply → Type 0
 MayReply told e index range reply = (reply ≡ no_memory) ⊎ IsExport told e index range reply
+
+-- damage is named as the disk reads
+abbrev pub IsPlacedBy : {D : Type 0} → Ghosts D → D → CommitFault → Type 0
+IsPlacedBy d disk cause = (file : File) (at : ℕ) → cause ≡ commits.Damaged file at → (image : Image) → d.seen disk ≡ Some image → IsBadPlace image file at
 
 -- the cause is no damage of a disk that tells what it reads
 abbrev pub IsNoDamage : {D : Type 0} → Ghosts D → D → CommitFault → Type 0

@@ -1,10 +1,11 @@
 -- One request served.
-use Rattle.std.specs.Prelude.{◌≡◌, ◌≤◌, ◌⊎◌, ℕ, Bool, true, false, List, ◌++◌, length, Option, Some, None, Result, Ok, Err, IfOk}
+use Rattle.std.specs.Prelude.{◌≡◌, ◌≤◌, ◌⊎◌, ℕ, Bool, true, false, List, ◌++◌, map, length, Option, Some, None, Result, Ok, Err, IfOk}
+use Rattle.std.specs.List.{list_any}
 use Rattle.ix_base.specs.Faults.{Rose}
 use Rattle.ix_base.specs.Told.{Told, HasWritten, HasBegun}
 use Rattle.ix_base.specs.declared.files.File.{File}
 use Rattle.ix_book.specs.Book.{Book}
-use Rattle.ix_disk.specs.Image.{Image}
+use Rattle.ix_disk.specs.Image.{Image, bytes_in}
 use Rattle.ix_disk.specs.Moments.{Always}
 use Rattle.ix_disk.specs.declared.disk.Disk.{Ghosts}
 use Rattle.ix_heads.specs.declared.faults.LinkFault.TheVariants as link
@@ -16,12 +17,13 @@ use Rattle.ix_keep.specs.declared.keeper.Keeper.{Keeper}
 use Rattle.ix_link.specs.Links.{Standing}
 use Rattle.ix_machine.specs.Given.{Chooser}
 use Rattle.ix_machine.specs.declared.commands.Order.{Order}
+use Rattle.ix_store.specs.Exporting.{HasBadRecord}
 use Rattle.ix_store.specs.Holding.{Holds}
 use Rattle.ix_store.specs.declared.store.Store.{Store}
-use Rattle.ix_serve.specs.Answer.{Answer, Found, Says, MayList, says, is_whole}
-use Rattle.ix_serve.specs.Entries.{Entry}
+use Rattle.ix_serve.specs.Answer.{Answer, Found, Says, MayList, says, declined, is_whole}
+use Rattle.ix_serve.specs.Entries.{Entry, is_acked, is_pending}
 use Rattle.ix_serve.specs.Prefixes.{StandsIn}
-use Rattle.ix_serve.specs.Replies.{Reply, http_status, text_of}
+use Rattle.ix_serve.specs.Replies.{Reply, acks, http_status, text_of}
 use Rattle.ix_serve.specs.declared.served.Served.{Served}
 use Rattle.ix_serve.specs.declared.served.Served.TheVariants as served
 use Rattle.ix_serve.specs.declared.served.ServeFault.{ServeFault}
@@ -74,10 +76,24 @@ pub record HoldsFrom {D : Type 0} (d : Ghosts D) {M : Type 0} (fits : Book → T
   pub hold : Holds d fits holds e.choose history e.base count store disk
   pub all : commits ≡ true → count ≡ length history
 
+-- as the disk reads, the file ends at the place, or no record of a bucket that counts stands there
+abbrev pub IsBadPlace : Image → File → ℕ → Type 0
+IsBadPlace image file at = (at ≡ length (bytes_in image file)) ⊎ HasBadRecord image file at
+
+-- damage is named as the disk reads
+abbrev pub IsPlaced : {D : Type 0} → Ghosts D → D → Result Served ServeFault → Type 0
+IsPlaced d disk result = (file : File) (at : ℕ) → result ≡ Err (fault.Damaged file at) → (image : Image) → d.seen disk ≡ Some image → IsBadPlace image file at
+
 -- a listing, or want of memory, of which the disk is no part
 pub record IsListed (e : Entry) (clean : Type 0) (result : Result Served ServeFault) (given given' : Option (List ℕ)) : Type 0 where
   pub reply : Reply
   pub may_be : MayList e (says false reply)
+  pub gave : Wrote reply true clean result given given'
+
+-- What is told of numbers, or want of memory, of which the disk is no part; and whether a commit is due behind the reply.
+pub record AreTold (e : Entry) (run : ℕ) (numbers : List ℕ) (clean : Type 0) (result : Result Served ServeFault) (due : Bool) (given given' : Option (List ℕ)) : Type 0 where
+  pub reply : Reply
+  pub may_be : (says due reply ≡ says (list_any (is_pending e run) numbers) (acks (map (is_acked e run) numbers))) ⊎ (says due reply ≡ declined)
   pub gave : Wrote reply true clean result given given'
 
 -- ---- what comes of what was read, whatever the store holds

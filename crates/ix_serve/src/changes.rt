@@ -12,7 +12,7 @@ ghost use Rattle.ix_machine.specs.declared.commands.Order.{Order};
 ghost use Rattle.ix_serve.specs.Answer.{MayChange, MayBe};
 ghost use Rattle.ix_serve.specs.Entries.{entry};
 ghost use Rattle.ix_serve.specs.Replies.{reply};
-ghost use Rattle.ix_serve.specs.Serving.{Answers, Comes, IsClean, IsOpen, IsReplied, IsTold, still_open};
+ghost use Rattle.ix_serve.specs.Serving.{Answers, Comes, IsClean, IsOpen, IsPlaced, IsReplied, IsTold, still_open};
 ghost use Rattle.ix_store.specs.Holding.{Holds, is_closed};
 
 use crate::bodies::{acked_body, begun_body};
@@ -48,6 +48,7 @@ fn serve_change<K: Link, M: Memory + Drop, D: Disk>(
     ensures over { IsOpen result → IsOver D.Disk store.new.keeper disk.new }
     ensures measured { IsMeasured D.Disk store.old.keeper disk.old → IsOpen result → IsMeasured D.Disk store.new.keeper disk.new }
     ensures closed { still_open result ≡ false → is_closed store.new ≡ true }
+    ensures placed { IsPlaced D.Disk disk.new result }
     ensures replied { IsReplied true result }
     ensures run { store.new.run ≡ store.old.run }
     ensures told { IsTold D.Disk disk.old → IsTold D.Disk disk.new }
@@ -85,6 +86,7 @@ pub(crate) fn serve_begin<K: Link, M: Memory + Drop, D: Disk>(
     ensures over { IsOpen result → IsOver D.Disk store.new.keeper disk.new }
     ensures measured { IsMeasured D.Disk store.old.keeper disk.old → IsOpen result → IsMeasured D.Disk store.new.keeper disk.new }
     ensures closed { still_open result ≡ false → is_closed store.new ≡ true }
+    ensures placed { IsPlaced D.Disk disk.new result }
     ensures replied { IsReplied true result }
     ensures run { store.new.run ≡ store.old.run }
     ensures told { IsTold D.Disk disk.old → IsTold D.Disk disk.new }
@@ -119,6 +121,7 @@ pub(crate) fn serve_block<K: Link, M: Memory + Drop, D: Disk>(
     ensures over { IsOpen result → IsOver D.Disk store.new.keeper disk.new }
     ensures measured { IsMeasured D.Disk store.old.keeper disk.old → IsOpen result → IsMeasured D.Disk store.new.keeper disk.new }
     ensures closed { still_open result ≡ false → is_closed store.new ≡ true }
+    ensures placed { IsPlaced D.Disk disk.new result }
     ensures replied { IsReplied true result }
     ensures run { store.new.run ≡ store.old.run }
     ensures told { IsTold D.Disk disk.old → IsTold D.Disk disk.new }
@@ -156,6 +159,7 @@ pub(crate) fn serve_end<K: Link, M: Memory + Drop, D: Disk>(
     ensures over { IsOpen result → IsOver D.Disk store.new.keeper disk.new }
     ensures measured { IsMeasured D.Disk store.old.keeper disk.old → IsOpen result → IsMeasured D.Disk store.new.keeper disk.new }
     ensures closed { still_open result ≡ false → is_closed store.new ≡ true }
+    ensures placed { IsPlaced D.Disk disk.new result }
     ensures replied { IsReplied true result }
     ensures run { store.new.run ≡ store.old.run }
     ensures told { IsTold D.Disk disk.old → IsTold D.Disk disk.new }

@@ -14,10 +14,10 @@ ghost use Rattle.ix_machine.specs.Given.{Chooser};
 ghost use Rattle.ix_machine.specs.declared.commands.Order.{Order};
 ghost use Rattle.ix_serve.specs.Answer.{MayBe};
 ghost use Rattle.ix_serve.specs.Entries.{Entry, entry};
-ghost use Rattle.ix_serve.specs.Exports.{reply_of, MayReply, IsNoDamage};
+ghost use Rattle.ix_serve.specs.Exports.{reply_of, MayReply, IsNoDamage, IsPlacedBy};
 ghost use Rattle.ix_serve.specs.Prefixes.{StandsIn};
 ghost use Rattle.ix_serve.specs.Replies.{most_lines};
-ghost use Rattle.ix_serve.specs.Serving.{Answers, Comes, Gave, IsClean, IsOpen, IsReplied, IsTold, still_open};
+ghost use Rattle.ix_serve.specs.Serving.{Answers, Comes, Gave, IsClean, IsOpen, IsPlaced, IsReplied, IsTold, still_open};
 ghost use Rattle.ix_store.specs.Holding.{Holds, is_closed};
 
 use crate::replies::{decline, give, give_refusal, give_unread, give_up};
@@ -121,6 +121,7 @@ fn export_lines<M: Memory + Drop, D: Disk>(
         Holds D.Disk M.Book.fits M.holds choose history base (length history) store.old disk.old → IsNoDamage D.Disk disk.new cause) }
     ensures measured { IsMeasured D.Disk store.old.keeper disk.old → IsMeasured D.Disk store.new.keeper disk.new }
     ensures closed { OnErr result (is_closed store.new ≡ true) }
+    ensures placed { IfErr result (λ cause. IsPlacedBy D.Disk disk.new cause) }
     ensures run { store.new.run ≡ store.old.run }
     ensures same { D.Disk.seen disk.new ≡ D.Disk.seen disk.old }
     ensures over { IsOver D.Disk store.old.keeper disk.old → IsOver D.Disk store.new.keeper disk.new }
@@ -166,6 +167,7 @@ fn committed_lines<M: Memory + Drop, D: Disk>(
         Holds D.Disk M.Book.fits M.holds choose history base k store.old disk.old → IsNoDamage D.Disk disk.new cause) }
     ensures measured { IsMeasured D.Disk store.old.keeper disk.old → OnOk result (IsMeasured D.Disk store.new.keeper disk.new) }
     ensures closed { OnErr result (is_closed store.new ≡ true) }
+    ensures placed { IfErr result (λ cause. IsPlacedBy D.Disk disk.new cause) }
     ensures run { store.new.run ≡ store.old.run }
     ensures told { IsTold D.Disk disk.old → IsTold D.Disk disk.new }
     ensures over { OnOk result (IsOver D.Disk store.new.keeper disk.new) }
@@ -216,6 +218,7 @@ pub(crate) fn serve_events<K: Link, M: Memory + Drop, D: Disk>(
     ensures over { IsOpen result → IsOver D.Disk store.new.keeper disk.new }
     ensures measured { IsMeasured D.Disk store.old.keeper disk.old → IsOpen result → IsMeasured D.Disk store.new.keeper disk.new }
     ensures closed { still_open result ≡ false → is_closed store.new ≡ true }
+    ensures placed { IsPlaced D.Disk disk.new result }
     ensures replied { IsReplied true result }
     ensures run { store.new.run ≡ store.old.run }
     ensures told { IsTold D.Disk disk.old → IsTold D.Disk disk.new }

@@ -1,9 +1,11 @@
 //! Behind a reply what was accepted is made durable, and the log is made short. Those who serve requests call both.
 
-ghost use Rattle.std.specs.Prelude.{◌≡◌, ◌≤◌, ◌⊎◌, ℕ, List, length, nat_lt, true, Err, IfOk, IfErr, OnOk, false, OnErr};
+ghost use Rattle.std.specs.Prelude.{◌≡◌, ◌≤◌, ◌⊎◌, ℕ, List, length, nat_lt, true, Some, Err, IfOk, IfErr, OnOk, false, OnErr};
 ghost use Rattle.std.specs.List.{AllByRecursion};
 ghost use Rattle.ix_base.specs.Faults.{Rose};
 ghost use Rattle.ix_base.specs.Told.{Told};
+ghost use Rattle.ix_base.specs.declared.files.File.{File};
+ghost use Rattle.ix_disk.specs.Image.{Image};
 ghost use Rattle.ix_disk.specs.Moments.{Always};
 ghost use Rattle.ix_keep.specs.Contents.{Anyhow};
 ghost use Rattle.ix_keep.specs.Snapshot.{IsLong, IsMeasured, IsOver};
@@ -12,7 +14,7 @@ ghost use Rattle.ix_machine.specs.Given.{Chooser};
 ghost use Rattle.ix_machine.specs.declared.commands.Order.{Order};
 ghost use Rattle.ix_serve.specs.Answer.{answer_of_fault};
 ghost use Rattle.ix_serve.specs.Prefixes.{StandsIn};
-ghost use Rattle.ix_serve.specs.Serving.{IsOpen, IsShort, IsTold, IsUndamaged, still_open};
+ghost use Rattle.ix_serve.specs.Serving.{IsBadPlace, IsOpen, IsPlaced, IsShort, IsTold, IsUndamaged, still_open};
 ghost use Rattle.ix_store.specs.Holding.{Holds, is_closed};
 
 use crate::served::{ServeFault, Served, answer_of_fault};
@@ -35,6 +37,7 @@ pub(crate) fn settle<M: Memory + Drop, D: Disk>(
     ensures came { (result ≡ came) ⊎ ((cause : CommitFaultOf) × (result ≡ Err (answer_of_fault cause))) }
     ensures measured { IsMeasured D.Disk store.old.keeper disk.old → IsOpen result → IsMeasured D.Disk store.new.keeper disk.new }
     ensures closed { still_open result ≡ false → is_closed store.new ≡ true }
+    ensures placed { IsPlaced D.Disk disk.new result }
     ensures run { store.new.run ≡ store.old.run }
     ensures told { IsTold D.Disk disk.old → IsTold D.Disk disk.new }
     ensures over { IsOpen result → IsOver D.Disk store.new.keeper disk.new }
@@ -71,6 +74,7 @@ pub(crate) fn shorten_behind<M: Listing + Drop, D: Disk>(
     ensures over { OnOk result (IsOver D.Disk store.new.keeper disk.new) }
     ensures measured { IsMeasured D.Disk store.old.keeper disk.old → OnOk result (IsMeasured D.Disk store.new.keeper disk.new) }
     ensures closed { OnErr result (is_closed store.new ≡ true) }
+    ensures placed { IfErr result (λ fault. (file : File) (at : ℕ) → fault ≡ ServeFault.Damaged file at → (image : Image) → D.Disk.seen disk.new ≡ Some image → IsBadPlace image file at) }
     ensures run { store.new.run ≡ store.old.run }
     ensures told { Told Anyhow (D.Disk.seen disk.old) (D.Disk.seen disk.new) }
     ensures later { D.Disk.faults disk.old ≤ D.Disk.faults disk.new }

@@ -11,7 +11,7 @@ ghost use Rattle.ix_machine.specs.declared.commands.Order.{Order};
 ghost use Rattle.ix_serve.specs.Answer.{MayBe};
 ghost use Rattle.ix_serve.specs.Bodies.{acks_body};
 ghost use Rattle.ix_serve.specs.Entries.{Entry, IsAt, entry, is_acked, is_pending};
-ghost use Rattle.ix_serve.specs.Serving.{Answers, Comes, IsClean, IsListed, IsOpen, IsReplied, IsTold, still_open};
+ghost use Rattle.ix_serve.specs.Serving.{Answers, AreTold, Comes, IsClean, IsListed, IsOpen, IsPlaced, IsReplied, IsTold, still_open};
 ghost use Rattle.ix_store.specs.Holding.{Holds, is_closed};
 
 use crate::bodies::add_value;
@@ -74,6 +74,31 @@ fn has_pending<M: Memory + Drop>(store: &Store<M>, run: u64, numbers: &[u64]) ->
     false
 }
 
+/// Answers which numbers are committed, and whether a commit is due behind the reply: where this run has drawn one that is not. It has no disk,
+/// so what it replies is what was committed before any call of one.
+fn give_acks<K: Link, M: Memory + Drop>(
+    alloc: Global,
+    store: &Store<M>,
+    link: &mut K,
+    run: u64,
+    numbers: &[u64],
+) -> (Result<Served, ServeFault>, bool)
+    ensures told { (e : Entry) (old : Snapshot) → IsAt M.Book.fits M.holds e store.now old →
+        AreTold e run numbers.now (IsClean (K.faults link.old) (K.faults link.new) (K.standing link.old) (K.standing link.new)) result.0 result.1 (K.given link.old) (K.given link.new) }
+    ensures left { K.left link.new ≡ K.left link.old }
+    ensures replied { IsReplied true result.0 }
+    ensures open { IsOpen result.0 }
+    ensures goes { Goes (K.standing link.old) (K.standing link.new) }
+    ensures later { K.faults link.old ≤ K.faults link.new }
+    ensures failed { result.0 ≡ Err ServeFault.Link → Rose (K.faults link.old) (K.faults link.new) }
+{
+    let Ok(body) = acks_body(alloc, store, run, numbers) else {
+        return (decline(link, true), false);
+    };
+    let due = has_pending(store, run, numbers);
+    (give(link, 200, Kind::Json, body.as_slice(), true), due)
+}
+
 /// Answers which numbers are committed, and commits behind the reply where this run has drawn one that is not.
 pub(crate) fn serve_acks<K: Link, M: Memory + Drop, D: Disk>(
     alloc: Global,
@@ -94,22 +119,15 @@ pub(crate) fn serve_acks<K: Link, M: Memory + Drop, D: Disk>(
     ensures over { IsOpen result → IsOver D.Disk store.new.keeper disk.new }
     ensures measured { IsMeasured D.Disk store.old.keeper disk.old → IsOpen result → IsMeasured D.Disk store.new.keeper disk.new }
     ensures closed { still_open result ≡ false → is_closed store.new ≡ true }
+    ensures placed { IsPlaced D.Disk disk.new result }
     ensures replied { IsReplied true result }
     ensures run { store.new.run ≡ store.old.run }
     ensures told { IsTold D.Disk disk.old → IsTold D.Disk disk.new }
     ensures goes { Goes (K.standing link.old) (K.standing link.new) }
     ensures comes { Comes (K.faults link.old) (K.faults link.new) (D.Disk.faults disk.old) (D.Disk.faults disk.new) result }
 {
-    let Ok(body) = acks_body(alloc, store, run, numbers.as_slice()) else {
-        return decline(link, true);
-    };
-    let pending = has_pending(store, run, numbers.as_slice());
-    let came = give(link, 200, Kind::Json, body.as_slice(), true);
-    if pending {
-        settle(store, disk, came)
-    } else {
-        came
-    }
+    let (came, due) = give_acks(alloc, store, link, run, numbers.as_slice());
+    if due { settle(store, disk, came) } else { came }
 }
 
 /// Answers the listing of the buckets.

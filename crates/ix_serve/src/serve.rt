@@ -9,7 +9,7 @@ ghost use Rattle.ix_machine.specs.Given.{Chooser};
 ghost use Rattle.ix_machine.specs.declared.commands.Order.{Order};
 ghost use Rattle.ix_serve.specs.Answer.{MayBe};
 ghost use Rattle.ix_serve.specs.Entries.{entry};
-ghost use Rattle.ix_serve.specs.Serving.{Answers, Comes, IsClean, IsLongStill, IsOpen, IsReplied, IsShortBehind, IsTold, Reads, Serves, still_open};
+ghost use Rattle.ix_serve.specs.Serving.{Answers, Comes, IsClean, IsLongStill, IsOpen, IsPlaced, IsReplied, IsShortBehind, IsTold, Reads, Serves, still_open};
 ghost use Rattle.ix_serve.specs.Taking.{TakesAsks};
 ghost use Rattle.ix_store.specs.Holding.{Holds, is_closed};
 
@@ -46,6 +46,7 @@ fn serve_ask<K: Link, M: Memory + Drop, D: Disk>(
     ensures over { IsOpen result → IsOver D.Disk store.new.keeper disk.new }
     ensures measured { IsMeasured D.Disk store.old.keeper disk.old → IsOpen result → IsMeasured D.Disk store.new.keeper disk.new }
     ensures closed { still_open result ≡ false → is_closed store.new ≡ true }
+    ensures placed { IsPlaced D.Disk disk.new result }
     ensures replied { IsReplied true result }
     ensures run { store.new.run ≡ store.old.run }
     ensures told { IsTold D.Disk disk.old → IsTold D.Disk disk.new }
@@ -85,6 +86,7 @@ fn serve_request<K: Link, M: Memory + Drop, D: Disk>(
     ensures over { IsOpen result → IsOver D.Disk store.new.keeper disk.new }
     ensures measured { IsMeasured D.Disk store.old.keeper disk.old → IsOpen result → IsMeasured D.Disk store.new.keeper disk.new }
     ensures closed { still_open result ≡ false → is_closed store.new ≡ true }
+    ensures placed { IsPlaced D.Disk disk.new result }
     ensures reads { Reads result (K.left link.old) (K.left link.new) }
     ensures run { store.new.run ≡ store.old.run }
     ensures told { IsTold D.Disk disk.old → IsTold D.Disk disk.new }
@@ -122,8 +124,10 @@ pub fn serve_one<K: Link, M: Listing + Drop, D: Disk>(
         result (K.left link.old) (K.left link.new) (K.given link.old) (K.given link.new) store.new disk.old disk.new }
     // What comes of a request goes by what was read, also where the disk holds no history: where it is cut or refused, and whether another may follow.
     ensures reads { Reads result (K.left link.old) (K.left link.new) }
-    // After a fault of the disk, or damage, the store is closed.
+    // After a fault of the disk, or damage, the store is closed, and damage is named as the disk reads, whatever it stands for: the file ends at
+    // the place, or no record stands there.
     ensures closed { still_open result ≡ false → is_closed store.new ≡ true }
+    ensures placed { IsPlaced D.Disk disk.new result }
     // Behind a reply the log is not long, unless a command is staged, or the reply comes with `unshortened`; and then it is long.
     ensures short { (choose : Chooser) (history : List Order) (base k : ℕ) → Holds D.Disk M.Book.fits M.holds choose history base k store.new disk.new →
         IsShortBehind result (nat_lt k (length history)) store.new.keeper }

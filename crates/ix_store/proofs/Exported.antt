@@ -4,12 +4,14 @@ use Rattle.std.specs.Prelude.{Option, Some, None, Result, Ok, Err, IsErrOf, ◌�
 use Rattle.std.specs.List.{AllByRecursion, flat_map}
 use Rattle.std.specs.Option.{option_map}
 use Rattle.ix_base.specs.declared.events.Event.{Event}
+use Rattle.ix_base.specs.declared.events.Range.{Range}
 use Rattle.ix_base.specs.declared.files.File.{File}
 use Rattle.ix_bucket.specs.Record.{records, IsInRange}
 use Rattle.ix_disk.specs.Image.{Image, bytes_in, content, Stays}
 use Rattle.ix_disk.specs.Moments.{Goes}
 use Rattle.ix_disk.specs.declared.disk.Disk.{Ghosts}
 use Rattle.ix_disk.proofs.Runs.{still_all}
+use Rattle.ix_export.specs.Stops.{StopsAt}
 use Rattle.ix_export.specs.Faults.{OnDamaged}
 use Rattle.ix_export.specs.Stored.{HasEvents, HaveEvents, joined}
 use Rattle.ix_export.specs.declared.fault.BucketFault.{BucketFault}
@@ -44,7 +46,7 @@ use Rattle.ix_machine.proofs.Areas.{IsApartFromLogs, SlotApart, IndexApart, apar
 use Rattle.ix_machine.proofs.Filing.{in_right, in_flat, found_in, in_filed, bytes_there}
 use Rattle.ix_machine.proofs.Listing.{among, or_fresh, find_fresh}
 use Rattle.ix_machine.proofs.Names.{find_map}
-use Rattle.ix_store.specs.Exporting.{is_seen, listed_in, listed_events, exported, HaveRecords}
+use Rattle.ix_store.specs.Exporting.{HasBadRecord, is_seen, listed_in, listed_events, exported, HaveRecords}
 use Rattle.ix_store.specs.Faults.{export_fault_of}
 use Rattle.ix_store.specs.Holding.{Holds, IsUnchanged}
 use Rattle.ix_store.specs.declared.fault.ExportFault.{ExportFault}
@@ -254,6 +256,10 @@ export_damaged (buckets_faults.Damaged f a) P file at shown is e so =
     subst (λ (x : File). P x at) files (subst (P f) places so)
 export_damaged buckets_faults.Output P file at shown is e so = absurd cc
 export_damaged buckets_faults.NoMemory P file at shown is e so = absurd cc
+
+-- the bucket at which an export stops
+pub bad_stop : (range : Range) (image : Image) (buckets : List Bucket) (file : File) (at : ℕ) (given given' : Option (List ℕ)) → StopsAt range image buckets file at given given' → HasBadRecord image file at
+bad_stop range image buckets file at given given' stops = record { bucket = stops.bucket; file_is = stops.file_is; events = stops.events; damaged = stops.damaged }
 
 pub unknown_so : (seen : Bool) (answer : Result ℕ ExportFault) → seen ≡ false → IsErrOf answer exports.UnknownIndex → IsErrOf answer exports.UnknownIndex ↔ (seen ≡ false)
 unknown_so seen answer unseen is = (λ _. unseen, λ _. is)

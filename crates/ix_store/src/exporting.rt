@@ -18,7 +18,7 @@ ghost use Rattle.ix_machine.specs.Step.{after};
 ghost use Rattle.ix_machine.specs.declared.commands.Order.{Order};
 ghost use Rattle.ix_shelves.specs.Lists.{find};
 ghost use Rattle.ix_shelves.specs.Shelves.{view_name};
-ghost use Rattle.ix_store.specs.Exporting.{is_seen, listed_in, exported};
+ghost use Rattle.ix_store.specs.Exporting.{HasBadRecord, is_seen, listed_in, exported};
 ghost use Rattle.ix_store.specs.Faults.{closes};
 
 use crate::fault::{ExportFault, closes, export_fault_of};
@@ -79,6 +79,7 @@ impl<M: Memory + Drop> Store<M> {
         ensures damaged { (file : File) (at : ℕ) → result ≡ Err (ExportFault.Damaged file at) → (choose : Chooser) (history : List Order) (base k : ℕ) (old : Snapshot) (image : Image) →
             Staged M.Book.fits M.holds choose history base k self.now old → D.Disk.seen disk.old ≡ Some image →
             StopsAt range.now image (listed_in (after choose history) index.now) file at (W.given out.old) (W.given out.new) }
+        ensures bad { (file : File) (at : ℕ) → result ≡ Err (ExportFault.Damaged file at) → (image : Image) → D.Disk.seen disk.old ≡ Some image → HasBadRecord image file at }
         ensures later { D.Disk.faults disk.old ≤ D.Disk.faults disk.new }
         ensures cause { IsErrOf result ExportFault.Disk → Rose (D.Disk.faults disk.old) (D.Disk.faults disk.new) }
         ensures grown { W.faults out.old ≤ W.faults out.new }
@@ -132,6 +133,8 @@ impl<M: Memory + Drop> Store<M> {
         ensures damaged { (file : File) (at : ℕ) → result ≡ Err (ExportFault.Damaged file at) → (choose : Chooser) (history : List Order) (base k : ℕ) (old : Snapshot) (image : Image) →
             Staged M.Book.fits M.holds choose history base k self.old old → D.Disk.seen disk.old ≡ Some image →
             StopsAt range.now image (listed_in (after choose history) index.now) file at (W.given out.old) (W.given out.new) }
+        // So it is of any disk, as it reads, whatever history it stands for.
+        ensures bad { (file : File) (at : ℕ) → result ≡ Err (ExportFault.Damaged file at) → (image : Image) → D.Disk.seen disk.old ≡ Some image → HasBadRecord image file at }
         // After a fault of the disk, or damage, the store is closed; else it is as it was.
         ensures closes { is_closed self.new ≡ (is_closed self.old || closes result) }
         ensures unchanged { closes result ≡ false → IsUnchanged self.old self.new }

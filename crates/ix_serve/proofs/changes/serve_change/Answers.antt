@@ -12,7 +12,7 @@ use Rattle.ix_serve.specs.Replies.{reply, refused}
 use Rattle.ix_serve.specs.Serving.{IsClean}
 use Rattle.ix_serve.proofs.Answering.{changed, comes_open, comes_settled, held_accepted, run_accepted, refused_so, wrote_settled, open_undamaged, due_held, undue_held}
 use Rattle.ix_serve.proofs.Standing.{standing, measured_same}
-use Rattle.ix_serve.proofs.Closing.{open_still, replied_by, replied_settled}
+use Rattle.ix_serve.proofs.Closing.{open_still, replied_by, replied_settled, open_placed}
 use Rattle.ix_serve.proofs.changes.serve_change.Goals as goal
 
 pub returns-then-due : goal.returns-then-due
@@ -36,6 +36,7 @@ returns-then-due g c = record {
   over = c.settle.ensures.over;
   measured = λ measured. c.settle.ensures.measured (measured_same g.D.Disk c.args.store.now.keeper c.accept.new.self.keeper c.args.disk.now c.accept.ensures.logs c.accept.ensures.bytes measured);
   closed = c.settle.ensures.closed;
+  placed = c.settle.ensures.placed;
   replied = replied_settled true c.give-came.result c.settle.result c.settle.ensures.came (replied_by (reply c.args.status Json c.args.body.now) true (IsClean (g.K.Link.faults c.args.link.now) (g.K.Link.faults c.give-came.new.link) (g.K.Link.standing c.args.link.now) (g.K.Link.standing c.give-came.new.link)) c.give-came.result (g.K.Link.given c.args.link.now) (g.K.Link.given c.give-came.new.link) c.give-came.ensures.gave);
   run = c.settle.ensures.run ∙ c.accept.ensures.run;
   told = c.settle.ensures.told;
@@ -64,6 +65,7 @@ returns-else-due g c = record {
   over = λ stays. over_same g.D.Disk g.M.Book.Replay.fits c.args.store.now.keeper c.accept.new.self.keeper c.args.disk.now c.accept.ensures.logs c.requires.over;
   measured = λ measured stays. measured_same g.D.Disk c.args.store.now.keeper c.accept.new.self.keeper c.args.disk.now c.accept.ensures.logs c.accept.ensures.bytes measured;
   closed = λ down. absurd (open_still c.give-came.result c.give-came.ensures.open down);
+  placed = open_placed g.D.Disk c.args.disk.now c.give-came.result c.give-came.ensures.open;
   replied = replied_by (reply c.args.status Json c.args.body.now) true (IsClean (g.K.Link.faults c.args.link.now) (g.K.Link.faults c.give-came.new.link) (g.K.Link.standing c.args.link.now) (g.K.Link.standing c.give-came.new.link)) c.give-came.result (g.K.Link.given c.args.link.now) (g.K.Link.given c.give-came.new.link) c.give-came.ensures.gave;
   run = c.accept.ensures.run;
   told = λ told. told;
@@ -84,6 +86,7 @@ returns-in-Err g c = record {
   over = λ stays. over_same g.D.Disk g.M.Book.Replay.fits c.args.store.now.keeper c.accept.new.self.keeper c.args.disk.now c.accept.ensures.logs c.requires.over;
   measured = λ measured stays. measured_same g.D.Disk c.args.store.now.keeper c.accept.new.self.keeper c.args.disk.now c.accept.ensures.logs c.accept.ensures.bytes measured;
   closed = λ down. absurd (open_still c.give_refusal.result c.give_refusal.ensures.open down);
+  placed = open_placed g.D.Disk c.args.disk.now c.give_refusal.result c.give_refusal.ensures.open;
   replied = replied_by (refused c.in-Err.refusal) true (IsClean (g.K.Link.faults c.args.link.now) (g.K.Link.faults c.give_refusal.new.link) (g.K.Link.standing c.args.link.now) (g.K.Link.standing c.give_refusal.new.link)) c.give_refusal.result (g.K.Link.given c.args.link.now) (g.K.Link.given c.give_refusal.new.link) c.give_refusal.ensures.gave;
   run = c.accept.ensures.run;
   told = λ told. told;

@@ -12,7 +12,7 @@ use Rattle.ix_serve.specs.Entries.{entry, drawn}
 use Rattle.ix_serve.specs.Replies.{reply, no_memory}
 use Rattle.ix_serve.specs.Serving.{Answers, IsClean, IsTold}
 use Rattle.ix_serve.proofs.Answering.{comes_open, idle}
-use Rattle.ix_serve.proofs.Closing.{open_still, replied_by}
+use Rattle.ix_serve.proofs.Closing.{open_still, replied_by, open_placed}
 use Rattle.ix_serve.proofs.changes.serve_end.Goals as goal
 
 pub returns-in_default : goal.returns-in_default
@@ -25,6 +25,7 @@ returns-in_default g c = record {
   over = λ stays. c.requires.over;
   measured = λ measured stays. measured;
   closed = λ down. absurd (open_still c.decline.result c.decline.ensures.open down);
+  placed = open_placed g.D.Disk c.args.disk.now c.decline.result c.decline.ensures.open;
   replied = replied_by no_memory true (IsClean (g.K.Link.faults c.args.link.now) (g.K.Link.faults c.decline.new.link) (g.K.Link.standing c.args.link.now) (g.K.Link.standing c.decline.new.link)) c.decline.result (g.K.Link.given c.args.link.now) (g.K.Link.given c.decline.new.link) c.decline.ensures.gave;
   run = refl;
   told = λ told. told;
@@ -45,6 +46,7 @@ returns g c = record {
   over = c.serve_change.ensures.over;
   measured = c.serve_change.ensures.measured;
   closed = c.serve_change.ensures.closed;
+  placed = c.serve_change.ensures.placed;
   replied = c.serve_change.ensures.replied;
   run = c.serve_change.ensures.run;
   told = c.serve_change.ensures.told;

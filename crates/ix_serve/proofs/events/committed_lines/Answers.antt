@@ -1,4 +1,4 @@
-use Rattle.std.proofs.Common.{length, ◌∙◌, ap, Err, arith}
+use Rattle.std.proofs.Common.{length, ◌∙◌, ap, inl, Err, arith}
 use Rattle.ix_disk.proofs.Runs.{rose_later}
 use Rattle.ix_keep.specs.declared.fault.CommitFault.{CommitFault}
 use Rattle.ix_serve.specs.Prefixes.{StandsIn}
@@ -14,6 +14,7 @@ returns-in-Ok g c = record {
   undamaged = if_err c.export_lines.result (λ cause says choose h base k chooser taken hold. says choose h base chooser taken (c.in-Ok.ensures.done choose h base k hold)) c.export_lines.ensures.undamaged;
   measured = λ measured. on_ok_always c.export_lines.result (c.export_lines.ensures.measured (c.in-Ok.ensures.measured (λ idle. measured)));
   closed = c.export_lines.ensures.closed;
+  placed = c.export_lines.ensures.placed;
   run = c.export_lines.ensures.run ∙ c.commit.ensures.run;
   told = λ told. let mid = tells_on g.D.Disk _ c.args.disk.now c.commit.new.disk c.commit.ensures.told told in (mid.0, c.export_lines.ensures.same ∙ mid.1);
   over = on_ok_always c.export_lines.result (c.export_lines.ensures.over c.in-Ok.ensures.over);
@@ -32,6 +33,7 @@ returns-in-Err g c = record {
   undamaged = λ choose h base k chooser taken hold file at is image seen. c.in-Err.ensures.undamaged file at (ap (λ (f : CommitFault). Err f) is) choose h base k hold image seen;
   measured = λ measured. tt;
   closed = by_keeper c.commit.new.self c.in-Err.ensures.closed;
+  placed = λ file at is image seen. inl ((c.in-Err.ensures.damaged file at (ap (λ (f : CommitFault). Err f) is)).1 image seen);
   run = c.commit.ensures.run;
   told = tells_on g.D.Disk _ c.args.disk.now c.commit.new.disk c.commit.ensures.told;
   over = tt;

@@ -1,4 +1,4 @@
-use Rattle.std.proofs.Common.{◌≡◌, ◌∙◌, ◌||◌, ℕ, length, refl, sym, ap, inl, Result, Err}
+use Rattle.std.proofs.Common.{◌≡◌, ◌∙◌, ◌||◌, ℕ, length, refl, sym, ap, inl, inr, Result, Err}
 use Rattle.std.proofs.lemmas.Bool.{false≢true}
 use Rattle.ix_base.specs.declared.files.File.{File}
 use Rattle.ix_keep.specs.declared.fault.CommitFault.TheVariants as commits
@@ -10,7 +10,7 @@ use Rattle.ix_store.specs.declared.fault.ExportFault.TheVariants as exports
 use Rattle.ix_serve.specs.Serving.{IsTold}
 use Rattle.ix_serve.proofs.Behind.{ok_err}
 use Rattle.ix_serve.proofs.Exporting.{of_kept, of_front, of_unseen, seen_by}
-use Rattle.ix_serve.proofs.Closing.{by_export}
+use Rattle.ix_serve.proofs.Closing.{by_export, placed_as}
 use Rattle.ix_serve.proofs.events.export_lines.Goals as goal
 
 disk_or_damaged : (file : File) (at : ℕ) → commits.Disk ≡ commits.Damaged file at → ⊥
@@ -32,6 +32,7 @@ returns-in-Ok g c = record {
   undamaged = tt;
   measured = c.export.ensures.measured;
   closed = tt;
+  placed = tt;
   run = c.export.ensures.run;
   same = c.export.ensures.same;
   over = c.export.ensures.over;
@@ -50,6 +51,7 @@ returns-in-Err-Output g c = record {
   undamaged = tt;
   measured = c.export.ensures.measured;
   closed = tt;
+  placed = tt;
   run = c.export.ensures.run;
   same = c.export.ensures.same;
   over = c.export.ensures.over;
@@ -67,6 +69,7 @@ returns-in-Err-UnknownIndex g c = record {
   undamaged = tt;
   measured = c.export.ensures.measured;
   closed = tt;
+  placed = tt;
   run = c.export.ensures.run;
   same = c.export.ensures.same;
   over = c.export.ensures.over;
@@ -83,6 +86,7 @@ returns g c = record {
       c.in-Err-Damaged.ensures.sound c.in-Err-Damaged.file c.in-Err-Damaged.at (ap (λ (f : ExportFault). Err f) c.in-Err-Damaged.field-0-is) choose h base image chooser taken hold (sym c.in-Err-Damaged.ensures.same ∙ seen);
   measured = c.export.ensures.measured;
   closed = by_export c.export.new.self _ _ c.export.ensures.closes (ap closes (c.in-Err-Damaged.is ∙ ap Err c.in-Err-Damaged.field-0-is));
+  placed = λ file at is image seen. placed_as image c.in-Err-Damaged.file file c.in-Err-Damaged.at at is (inr (c.in-Err-Damaged.ensures.bad c.in-Err-Damaged.file c.in-Err-Damaged.at (ap (λ (f : ExportFault). Err f) c.in-Err-Damaged.field-0-is) image (sym c.in-Err-Damaged.ensures.same ∙ seen)));
   run = c.export.ensures.run;
   same = c.export.ensures.same;
   over = c.export.ensures.over;
@@ -98,6 +102,7 @@ returns-in-Err-NoMemory g c = record {
   undamaged = tt;
   measured = c.export.ensures.measured;
   closed = tt;
+  placed = tt;
   run = c.export.ensures.run;
   same = c.export.ensures.same;
   over = c.export.ensures.over;
@@ -114,6 +119,7 @@ returns-in-Err-Closed g c = record {
   undamaged = tt;
   measured = c.export.ensures.measured;
   closed = tt;
+  placed = tt;
   run = c.export.ensures.run;
   same = c.export.ensures.same;
   over = c.export.ensures.over;
@@ -129,6 +135,7 @@ returns-in-Err-Disk g c = record {
   undamaged = λ choose h base chooser taken hold file at is. absurd (disk_or_damaged file at is);
   measured = c.export.ensures.measured;
   closed = by_export c.export.new.self _ _ c.export.ensures.closes (ap closes (c.in-Err-Disk.is ∙ ap Err c.in-Err-Disk.field-0-is));
+  placed = λ file at is. absurd (disk_or_damaged file at is);
   run = c.export.ensures.run;
   same = c.export.ensures.same;
   over = c.export.ensures.over;

@@ -7,7 +7,7 @@ use Rattle.ix_serve.specs.Replies.{Reply, no_memory, broken}
 use Rattle.ix_serve.specs.Serving.{IsClean, IsOpen, IsTold}
 use Rattle.ix_serve.specs.declared.served.ServeFault.TheVariants as fault
 use Rattle.ix_serve.proofs.Answering.{comes_open, comes_closed, err_back, queried, due_held, open_undamaged, closed, damaged_back}
-use Rattle.ix_serve.proofs.Closing.{open_still, replied_by, replied_err}
+use Rattle.ix_serve.proofs.Closing.{open_still, replied_by, replied_err, open_placed}
 use Rattle.ix_serve.proofs.events.serve_events.Goals as goal
 
 pub returns-in-Ok : goal.returns-in-Ok
@@ -35,6 +35,7 @@ returns-in-Ok g c = record {
   over = λ stays. c.in-Ok.ensures.over;
   measured = λ measured stays. c.in-Ok.ensures.measured measured;
   closed = λ down. absurd (open_still c.give_exported.result c.give_exported.ensures.open down);
+  placed = open_placed g.D.Disk c.committed_lines.new.disk c.give_exported.result c.give_exported.ensures.open;
   replied = replied_by (reply_of c.in-Ok.exported) true (IsClean (g.K.Link.faults c.args.link.now) (g.K.Link.faults c.give_exported.new.link) (g.K.Link.standing c.args.link.now) (g.K.Link.standing c.give_exported.new.link)) c.give_exported.result (g.K.Link.given c.args.link.now) (g.K.Link.given c.give_exported.new.link) c.give_exported.ensures.gave;
   run = c.committed_lines.ensures.run;
   told = c.committed_lines.ensures.told;
@@ -61,6 +62,7 @@ returns-in-Err g c = record {
   over = λ stays. absurd (closed c.in-Err.cause (subst IsOpen c.give_up.ensures.result stays));
   measured = λ measured stays. absurd (closed c.in-Err.cause (subst IsOpen c.give_up.ensures.result stays));
   closed = λ down. c.in-Err.ensures.closed;
+  placed = λ file at is image seen. c.in-Err.ensures.placed file at (damaged_back c.in-Err.cause file at (err_back (answer_of_fault c.in-Err.cause) (fault.Damaged file at) (sym c.give_up.ensures.result ∙ is))) image seen;
   replied = replied_err true c.in-Err.cause c.give_up.result c.give_up.ensures.result;
   run = c.committed_lines.ensures.run;
   told = c.committed_lines.ensures.told;

@@ -5,7 +5,7 @@ use Rattle.ix_serve.specs.declared.served.ServeFault.{ServeFault}
 use Rattle.ix_serve.specs.declared.served.ServeFault.TheVariants as fault
 use Rattle.ix_serve.proofs.Answering.{open_undamaged, damaged_back, disk_back, err_back, not_open}
 use Rattle.ix_serve.proofs.Standing.{committing, tells_on}
-use Rattle.ix_serve.proofs.Closing.{open_still, by_keeper}
+use Rattle.ix_serve.proofs.Closing.{open_still, by_keeper, open_placed}
 use Rattle.ix_serve.proofs.keeping.settle.Goals as goal
 
 pub returns-in-Ok : goal.returns-in-Ok
@@ -16,6 +16,7 @@ returns-in-Ok g c = record {
   came = inl refl;
   measured = λ measured stays. c.in-Ok.ensures.measured (λ idle. measured);
   closed = λ down. absurd (open_still c.args.came c.requires.open down);
+  placed = open_placed g.D.Disk c.commit.new.disk c.args.came c.requires.open;
   run = c.commit.ensures.run;
   told = tells_on g.D.Disk _ c.args.disk.now c.commit.new.disk c.commit.ensures.told;
   over = λ stays. c.in-Ok.ensures.over;
@@ -32,6 +33,7 @@ returns-in-Err g c = record {
   came = inr (c.in-Err.cause, ap (λ (f : ServeFault). Err f) c.answer_of_fault.ensures);
   measured = λ measured stays. absurd (not_open c.answer_of_fault.result c.in-Err.cause c.answer_of_fault.ensures stays);
   closed = λ down. by_keeper c.commit.new.self c.in-Err.ensures.closed;
+  placed = λ file at is image seen. inl ((c.in-Err.ensures.damaged file at (ap (λ (f : CommitFault). Err f) (damaged_back c.in-Err.cause file at (sym c.answer_of_fault.ensures ∙ err_back c.answer_of_fault.result (fault.Damaged file at) is)))).1 image seen);
   run = c.commit.ensures.run;
   told = tells_on g.D.Disk _ c.args.disk.now c.commit.new.disk c.commit.ensures.told;
   over = λ stays. absurd (not_open c.answer_of_fault.result c.in-Err.cause c.answer_of_fault.ensures stays);

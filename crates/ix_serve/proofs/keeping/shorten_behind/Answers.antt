@@ -7,9 +7,9 @@ use Rattle.ix_disk.proofs.Runs.{rose_later}
 use Rattle.ix_keep.specs.declared.fault.CommitFault.TheVariants as commits
 use Rattle.ix_keep.proofs.Reading.{anyhow_same, anyhow_through}
 use Rattle.ix_serve.proofs.Standing.{committing, standing}
-use Rattle.ix_serve.proofs.Answering.{disk_back}
+use Rattle.ix_serve.proofs.Answering.{damaged_back, disk_back}
 use Rattle.ix_serve.proofs.Behind.{ok_err, all_in, short_told, shortened_images, shortened_held}
-use Rattle.ix_serve.proofs.Closing.{by_keeper}
+use Rattle.ix_serve.proofs.Closing.{by_keeper, not_damaged}
 use Rattle.ix_serve.proofs.keeping.shorten_behind.Goals as goal
 
 -- a command is staged, and nothing is done
@@ -25,6 +25,7 @@ returns-then-staged g c = record {
   over = c.requires.over;
   measured = λ measured. measured;
   closed = tt;
+  placed = tt;
   run = refl;
   told = anyhow_same (g.D.Disk.seen c.args.disk.now) (g.D.Disk.seen c.args.disk.now) refl;
   later = omega arith;
@@ -44,6 +45,7 @@ returns-then-not-long g c = record {
   over = c.requires.over;
   measured = λ measured. measured;
   closed = tt;
+  placed = tt;
   run = refl;
   told = anyhow_same (g.D.Disk.seen c.args.disk.now) (g.D.Disk.seen c.args.disk.now) refl;
   later = omega arith;
@@ -66,6 +68,7 @@ returns-in-Err g c = record {
   over = tt;
   measured = λ measured. tt;
   closed = by_keeper c.commit.new.self c.in-Err.ensures.closed;
+  placed = λ file at is image seen. inl ((c.in-Err.ensures.damaged file at (ap Err (damaged_back c.in-Err.cause file at (sym c.answer_of_fault.ensures ∙ is)))).1 image seen);
   run = c.commit.ensures.run;
   told = c.commit.ensures.told;
   later = c.commit.ensures.later;
@@ -90,6 +93,7 @@ returns-in-Ok-checkpoint g c = record {
   over = c.in-Ok-checkpoint.ensures.over;
   measured = λ measured. c.in-Ok-checkpoint.ensures.measured;
   closed = tt;
+  placed = tt;
   run = c.checkpoint.ensures.run ∙ c.commit.ensures.run;
   told = anyhow_through (g.D.Disk.seen c.args.disk.now) (g.D.Disk.seen c.commit.new.disk) (g.D.Disk.seen c.checkpoint.new.disk) c.commit.ensures.told c.checkpoint.ensures.told;
   later = omega (arith, c.commit.ensures.later, c.checkpoint.ensures.later);
@@ -116,6 +120,7 @@ returns-in-Err-NoMemory g c = record {
   measured = λ measured.
       c.checkpoint.ensures.measured_still (c.in-Err-NoMemory.is ∙ ap Err c.in-Err-NoMemory.field-0-is) (c.in-Ok.ensures.measured (λ idle. measured));
   closed = tt;
+  placed = tt;
   run = c.checkpoint.ensures.run ∙ c.commit.ensures.run;
   told = anyhow_through (g.D.Disk.seen c.args.disk.now) (g.D.Disk.seen c.commit.new.disk) (g.D.Disk.seen c.checkpoint.new.disk) c.commit.ensures.told c.checkpoint.ensures.told;
   later = omega (arith, c.commit.ensures.later, c.checkpoint.ensures.later);
@@ -137,6 +142,7 @@ returns-in-Err-Disk g c = record {
   over = tt;
   measured = λ measured. tt;
   closed = by_keeper c.checkpoint.new.self (c.checkpoint.ensures.closed (c.in-Err-Disk.is ∙ ap Err c.in-Err-Disk.field-0-is));
+  placed = λ file at is. absurd (not_damaged file at is);
   run = c.checkpoint.ensures.run ∙ c.commit.ensures.run;
   told = anyhow_through (g.D.Disk.seen c.args.disk.now) (g.D.Disk.seen c.commit.new.disk) (g.D.Disk.seen c.checkpoint.new.disk) c.commit.ensures.told c.checkpoint.ensures.told;
   later = omega (arith, c.commit.ensures.later, c.checkpoint.ensures.later);

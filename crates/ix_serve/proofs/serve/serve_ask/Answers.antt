@@ -8,7 +8,7 @@ use Rattle.ix_serve.specs.Entries.{entry}
 use Rattle.ix_serve.specs.Serving.{Answers, IsClean, IsTold}
 use Rattle.ix_serve.proofs.Answering.{comes_open}
 use Rattle.ix_serve.proofs.Asking.{listed_answers}
-use Rattle.ix_serve.proofs.Closing.{open_still}
+use Rattle.ix_serve.proofs.Closing.{open_still, open_placed}
 use Rattle.ix_serve.proofs.serve.serve_ask.Goals as goal
 
 pub returns-in-Begin : goal.returns-in-Begin
@@ -23,6 +23,7 @@ returns-in-Begin g c = record {
   over = c.serve_begin.ensures.over;
   measured = c.serve_begin.ensures.measured;
   closed = c.serve_begin.ensures.closed;
+  placed = c.serve_begin.ensures.placed;
   replied = c.serve_begin.ensures.replied;
   run = c.serve_begin.ensures.run;
   told = c.serve_begin.ensures.told;
@@ -42,6 +43,7 @@ returns-in-Block g c = record {
   over = c.serve_block.ensures.over;
   measured = c.serve_block.ensures.measured;
   closed = c.serve_block.ensures.closed;
+  placed = c.serve_block.ensures.placed;
   replied = c.serve_block.ensures.replied;
   run = c.serve_block.ensures.run;
   told = c.serve_block.ensures.told;
@@ -61,6 +63,7 @@ returns-in-End g c = record {
   over = c.serve_end.ensures.over;
   measured = c.serve_end.ensures.measured;
   closed = c.serve_end.ensures.closed;
+  placed = c.serve_end.ensures.placed;
   replied = c.serve_end.ensures.replied;
   run = c.serve_end.ensures.run;
   told = c.serve_end.ensures.told;
@@ -80,6 +83,7 @@ returns-in-Acks g c = record {
   over = c.serve_acks.ensures.over;
   measured = c.serve_acks.ensures.measured;
   closed = c.serve_acks.ensures.closed;
+  placed = c.serve_acks.ensures.placed;
   replied = c.serve_acks.ensures.replied;
   run = c.serve_acks.ensures.run;
   told = c.serve_acks.ensures.told;
@@ -99,6 +103,7 @@ returns-in-Events g c = record {
   over = c.serve_events.ensures.over;
   measured = c.serve_events.ensures.measured;
   closed = c.serve_events.ensures.closed;
+  placed = c.serve_events.ensures.placed;
   replied = c.serve_events.ensures.replied;
   run = c.serve_events.ensures.run;
   told = c.serve_events.ensures.told;
@@ -119,6 +124,7 @@ returns-in-Buckets g c = record {
   over = λ stays. c.requires.over;
   measured = λ measured stays. measured;
   closed = λ down. absurd (open_still c.serve_buckets.result c.serve_buckets.ensures.open down);
+  placed = open_placed g.D.Disk c.args.disk.now c.serve_buckets.result c.serve_buckets.ensures.open;
   replied = c.serve_buckets.ensures.replied;
   run = refl;
   told = λ told. told;

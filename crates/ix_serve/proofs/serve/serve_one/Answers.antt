@@ -10,11 +10,12 @@ use Rattle.ix_serve.specs.Serving.{IsClean, IsTold, Serves, Reads}
 use Rattle.ix_serve.specs.declared.served.Served.{Served}
 use Rattle.ix_serve.specs.declared.served.Served.TheVariants as served
 use Rattle.ix_serve.specs.declared.served.ServeFault.{ServeFault}
-use Rattle.ix_serve.proofs.Answering.{not_open}
+use Rattle.ix_serve.specs.declared.served.ServeFault.TheVariants as fault
+use Rattle.ix_serve.proofs.Answering.{err_back, not_open}
 use Rattle.ix_serve.proofs.Behind.{comes_reply, comes_fault, serves_short, serves_failed}
 use Rattle.ix_serve.proofs.Standing.{tells_on}
 use Rattle.ix_serve.proofs.Taking.{says_taken}
-use Rattle.ix_serve.proofs.Closing.{reads_again, reads_fault}
+use Rattle.ix_serve.proofs.Closing.{reads_again, reads_fault, open_placed}
 use Rattle.std.proofs.lemmas.Bool.{false≢true}
 use Rattle.ix_serve.proofs.serve.serve_one.Goals as goal
 
@@ -38,6 +39,7 @@ returns-in-Ok g c = record {
   over = λ stays. c.in-Ok.ensures.over;
   measured = λ measured stays. c.in-Ok.ensures.measured (c.in-Ok-Reply.ensures.measured measured tt);
   closed = λ down. absurd (false≢true (sym down));
+  placed = open_placed g.D.Disk c.shorten_behind.new.disk (Ok (served.Reply c.in-Ok-Reply.status c.in-Ok-Reply.delimited c.in-Ok.unshortened)) tt;
   reads = reads_again c.serve_request.result c.in-Ok-Reply.status c.in-Ok-Reply.delimited _ (g.K.Link.left c.args.link.now) (g.K.Link.left c.serve_request.new.link) (c.in-Ok-Reply.is ∙ ap Ok c.in-Ok-Reply.field-0-is) c.serve_request.ensures.reads c.in-Ok.unshortened;
   run = c.shorten_behind.ensures.run ∙ c.serve_request.ensures.run;
   told = λ told. tells_on g.D.Disk _ c.serve_request.new.disk c.shorten_behind.new.disk c.shorten_behind.ensures.told (c.serve_request.ensures.told told);
@@ -66,6 +68,7 @@ returns-in-Err-shorten_behind g c = record {
   over = λ stays. absurd (not_open c.in-Err-shorten_behind.fault c.in-Err-shorten_behind.ensures.cause.0 c.in-Err-shorten_behind.ensures.cause.1 stays);
   measured = λ measured stays. absurd (not_open c.in-Err-shorten_behind.fault c.in-Err-shorten_behind.ensures.cause.0 c.in-Err-shorten_behind.ensures.cause.1 stays);
   closed = λ down. c.in-Err-shorten_behind.ensures.closed;
+  placed = λ file at is. c.in-Err-shorten_behind.ensures.placed file at (err_back c.in-Err-shorten_behind.fault (fault.Damaged file at) is);
   reads = reads_fault c.serve_request.result c.in-Ok-Reply.status c.in-Ok-Reply.delimited _ (g.K.Link.left c.args.link.now) (g.K.Link.left c.serve_request.new.link) (c.in-Ok-Reply.is ∙ ap Ok c.in-Ok-Reply.field-0-is) c.serve_request.ensures.reads c.in-Err-shorten_behind.fault c.in-Err-shorten_behind.ensures.cause.0 c.in-Err-shorten_behind.ensures.cause.1;
   run = c.shorten_behind.ensures.run ∙ c.serve_request.ensures.run;
   told = λ told. tells_on g.D.Disk _ c.serve_request.new.disk c.shorten_behind.new.disk c.shorten_behind.ensures.told (c.serve_request.ensures.told told);
@@ -89,6 +92,7 @@ returns-in-Ok-Ended g c = record {
   over = λ stays. c.in-Ok-Ended.ensures.over tt;
   measured = λ measured stays. c.in-Ok-Ended.ensures.measured measured tt;
   closed = λ down. absurd (false≢true (sym down));
+  placed = open_placed g.D.Disk c.serve_request.new.disk (Ok served.Ended) tt;
   reads = subst (λ (r : Result Served ServeFault). Reads r (g.K.Link.left c.args.link.now) (g.K.Link.left c.serve_request.new.link)) (c.in-Ok-Ended.is ∙ ap Ok c.in-Ok-Ended.field-0-is) c.serve_request.ensures.reads;
   run = c.serve_request.ensures.run;
   told = c.serve_request.ensures.told;
@@ -111,6 +115,7 @@ returns-in-Err g c = record {
   over = c.in-Err.ensures.over;
   measured = c.in-Err.ensures.measured;
   closed = c.in-Err.ensures.closed;
+  placed = c.in-Err.ensures.placed;
   reads = subst (λ (r : Result Served ServeFault). Reads r (g.K.Link.left c.args.link.now) (g.K.Link.left c.serve_request.new.link)) c.in-Err.is c.serve_request.ensures.reads;
   run = c.serve_request.ensures.run;
   told = c.serve_request.ensures.told;

@@ -15,7 +15,7 @@ use Rattle.ix_serve.specs.declared.served.ServeFault.{ServeFault}
 use Rattle.ix_serve.specs.declared.served.ServeFault.TheVariants as fault
 use Rattle.ix_serve.proofs.Answering.{idle, served_so, clean_behind, cleaner, comes_later, comes_open, gave_cleaner}
 use Rattle.ix_serve.proofs.Behind.{ok_err}
-use Rattle.ix_serve.proofs.Closing.{open_still, replied_by, status_by, reads_so}
+use Rattle.ix_serve.proofs.Closing.{open_still, replied_by, status_by, reads_so, open_placed}
 use Rattle.std.proofs.lemmas.Bool.{false≢true}
 use Rattle.ix_serve.proofs.serve.serve_request.Goals as goal
 
@@ -35,6 +35,7 @@ returns-in-Ok-Ended g c = record {
   over = λ stays. c.requires.over;
   measured = λ measured stays. measured;
   closed = λ down. absurd (false≢true (sym down));
+  placed = open_placed g.D.Disk c.args.disk.now (Ok served.Ended) tt;
   reads = reads_so c.read_request.result (Ok was.Ended) _ (g.K.Link.left c.args.link.now) (g.K.Link.left c.read_request.new.link) (g.K.Link.left c.read_request.new.link) (c.in-Ok-Ended.is ∙ ap Ok c.in-Ok-Ended.field-0-is) refl c.read_request.ensures.read c.read_request.ensures.within refl;
   run = refl;
   told = λ told. told;
@@ -55,6 +56,7 @@ returns-in-Err-Failed g c = record {
   over = λ stays. c.requires.over;
   measured = λ measured stays. measured;
   closed = λ down. absurd (false≢true (sym down));
+  placed = open_placed g.D.Disk c.args.disk.now (Err fault.Link) tt;
   reads = reads_so c.read_request.result (Err link.Failed) _ (g.K.Link.left c.args.link.now) (g.K.Link.left c.read_request.new.link) (g.K.Link.left c.read_request.new.link) (c.in-Err-Failed.is ∙ ap Err c.in-Err-Failed.field-0-is) refl c.read_request.ensures.read c.read_request.ensures.within refl;
   run = refl;
   told = λ told. told;
@@ -75,6 +77,7 @@ returns-in-Err-Cut g c = record {
   over = λ stays. c.requires.over;
   measured = λ measured stays. measured;
   closed = λ down. absurd (false≢true (sym down));
+  placed = open_placed g.D.Disk c.args.disk.now (Err fault.Cut) tt;
   reads = reads_so c.read_request.result (Err link.Cut) _ (g.K.Link.left c.args.link.now) (g.K.Link.left c.read_request.new.link) (g.K.Link.left c.read_request.new.link) (c.in-Err-Cut.is ∙ ap Err c.in-Err-Cut.field-0-is) refl c.read_request.ensures.read c.read_request.ensures.within refl;
   run = refl;
   told = λ told. told;
@@ -101,6 +104,7 @@ returns-in-Ok-Refused g c = record {
   over = λ stays. c.requires.over;
   measured = λ measured stays. measured;
   closed = λ down. absurd (open_still c.give_unread.result c.give_unread.ensures.open down);
+  placed = open_placed g.D.Disk c.args.disk.now c.give_unread.result c.give_unread.ensures.open;
   reads = reads_so c.read_request.result (Ok (was.Refused c.in-Ok-Refused.fault c.in-Ok-Refused.delimited)) _ (g.K.Link.left c.args.link.now) (g.K.Link.left c.read_request.new.link) (g.K.Link.left c.give_unread.new.link) (c.in-Ok-Refused.is ∙ ap Ok c.in-Ok-Refused.field-0-is) c.give_unread.ensures.left c.read_request.ensures.read c.read_request.ensures.within (replied_by (unread c.in-Ok-Refused.fault) c.in-Ok-Refused.delimited (IsClean (g.K.Link.faults c.read_request.new.link) (g.K.Link.faults c.give_unread.new.link) (g.K.Link.standing c.read_request.new.link) (g.K.Link.standing c.give_unread.new.link)) c.give_unread.result (g.K.Link.given c.read_request.new.link) (g.K.Link.given c.give_unread.new.link) c.give_unread.ensures.gave, status_by (unread c.in-Ok-Refused.fault) c.in-Ok-Refused.delimited (IsClean (g.K.Link.faults c.read_request.new.link) (g.K.Link.faults c.give_unread.new.link) (g.K.Link.standing c.read_request.new.link) (g.K.Link.standing c.give_unread.new.link)) c.give_unread.result (g.K.Link.given c.read_request.new.link) (g.K.Link.given c.give_unread.new.link) c.give_unread.ensures.gave);
   run = refl;
   told = λ told. told;
@@ -128,6 +132,7 @@ returns-in-Err-NoMemory g c = record {
   over = λ stays. c.requires.over;
   measured = λ measured stays. measured;
   closed = λ down. absurd (open_still c.decline.result c.decline.ensures.open down);
+  placed = open_placed g.D.Disk c.args.disk.now c.decline.result c.decline.ensures.open;
   reads = reads_so c.read_request.result (Err (link.NoMemory c.in-Err-NoMemory.whole)) _ (g.K.Link.left c.args.link.now) (g.K.Link.left c.read_request.new.link) (g.K.Link.left c.decline.new.link) (c.in-Err-NoMemory.is ∙ ap Err c.in-Err-NoMemory.field-0-is) c.decline.ensures.left c.read_request.ensures.read c.read_request.ensures.within (subst (λ (w : Bool). IsReplied w c.decline.result) c.in-Err-NoMemory.whole-is (replied_by no_memory _ (IsClean (g.K.Link.faults c.read_request.new.link) (g.K.Link.faults c.decline.new.link) (g.K.Link.standing c.read_request.new.link) (g.K.Link.standing c.decline.new.link)) c.decline.result (g.K.Link.given c.read_request.new.link) (g.K.Link.given c.decline.new.link) c.decline.ensures.gave), status_by no_memory _ (IsClean (g.K.Link.faults c.read_request.new.link) (g.K.Link.faults c.decline.new.link) (g.K.Link.standing c.read_request.new.link) (g.K.Link.standing c.decline.new.link)) c.decline.result (g.K.Link.given c.read_request.new.link) (g.K.Link.given c.decline.new.link) c.decline.ensures.gave);
   run = refl;
   told = λ told. told;
@@ -153,6 +158,7 @@ returns-in-Ok-Asked g c = record {
   over = c.serve_ask.ensures.over;
   measured = c.serve_ask.ensures.measured;
   closed = c.serve_ask.ensures.closed;
+  placed = c.serve_ask.ensures.placed;
   reads = reads_so c.read_request.result (Ok (was.Asked c.in-Ok-Asked.ask)) _ (g.K.Link.left c.args.link.now) (g.K.Link.left c.read_request.new.link) (g.K.Link.left c.serve_ask.new.link) (c.in-Ok-Asked.is ∙ ap Ok c.in-Ok-Asked.field-0-is) c.serve_ask.ensures.left c.read_request.ensures.read c.read_request.ensures.within c.serve_ask.ensures.replied;
   run = c.serve_ask.ensures.run;
   told = c.serve_ask.ensures.told;

@@ -20,7 +20,7 @@ use Rattle.ix_store.specs.Holding.{is_closed}
 use Rattle.ix_store.specs.declared.fault.ExportFault.{ExportFault}
 use Rattle.ix_store.specs.declared.fault.ExportFault.TheVariants as exports
 use Rattle.ix_store.specs.declared.store.Store.{Store}
-use Rattle.ix_store.proofs.Exported.{seen_buckets, seen_not, so_of_exported, export_damaged, unknown_so, unknown_not, count_known, fault_known}
+use Rattle.ix_store.proofs.Exported.{seen_buckets, seen_not, so_of_exported, export_damaged, bad_stop, unknown_so, unknown_not, count_known, fault_known}
 use Rattle.ix_store.proofs.store.Store.export_lines.Goals as goal
 
 -- what an answer is not
@@ -84,6 +84,7 @@ returns-then-is_closed g c =
       begun = λ choose h base image chooser taken hold told. absurd (is_open c.args.self.now hold.staged.ready.usable hold.staged.is_open closed);
       sound = λ file at is. absurd (closed_no_damage file at is);
       damaged = λ file at is. absurd (closed_no_damage file at is);
+      bad = λ file at is. absurd (closed_no_damage file at is);
       later = omega arith;
       cause = λ is. absurd (closed_no_disk is);
       grown = omega arith;
@@ -106,6 +107,9 @@ returns-in_default-clause-sound g c = λ file at is. absurd (unknown_no_damage f
 
 pub returns-in_default-clause-damaged : goal.returns-in_default-clause-damaged
 returns-in_default-clause-damaged g c = λ file at is. absurd (unknown_no_damage file at is)
+
+pub returns-in_default-clause-bad : goal.returns-in_default-clause-bad
+returns-in_default-clause-bad g c = λ file at is. absurd (unknown_no_damage file at is)
 
 pub returns-in_default-clause-cause : goal.returns-in_default-clause-cause
 returns-in_default-clause-cause g c = λ is. absurd (unknown_no_disk is)
@@ -135,6 +139,7 @@ returns-in-Ok g c = record {
   begun = tt;
   sound = λ file at is. absurd (no_fault _ _ is);
   damaged = λ file at is. absurd (no_fault _ _ is);
+  bad = λ file at is. absurd (no_fault _ _ is);
   later = c.export_buckets.ensures.later;
   cause = λ is. absurd (no_fault _ _ is);
   grown = c.export_buckets.ensures.grown;
@@ -177,6 +182,11 @@ returns-in-Err g c =
           file at c.export_fault_of.result c.export_fault_of.ensures is c.in-Err.ensures.damaged in
           subst (λ (bs : List Bucket). StopsAt c.args.range.now image bs file at (g.W.Sink.given c.args.out.now) (g.W.Sink.given c.export_buckets.new.out))
           (seen_buckets (after choose h) c.view.result.now c.args.index.now (c.view.ensures choose h st.memory) c.in-Some.buckets.now found).0 (stops image told);
+      bad = λ file at is image told.
+          let stops = export_damaged c.in-Err.fault (λ (f : File) (a : ℕ). (image : Image) → g.D.Disk.seen c.args.disk.now ≡ Some image →
+          StopsAt c.args.range.now image c.in-Some.buckets.now f a (g.W.Sink.given c.args.out.now) (g.W.Sink.given c.export_buckets.new.out))
+          file at c.export_fault_of.result c.export_fault_of.ensures is c.in-Err.ensures.damaged in
+          bad_stop c.args.range.now image c.in-Some.buckets.now file at (g.W.Sink.given c.args.out.now) (g.W.Sink.given c.export_buckets.new.out) (stops image told);
       later = c.export_buckets.ensures.later;
       cause = λ is. c.export_buckets.ensures.disk (c.in-Err.is ∙ ap (λ (f : BucketFault). Err f) (of_disk fault shown c.export_fault_of.ensures is));
       grown = c.export_buckets.ensures.grown;
