@@ -5,7 +5,9 @@ mod faults;
 mod inputs;
 mod paths;
 mod steps;
+mod watched;
 
 pub use faults::InputFault;
 pub use inputs::{Input, Inputs};
 pub use steps::{Seen, Step, plan};
+pub use watched::Watched;
