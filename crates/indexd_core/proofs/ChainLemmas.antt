@@ -12,7 +12,7 @@ use Rattle.ix_machine.specs.declared.commands.Config.{Config}
 use Rattle.ix_machine.specs.declared.commands.Order.{Order}
 use Rattle.ix_replay.specs.Fits.{fits}
 use Rattle.ix_run.specs.Giving.{given_all}
-use Rattle.ix_store.specs.Written.{StandsFrom}
+use Rattle.ix_run.specs.Running.{StandsFrom}
 use Rattle.ix_feed.specs.Connections.{Listened}
 use Rattle.ix_tree.specs.declared.trees.TreeFile.{TreeFile}
 use Rattle.indexd_feed.specs.Serving.{Serving, HasServed}

@@ -9,7 +9,7 @@ use Rattle.ix_keep.specs.Contents.{BeginsWith, filling}
 use Rattle.ix_keep.specs.Snapshot.{Snapshot}
 use Rattle.ix_machine.specs.Given.{Chooser}
 use Rattle.ix_machine.specs.Snap.{first_snap, leaves}
-use Rattle.ix_store.specs.Written.{StandsFrom}
+use Rattle.ix_run.specs.Running.{StandsFrom}
 
 none_filled : (file : File) → filling first_snap.contents file ≡ []
 none_filled file = grind arith
@@ -23,6 +23,7 @@ empty_stands fits choose = record {
   least = omega arith;
   most = omega arith;
   kept = record { book = empty; contents = first_snap.contents };
+  later = omega arith;
   stands = inr (refl, record { books = books_first; contents = refl });
   keeps = record {
     checkpoints = 0;

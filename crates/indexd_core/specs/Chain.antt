@@ -8,7 +8,7 @@ use Rattle.ix_kept.specs.Taken.{AreGiven}
 use Rattle.ix_machine.specs.Given.{Chooser}
 use Rattle.ix_machine.specs.declared.commands.Order.{Order}
 use Rattle.ix_replay.specs.Fits.{fits}
-use Rattle.ix_store.specs.Written.{StandsFrom}
+use Rattle.ix_run.specs.Running.{StandsFrom}
 use Rattle.indexd_store.specs.Opened.{Begins, Passes}
 
 -- The premise of a run, for which `FromStart` asks: every image of the disk stands for a first part of one history of commands that may be given, with the first k

@@ -14,10 +14,9 @@ use Rattle.ix_feed.specs.declared.feed.Fed.{Fed}
 use Rattle.ix_machine.specs.Given.{Chooser}
 use Rattle.ix_machine.specs.declared.commands.Config.{Config}
 use Rattle.ix_machine.specs.declared.commands.Order.{Order}
-use Rattle.ix_run.proofs.Gone.{longer}
+use Rattle.ix_run.proofs.Gone.{longer, stands_from}
 use Rattle.ix_run.specs.Giving.{given_all}
-use Rattle.ix_store.proofs.Lawful.{stands_from}
-use Rattle.ix_store.specs.Written.{StandsFrom}
+use Rattle.ix_run.specs.Running.{StandsFrom}
 use Rattle.ix_store.specs.declared.store.Store.{Store}
 use Rattle.ix_serve.specs.Serving.{IsTold}
 use Rattle.indexd_store.specs.Opened.{HasOpened, Passes}

@@ -13,7 +13,7 @@ use Rattle.ix_store.specs.Faults.{is_of_disk}
 use Rattle.ix_machine.specs.Step.{after}
 use Rattle.ix_store.specs.Exporting.{is_seen}
 use Rattle.ix_store.specs.Holding.{Holds, is_closed}
-use Rattle.ix_store.specs.Written.{StandsFrom}
+use Rattle.ix_run.specs.Running.{StandsFrom}
 use Rattle.ix_store.specs.declared.fault.ExportFault.{ExportFault}
 use Rattle.ix_store.specs.declared.fault.ExportFault.TheVariants as exports
 use Rattle.ix_store.specs.declared.store.Store.{Store}

@@ -25,7 +25,7 @@ use Rattle.ix_run.specs.Running.{HasStood}
 use Rattle.ix_store.proofs.Counted.{take_more, take_taken}
 use Rattle.ix_store.proofs.Joining.{more_taken}
 use Rattle.ix_store.specs.Holding.{Holds, Staged, IsMounted}
-use Rattle.ix_store.specs.Written.{StandsFrom}
+use Rattle.ix_run.specs.Running.{StandsFrom}
 use Rattle.ix_store.specs.declared.store.Store.{Store}
 use Rattle.indexd_store.specs.Asked.{Asks}
 use Rattle.indexd_store.specs.Ends.{IsLeft, Ends, Only, AtMost, same_kept}

@@ -27,9 +27,10 @@ use Rattle.ix_run.specs.declared.input.RunFault.TheVariants as runs
 use Rattle.ix_run.proofs.Stored.{blocks_taken, opening_taken}
 use Rattle.ix_store.proofs.Booked.{all_more}
 use Rattle.ix_store.proofs.Counted.{take_whole}
-use Rattle.ix_store.proofs.Lawful.{stands_from}
+use Rattle.ix_run.proofs.Gone.{stands_from}
 use Rattle.ix_store.specs.Holding.{Holds}
-use Rattle.ix_store.specs.Written.{Stands, StandsFrom}
+use Rattle.ix_run.specs.Running.{StandsFrom}
+use Rattle.ix_store.specs.Written.{Stands}
 use Rattle.ix_store.specs.declared.store.Store.{Store}
 use Rattle.indexd_store.specs.Ends.{IsLeft, Ends, AtMost}
 use Rattle.indexd_store.specs.Previews.{IsRead, HasTaken, IsWhy, Fed}

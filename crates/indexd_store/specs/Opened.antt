@@ -14,7 +14,8 @@ use Rattle.ix_machine.specs.declared.commands.Config.{Config}
 use Rattle.ix_machine.specs.declared.commands.Order.{Order}
 use Rattle.ix_run.specs.Giving.{given_all}
 use Rattle.ix_store.specs.Holding.{Holds}
-use Rattle.ix_store.specs.Written.{IsNextRun, StandsFrom}
+use Rattle.ix_run.specs.Running.{StandsFrom}
+use Rattle.ix_store.specs.Written.{IsNextRun}
 use Rattle.ix_store.specs.declared.fault.MountFault.{MountFault}
 use Rattle.ix_store.specs.declared.store.Store.{Store}
 use Rattle.indexd_store.specs.Asked.{Asks}

@@ -12,10 +12,9 @@ use Rattle.ix_machine.specs.declared.answers.Accepted.{Accepted}
 use Rattle.ix_machine.specs.declared.commands.Order.{Order}
 use Rattle.ix_store.specs.Holding.{Holds}
 use Rattle.ix_store.specs.Making.{with_order}
-use Rattle.ix_store.specs.Written.{StandsFrom}
 use Rattle.ix_store.specs.declared.store.Store.{Store}
 use Rattle.ix_run.specs.Giving.{given_all, AreAllowed, IsKept}
-use Rattle.ix_run.specs.Running.{HasStood, IsGiven}
+use Rattle.ix_run.specs.Running.{StandsFrom, HasStood, IsGiven}
 use Rattle.ix_run.proofs.Gone.{stood_longer, stood_on}
 
 -- more commands behind others
@@ -54,7 +53,7 @@ module _ {D : Type 0} (g : Ghosts D) {M : Type 0} (fits : Book → Type 0) (hold
   pub fewer : (h : List Order) (k n : ℕ) (before disk : D) → n ≤ k → HasStood g fits choose h k before disk → HasStood g fits choose h n before disk
   fewer h k n before disk less stood = always_weaker g before disk _ _ (λ image. one image) stood where
     one : (image : Image) → StandsFrom fits choose h k image → StandsFrom fits choose h n image
-    one image stands = record { which = stands.which; least = omega (arith, less, stands.least); most = stands.most; kept = stands.kept; stands = stands.stands; keeps = stands.keeps }
+    one image stands = record { which = stands.which; least = omega (arith, less, stands.least); most = stands.most; kept = stands.kept; later = stands.later; stands = stands.stands; keeps = stands.keeps }
 
   pub stood_last : (h : List Order) (base k : ℕ) (order : Order) (before mid : Store M) (first half last : D) (answer : Accepted) → (one : IsGiven g fits holds choose h base k order before answer mid first half) →
       HasStood g fits choose (with_order choose h order) one.gone.count half last → HasStood g fits choose (with_order choose h order) k first last

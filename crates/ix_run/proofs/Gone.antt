@@ -16,11 +16,12 @@ use Rattle.ix_machine.specs.declared.answers.Accepted.{Accepted}
 use Rattle.ix_store.specs.Counting.{is_due}
 use Rattle.ix_store.specs.Holding.{Holds, Staged, IsAccepted}
 use Rattle.ix_store.specs.Making.{with_order}
-use Rattle.ix_store.specs.Written.{Stands, StandsFrom}
+use Rattle.ix_store.specs.Written.{Stands}
 use Rattle.ix_store.specs.declared.store.Store.{Store}
 use Rattle.ix_store.proofs.Counted.{take_more, take_whole}
-use Rattle.ix_store.proofs.Lawful.{held_stands, held_then, stands_from}
-use Rattle.ix_run.specs.Running.{HasStood, HasGone, HasSettled, IsGiven}
+use Rattle.ix_store.proofs.Lawful as lawful
+use Rattle.ix_store.proofs.Lawful.{held_stands, held_then, stands_before}
+use Rattle.ix_run.specs.Running.{StandsFrom, HasStood, HasGone, HasSettled, IsGiven}
 
 pub none_more : (h : List Order) → h ++ [] ≡ h
 none_more [] = refl
@@ -37,6 +38,11 @@ length_more : (a b : List Order) → length a ≤ length (a ++ b)
 length_more [] b = omega arith
 length_more (o ∷ a) b = omega (arith, length_more a b)
 
+-- what stands for a run and a prefix stands for as many commands of the history
+pub stands_from : (fits : Book → Type 0) (run : ℕ) (choose : Chooser) (h : List Order) (k n : ℕ) (image : Image) → k ≤ n → n ≤ length h → Stands fits run choose (take n h) image → StandsFrom fits choose h k image
+stands_from fits run choose h k n image least most stands =
+    stands_before fits 0 run choose h k k image (omega arith) (omega arith) (lawful.stands_from fits run choose h k n image least most stands)
+
 -- a longer history, and fewer that must be there
 pub longer : (fits : Book → Type 0) (choose : Chooser) (h more : List Order) (k n : ℕ) (image : Image) → n ≤ k → StandsFrom fits choose h k image → StandsFrom fits choose (h ++ more) n image
 longer fits choose h more k n image fewer stands = record {
@@ -44,6 +50,7 @@ longer fits choose h more k n image fewer stands = record {
   least = omega (arith, fewer, stands.least);
   most = omega (arith, stands.most, length_more h more);
   kept = stands.kept;
+  later = stands.later;
   stands = subst (λ (some : List Order). StandsFor stands.kept (left choose some)) (sym (take_more stands.which h more stands.most)) stands.stands;
   keeps = stands.keeps;
 }
@@ -82,7 +89,7 @@ module _ {D : Type 0} (g : Ghosts D) {M : Type 0} (fits : Book → Type 0) (hold
         (always_weaker g mid last _ _ (λ image. fewer image) two.stood));
   } where
     fewer : (image : Image) → StandsFrom fits choose ((h ++ a) ++ b) one.count image → StandsFrom fits choose ((h ++ a) ++ b) k image
-    fewer image stands = record { which = stands.which; least = omega (arith, one.kept, stands.least); most = stands.most; kept = stands.kept; stands = stands.stands; keeps = stands.keeps }
+    fewer image stands = record { which = stands.which; least = omega (arith, one.kept, stands.least); most = stands.most; kept = stands.kept; later = stands.later; stands = stands.stands; keeps = stands.keeps }
 
   -- a part of a run, and then a stop
   pub stopped_on : (h a b : List Order) (base k : ℕ) (mid_store : Store M) (first mid last : D) →
@@ -93,7 +100,7 @@ module _ {D : Type 0} (g : Ghosts D) {M : Type 0} (fits : Book → Type 0) (hold
       (stood_on ((h ++ a) ++ b) k first mid last (stood_longer (h ++ a) b k k first mid (omega arith) one.stood)
       (always_weaker g mid last _ _ (λ image. fewer image) two)) where
         fewer : (image : Image) → StandsFrom fits choose ((h ++ a) ++ b) one.count image → StandsFrom fits choose ((h ++ a) ++ b) k image
-        fewer image stands = record { which = stands.which; least = omega (arith, one.kept, stands.least); most = stands.most; kept = stands.kept; stands = stands.stands; keeps = stands.keeps }
+        fewer image stands = record { which = stands.which; least = omega (arith, one.kept, stands.least); most = stands.most; kept = stands.kept; later = stands.later; stands = stands.stands; keeps = stands.keeps }
 
   -- a commit stands for what was committed, or for all
   pub stood_either : (h : List Order) (run k : ℕ) (before disk : D) → k ≤ length h →

@@ -1,5 +1,6 @@
 -- What a store and its disk hold while commands are given.
 use Rattle.std.specs.Prelude.{◌≡◌, ◌≤◌, ℕ, false, List, [], ◌++◌, drop}
+use Rattle.ix_disk.specs.Image.{Image}
 use Rattle.ix_disk.specs.Moments.{Always}
 use Rattle.ix_disk.specs.declared.disk.Disk.{Ghosts}
 use Rattle.ix_book.specs.Book.{Book}
@@ -11,10 +12,14 @@ use Rattle.ix_machine.specs.declared.answers.Accepted.{Accepted}
 use Rattle.ix_machine.specs.declared.commands.Order.{Order}
 use Rattle.ix_store.specs.Counting.{is_due}
 use Rattle.ix_store.specs.Holding.{Holds, IsAnswer}
-use Rattle.ix_store.specs.Written.{StandsFrom}
+use Rattle.ix_store.specs.Written as written
 use Rattle.ix_store.specs.declared.store.Store.{Store}
 use Rattle.ix_run.specs.declared.giving.GiveFault.{GiveFault}
 use Rattle.ix_run.specs.declared.giving.GiveFault.TheVariants as faults
+
+-- an image stands for a prefix with at least so many commands, in whichever run
+abbrev pub StandsFrom : (Book → Type 0) → Chooser → List Order → ℕ → Image → Type 0
+StandsFrom fits choose history k image = written.StandsFrom fits 0 choose history k image
 
 -- Since a moment of the disk every image has stood for a prefix of the history with these further commands, with at least k commands.
 abbrev pub HasStood : {D : Type 0} → Ghosts D → (Book → Type 0) → Chooser → List Order → ℕ → D → D → Type 0

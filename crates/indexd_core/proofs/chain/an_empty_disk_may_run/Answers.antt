@@ -1,7 +1,7 @@
 use Rattle.std.proofs.Common.{[], sym, subst}
 use Rattle.ix_disk.specs.Image.{nothing}
 use Rattle.ix_replay.specs.Fits.{fits}
-use Rattle.ix_store.specs.Written.{StandsFrom}
+use Rattle.ix_run.specs.Running.{StandsFrom}
 use Rattle.indexd_core.proofs.Empty.{empty_stands}
 use Rattle.indexd_core.proofs.chain.an_empty_disk_may_run.Goals as goal
 

@@ -24,9 +24,9 @@ run_last-requires-clause-takes g c = c.requires (to_z w64 (of_z w64 c.now-moment
 pub returns-then-same_kept : goal.returns-then-same_kept
 returns-then-same_kept g c = record {
   opened = λ choose history k chooser taken begins image seen.
-      let is = c.in-Ok.ensures.mounted choose history k chooser taken begins image seen in
+      let is = c.in-Ok.ensures.mounted choose history 0 k chooser taken begins image seen in
       let same : c.same_kept.result ≡ same_kept c.kept.result.now c.args.config.kept = c.same_kept.ensures ∙ ap₂ same_kept c.as_slice.ensures c.as_slice-2.ensures in
-      opened_same g.D.Disk _ g.M.Memory.holds choose history k c.args.config image c.in-Ok.store c.args.disk.now c.mount.new.disk (g.C.Clock.ahead c.args.clock.now) seen is (c.in-Ok.ensures.images choose history k begins) c.in-Ok.ensures.begun
+      opened_same g.D.Disk _ g.M.Memory.holds choose history k c.args.config image c.in-Ok.store c.args.disk.now c.mount.new.disk (g.C.Clock.ahead c.args.clock.now) seen is (c.in-Ok.ensures.images choose history 0 k begins) c.in-Ok.ensures.begun
       (configured_as g.D.Disk _ g.M.Memory.holds choose history k c.args.config image c.in-Ok.store c.mount.new.disk is c.kept.result.now c.kept.ensures c.same_kept.result true same c.if-same_kept.true);
   stopped = tt;
   undamaged = λ file at is. absurd (not_err is);
@@ -44,12 +44,12 @@ pub returns-in-Ok-run_last : goal.returns-in-Ok-run_last
 returns-in-Ok-run_last g c = record {
   opened = λ choose history k chooser taken begins image seen.
       let fits : SFits w64 c.now-moment.result = search rules in
-      let is = c.in-Ok.ensures.mounted choose history k chooser taken begins image seen in
+      let is = c.in-Ok.ensures.mounted choose history 0 k chooser taken begins image seen in
       let same : c.same_kept.result ≡ same_kept c.kept.result.now c.args.config.kept = c.same_kept.ensures ∙ ap₂ same_kept c.as_slice.ensures c.as_slice-2.ensures in
       let left = simp to_z-of_z at (c.in-Ok-run_last.ensures.left choose (take is.count history) is.count chooser (front_has g.M.Memory.takes is.count history taken)
       (committed g.D.Disk _ g.M.Memory.holds choose history k c.args.config image c.in-Ok.store c.mount.new.disk is)) in
       opened_by g.D.Disk _ g.M.Memory.holds choose history k c.args.config image c.in-Ok.store c.run_last.new.store c.args.disk.now c.mount.new.disk c.run_last.new.disk
-      (g.C.Clock.ahead c.args.clock.now) (g.C.Clock.ahead c.now-moment.new.self) seen c.run_last.ensures.run is (c.in-Ok.ensures.images choose history k begins) c.in-Ok.ensures.begun
+      (g.C.Clock.ahead c.args.clock.now) (g.C.Clock.ahead c.now-moment.new.self) seen c.run_last.ensures.run is (c.in-Ok.ensures.images choose history 0 k begins) c.in-Ok.ensures.begun
       (configured_as g.D.Disk _ g.M.Memory.holds choose history k c.args.config image c.in-Ok.store c.mount.new.disk is c.kept.result.now c.kept.ensures c.same_kept.result false same c.if-same_kept.false)
       c.now-moment.result c.now-moment.ensures left;
   stopped = tt;
@@ -69,7 +69,7 @@ returns-in-Err-run_last g c = record {
   opened = tt;
   stopped = λ choose history k chooser taken begins image seen.
       let fits : SFits w64 c.now-moment.result = search rules in
-      let is = c.in-Ok.ensures.mounted choose history k chooser taken begins image seen in
+      let is = c.in-Ok.ensures.mounted choose history 0 k chooser taken begins image seen in
       let same : c.same_kept.result ≡ same_kept c.kept.result.now c.args.config.kept = c.same_kept.ensures ∙ ap₂ same_kept c.as_slice.ensures c.as_slice-2.ensures in
       let all = committed g.D.Disk _ g.M.Memory.holds choose history k c.args.config image c.in-Ok.store c.mount.new.disk is in
       let front = front_has g.M.Memory.takes is.count history taken in
@@ -81,7 +81,7 @@ returns-in-Err-run_last g c = record {
       (λ orders at_most. all_taken g.M.Memory.takes g.met.M.Memory.ticks_are_taken choose (take is.count history) orders front (most_taken g.M.Memory.takes order orders (c.requires c.now-moment.result) at_most))
       c.stop_run.ensures.closed (λ kept now given held. c.stop_run.ensures.images kept choose now is.count chooser given held) (λ kept also now given held. c.stop_run.ensures.held kept also choose now is.count chooser given held) ends in
       stopped_by g.D.Disk _ g.M.Memory.holds choose history k c.args.config image c.in-Ok.store c.stop_run.new.store c.args.disk.now c.mount.new.disk c.stop_run.new.disk
-      (g.C.Clock.ahead c.args.clock.now) (g.C.Clock.ahead c.now-moment.new.self) is (c.in-Ok.ensures.images choose history k begins) c.in-Ok.ensures.begun
+      (g.C.Clock.ahead c.args.clock.now) (g.C.Clock.ahead c.now-moment.new.self) is (c.in-Ok.ensures.images choose history 0 k begins) c.in-Ok.ensures.begun
       (configured_as g.D.Disk _ g.M.Memory.holds choose history k c.args.config image c.in-Ok.store c.mount.new.disk is c.kept.result.now c.kept.ensures c.same_kept.result false same c.if-same_kept.false)
       c.now-moment.result c.now-moment.ensures c.stop_run.result
       (by_end (λ (stop : Stop). IsUnset choose (take is.count history) order stop) c.in-Err-run_last.stop c.stop_run.result
@@ -90,7 +90,7 @@ returns-in-Err-run_last g c = record {
   undamaged = λ file at is choose history k chooser taken begins image seen.
       let mounted = seen_on _ (g.D.Disk.seen c.args.disk.now) (g.D.Disk.seen c.mount.new.disk) image c.mount.ensures.told seen in
       let later = seen_on _ (g.D.Disk.seen c.mount.new.disk) (g.D.Disk.seen c.run_last.new.disk) mounted.0 c.run_last.ensures.told mounted.1 in
-      let found = c.in-Ok.ensures.mounted choose history k chooser taken begins image seen in
+      let found = c.in-Ok.ensures.mounted choose history 0 k chooser taken begins image seen in
       let all = committed g.D.Disk _ g.M.Memory.holds choose history k c.args.config image c.in-Ok.store c.mount.new.disk found in
       let blamed = damaged_end c.in-Err-run_last.stop c.stop_run.result file at c.stop_run.ensures.why is in
       let same = c.stop_run.ensures.closed (ap loses blamed) in
@@ -123,13 +123,13 @@ returns-in-Err g c = record {
         let mount_is : c.in-Err.fault ≡ mounts.Full = full_of_mount c.in-Err.fault is in
         c.in-Err.ensures.full (ap (λ (f : MountFault). Err f) mount_is);
     not_asked = refl;
-    stood = c.in-Err.ensures.images choose history k begins;
+    stood = c.in-Err.ensures.images choose history 0 k begins;
   });
   undamaged = λ file at is choose history k chooser taken begins image seen.
       let stop : of_mount c.in-Err.fault ≡ stops.Damaged file at = sym c.of_mount.ensures ∙ same_stop is in
       let fault = damaged_of_mount c.in-Err.fault file at stop in
       let was : c.mount.result ≡ Err (mounts.Damaged file at) = c.in-Err.is ∙ ap (λ (f : MountFault). Err f) fault in
-      c.mount.ensures.undamaged file at was choose history k chooser taken begins image seen;
+      c.mount.ensures.undamaged file at was choose history 0 k chooser taken begins image seen;
   over = tt;
   rest = tt;
   short = λ is.
