@@ -1,6 +1,6 @@
 //! A link in memory.
 
-ghost use Rattle.std.specs.Prelude.{◌≡◌, ◌≤◌, ◌<◌, ℕ, List, [], Option, Some, None, length, take, drop, IfOk, IfSome, OnOk, OnErr, IsTrue, IsErr, is_ok, not};
+ghost use Rattle.std.specs.Prelude.{◌≡◌, ◌≤◌, ◌<◌, ◌-◌, ◌^◌, ℕ, min, max, List, [], Option, Some, None, length, take, drop, IfOk, IfSome, OnOk, OnErr, IsTrue, IsErr, is_ok, not};
 ghost use Rattle.std.specs.Bool.{OnFalse};
 ghost use Rattle.ix_base.specs.Plans.{is_due, CountsCall};
 ghost use Rattle.ix_base.specs.Faults.{HasCause, Rose};
@@ -53,6 +53,7 @@ impl MemLink {
         ensures faults { ⟦<MemLink as Link>⟧.faults result ≡ plan.faults }
         ensures begins { Begins (⟦<MemLink as Link>⟧.standing result) (Some bytes) (Some []) plan.faults }
         ensures plan { result.plan ≡ plan }
+        ensures whole { result.most ≡ 2 ^ 64 - 1 }
     {
         MemLink::in_pieces(alloc, bytes, usize::MAX, plan)
     }
@@ -64,6 +65,7 @@ impl MemLink {
         ensures faults { ⟦<MemLink as Link>⟧.faults result ≡ plan.faults }
         ensures begins { Begins (⟦<MemLink as Link>⟧.standing result) (Some bytes) (Some []) plan.faults }
         ensures plan { result.plan ≡ plan }
+        ensures pieces { result.most ≡ max most 1 }
     {
         MemLink {
             bytes,
@@ -97,6 +99,9 @@ impl MemLink {
         ensures faults { ⟦<MemLink as Link>⟧.faults self.new ≡ ⟦<MemLink as Link>⟧.faults self.old }
         ensures begins { Begins (⟦<MemLink as Link>⟧.standing self.new) (⟦<MemLink as Link>⟧.left self.new) (Some []) (⟦<MemLink as Link>⟧.faults self.new) }
         ensures plan { self.new.plan ≡ self.old.plan }
+        ensures bytes { self.new.bytes ≡ self.old.bytes }
+        ensures at { self.new.at ≡ self.old.at }
+        ensures pieces { self.new.most ≡ self.old.most }
     {
         self.from = self.at;
         self.start = self.plan.faults;
@@ -109,6 +114,7 @@ fn copy_front(bytes: &[u8], most: usize, buf: &mut [u8]) -> usize
     requires { 0 < most }
     ensures room { result ≤ length buf.old }
     ensures within { result ≤ length bytes.now }
+    ensures most { result ≡ min (min (length bytes.now) (length buf.old)) most }
     ensures copied { take result buf.new ≡ take result bytes.now }
     ensures none { result ≡ 0 → 0 < length buf.old → bytes.now ≡ [] }
 {
@@ -143,7 +149,8 @@ impl Link for MemLink {
       failed = None;
     } };
 
-    /// It fails exactly where the plan has this call due.
+    /// It fails exactly where the plan has this call due. Else it takes as much as there is, but for the size of the buffer
+    /// and of a piece.
     fn read(&mut self, buf: &mut [u8]) -> Result<usize, Failed>
         ensures count { IfOk result (λ n. n ≤ length buf.old) }
         ensures bytes { IfOk result (λ n. Told (Took (take n buf.new)) (⟦<MemLink as Link>⟧.left self.old) (⟦<MemLink as Link>⟧.left self.new)) }
@@ -155,6 +162,8 @@ impl Link for MemLink {
         ensures due { is_ok result ≡ not (is_due self.old.plan) }
         ensures counted { CountsCall self.old.plan self.new.plan }
         ensures faults { OnOk result (self.new.plan.faults ≡ self.old.plan.faults) }
+        ensures taken { IfOk result (λ n. n ≡ min (min (length self.old.bytes - self.old.at) (length buf.old)) self.old.most) }
+        ensures pieces { self.new.most ≡ self.old.most }
     {
         if self.plan.is_due() {
             return Err(self.plan.fail());
@@ -176,6 +185,7 @@ impl Link for MemLink {
         ensures full { OnErr result (OnFalse (is_due self.old.plan) (⟦<MemLink as Link>⟧.given self.new ≡ ⟦<MemLink as Link>⟧.given self.old)) }
         ensures counted { CountsCall self.old.plan self.new.plan }
         ensures faults { OnOk result (self.new.plan.faults ≡ self.old.plan.faults) }
+        ensures pieces { self.new.most ≡ self.old.most }
     {
         if self.plan.is_due() {
             begin(&mut self.given, bytes);

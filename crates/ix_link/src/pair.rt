@@ -1,7 +1,7 @@
 //! An input and an output as one link.
 
 ghost use Rattle.std.specs.Prelude.{◌≡◌, ◌≤◌, ◌<◌, ◌+◌, ℕ, List, [], ◌∷◌, Option, None, Some, take, length, IfOk, IfSome, OnOk, OnErr, is_ok, if◌then◌else◌};
-ghost use Rattle.ix_base.specs.Faults.{HasCause};
+ghost use Rattle.ix_base.specs.Faults.{HasCause, Rose};
 ghost use Rattle.ix_base.specs.Told.{Told, Took, HasWritten, HasBegun};
 ghost use Rattle.ix_link.specs.Links.{Standing, Goes};
 
@@ -34,7 +34,7 @@ impl<'a, S: Source, W: Sink> Pair<'a, S, W> {
     }
 }
 
-impl<S: Source, W: Sink> Link for Pair<'_, S, W> {
+impl<'a, S: Source, W: Sink> Link for Pair<'a, S, W> {
     ghost left = { λ p. S.left p.source.now };
 
     ghost given = { λ p. W.given p.sink.now };
@@ -50,7 +50,18 @@ impl<S: Source, W: Sink> Link for Pair<'_, S, W> {
       failed = p.failed;
     } };
 
-    fn read(&mut self, buf: &mut [u8]) -> Result<usize, Failed> {
+    /// A failure names the side that is read from.
+    fn read(&mut self, buf: &mut [u8]) -> Result<usize, Failed>
+        ensures count { IfOk result (λ n. n ≤ length buf.old) }
+        ensures bytes { IfOk result (λ n. Told (Took (take n buf.new)) (S.left self.old.source.now) (S.left self.new.source.now)) }
+        ensures end { IfOk result (λ n. n ≡ 0 → 0 < length buf.old → IfSome (S.left self.old.source.now) (λ bytes. bytes ≡ [])) }
+        ensures failed { OnErr result (S.left self.new.source.now ≡ S.left self.old.source.now) }
+        ensures given { W.given self.new.sink.now ≡ W.given self.old.sink.now }
+        ensures goes { Goes (⟦<Pair<'a, S, W> as Link>⟧.standing self.old) (⟦<Pair<'a, S, W> as Link>⟧.standing self.new) }
+        ensures cause { HasCause (S.faults self.old.source.now + W.faults self.old.sink.now) (S.faults self.new.source.now + W.faults self.new.sink.now) result }
+        ensures named { OnErr result (self.new.failed ≡ Some Side.Reading) }
+        ensures unnamed { OnOk result (self.new.failed ≡ self.old.failed) }
+    {
         match self.source.read(buf) {
             Ok(count) => Ok(count),
             Err(fault) => {
@@ -60,7 +71,17 @@ impl<S: Source, W: Sink> Link for Pair<'_, S, W> {
         }
     }
 
-    fn put(&mut self, bytes: &[u8]) -> Result<(), Failed> {
+    /// A failure names the side that is written to.
+    fn put(&mut self, bytes: &[u8]) -> Result<(), Failed>
+        ensures written { OnOk result (HasWritten bytes.now (W.given self.old.sink.now) (W.given self.new.sink.now)) }
+        ensures begun { OnErr result (HasBegun bytes.now (W.given self.old.sink.now) (W.given self.new.sink.now)) }
+        ensures left { S.left self.new.source.now ≡ S.left self.old.source.now }
+        ensures goes { Goes (⟦<Pair<'a, S, W> as Link>⟧.standing self.old) (⟦<Pair<'a, S, W> as Link>⟧.standing self.new) }
+        ensures side { OnErr result (Rose (W.faults self.old.sink.now) (W.faults self.new.sink.now)) }
+        ensures cause { HasCause (S.faults self.old.source.now + W.faults self.old.sink.now) (S.faults self.new.source.now + W.faults self.new.sink.now) result }
+        ensures named { OnErr result (self.new.failed ≡ Some Side.Writing) }
+        ensures unnamed { OnOk result (self.new.failed ≡ self.old.failed) }
+    {
         match self.sink.put(bytes) {
             Ok(()) => Ok(()),
             Err(fault) => {

@@ -1,101 +1,99 @@
-//! Links and a listener over the system's sockets.
+//! A listener over the system's sockets. The program hands it to `serve`.
 
-ghost use Rattle.std.specs.Prelude.{◌≡◌, ◌≤◌, ◌+◌, ◌-◌, ℕ, List, [], Option, Some, None};
+ghost use Rattle.std.specs.Prelude.{◌≡◌, ◌≤◌, ◌+◌, ◌-◌, ℕ, List, [], Option, Some, None, IfSome};
 ghost use Rattle.ix_base.specs.Faults.{Rose};
-ghost use Rattle.ix_link.specs.Links.{Standing};
-ghost use Rattle.ix_link.specs.Listeners.{Handed};
+ghost use Rattle.ix_link.specs.Listeners.{Handed, Begins};
 
 use crate::link::Link;
 use crate::listener::Listener;
+use crate::patience::tick;
+use crate::tcp_link::TcpLink;
 use ix_base::Failed;
-use std::io::{ErrorKind, Read, Write};
-use std::net::{Ipv4Addr, Net, OpenListener, SocketAddr, TcpListener};
+use std::io::{self, ErrorKind};
+use std::net::{Ipv4Addr, Net, OpenListener, OpenStream, SocketAddr, TcpListener};
+use std::time::{Clock, Duration};
 
-/// A connection of the system. It tells nothing of its bytes.
-#[derive(Drop)]
-pub struct TcpLink<S: Read + Write + Drop> {
-    stream: S,
-    start: u64,
-    faults: u64,
+/// So many connections one behind the other may end before they are taken; then the listener has failed.
+const MOST_LOST: u32 = 100_000;
+
+/// So often it is waited, a second each time, for the system to have room for one more connection.
+const MOST_WAITS: u32 = 30;
+
+/// What is done about a connection that could not be taken.
+#[derive(Clone, Copy)]
+enum Refused {
+    /// The next one is taken.
+    Lost,
+    /// It is tried again, a second later.
+    Crowded,
+    /// The listener has failed.
+    Failed,
 }
 
-impl<S: Read + Write + Drop> TcpLink<S> {
-    fn new(stream: S) -> Self
-        ensures start { result.start ≡ 0 }
-        ensures faults { result.faults ≡ 0 }
-    {
-        TcpLink {
-            stream,
-            start: 0,
-            faults: 0,
-        }
+/// What it means that the system has no connection to give. Errors of the connection itself are told there too.
+fn refused_by(fault: &io::Error) -> Refused {
+    match fault.kind() {
+        ErrorKind::ConnectionAborted
+        | ErrorKind::ConnectionReset
+        | ErrorKind::Interrupted
+        | ErrorKind::WouldBlock
+        | ErrorKind::TimedOut
+        | ErrorKind::HostUnreachable
+        | ErrorKind::NetworkUnreachable
+        | ErrorKind::NetworkDown
+        | ErrorKind::PermissionDenied => return Refused::Lost,
+        ErrorKind::OutOfMemory => return Refused::Crowded,
+        _ => {}
     }
-
-    fn fail(&mut self) -> Failed
-        ensures rose { Rose self.old.faults self.new.faults }
-        ensures later { self.old.faults ≤ self.new.faults }
-        ensures start { self.new.start ≡ self.old.start }
-    {
-        self.faults = self.faults.saturating_add(1);
-        Failed
+    match fault.raw_os_error() {
+        // EPROTO, ENONET, ENOPROTOOPT, EHOSTDOWN
+        Some(71 | 64 | 92 | 112) => Refused::Lost,
+        // ENFILE, EMFILE, ENOBUFS
+        Some(23 | 24 | 105) => Refused::Crowded,
+        _ => Refused::Failed,
     }
 }
 
-impl<S: Read + Write + Drop> Link for TcpLink<S> {
-    ghost left = { λ s. None };
+/// Has each wait on a connection end soon, and each reply sent at once. A connection without these could hold up all others.
+fn is_set_up<S: OpenStream>(stream: &S) -> bool {
+    let _ = stream.set_nodelay(true);
+    stream.set_read_timeout(Some(tick())).is_ok() && stream.set_write_timeout(Some(tick())).is_ok()
+}
 
-    ghost given = { λ s. None };
-
-    ghost faults = { λ s. s.faults };
-
-    ghost standing = { λ s. record {
-      held = None;
-      start = s.start;
-      lent = [];
-      reading = s.faults;
-      writing = s.faults;
-      failed = None;
-    } };
-
-    fn read(&mut self, buf: &mut [u8]) -> Result<usize, Failed> {
-        for _ in 0..u64::MAX {
-            match self.stream.read(buf) {
-                Ok(count) => return Ok(count),
-                Err(fault) if fault.kind() == ErrorKind::Interrupted => {}
-                Err(_) => break,
-            }
+/// The next connection that stands.
+fn next_stream<L: OpenListener<Stream: OpenStream>, C: Clock>(
+    listener: &L,
+    clock: &C,
+) -> Option<L::Stream> {
+    let mut waits = 0;
+    for _ in 0..MOST_LOST {
+        match listener.accept() {
+            Ok((stream, _)) if is_set_up(&stream) => return Some(stream),
+            Ok(_) => {}
+            Err(fault) => match refused_by(&fault) {
+                Refused::Lost => {}
+                Refused::Crowded if waits < MOST_WAITS => {
+                    waits += 1;
+                    clock.sleep(Duration::from_secs(1));
+                }
+                _ => return None,
+            },
         }
-        Err(self.fail())
     }
-
-    fn put(&mut self, bytes: &[u8]) -> Result<(), Failed> {
-        let mut rest = bytes;
-        for _ in 0..u64::MAX {
-            if rest.is_empty() {
-                return Ok(());
-            }
-            match self.stream.write(rest) {
-                Ok(0) => break,
-                Ok(count) => rest = &rest[count..],
-                Err(fault) if fault.kind() == ErrorKind::Interrupted => {}
-                Err(_) => break,
-            }
-        }
-        Err(self.fail())
-    }
+    None
 }
 
 /// A listener of the system, on 127.0.0.1. It tells nothing of its connections.
 #[derive(Drop)]
-pub struct TcpListen<R: Net + Drop> {
+pub struct TcpListen<R: Net + Clock + Clone + Drop> {
     rt: R,
     listener: Option<R::Listener>,
-    port: u16,
+    bound: Option<SocketAddr>,
     out: u64,
     faults: u64,
 }
 
-impl<R: Net + Drop> TcpListen<R> {
+impl<R: Net + Clock + Clone + Drop> TcpListen<R> {
     /// A listener by this runtime, which listens nowhere yet.
     pub fn new(rt: R) -> Self
         ensures { ⟦<TcpListen<R> as Listener>⟧.faults result ≡ 0 }
@@ -103,15 +101,23 @@ impl<R: Net + Drop> TcpListen<R> {
         TcpListen {
             rt,
             listener: None,
-            port: 0,
+            bound: None,
             out: 0,
             faults: 0,
         }
     }
 
+    /// The address and the port where it listens, as the system tells them.
+    pub fn bound(&self) -> Option<SocketAddr> {
+        self.bound
+    }
+
     /// The port that was bound; 0 while none is.
     pub fn port(&self) -> u16 {
-        self.port
+        match self.bound {
+            Some(bound) => bound.port(),
+            None => 0,
+        }
     }
 
     fn fail(&mut self) -> Failed
@@ -122,10 +128,22 @@ impl<R: Net + Drop> TcpListen<R> {
         self.faults = self.faults.saturating_add(1);
         Failed
     }
+
+    /// The next connection as a link.
+    fn next_link(&self) -> Option<TcpLink<R>>
+        ensures { IfSome result (λ link. Begins (⟦<TcpLink<R> as Link>⟧.standing link) None None (⟦<TcpLink<R> as Link>⟧.faults link)) }
+    {
+        let Some(listener) = &self.listener else {
+            return None;
+        };
+        let clock = self.rt.clone().ok()?;
+        let stream = next_stream(listener, &self.rt)?;
+        Some(TcpLink::new(stream, clock))
+    }
 }
 
-impl<R: Net + Drop> Listener for TcpListen<R> {
-    type Conn = TcpLink<R::Stream>;
+impl<R: Net + Clock + Clone + Drop> Listener for TcpListen<R> {
+    type Conn = TcpLink<R>;
 
     ghost waiting = { λ l. None };
 
@@ -143,28 +161,27 @@ impl<R: Net + Drop> Listener for TcpListen<R> {
         let Ok(bound) = listener.local_addr() else {
             return Err(self.fail());
         };
-        self.port = bound.port();
+        self.bound = Some(bound);
         self.listener = Some(listener);
         Ok(())
     }
 
-    fn accept(&mut self) -> Result<TcpLink<R::Stream>, Failed> {
-        let Some(listener) = &self.listener else {
-            return Err(self.fail());
-        };
-        let Ok((stream, _)) = listener.accept() else {
-            return Err(self.fail());
-        };
+    /// A connection that ended before it was taken is passed over.
+    fn accept(&mut self) -> Result<TcpLink<R>, Failed> {
         let Some(out) = self.out.checked_add(1) else {
             return Err(self.fail());
         };
+        let Some(link) = self.next_link() else {
+            return Err(self.fail());
+        };
         self.out = out;
-        Ok(TcpLink::new(stream))
+        Ok(link)
     }
 
-    /// Closes the connection.
-    fn done(&mut self, conn: TcpLink<R::Stream>) {
+    /// Closes the connection, so that the peer sees its reply.
+    fn done(&mut self, mut conn: TcpLink<R>) {
         self.out = self.out.saturating_sub(1);
+        conn.finish();
         drop(conn);
     }
 }

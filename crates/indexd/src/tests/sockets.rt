@@ -11,13 +11,14 @@ use ix_disk::MemDisk;
 use ix_link::{Listener, TcpLink, TcpListen};
 use std::alloc::Global;
 use std::io::{Read, Write};
-use std::net::{Ipv4Addr, Net, SocketAddr, TcpStream};
+use std::net::{Ipv4Addr, Net, OpenStream, Shutdown, SocketAddr, TcpStream};
 use std::process::Abort;
 use std::test::Fail;
+use std::time::Clock;
 
 /// A listener over sockets that sends itself requests, over a connection each, when it is bound. The system keeps them until they are accepted.
 #[derive(Drop)]
-struct Dialer<R: Net + Drop> {
+struct Dialer<R: Net + Clock + Clone + Drop> {
     rt: R,
     inner: TcpListen<R>,
     requests: Vec<String>,
@@ -30,15 +31,17 @@ fn dial<R: Net + Drop>(rt: &R, port: u16, requests: &[String], senders: &mut Vec
     let address = SocketAddr::from((Ipv4Addr::LOCALHOST, port));
     for request in requests {
         if let Ok(mut sender) = TcpStream::connect(rt, address) {
-            if sender.write_all(request.as_bytes()).is_ok() {
+            if sender.write_all(request.as_bytes()).is_ok()
+                && sender.shutdown(Shutdown::Write).is_ok()
+            {
                 let _ = senders.push(sender);
             }
         }
     }
 }
 
-impl<R: Net + Drop> Listener for Dialer<R> {
-    type Conn = TcpLink<R::Stream>;
+impl<R: Net + Clock + Clone + Drop> Listener for Dialer<R> {
+    type Conn = TcpLink<R>;
 
     ghost waiting = { λ l. None };
 
@@ -55,11 +58,11 @@ impl<R: Net + Drop> Listener for Dialer<R> {
         Ok(())
     }
 
-    fn accept(&mut self) -> Result<TcpLink<R::Stream>, Failed> {
+    fn accept(&mut self) -> Result<TcpLink<R>, Failed> {
         self.inner.accept()
     }
 
-    fn done(&mut self, conn: TcpLink<R::Stream>) {
+    fn done(&mut self, conn: TcpLink<R>) {
         self.inner.done(conn);
     }
 }
@@ -94,7 +97,7 @@ fn received<S: Read>(alloc: Global, senders: &mut [S]) -> String {
 }
 
 /// The run that serves the requests says so.
-fn check_run<R: Net + Drop>(
+fn check_run<R: Net + Clock + Clone + Drop>(
     rt: &impl Abort,
     alloc: Global,
     disk: &mut MemDisk,
@@ -115,7 +118,11 @@ fn check_replies<S: Read>(rt: &impl Abort, alloc: Global, senders: &mut [S]) {
 static STORED: [Step; 1] = [Step::Run((NOON, "export main", DEFAULT, ""), DATED)];
 
 /// Each connection has its reply, and the events are stored.
-fn check_dialed<R: Net + Drop>(rt: &impl Abort, alloc: Global, listener: &mut Dialer<R>) {
+fn check_dialed<R: Net + Clock + Clone + Drop>(
+    rt: &impl Abort,
+    alloc: Global,
+    listener: &mut Dialer<R>,
+) {
     let mut disk = disk_of(alloc);
     check_run(rt, alloc, &mut disk, listener);
     check_replies(rt, alloc, listener.senders.as_mut_slice());
