@@ -1,9 +1,9 @@
 -- Laws on heads at the front of bytes that come one by one.
 use Rattle.std.proofs.Common.{◌≡◌, ◌≢◌, ℕ, ◌+◌, ◌-◌, ◌*◌, ◌<◌, ◌≤◌, ◌⊎◌, List, [], ◌∷◌, ◌++◌, length, take, get_or, refl, sym, ap, ◌∙◌, subst, inl, inr, arith, append_assoc, length-append}
 use Rattle.std.proofs.lemmas.List.{same_from_push, take_more, length_push, append-nil, take_all}
-use Rattle.std.proofs.lemmas.List.Elements.{All-head, All-tail}
+use Rattle.std.proofs.lemmas.List.Elements.{All-nil, All-cons, All-head, All-tail, All-same, All-push}
 use Rattle.std.proofs.lemmas.Bool.{cases_lt}
-use Rattle.std.specs.Prelude.{All, Result, Ok, Err}
+use Rattle.std.specs.Prelude.{All, Bool, true, false, IsTrue, Result, Ok, Err}
 use Rattle.std.specs.List.{flat_map}
 use Rattle.httparse.specs.declared.Error.{Error}
 use Rattle.httparse.specs.declared.Error.TheVariants as error
@@ -11,10 +11,10 @@ use Rattle.httparse.specs.Outcome.{OnInvalid, OnTooManyHeaders}
 use Rattle.httparse.specs.Spans.{RequestExceeds, RequestOverflows, IsRequestOf}
 use Rattle.httparse.specs.declared.spans.HeaderSpan.{HeaderSpan}
 use Rattle.httparse.specs.declared.spans.RequestSpans.{RequestSpans}
-use Rattle.httparse.specs.Grammar.{LineEnd, crlf, lf, print_end, print_blank, print_version, print_field, Field, IsField, RequestHead, IsRequestHead, ReadsRequest, print_request, HasNoRequest, NeverHasRequest}
+use Rattle.httparse.specs.Grammar.{LineEnd, crlf, lf, print_end, print_blank, print_version, print_field, print_section, Field, IsField, RequestHead, IsRequestHead, IsToken, is_token_byte, ReadsRequest, print_request, HasNoRequest, NeverHasRequest}
 use Rattle.std.proofs.Math.Seq.{take-append-add}
 use Rattle.std.proofs.lemmas.Grind.{common_steps}
-use Rattle.ix_heads.specs.Judging.{EndsInEmptyLine}
+use Rattle.ix_heads.specs.Judging.{EndsInEmptyLine, IsLineByte}
 use Rattle.ix_heads.specs.Limits.{max_head, line_room, max_lines}
 
 -- a list is empty or has a last element
@@ -167,6 +167,50 @@ pub open_without_lf : (bytes : List ℕ) → 0 < length bytes → HasNoRequest (
 open_without_lf bytes some none other =
     let P : List ℕ → Type 0 = λ t. HasNoRequest t in
     subst P (sym (last_split bytes some)) (no_head_more (take (length bytes - 1) bytes) (get_or bytes (length bytes - 1) 0) other none)
+
+-- ---- bytes of line ends alone
+
+all-right : {X : Type 0} (P : X → Type 0) (xs ys : List X) → All P (xs ++ ys) → All P ys
+all-right P [] ys all = all
+all-right P (x ∷ xs) ys all = all-right P xs ys (All-tail P x (xs ++ ys) all)
+
+all-left : {X : Type 0} (P : X → Type 0) (xs ys : List X) → All P (xs ++ ys) → All P xs
+all-left P [] ys all = All-nil P
+all-left P (x ∷ xs) ys all = All-cons P x xs (All-head P x (xs ++ ys) all) (all-left P xs ys (All-tail P x (xs ++ ys) all))
+
+no-token : (b : ℕ) → IsLineByte b → is_token_byte b ≡ false
+unfolding is_token_byte
+no-token b (inl e) = ap is_token_byte e
+no-token b (inr e) = ap is_token_byte e
+
+true-false : {b : Bool} → IsTrue b → b ≡ false → ⊥
+true-false is none = cc
+
+no-method : (method : List ℕ) → IsToken method → All IsLineByte method → ⊥
+no-method [] token all = omega (arith, token.0)
+no-method (b ∷ method) token all =
+    true-false (All-head (λ x. IsTrue (is_token_byte x)) b method token.1) (no-token b (All-head IsLineByte b method all))
+
+no-line : (bytes blank method target version end section rest : List ℕ) → bytes ≡ blank ++ method ++ target ++ version ++ end ++ section ++ rest
+    → IsToken method → All IsLineByte bytes → ⊥
+no-line bytes blank method target version end section rest is token all =
+    let P = IsLineByte in
+    let whole = All-same P _ bytes (sym is) all in
+    let line = all-left P _ version (all-left P _ end (all-left P _ section (all-left P _ rest whole))) in
+    no-method method token (all-right P blank method (all-left P (blank ++ method) target line))
+
+-- they are no head
+pub blank_no_head : (bytes : List ℕ) → All IsLineByte bytes → HasNoRequest bytes
+unfolding print_request
+blank_no_head bytes all h rest reads =
+    no-line bytes (print_blank h.blank) h.method (32 ∷ h.target) (32 ∷ print_version h.minor) (print_end h.line_end) (print_section h.fields h.last) rest reads.1 reads.0.method all
+
+-- one more of them
+pub blank_more : (old new : Bool) (bytes more : List ℕ) (b : ℕ) → more ≡ bytes ++ b ∷ [] → (old ≡ true → All IsLineByte bytes)
+    → (new ≡ true → (old ≡ true) × IsLineByte b) → new ≡ true → All IsLineByte more
+blank_more old new bytes more b is before step holds =
+    let both = step holds in
+    All-same IsLineByte more (bytes ++ b ∷ []) is (All-push IsLineByte bytes b (before both.0) both.1)
 
 -- the spans of a head of them end with them
 pub len_is_all : (bytes : List ℕ) (headers : List HeaderSpan) (spans : RequestSpans) → 0 < length bytes → HasNoRequest (take (length bytes - 1) bytes)

@@ -15,6 +15,10 @@ use Rattle.ix_heads.specs.declared.judging.Look.TheVariants.{Head, Partly, Never
 abbrev pub EndsInEmptyLine : List ℕ → Type 0
 EndsInEmptyLine bytes = (front : List ℕ) × (end : LineEnd) × (bytes ≡ front ++ 10 ∷ print_end end)
 
+-- a byte of a line end
+abbrev pub IsLineByte : ℕ → Type 0
+IsLineByte b = (b ≡ 10) ⊎ (b ≡ 13)
+
 -- a head that these bytes begin with has too many header lines
 abbrev pub OnlyCrowded : List ℕ → Type 0
 OnlyCrowded bytes = (h : RequestHead) (rest : List ℕ) → ReadsRequest bytes h rest → max_lines < length h.fields

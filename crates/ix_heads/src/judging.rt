@@ -1,10 +1,11 @@
 //! Whether bytes that come one by one are a head. `read_head` asks it of each byte.
 
-ghost use Rattle.std.specs.Prelude.{◌≡◌, ◌≤◌, ◌<◌, ◌-◌, length, take, IfOk, true, []};
+ghost use Rattle.std.specs.Prelude.{◌≡◌, ◌≤◌, ◌<◌, ◌-◌, length, take, All, IfOk, true, []};
 ghost use Rattle.httparse.specs.Grammar.{HasNoRequest};
 ghost use Rattle.httparse.specs.Spans.{RequestOverflows};
-ghost use Rattle.ix_heads.specs.Judging.{EndsInEmptyLine, IsJudged, KeepsJudged, IsRefused, IsLook, MayGoOn};
+ghost use Rattle.ix_heads.specs.Judging.{EndsInEmptyLine, IsLineByte, IsJudged, KeepsJudged, IsRefused, IsLook, MayGoOn};
 
+use crate::scan::Scan;
 use httparse::spans::{EMPTY_HEADER_SPAN, HeaderSpan, RequestSpans, parse_request};
 use httparse::{Error, Status};
 use ix_base::NoMemory;
@@ -71,9 +72,6 @@ fn is_bad(alloc: Global, bytes: &[u8]) -> Result<bool, NoMemory>
     requires many { RequestOverflows 64 bytes.now }
     ensures { IsRefused bytes.now result }
 {
-    if !ends_in_empty_line(bytes) {
-        return Ok(false);
-    }
     match look_at(alloc, bytes)? {
         Look::Head => Ok(true),
         Look::Partly => Ok(false),
@@ -81,12 +79,8 @@ fn is_bad(alloc: Global, bytes: &[u8]) -> Result<bool, NoMemory>
     }
 }
 
-/// What bytes are of which all but the last one are no head.
-pub(crate) fn judge(
-    alloc: Global,
-    bytes: &[u8],
-    headers: &mut [HeaderSpan],
-) -> Result<Judged, NoMemory>
+/// What a parse finds of bytes of which all but the last one are no head.
+fn parse(alloc: Global, bytes: &[u8], headers: &mut [HeaderSpan]) -> Result<Judged, NoMemory>
     requires some { 0 < length bytes.now }
     requires size { length bytes.now ≤ 16384 }
     requires before { HasNoRequest (take (length bytes.now - 1) bytes.now) }
@@ -94,9 +88,6 @@ pub(crate) fn judge(
     ensures judged { IsJudged bytes.now headers.new result }
     ensures within { KeepsJudged bytes.now headers.new result }
 {
-    if bytes[bytes.len() - 1] != b'\n' {
-        return Ok(Judged::Open);
-    }
     match parse_request(bytes, headers) {
         Ok(Status::Complete(spans)) => Ok(Judged::Whole(spans)),
         Ok(Status::Partial) => Ok(Judged::Open),
@@ -108,6 +99,35 @@ pub(crate) fn judge(
         }
         Err(_) => Ok(Judged::Bad),
     }
+}
+
+/// What bytes are of which all but the last one are no head. A head ends in an empty line behind another line, so only there
+/// they are parsed, and where the scan tells that they are no front of a head: judging all of a head costs no more than its
+/// bytes.
+pub(crate) fn judge(
+    alloc: Global,
+    bytes: &[u8],
+    headers: &mut [HeaderSpan],
+    scan: &Scan,
+) -> Result<Judged, NoMemory>
+    requires some { 0 < length bytes.now }
+    requires size { length bytes.now ≤ 16384 }
+    requires before { HasNoRequest (take (length bytes.now - 1) bytes.now) }
+    requires blank { scan.now.blank ≡ true → All IsLineByte bytes.now }
+    requires room { length headers.old ≡ 64 }
+    ensures judged { IsJudged bytes.now headers.new result }
+    ensures within { KeepsJudged bytes.now headers.new result }
+{
+    if scan.is_due() {
+        return parse(alloc, bytes, headers);
+    }
+    if scan.is_blank() {
+        return Ok(Judged::Open);
+    }
+    if !ends_in_empty_line(bytes) {
+        return Ok(Judged::Open);
+    }
+    parse(alloc, bytes, headers)
 }
 
 /// Whether bytes that are no head may become one, where a link has ended behind them.

@@ -7,6 +7,7 @@ mod judging;
 mod lengths;
 mod lines;
 mod reading;
+mod scan;
 
 pub use bytes::read_byte;
 pub use faults::LinkFault;

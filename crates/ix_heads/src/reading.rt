@@ -10,6 +10,7 @@ ghost use Rattle.ix_heads.specs.Reads.{OnlyReads};
 use crate::bytes::read_byte;
 use crate::faults::LinkFault;
 use crate::judging::{Judged, Look, judge, may_go_on};
+use crate::scan::Scan;
 use httparse::spans::{HeaderSpan, RequestSpans};
 use ix_base::NoMemory;
 use ix_link::Link;
@@ -64,6 +65,7 @@ pub fn read_head<K: Link>(
     ensures reads { OnlyReads (K.given link.old) (K.given link.new) (K.standing link.old) (K.standing link.new) (K.faults link.old) (K.faults link.new) }
     ensures failed { result ≡ Err LinkFault.Failed → Rose (K.faults link.old) (K.faults link.new) }
 {
+    let mut scan = Scan::new();
     for i in 0..MAX_HEAD {
         let byte = match read_byte(link) {
             Ok(Some(byte)) => byte,
@@ -71,7 +73,8 @@ pub fn read_head<K: Link>(
             Err(_) => return Err(LinkFault::Failed),
         };
         bytes[i] = byte;
-        match judge(alloc, &bytes[..i + 1], headers) {
+        scan.take(byte);
+        match judge(alloc, &bytes[..i + 1], headers, &scan) {
             Ok(Judged::Open) => {}
             Ok(Judged::Bad) => return Ok(HeadRead::Bad),
             Ok(Judged::Whole(spans)) => return Ok(HeadRead::Whole(spans)),

@@ -1,15 +1,14 @@
-use Rattle.std.proofs.Common.{sym, subst}
-use Rattle.httparse.specs.declared.spans.RequestSpans.{RequestSpans}
-use Rattle.ix_heads.specs.Judging.{IsHeadAt}
-use Rattle.ix_heads.proofs.FrontLemmas.{open_without_lf, len_is_all}
+use Rattle.std.proofs.Common.{◌≡◌, true, false, Bool, sym, ◌∙◌}
+use Rattle.ix_heads.proofs.FrontLemmas.{open_without_empty, blank_no_head}
 use Rattle.ix_heads.proofs.judging.judge.Goals as goal
 
-pub returns-then-bytes-ne10-clause-judged : goal.returns-then-bytes-ne10-clause-judged
-returns-then-bytes-ne10-clause-judged c =
-    open_without_lf c.args.bytes.now c.requires.some c.requires.before c.if-bytes-ne10.true
+true_false : {b : Bool} → b ≡ true → b ≡ false → ⊥
+true_false p q = cc
 
-pub returns-in-Ok-Complete-clause-judged : goal.returns-in-Ok-Complete-clause-judged
-returns-in-Ok-Complete-clause-judged c =
-    let found = rw c.in-Ok-Complete.field-0-is at c.in-Ok-Complete.ensures.complete in
-    let P : RequestSpans → Type 0 = λ s. IsHeadAt c.args.bytes.now c.parse_request.new.headers s in
-    subst P (sym c.in-Ok-Complete.spans-is) (record { len = len_is_all c.args.bytes.now _ _ c.requires.some c.requires.before found; head = found.0; at = found.1 })
+pub returns-then-is_blank-clause-judged : goal.returns-then-is_blank-clause-judged
+returns-then-is_blank-clause-judged c =
+    blank_no_head c.args.bytes.now (c.requires.blank (sym c.is_blank.ensures ∙ c.if-is_blank.true))
+
+pub returns-then-not-ends_in_empty_line-clause-judged : goal.returns-then-not-ends_in_empty_line-clause-judged
+returns-then-not-ends_in_empty_line-clause-judged c =
+    open_without_empty c.args.bytes.now c.requires.some c.requires.before (λ e. true_false (c.ends_in_empty_line.ensures e) c.if-not-ends_in_empty_line.true)

@@ -1,9 +1,11 @@
 use Rattle.std.proofs.Common.{◌≡◌, ℕ, ◌+◌, ◌<◌, List, [], ◌∷◌, ◌++◌, take, length, slice_set, arith, inl, ap, ◌∙◌}
 use Rattle.std.proofs.lemmas.Grind.{common_steps}
 use Rattle.std.proofs.lemmas.List.{length-take-le}
+use Rattle.std.proofs.lemmas.List.Elements.{All-nil}
+use Rattle.ix_heads.specs.Judging.{IsLineByte}
 use Rattle.ix_heads.proofs.ToldLemmas.{told_map, told_join}
-use Rattle.ix_heads.proofs.FrontLemmas.{no_head_empty}
-use Rattle.ix_heads.proofs.ReadLemmas.{reads_nothing}
+use Rattle.ix_heads.proofs.FrontLemmas.{no_head_empty, blank_more}
+use Rattle.ix_heads.proofs.ReadLemmas.{reads_nothing, reads_on}
 use Rattle.ix_heads.proofs.HeadLemmas.{took_nothing, took_byte, full_headless, bad_fits, whole_fits, memory_fits}
 use Rattle.ix_heads.proofs.reading.read_head.Goals as goal
 
@@ -18,8 +20,25 @@ pub loop-i-init : goal.loop-i-init
 loop-i-init g c = record {
   taken = took_nothing (g.K.Link.left c.args.link.now);
   none = no_head_empty;
+  blank = λ holds. All-nil IsLineByte;
   reads = reads_nothing _ _ _;
 }
+
+pub judge-requires-clause-blank : goal.judge-requires-clause-blank
+judge-requires-clause-blank g c =
+    let inside : c.loop-i.i < length c.loop-i.bytes = omega (arith, c.loop-i.auto.bytes, c.requires.bytes, c.loop-i-test.true) in
+    blank_more c.loop-i.scan.blank c.take.new.self.blank _ _ c.in-Ok-Some.byte (more_taken c.loop-i.bytes c.loop-i.i c.in-Ok-Some.byte inside) c.loop-i.invariant.blank c.take.ensures
+
+pub loop-i-preserved : goal.loop-i-preserved
+loop-i-preserved g c =
+    let inside : c.loop-i.i < length c.loop-i.bytes = omega (arith, c.loop-i.auto.bytes, c.requires.bytes, c.loop-i-test.true) in
+    let byte = rw c.in-Ok-Some.field-0-is at c.in-Ok-Some.ensures.taken in
+    record {
+      taken = told_join (λ old mid new p q. took_byte _ _ c.in-Ok-Some.byte old mid new (more_taken c.loop-i.bytes c.loop-i.i c.in-Ok-Some.byte inside) p q) _ _ _ c.loop-i.invariant.taken byte;
+      none = rw c.in-Ok-Open.field-0-is at c.in-Ok-Open.ensures.judged;
+      blank = blank_more c.loop-i.scan.blank c.take.new.self.blank _ _ c.in-Ok-Some.byte (more_taken c.loop-i.bytes c.loop-i.i c.in-Ok-Some.byte inside) c.loop-i.invariant.blank c.take.ensures;
+      reads = reads_on c.loop-i.invariant.reads c.in-Ok-Some.ensures.reads;
+    }
 
 pub returns-in-Ok-Bad-clause-read : goal.returns-in-Ok-Bad-clause-read
 returns-in-Ok-Bad-clause-read g c =
