@@ -2,6 +2,8 @@
 #![tactic(auto)]
 
 #[cfg(test)]
+mod peers;
+#[cfg(test)]
 mod requests;
 #[cfg(test)]
 mod said;

@@ -177,7 +177,7 @@ const HEADS_SAID: &str = "\
     Buckets 3 left\n\
     Buckets 1 left\n\
     Cut 0 left\n\
-    BadHead false 2 left\n\
+    BadHead false 6 left\n\
     BadHead false 0 left\n\
     BadHead false 1 left\n\
     Buckets 0 left\n\

@@ -48,8 +48,11 @@ fn socket_said(rt: &HostRuntime) -> String {
     let mut text = String::new(rt.alloc());
     let mut listener = TcpListen::new(rt);
     note(&mut text, listener.accept().is_err());
+    note(&mut text, listener.bound().is_none());
     note(&mut text, listener.bind(0));
     let address = SocketAddr::from((Ipv4Addr::LOCALHOST, listener.port()));
+    note(&mut text, listener.bound() == Some(address));
+    note(&mut text, listener.port() > 0);
     if let Ok(mut client) = TcpStream::connect(rt, address) {
         note(&mut text, client.write_all(ASKED).is_ok());
         note_served(&mut text, rt.alloc(), &mut listener);
@@ -62,7 +65,11 @@ fn socket_said(rt: &HostRuntime) -> String {
 
 #[test]
 fn a_socket_is_served(rt: HostRuntime) {
-    compare(&rt, socket_said(&rt), "true Ok(()) true Ok(()) true true ");
+    compare(
+        &rt,
+        socket_said(&rt),
+        "true true Ok(()) true true true Ok(()) true true ",
+    );
 }
 
 fn link(alloc: Global, bytes: &[u8]) -> MemLink {
