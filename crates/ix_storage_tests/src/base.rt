@@ -187,7 +187,9 @@ fn moments(rt: &HostRuntime) -> String {
     }
     let mut machine = HostClock::new(rt);
     let first = machine.now();
+    // Between the beginning of 2020 and the last moment that is taken.
     note(&mut text, first > 1_577_836_800_000_000);
+    note(&mut text, first < LATEST_MOMENT);
     note(&mut text, machine.now() >= first);
     text
 }
@@ -195,7 +197,11 @@ fn moments(rt: &HostRuntime) -> String {
 #[test]
 fn clocks_show_moments(rt: HostRuntime) {
     assert_eq!(rt; LATEST_MOMENT, clamped(i64::MAX));
-    compare(&rt, moments(&rt), "3 5 5 0 7 4102444800000000 true true ");
+    compare(
+        &rt,
+        moments(&rt),
+        "3 5 5 0 7 4102444800000000 true true true ",
+    );
 }
 
 /// Writes a file, and what the puts answered.
