@@ -4,6 +4,7 @@
 
 mod asks;
 mod bodies;
+mod gather;
 mod kinds;
 mod places;
 mod ranges;

@@ -6,6 +6,7 @@ ghost use Rattle.ix_base.specs.Told.{HasWritten, HasBegun};
 ghost use Rattle.ix_link.specs.Links.{Goes};
 ghost use Rattle.ix_http.specs.Replies.{reason_of, phrase_of, type_of, status_line, header_lines, reply_text};
 
+use crate::gather::Gather;
 use crate::kinds::Kind;
 use http::StatusCode;
 use itoa::Buffer;
@@ -125,8 +126,23 @@ fn put_headers<K: Link>(link: &mut K, length: usize, kind: Kind) -> Result<(), F
     Ok(())
 }
 
+/// Writes a reply piece by piece.
+fn put_reply<K: Link>(link: &mut K, status: u16, kind: Kind, body: &[u8]) -> Result<(), Failed>
+    ensures written { OnOk result (HasWritten (reply_text status kind body.now) (K.given link.old) (K.given link.new)) }
+    ensures begun { OnErr result (HasBegun (reply_text status kind body.now) (K.given link.old) (K.given link.new)) }
+    ensures left { K.left link.new ≡ K.left link.old }
+    ensures goes { Goes (K.standing link.old) (K.standing link.new) }
+    ensures side { OnErr result (Rose (K.standing link.old).writing (K.standing link.new).writing) }
+    ensures cause { HasCause (K.faults link.old) (K.faults link.new) result }
+{
+    put_status(link, status)?;
+    put_headers(link, body.len(), kind)?;
+    link.put(body)?;
+    Ok(())
+}
+
 /// Writes a reply: the status line with the phrase of the status, the length and the type of the body, `Connection: close`, and
-/// the body. Where the link fails, a front of it is written. It takes no memory.
+/// the body. A short one is one piece. Where the link fails, a front of it is written. It takes no memory.
 pub fn write_reply<K: Link>(
     link: &mut K,
     status: u16,
@@ -140,8 +156,9 @@ pub fn write_reply<K: Link>(
     ensures side { OnErr result (Rose (K.standing link.old).writing (K.standing link.new).writing) }
     ensures cause { HasCause (K.faults link.old) (K.faults link.new) result }
 {
-    put_status(link, status)?;
-    put_headers(link, body.len(), kind)?;
-    link.put(body)?;
-    Ok(())
+    let mut whole = Gather::new();
+    match put_reply(&mut whole, status, kind, body) {
+        Ok(()) => link.put(whole.as_slice()),
+        Err(_) => put_reply(link, status, kind, body),
+    }
 }

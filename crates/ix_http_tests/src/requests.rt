@@ -370,21 +370,31 @@ fn plain_said(alloc: Global) -> String {
     text
 }
 
-/// Whether a reply of which the write with a number fails stands on the link in part, and one that is done whole.
-fn is_given(alloc: Global, number: u64) -> bool {
+/// Whether a reply of which the write with a number fails stands on the link in part, and one that is done whole. It has so many writes.
+fn is_given(alloc: Global, number: u64, body: &[u8], writes: u64) -> bool {
+    let mut whole = given_to(alloc, 99);
+    let _ = write_reply(&mut whole, 507, Kind::Json, body);
     let mut link = given_to(alloc, number);
-    let done = write_reply(&mut link, 507, Kind::Json, b"{\"error\":\"Full\"}").is_ok();
-    let is_front = FULL.starts_with(link.given());
-    let is_whole = link.given().len() == FULL.len();
+    let done = write_reply(&mut link, 507, Kind::Json, body).is_ok();
+    let is_front = whole.given().starts_with(link.given());
+    let is_whole = link.given().len() == whole.given().len();
     drop(link);
-    is_front && done == is_whole && done == (number >= 10)
+    drop(whole);
+    is_front && done == is_whole && done == (number >= writes)
 }
 
-/// The numbers of writes that fail and leave anything else.
+/// The text of a reply, and the numbers of writes that fail and leave anything else: of a short one, which is one write, and of a long one.
 fn replies_said(alloc: Global) -> String {
     let mut text = String::new(alloc);
+    let mut link = given_to(alloc, 99);
+    let _ = write_reply(&mut link, 507, Kind::Json, b"{\"error\":\"Full\"}");
+    note(&mut text, link.given() == FULL);
+    drop(link);
     for number in 0..12 {
-        if !is_given(alloc, number) {
+        if !is_given(alloc, number, b"{\"error\":\"Full\"}", 1) {
+            note(&mut text, number);
+        }
+        if !is_given(alloc, number, &[b'x'; 1000], 10) {
             note(&mut text, number);
         }
     }
@@ -394,5 +404,5 @@ fn replies_said(alloc: Global) -> String {
 #[test]
 fn replies_are_written(rt: HostRuntime) {
     compare(&rt, plain_said(rt.alloc()), PLAIN);
-    compare(&rt, replies_said(rt.alloc()), "");
+    compare(&rt, replies_said(rt.alloc()), "true ");
 }

@@ -81,7 +81,7 @@ const PEERS: &str = "\
     1¦¦POST /channels/c/blocks¦¦a\nb\nc¦200 OK¦{\"ack\":0,\"run\":1}¶\
     58¦¦POST /channels/c/blocks¦¦a\nb\nc¦200 OK¦{\"ack\":0,\"run\":1}¶\
     ¦20¦POST /channels/c/blocks¦¦a\nb\nc¦200 OK¦{\"ack\":0,\"run\":1}¶\
-    ¦59¦POST /channels/c/blocks¦¦a\nb\nc¦200 OK¦{\"ack\":0,\"run\":1}¶\
+    ¦56¦POST /channels/c/blocks¦¦a\nb\nc¦200 OK¦{\"ack\":0,\"run\":1}¶\
     ¦¦POST /channels/c/blocks¦¦\nd\ne¦200 OK¦{\"ack\":1,\"run\":1}¶\
     ¦¦POST /channels/c/blocks¦Transfer-Encoding: chunked\r\n¦f¦411 Length Required¦{\"error\":\"NoLength\"}";
 
