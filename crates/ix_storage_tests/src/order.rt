@@ -3,7 +3,7 @@
 //! the disk answers `Ok` has to be so: a write stands in the file whole, and what was synced is left by a machine that
 //! stops then. Each error of the system has to show as a fault of the disk.
 
-use crate::said::{compare_none, say};
+use crate::said::{compare, compare_none, say};
 use crate::watched::{How, Watch, Watching};
 use ix_base::{Area, Failed, File};
 use ix_disk::{Disk, HostDisk, LockFiles};
@@ -241,4 +241,52 @@ fn a_disk_answers_no_ok_behind_a_fault_that_is_not_so(rt: HostRuntime) {
     note_faults(&mut text, &rt, How::Error);
     note_faults(&mut text, &rt, How::Short);
     compare_none(&rt, text);
+}
+
+/// Writes the first fault of a disk of which the call of the system fails that is due.
+fn note_first<R: LockFiles + Copy + Drop>(
+    text: &mut String,
+    (rt, alloc): (R, Global),
+    top: &str,
+    due: u64,
+) {
+    let watch = Watch::new(due, How::Error);
+    let files = Watching {
+        rt,
+        alloc,
+        top,
+        watch: &watch,
+    };
+    let mut disk = HostDisk::new(files);
+    for call in LIFE {
+        let _ = is_done(&mut disk, *call);
+    }
+    if let Some(fault) = disk.first_fault() {
+        let _ = write!(text, "{fault}; ");
+    }
+    drop(disk);
+}
+
+/// The first call makes `var`, and the others make, write and sync the first file, each in a folder of its own.
+fn first_faults<R: LockFiles + AllocGlobal + Copy + Drop>(rt: R) -> String {
+    let alloc = rt.alloc();
+    let mut text = String::new(alloc);
+    let _ = fs::remove_dir_all(&rt, "faults");
+    for (due, top) in [
+        (0, "faults/0/"),
+        (9, "faults/9/"),
+        (15, "faults/15/"),
+        (17, "faults/17/"),
+    ] {
+        let _ = fs::create_dir_all(&rt, top);
+        note_first(&mut text, (rt, alloc), top, due);
+    }
+    text
+}
+
+#[test]
+fn the_first_fault_has_its_file_and_its_reason(rt: HostRuntime) {
+    let wanted = "var/lock: Input/output error; var/meta/1: Input/output error; \
+        var/meta/1: No space left on device; var/meta/1: Input/output error; ";
+    compare(&rt, first_faults(&rt), wanted);
 }
