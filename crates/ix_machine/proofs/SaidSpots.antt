@@ -50,7 +50,7 @@ find_replaced spot old other (x ∷ xs) e =
         (λ v. absurd (true_false (sym (bytes_same x.path spot.path (same_bytes x.path other u ∙ sym (same_bytes spot.path other v))) ∙ t)))
         (λ v. v)
 
-find_spot : (spot : Spot) (other : List ℕ) (xs : List Spot) → find spot_path other (with_spot xs (Some spot)) ≡ (if bytes_eq spot.path other then Some spot else find spot_path other xs)
+pub find_spot : (spot : Spot) (other : List ℕ) (xs : List Spot) → find spot_path other (with_spot xs (Some spot)) ≡ (if bytes_eq spot.path other then Some spot else find spot_path other xs)
 find_spot spot other xs = by (find spot_path spot.path xs) refl
   where
     by : (o : Option Spot) → find spot_path spot.path xs ≡ o →

@@ -1,4 +1,4 @@
-//! A file that a pass visits. `ix_files` finds these files, and `ix_pass` visits them.
+//! A file that a pass visits. `ix_files` finds these files.
 
 use ix_base::{Bytes, ChannelMeta};
 

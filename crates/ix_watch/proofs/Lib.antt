@@ -1,0 +1,4 @@
+pub mod Growing
+pub mod Following
+pub mod Histories
+pub mod Passed

@@ -1,0 +1,3 @@
+pub mod Watching
+pub mod Visits
+pub mod Passes
