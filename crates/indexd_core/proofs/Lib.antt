@@ -8,7 +8,6 @@ pub mod MissedLemmas
 pub mod ShortLemmas
 pub mod ServeLemmas
 pub mod CarriedLemmas
-mod Starting
 pub mod ChainLemmas
 pub mod Empty
 pub mod ReadLemmas

@@ -6,20 +6,23 @@ use Rattle.ix_base.specs.Clocks.{Moments}
 use Rattle.ix_disk.specs.Image.{Image, nothing}
 use Rattle.ix_disk.specs.declared.disk.Disk.{Ghosts}
 use Rattle.ix_feed.specs.Connections as connections
+use Rattle.ix_feed.specs.Connections.{Listened}
 use Rattle.ix_feed.specs.Feeding as feeding
 use Rattle.ix_feed.specs.declared.feed.Fed.{Fed}
 use Rattle.ix_feed.specs.declared.feed.Fed.TheVariants as fed
 use Rattle.ix_feed.specs.declared.serve.Heard.{Heard}
 use Rattle.ix_feed.specs.declared.serve.Heard.TheVariants as heard
 use Rattle.ix_keep.specs.declared.fault.CommitFault.TheVariants as commits
-use Rattle.ix_kept.specs.Configs.{IsChooser}
+use Rattle.ix_kept.specs.Taken.{IsTaken, AreGiven}
 use Rattle.ix_machine.specs.Given.{Chooser}
 use Rattle.ix_machine.specs.declared.commands.Config.{Config}
 use Rattle.ix_machine.specs.declared.commands.Order.{Order}
 use Rattle.ix_replay.specs.Fits.{fits}
 use Rattle.ix_run.specs.Giving.{given_all}
-use Rattle.ix_store.proofs.Lawful.{stands_from}
-use Rattle.ix_store.specs.Written.{Stands, StandsFrom}
+use Rattle.ix_run.proofs.Gone.{stands_from}
+use Rattle.ix_run.specs.Running.{StandsFrom}
+use Rattle.ix_serve.specs.Serving.{IsTold}
+use Rattle.ix_store.specs.Written.{Stands}
 use Rattle.ix_tree.specs.declared.trees.TreeFile.{TreeFile}
 use Rattle.indexd_feed.specs.Ends.{FedBehind, HeardBehind, fed_of, heard_end}
 use Rattle.indexd_feed.specs.Serving.{HasServed, Requests, Connections}
@@ -34,9 +37,9 @@ use Rattle.indexd_store.specs.declared.stop.Stop.TheVariants as stops
 use Rattle.indexd_core.specs.Feeds as feeds
 use Rattle.indexd_core.specs.Feeds.{FeedComes, end_status}
 use Rattle.indexd_core.specs.Serves as serves
-use Rattle.indexd_core.specs.Serves.{Listened, ServeComes, EndsServing}
+use Rattle.indexd_core.specs.Chain.{MayRun}
+use Rattle.indexd_core.specs.Serves.{ServeComes, EndsServing}
 use Rattle.indexd_core.specs.Sides.{Side}
-use Rattle.indexd_core.specs.Starts.{BeginsEmpty}
 use Rattle.indexd_core.specs.Stored.{status_of, FromStart, Comes, done, stopped, WroteUnread, Whole, unread, ran}
 use Rattle.indexd_core.specs.declared.status.Status.{Status}
 use Rattle.indexd_core.specs.declared.status.Status.TheVariants.{Done, ListenerFault}
@@ -93,57 +96,54 @@ whole run choose history image stands =
 
 -- ---- runs
 
-module _ {D : Type 0} {d : Ghosts D} {disk : D} (choose : Chooser) (chooser : IsChooser choose) (met : BeginsEmpty d choose disk) where
+module _ {D : Type 0} {d : Ghosts D} {disk : D} (choose : Chooser) (may : MayRun d choose [] 0 disk) where
   -- what is said of every run from here is said of this one
-  pub is_said : (comes : Chooser → List Order → ℕ → Type 0) → FromStart d disk comes → comes choose [] 0
-  is_said comes from = from choose [] 0 chooser met.given met.begins nothing met.seen
+  is_said : (comes : Chooser → List Order → ℕ → Type 0) → FromStart d disk comes → comes choose [] 0
+  is_said comes from = from choose [] 0 may.chooser may.given may.begins may.image may.tells
 
-  of_run : (may : List Order → List Order → List Order → Type 0) (disk' : D) → HasRun false d fits choose [] 0 may disk disk' → HasHistory d disk'
-  of_run may disk' run = record {
+  history_of : (now : List Order) (disk' : D) → AreGiven now → ((image : Image) → d.may_leave disk' image → StandsFrom fits choose now (length now) image) → IsTold d disk' →
+      HasHistory d disk'
+  history_of now disk' given all told = record {
     choose = choose;
-    chooser = chooser;
-    history = given_all choose (given_all choose (take run.count []) run.configured) run.orders;
-    all = run.exit;
+    history = now;
+    may_run = record { chooser = may.chooser; given = given; begins = all; image = told.0; tells = told.1 };
   }
 
+  of_run : (mays : List Order → List Order → List Order → Type 0) (disk' : D) → IsTold d disk' → HasRun false d IsTaken fits choose [] 0 mays disk disk' → HasHistory d disk'
+  of_run mays disk' told run =
+      history_of (given_all choose (given_all choose (take run.count []) run.configured) run.orders) disk' run.given run.exit told
+
   pub of_comes : (status : Status) (config : Config) (named : List ℕ) (ahead ahead' : Option Moments) (what : Chooser → Doing) (untouched : Side → Type 0)
-      (part : Stop → Side → Chooser → Doing) (wrote : Stop → Side → Type 0) (output' : Side) (disk' : D) → status ≡ Done →
+      (part : Stop → Side → Chooser → Doing) (wrote : Stop → Side → Type 0) (output' : Side) (disk' : D) → IsTold d disk' → status ≡ Done →
       Comes status d config named ahead ahead' what untouched part wrote output' disk disk' → HasHistory d disk'
-  of_comes status config named ahead ahead' what untouched part wrote output' disk' is (done e from) =
-      of_run (WhenOpen choose config ahead (what choose)) disk'
-      (is_said (λ choose history k. HasRun false d fits choose history k (WhenOpen choose config ahead (what choose)) disk disk') from)
-  of_comes status config named ahead ahead' what untouched part wrote output' disk' is (stopped stop middle e from w s) = absurd (not_done stop (sym e ∙ is))
+  of_comes status config named ahead ahead' what untouched part wrote output' disk' told is (done e from) =
+      of_run (WhenOpen choose config ahead (what choose)) disk' told
+      (is_said (λ choose history k. HasRun false d IsTaken fits choose history k (WhenOpen choose config ahead (what choose)) disk disk') from)
+  of_comes status config named ahead ahead' what untouched part wrote output' disk' told is (stopped stop middle e from w s) =
+      absurd (not_done stop (sym e ∙ is))
 
-  pub of_feed : (status : Status) (config : Config) (ahead ahead' : Option Moments) (input input' output output' : Side) (disk' : D) → status ≡ Done →
+  pub of_feed : (status : Status) (config : Config) (ahead ahead' : Option Moments) (input input' output output' : Side) (disk' : D) → IsTold d disk' → status ≡ Done →
       FeedComes status d config ahead ahead' input input' output output' disk disk' → HasHistory d disk'
-  of_feed status config ahead ahead' input input' output output' disk' is (feeds.shut stop e from same said) = absurd (not_done stop (sym e ∙ is))
-  of_feed status config ahead ahead' input input' output output' disk' is (feeds.served end middle e l m from said) =
-      let run = is_said (λ choose history k. HasServed d fits choose history k config ahead
-      (Requests d fits choose (fed_of end) (IsSound output.faults middle.faults) input.told input'.told ahead' output.told middle.told disk') disk disk') from in
+  of_feed status config ahead ahead' input input' output output' disk' told is (feeds.shut stop e from same said) = absurd (not_done stop (sym e ∙ is))
+  of_feed status config ahead ahead' input input' output output' disk' told is (feeds.served end middle e l m reads from said) =
+      let run = is_said (λ choose history k. HasServed d IsTaken fits choose history k config ahead
+      (Requests d fits (fed_of end) (IsSound output.faults middle.faults) input.told input'.told ahead' output.told middle.told disk') disk disk') from in
       let requests = run.served in
-      record {
-        choose = choose;
-        chooser = chooser;
-        history = run.now;
-        all = λ image may. whole run.run choose run.now image (requests.all (open_behind requests.first end (sym e ∙ is) requests.behind) image may);
-      }
+      history_of run.now disk' run.given
+      (λ image left. whole run.run choose run.now image (requests.all (open_behind requests.first end (sym e ∙ is) requests.ends_behind) image left)) told
 
-  pub of_serve : (status : Status) (config : Config) (requests : ℕ) (ahead ahead' : Option Moments) (heard heard' : Listened) (output output' : Side) (disk' : D) → status ≡ Done →
+  pub of_serve : (status : Status) (config : Config) (requests : ℕ) (ahead ahead' : Option Moments) (heard heard' : Listened) (output output' : Side) (disk' : D) → IsTold d disk' → status ≡ Done →
       ServeComes status d config requests ahead ahead' heard heard' output output' disk disk' → HasHistory d disk'
-  of_serve status config requests ahead ahead' heard heard' output output' disk' is (serves.unbound e a h s said) = absurd (cc)
-  of_serve status config requests ahead ahead' heard heard' output output' disk' is (serves.shut stop e from same said) = absurd (not_done stop (sym e ∙ is))
-  of_serve status config requests ahead ahead' heard heard' output output' disk' is (serves.served end from wrote) =
-      let run = is_said (λ choose history k. HasServed d fits choose history k config ahead
-      (Connections d fits choose requests end heard.waiting heard'.waiting heard.handed heard'.handed ahead' disk') disk disk') from in
+  of_serve status config requests ahead ahead' heard heard' output output' disk' told is (serves.unbound e a h s said) = absurd (cc)
+  of_serve status config requests ahead ahead' heard heard' output output' disk' told is (serves.shut stop e from same said) = absurd (not_done stop (sym e ∙ is))
+  of_serve status config requests ahead ahead' heard heard' output output' disk' told is (serves.served end hears from wrote) =
+      let run = is_said (λ choose history k. HasServed d IsTaken fits choose history k config ahead
+      (Connections d fits requests end heard heard' ahead' disk') disk disk') from in
       let visits = run.served in
       let behind : HeardBehind visits.first serving.Done =
-      subst (HeardBehind visits.first) (served_whole status requests end output output' is wrote) visits.behind in
-      record {
-        choose = choose;
-        chooser = chooser;
-        history = run.now;
-        all = λ image may. whole run.run choose run.now image (visits.all (open_served visits.first behind) image may);
-      }
+      subst (HeardBehind visits.first) (served_whole status requests end output output' is wrote) visits.ends_behind in
+      history_of run.now disk' run.given
+      (λ image left. whole run.run choose run.now image (visits.all (open_served visits.first behind) image left)) told
 
 -- one that is done has read the settings
 pub of_whole : (status : Status) (files : Option (List TreeFile)) (failed failed' : ℕ) (still : Type 0) (comes : Config → Type 0) (output output' : Side) (said : Type 0) → status ≡ Done →

@@ -1,16 +1,20 @@
--- What a run that is done leaves on the disk, with no premise.
-use Rattle.std.specs.Prelude.{List, length}
-use Rattle.ix_disk.specs.Image.{Image}
+-- What a first run leaves for a second one, with no premise on histories.
+use Rattle.std.specs.Prelude.{◌≡◌, List, [], length}
 use Rattle.ix_disk.specs.declared.disk.Disk.{Ghosts}
-use Rattle.ix_kept.specs.Configs.{IsChooser}
 use Rattle.ix_machine.specs.Given.{Chooser}
 use Rattle.ix_machine.specs.declared.commands.Order.{Order}
-use Rattle.ix_replay.specs.Fits.{fits}
-use Rattle.ix_store.specs.Written.{StandsFrom}
+use Rattle.indexd_core.specs.Chain.{MayRun, MayGoOn}
+use Rattle.indexd_core.specs.declared.status.Status.{Status}
+use Rattle.indexd_core.specs.declared.status.Status.TheVariants.{Done}
 
--- every image that a crash may leave stands for all of one history of commands
+-- every image that a crash may leave stands for all of one history of commands, and a second run may begin over that
 pub record HasHistory {D : Type 0} (d : Ghosts D) (disk : D) : Type 0 where
   pub choose : Chooser
-  pub chooser : IsChooser choose
   pub history : List Order
-  pub all : (image : Image) → d.may_leave disk image → StandsFrom fits choose history (length history) image
+  pub may_run : MayRun d choose history (length history) disk
+
+-- Whatever the status is, a second run may begin over some history; and at `Done` over one that every image has whole.
+pub record GoesOn (status : Status) {D : Type 0} (d : Ghosts D) (disk : D) : Type 0 where
+  pub choose : Chooser
+  pub again : MayGoOn d choose [] 0 disk
+  pub whole : status ≡ Done → HasHistory d disk

@@ -4,19 +4,22 @@
 //! definition changes into one that nothing meets. Whoever adds a premise to `FromStart` of `indexd_core` shows here what meets it.
 #![tactic(auto)]
 
-ghost use Rattle.std.specs.Prelude.{◌≡◌, ℕ, true};
-ghost use Rattle.ix_kept.specs.Configs.{IsChooser};
+ghost use Rattle.std.specs.Prelude.{◌≡◌, ℕ, [], true};
 ghost use Rattle.ix_machine.specs.Given.{Chooser};
+ghost use Rattle.indexd_core.specs.Chain.{MayRun};
 ghost use Rattle.indexd_core.specs.Commands.{is_task, AskStore, AskFeed, AskServe};
 ghost use Rattle.indexd_core.specs.Prepared.{Stated};
-ghost use Rattle.indexd_core.specs.Starts.{BeginsEmpty, IsBlank, IsStart};
+ghost use Rattle.indexd_core.specs.Starts.{IsBlank, IsStart};
 ghost use Rattle.indexd_words.specs.Orders.{asked};
-ghost use Rattle.indexd_premises.specs.Standing.{HasHistory};
+ghost use Rattle.indexd_premises.specs.Standing.{GoesOn};
 
 #[cfg(test)]
 mod tests;
 
-use indexd_core::{Status, top};
+use indexd_core::{
+    Status, an_empty_disk_may_run, an_exit_is_a_stop, blank_disks_are_starts, runs_leave,
+    the_next_run_may_begin, top,
+};
 use ix_base::{Clock, FailPlan, Sink, Source, Text};
 use ix_disk::{Disk, MemDisk};
 use ix_link::Listener;
@@ -26,16 +29,17 @@ use std::alloc::Global;
 /// An empty disk in memory. It meets all that the clauses of `top` ask of a start.
 pub fn empty_disk(alloc: Global) -> MemDisk
     ensures blank { IsBlank ⟦<MemDisk as Disk>⟧ result }
-    ensures begins { (choose : Chooser) × IsChooser choose × BeginsEmpty ⟦<MemDisk as Disk>⟧ choose result }
+    ensures begins { (choose : Chooser) × MayRun ⟦<MemDisk as Disk>⟧ choose [] 0 result }
     ensures start { IsStart ⟦<MemDisk as Disk>⟧ result }
 {
     ix_kept::choosers_exist();
-    indexd_core::blank_disks_are_starts::<MemDisk>();
+    an_empty_disk_may_run::<MemDisk>();
+    blank_disks_are_starts::<MemDisk>();
     MemDisk::new(alloc, FailPlan::none(alloc))
 }
 
-/// Runs the program over an empty disk in memory, and answers with its status the disk that it leaves. Nothing is damaged, and at 0 every image
-/// that a crash may leave stands for all of one history of commands.
+/// Runs the program over an empty disk in memory, and answers with its status the disk that it leaves. Nothing is damaged, whatever the
+/// status is a second run may begin there, and at 0 every image that a crash may leave stands for all of one history of commands.
 pub fn first_run<S: Source, W: Sink, C: Clock, T: Tree, L: Listener>(
     alloc: Global,
     words: &[Text],
@@ -46,11 +50,14 @@ pub fn first_run<S: Source, W: Sink, C: Clock, T: Tree, L: Listener>(
     listener: &mut L,
 ) -> (Status, MemDisk)
     ensures undamaged { result.0 ≡ Status.Damaged → ⊥ }
-    ensures task { is_task (asked words.now) ≡ true → result.0 ≡ Status.Done → HasHistory ⟦<MemDisk as Disk>⟧ result.1 }
-    ensures stored { (stated : Stated) → AskStore words.now stated → result.0 ≡ Status.Done → HasHistory ⟦<MemDisk as Disk>⟧ result.1 }
-    ensures fed { AskFeed words.now → result.0 ≡ Status.Done → HasHistory ⟦<MemDisk as Disk>⟧ result.1 }
-    ensures served { (port requests : ℕ) → AskServe words.now port requests → result.0 ≡ Status.Done → HasHistory ⟦<MemDisk as Disk>⟧ result.1 }
+    ensures task { is_task (asked words.now) ≡ true → GoesOn result.0 ⟦<MemDisk as Disk>⟧ result.1 }
+    ensures stored { (stated : Stated) → AskStore words.now stated → GoesOn result.0 ⟦<MemDisk as Disk>⟧ result.1 }
+    ensures fed { AskFeed words.now → GoesOn result.0 ⟦<MemDisk as Disk>⟧ result.1 }
+    ensures served { (port requests : ℕ) → AskServe words.now port requests → GoesOn result.0 ⟦<MemDisk as Disk>⟧ result.1 }
 {
+    runs_leave::<MemDisk>();
+    an_exit_is_a_stop::<MemDisk>();
+    the_next_run_may_begin::<MemDisk, MemDisk>();
     let mut disk = empty_disk(alloc);
     let status = top(
         alloc, words, input, output, clock, tree, &mut disk, listener,

@@ -1,3 +1,4 @@
+use Rattle.std.proofs.Common.{[]}
 use Rattle.indexd_premises.proofs.Finished.{of_comes, of_feed, of_serve, of_whole}
 use Rattle.indexd_premises.proofs.first_run.Goals as goal
 
@@ -5,21 +6,49 @@ pub returns-clause-undamaged : goal.returns-clause-undamaged
 returns-clause-undamaged g c = λ damaged. c.empty_disk-disk.ensures.start (c.top-status.ensures.undamaged damaged)
 
 pub returns-clause-task : goal.returns-clause-task
-returns-clause-task g c = λ asks is.
+returns-clause-task g c = λ asks.
     let b = c.empty_disk-disk.ensures.begins in
-    of_whole _ _ _ _ _ _ _ _ _ is (λ config comes. of_comes b.0 b.1 b.2 _ config _ _ _ _ _ _ _ _ _ is comes) (c.top-status.ensures.task asks).2
+    let told = c.top-status.ensures.told (b.1.image, b.1.tells) in
+    let comes = c.top-status.ensures.task asks in
+    let leaves = c.runs_leave.ensures.tasked b.0 [] 0 _ _ _ _ _ _ _ _ _ _ _ b.1 comes.2 in
+    record {
+      choose = b.0;
+      again = c.the_next_run_may_begin.ensures b.0 [] 0 _ _ _ b.1 leaves told.1 (c.an_exit_is_a_stop.ensures b.0 [] 0 _ _ leaves);
+      whole = λ is. of_whole _ _ _ _ _ _ _ _ _ is (λ config come. of_comes b.0 b.1 _ config _ _ _ _ _ _ _ _ _ told is come) comes.2;
+    }
 
 pub returns-clause-stored : goal.returns-clause-stored
-returns-clause-stored g c = λ stated asks is.
+returns-clause-stored g c = λ stated asks.
     let b = c.empty_disk-disk.ensures.begins in
-    of_whole _ _ _ _ _ _ _ _ _ is (λ config comes. of_comes b.0 b.1 b.2 _ config _ _ _ _ _ _ _ _ _ is comes.0) (c.top-status.ensures.stored stated asks)
+    let told = c.top-status.ensures.told (b.1.image, b.1.tells) in
+    let comes = c.top-status.ensures.stored stated asks in
+    let leaves = c.runs_leave.ensures.stored b.0 [] 0 _ _ _ _ _ _ _ _ _ _ _ _ _ b.1 comes in
+    record {
+      choose = b.0;
+      again = c.the_next_run_may_begin.ensures b.0 [] 0 _ _ _ b.1 leaves told.1 (c.an_exit_is_a_stop.ensures b.0 [] 0 _ _ leaves);
+      whole = λ is. of_whole _ _ _ _ _ _ _ _ _ is (λ config come. of_comes b.0 b.1 _ config _ _ _ _ _ _ _ _ _ told is come.0) comes;
+    }
 
 pub returns-clause-fed : goal.returns-clause-fed
-returns-clause-fed g c = λ asks is.
+returns-clause-fed g c = λ asks.
     let b = c.empty_disk-disk.ensures.begins in
-    of_whole _ _ _ _ _ _ _ _ _ is (λ config comes. of_feed b.0 b.1 b.2 _ config _ _ _ _ _ _ _ is comes) (c.top-status.ensures.fed asks)
+    let told = c.top-status.ensures.told (b.1.image, b.1.tells) in
+    let comes = c.top-status.ensures.fed asks in
+    let leaves = c.runs_leave.ensures.fed b.0 [] 0 _ _ _ _ _ _ _ _ _ _ _ _ b.1 comes in
+    record {
+      choose = b.0;
+      again = c.the_next_run_may_begin.ensures b.0 [] 0 _ _ _ b.1 leaves told.1 (c.an_exit_is_a_stop.ensures b.0 [] 0 _ _ leaves);
+      whole = λ is. of_whole _ _ _ _ _ _ _ _ _ is (λ config come. of_feed b.0 b.1 _ config _ _ _ _ _ _ _ told is come) comes;
+    }
 
 pub returns-clause-served : goal.returns-clause-served
-returns-clause-served g c = λ port requests asks is.
+returns-clause-served g c = λ port requests asks.
     let b = c.empty_disk-disk.ensures.begins in
-    of_whole _ _ _ _ _ _ _ _ _ is (λ config comes. of_serve b.0 b.1 b.2 _ config _ _ _ _ _ _ _ _ is comes) (c.top-status.ensures.served port requests asks)
+    let told = c.top-status.ensures.told (b.1.image, b.1.tells) in
+    let comes = c.top-status.ensures.served port requests asks in
+    let leaves = c.runs_leave.ensures.served b.0 [] 0 _ _ _ _ _ _ _ _ _ _ _ _ b.1 comes in
+    record {
+      choose = b.0;
+      again = c.the_next_run_may_begin.ensures b.0 [] 0 _ _ _ b.1 leaves told.1 (c.an_exit_is_a_stop.ensures b.0 [] 0 _ _ leaves);
+      whole = λ is. of_whole _ _ _ _ _ _ _ _ _ is (λ config come. of_serve b.0 b.1 _ config _ _ _ _ _ _ _ _ told is come) comes;
+    }

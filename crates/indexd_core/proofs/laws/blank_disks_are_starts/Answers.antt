@@ -1,8 +1,8 @@
-use Rattle.indexd_core.proofs.Starting.{begins_empty, blank_start}
+use Rattle.std.proofs.Common.{[]}
 use Rattle.indexd_core.proofs.laws.blank_disks_are_starts.Goals as goal
 
-pub returns-clause-begins : goal.returns-clause-begins
-returns-clause-begins g c = λ choose disk blank. begins_empty g.D.Disk choose disk blank
-
-pub returns-clause-start : goal.returns-clause-start
-returns-clause-start g c = λ disk blank. blank_start g.D.Disk disk c.choosers_exist.ensures blank
+pub returns : goal.returns
+returns g c = λ disk blank from.
+    let exist = c.choosers_exist.ensures in
+    let may = c.an_empty_disk_may_run.ensures exist.0 disk exist.1 blank.left blank.seen in
+    from exist.0 [] 0 may.chooser may.given may.begins may.image may.tells
