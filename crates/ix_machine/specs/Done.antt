@@ -1,5 +1,5 @@
 -- Files that are done with.
-use Rattle.std.specs.Prelude.{◌≡◌, ◌≢◌, ◌<◌, ◌++◌, ℕ, List, None}
+use Rattle.std.specs.Prelude.{◌≡◌, ◌≢◌, ◌<◌, ◌++◌, ℕ, Bool, true, false, List, Contains, None, is_some}
 use Rattle.ix_base.specs.declared.files.Area.TheVariants.{Meta}
 use Rattle.ix_base.specs.declared.files.File.{File}
 use Rattle.ix_machine.specs.Files.{uses}
@@ -7,13 +7,21 @@ use Rattle.ix_machine.specs.Given.{Chooser}
 use Rattle.ix_machine.specs.State.{Catalog}
 use Rattle.ix_machine.specs.Step.{after}
 use Rattle.ix_machine.specs.declared.commands.Order.{Order}
-use Rattle.ix_machine.specs.Contents.{contents_of}
+use Rattle.ix_machine.specs.Contents.{bytes_of, contents_of, filed}
 
 -- A file that had a bucket, and is done with: it is that of no log, and its number is neither a bucket's or an archive's nor still to come.
 pub record IsDone (s : Catalog) (file : File) : Type 0 where
   pub apart : file.area ≢ Meta
   pub taken : file.number < s.next_file
   pub unused : uses file.number s ≡ 0
+
+-- whether the file is that of a bucket or of an archive
+abbrev pub is_filed : Catalog → File → Bool
+is_filed s file = is_some (bytes_of (filed s) file)
+
+-- each file that is that of one in the first, and of none in the second, is among these
+abbrev pub AreLetGo : Catalog → Catalog → List File → Type 0
+AreLetGo old new files = (file : File) → is_filed old file ≡ true → is_filed new file ≡ false → Contains files file
 
 -- it begins with nothing
 abbrev pub DoneHasNone : Type 0

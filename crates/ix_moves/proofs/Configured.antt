@@ -9,17 +9,20 @@ use Rattle.ix_life.specs.declared.views.IndexView.{IndexView}
 use Rattle.ix_machine.specs.Bounds.{KeepsBounds}
 use Rattle.ix_machine.specs.Given.{Chooser}
 use Rattle.ix_machine.specs.Judged as judging
-use Rattle.ix_machine.specs.State.{State}
+use Rattle.ix_machine.specs.State.{State, Catalog}
 use Rattle.ix_machine.specs.Step as machine
 use Rattle.ix_machine.specs.Step.{after, stepped}
 use Rattle.ix_machine.specs.declared.commands.Command.{Command}
 use Rattle.ix_machine.specs.declared.commands.Command.TheVariants.{Configure}
 use Rattle.ix_machine.specs.declared.commands.Order.{Order}
 use Rattle.ix_machine.proofs.Ledgers.{ticks_alone}
+use Rattle.ix_machine.proofs.Stepping.{sound_after}
+use Rattle.ix_machine.specs.Done.{AreLetGo}
 use Rattle.ix_moves.specs.Moving.{Precedes, Configures, IsMoved}
 use Rattle.ix_moves.specs.Working.{here, shelves_in, worked, left, configured_shelves, configured, CanBeSaid, Reshelves}
 use Rattle.ix_moves.specs.declared.moved.Base.{Base}
 use Rattle.ix_moves.proofs.Dealt.{dealt_shelves, worked_is, dealt_fills}
+use Rattle.ix_moves.proofs.Going.{deals_let_none_go}
 use Rattle.ix_moves.proofs.Numbers.{keeps_numbers, is_balanced}
 use Rattle.ix_moves.proofs.Saying.{can_be_said}
 use Rattle.ix_moves.proofs.Standing.{later_is, Stays, Fills, left_leads}
@@ -115,6 +118,7 @@ module _ (choose : Chooser) (history : List Order) (order : Order) (b : Base) (o
   configure_moves =
       left_leads m later order.command b (configured_shelves b outcomes (shelved_indexes d.config.kept later.catalog.indexes)) (worked b outcomes).pieces [] 0
       p.sees stays shelves_are fills (ap (λ (k : Command). judging.moved m k b.moment) (sym d.command))
+      (subst (λ (s : Catalog). AreLetGo m.catalog s []) (sym catalog_is) (deals_let_none_go m.force b.moment m.catalog outcomes (sound_after choose history)))
 
   pub configure_full : KeepsBounds m → KeepsBounds later →
       (KeepsNumbers (shelves_in b) → IsBalanced (shelves_in b) → KeepsNumbers (worked b outcomes).shelves →

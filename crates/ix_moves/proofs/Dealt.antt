@@ -17,9 +17,11 @@ use Rattle.ix_machine.specs.declared.commands.Order.{Order}
 use Rattle.ix_machine.proofs.Ascending.{in_order_after}
 use Rattle.ix_machine.proofs.Ledgers.{all_after, ticks_alone}
 use Rattle.ix_machine.proofs.Renewing.{behind_after}
+use Rattle.ix_machine.proofs.Stepping.{sound_after}
 use Rattle.ix_moves.specs.Moving.{Precedes, IsDealing, deals, IsMoved}
 use Rattle.ix_moves.specs.Working.{here, shelves_in, begun, worked, dealt, CanBeSaid}
 use Rattle.ix_moves.specs.declared.moved.Base.{Base}
+use Rattle.ix_moves.proofs.Going.{deals_let_none_go}
 use Rattle.ix_moves.proofs.Numbers.{keeps_numbers, is_balanced}
 use Rattle.ix_moves.proofs.Saying.{can_be_said}
 use Rattle.ix_moves.proofs.Standing.{later_is, Stays, Fills, left_leads}
@@ -28,6 +30,7 @@ use Rattle.ix_shelves.specs.Numbers.{KeepsNumbers, IsBalanced}
 use Rattle.ix_shelves.specs.declared.dealing.Work.{Work}
 use Rattle.ix_shelves.specs.declared.shelves.Shelves.{Shelves}
 use Rattle.ix_machine.specs.Contents.{contents_of}
+use Rattle.ix_machine.specs.Done.{AreLetGo}
 use Rattle.ix_machine.specs.OnDisk.{AreFiled}
 use Rattle.ix_machine.specs.OnDisk as laws
 use Rattle.ix_machine.specs.Shelved.{IsSet, shelved}
@@ -136,6 +139,7 @@ module _ (choose : Chooser) (history : List Order) (order : Order) (b : Base) (o
 
   pub deal_moves : IsMoved choose history order b.ledger.now b.moment (dealt b outcomes)
   deal_moves = left_leads m later order.command b (worked b outcomes).shelves (worked b outcomes).pieces [] 0 p.sees stays shelves_are fills plain.moved
+      (subst (λ (s : Catalog). AreLetGo m.catalog s []) (sym catalog_is) (deals_let_none_go m.force b.moment m.catalog outcomes (sound_after choose history)))
 
   -- within the bounds nothing that dealing asks fails
   pub deal_full : KeepsBounds m → KeepsBounds later →

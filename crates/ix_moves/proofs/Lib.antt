@@ -3,6 +3,7 @@ pub mod Lists
 pub mod Numbers
 pub mod Names
 pub mod Writable
+pub mod Going
 pub mod Standing
 pub mod Saying
 pub mod Dealt

@@ -1,5 +1,5 @@
 -- A roll leads from the state before it to that behind it.
-use Rattle.std.proofs.Common.{◌≡◌, ℕ, Bool, true, false, List, [], ◌∷◌, ◌++◌, refl, sym, ap, ◌∙◌}
+use Rattle.std.proofs.Common.{◌≡◌, ℕ, Bool, true, false, List, [], ◌∷◌, ◌++◌, refl, sym, ap, ◌∙◌, subst}
 use Rattle.std.specs.Prelude.{Option, Some, None, unwrap_or}
 use Rattle.std.specs.List.{count_by}
 use Rattle.std.specs.Option.{option_map}
@@ -11,7 +11,7 @@ use Rattle.ix_machine.specs.Buckets.{Index, buckets}
 use Rattle.ix_machine.specs.Given.{Chooser}
 use Rattle.ix_machine.specs.Judged as judging
 use Rattle.ix_machine.specs.Shown.{configured, index_view}
-use Rattle.ix_machine.specs.State.{State, index_name, fresh_index}
+use Rattle.ix_machine.specs.State.{State, Catalog, index_name, fresh_index}
 use Rattle.ix_machine.specs.Step as machine
 use Rattle.ix_machine.specs.Step.{after, stepped}
 use Rattle.ix_machine.specs.declared.commands.Command.{Command}
@@ -22,6 +22,7 @@ use Rattle.ix_machine.proofs.Stepping.{sound_after}
 use Rattle.ix_moves.specs.Moving.{Precedes, IsMoved}
 use Rattle.ix_moves.specs.Working.{shelves_in, rolled, CanBeSaid}
 use Rattle.ix_moves.specs.declared.moved.Base.{Base}
+use Rattle.ix_moves.proofs.Going.{rolls_let_none_go}
 use Rattle.ix_moves.proofs.Saying.{can_be_said}
 use Rattle.ix_moves.proofs.Standing.{later_is, Stays, Fills, left_leads}
 use Rattle.ix_shelves.specs.Lists.{find}
@@ -29,6 +30,7 @@ use Rattle.ix_shelves.specs.Shelves.{view_name}
 use Rattle.ix_shelves.specs.Turning.{roll, open_in}
 use Rattle.ix_shelves.specs.declared.shelves.Shelves.{Shelves}
 use Rattle.ix_machine.specs.Contents.{contents_of}
+use Rattle.ix_machine.specs.Done.{AreLetGo}
 use Rattle.ix_machine.specs.Shelved.{shelved}
 use Rattle.ix_machine.proofs.Listing.{among, or_fresh}
 use Rattle.ix_machine.proofs.Rising.{seen_by}
@@ -83,6 +85,7 @@ module _ (choose : Chooser) (history : List Order) (order : Order) (b : Base) (i
 
   pub roll_moves : IsMoved choose history order b.ledger.now b.moment (rolled b index)
   roll_moves = left_leads m later order.command b (roll index (shelves_in b)) [] [] (open_in (find view_name index (shelves_in b).indexes)) p.sees stays shelves_are fills counted
+      (subst (λ (s : Catalog). AreLetGo m.catalog s []) (sym catalog_is) (rolls_let_none_go index m.catalog))
 
   pub roll_full : KeepsBounds later → (CanBeSaid [] (shelves_in b) (roll index (shelves_in b)) → ⊥) → ⊥
   roll_full k over = over (can_be_said choose history order b [] (roll index (shelves_in b)) p shelves_are tt k)

@@ -21,6 +21,7 @@ use Rattle.ix_moves.specs.declared.moved.Base.{Base}
 use Rattle.ix_shelves.specs.Changes.{changes}
 use Rattle.ix_shelves.specs.declared.shelves.Shelves.{Shelves}
 use Rattle.ix_machine.specs.Contents.{contents_of}
+use Rattle.ix_machine.specs.Done.{AreLetGo}
 use Rattle.ix_machine.specs.OnDisk.{HasNoneFrom}
 use Rattle.ix_machine.specs.Said.{new_entries, shelf_items}
 use Rattle.ix_machine.specs.Shelved.{shelved}
@@ -60,13 +61,14 @@ same_items m later b more ledger shelves sees perm news e =
 
 pub left_leads : (m later : State) (command : Command) (b : Base) (shelves : Shelves) (pieces : List Piece) (copies : List Copied) (count : ℕ) →
     SeesBeside m b.ledger.now b.storage.now → Stays m later b.moment → shelves ≡ shelved later.force later.catalog → Fills m later pieces copies →
-    count ≡ judging.moved m command b.moment → Leads m later command b.ledger.now b.moment (left b shelves pieces copies count)
-left_leads m later command b shelves pieces copies count sees stays e fills counted =
+    count ≡ judging.moved m command b.moment → AreLetGo m.catalog later.catalog [] → Leads m later command b.ledger.now b.moment (left b shelves pieces copies count)
+left_leads m later command b shelves pieces copies count sees stays e fills counted gone =
     let perm : IsPermutation (here b) later.catalog.ledger = subst (IsPermutation (here b)) (sym stays.ledger) sees.ledger_is in
     record {
       storage = record { shelves_are = e; ledger_is = perm; ledger_rises = sees.ledger_rises; last_is = sym stays.last; tick_is = sees.tick_is ∙ sym stays.tick };
       files = fills;
       items_are = same_items m later b [] (here b) shelves sees perm (sym (none_new m later stays.ledger)) e;
       done = tt;
+      let_go = gone;
       moved_are = counted;
     }

@@ -34,12 +34,14 @@ use Rattle.ix_machine.proofs.Stepping.{sound_after}
 use Rattle.ix_moves.specs.Moving.{Precedes, IsMoved}
 use Rattle.ix_moves.specs.Working.{here, shelves_in, entry_of, thawed, CanBeSaid}
 use Rattle.ix_moves.specs.declared.moved.Base.{Base}
+use Rattle.ix_moves.proofs.Going.{thaws_let_none_go}
 use Rattle.ix_moves.proofs.Saying.{can_be_said}
 use Rattle.ix_moves.proofs.Standing.{later_is, Stays, Fills, left_leads}
 use Rattle.ix_shelves.specs.Turning.{thaw, thaw_copy}
 use Rattle.ix_shelves.specs.declared.shelves.Shelves.{Shelves}
 use Rattle.ix_machine.specs.Books.{entered_at, entry_in}
 use Rattle.ix_machine.specs.Contents.{contents_of}
+use Rattle.ix_machine.specs.Done.{AreLetGo}
 use Rattle.ix_machine.specs.OnDisk.{HasNoneFrom, IsThawed}
 use Rattle.ix_machine.specs.Shelved.{shelved}
 use Rattle.ix_machine.proofs.Froze.{all_entered}
@@ -224,6 +226,7 @@ module _ (choose : Chooser) (history : List Order) (order : Order) (b : Base) (i
   thaw_moves =
       left_leads m later order.command b (thaw can.entry (shelves_in b)) [] (thaw_copy can.entry can.archive (shelves_in b).next_file ∷ []) 1 p.sees stays shelves_are fills
       (ap (λ (k : Command). judging.moved m k b.moment) (sym is))
+      (subst (λ (s : Catalog). AreLetGo m.catalog s []) (sym catalog_is) (thaws_let_none_go index id m.catalog))
 
   pub thaw_full : KeepsBounds m → KeepsBounds later →
       ((shelves_in b).next_file < 2 ^ 63 → CanBeSaid [] (shelves_in b) (thaw can.entry (shelves_in b)) → ⊥) → ⊥

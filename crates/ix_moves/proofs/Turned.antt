@@ -27,6 +27,7 @@ use Rattle.ix_moves.specs.Guarding.{IsWritableEntry}
 use Rattle.ix_moves.specs.Moving.{Precedes, IsMoved}
 use Rattle.ix_moves.specs.Working.{here, shelves_in, made, ledger_behind, turned_shelves, turned, CanBeSaid}
 use Rattle.ix_moves.specs.declared.moved.Base.{Base}
+use Rattle.ix_moves.proofs.Going.{turn_lets_go}
 use Rattle.ix_moves.proofs.Lists.{all_rest}
 use Rattle.ix_moves.proofs.Saying.{can_be_said}
 use Rattle.ix_moves.proofs.Standing.{later_is, Fills, same_items}
@@ -36,7 +37,7 @@ use Rattle.ix_shelves.specs.Turning.{turn_all}
 use Rattle.ix_shelves.specs.declared.shelves.Shelves.{Shelves}
 use Rattle.ix_shelves.specs.declared.turning.Turned.{Turned}
 use Rattle.ix_machine.specs.Contents.{contents_of}
-use Rattle.ix_machine.specs.Done.{IsDone}
+use Rattle.ix_machine.specs.Done.{AreLetGo, IsDone}
 use Rattle.ix_machine.specs.OnDisk.{HasNoneFrom, AreCopied, IsTurned}
 use Rattle.ix_machine.specs.Said.{new_entries}
 use Rattle.ix_machine.specs.Shelved.{shelved}
@@ -126,6 +127,11 @@ module _ (choose : Chooser) (history : List Order) (order : Order) (b : Base) (p
       subst (λ (t : Turned). AllByRecursion (IsDone later.catalog) t.files) (sym made_is)
       (subst (λ (s : Catalog). AllByRecursion (IsDone s) turn.files) (sym catalog_is) c.done)
 
+  let_go : AreLetGo m.catalog later.catalog (made b).files
+  let_go =
+      subst (λ (t : Turned). AreLetGo m.catalog later.catalog t.files) (sym made_is)
+      (subst (λ (s : Catalog). AreLetGo m.catalog s turn.files) (sym catalog_is) (turn_lets_go m.force b.moment m.catalog (sound_after choose history)))
+
   counted : length (made b).entries ≡ judging.moved m order.command b.moment
   counted =
       let a = ticks_counted choose history b.moment in
@@ -147,6 +153,7 @@ module _ (choose : Chooser) (history : List Order) (order : Order) (b : Base) (p
     files = fills;
     items_are = same_items m later b (made b).entries (here b ++ (made b).entries) (turned_shelves b (made b)) p.sees perm news shelves_are;
     done = done;
+    let_go = let_go;
     moved_are = counted;
   }
 

@@ -22,7 +22,7 @@ use Rattle.ix_machine.specs.declared.commands.Order.{Order}
 use Rattle.ix_moves.specs.declared.moved.Base.{Base}
 use Rattle.ix_moves.specs.declared.moved.Moved.{Moved}
 use Rattle.ix_machine.specs.Contents.{contents_of}
-use Rattle.ix_machine.specs.Done.{IsDone}
+use Rattle.ix_machine.specs.Done.{AreLetGo, IsDone}
 use Rattle.ix_machine.specs.OnDisk.{HasNoneFrom}
 use Rattle.ix_machine.specs.Said.{shelf_items}
 use Rattle.ix_machine.specs.Shelved.{IsSet}
@@ -85,6 +85,7 @@ pub record Leads (m later : State) (command : Command) (ledger : List Entry) (mo
       × Forgets (with_copies moved.copies (with_pieces moved.pieces (contents_of m.catalog))) (contents_of later.catalog)
   pub items_are : moved.items ≡ shelf_items m later
   pub done : AllByRecursion (IsDone later.catalog) moved.done_with
+  pub let_go : AreLetGo m.catalog later.catalog moved.done_with
   pub moved_are : moved.moved ≡ judging.moved m command moment
 
 -- the ledger is that of the state in memory, and the moment that of the command

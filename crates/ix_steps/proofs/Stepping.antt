@@ -155,6 +155,7 @@ step_of choose history order held moment change said moved b s t e opens saying 
             run = subst (NoneUnder (named 2 [] 0)) (sym is) (runs_are_left m later order.command [] 0).0;
           });
       done = leads.done;
+      let_go = leads.let_go;
       many = leads.moved_are ∙ ap (λ (z : ℤ). machine.moved m order.command z) e;
     }
 

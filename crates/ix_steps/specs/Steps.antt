@@ -25,6 +25,7 @@ use Rattle.ix_channels.specs.Working.{IsWorked}
 use Rattle.ix_channels.specs.declared.working.Worked.{Worked}
 use Rattle.ix_moves.specs.declared.moved.Base.{Base}
 use Rattle.ix_moves.specs.declared.moved.Moved.{Moved}
+use Rattle.ix_machine.specs.Done.{AreLetGo}
 use Rattle.ix_machine.specs.OnDisk.{HasNoneFrom}
 use Rattle.ix_machine.specs.Said.{spot_items, settings_items}
 use Rattle.ix_machine.specs.Shelved.{IsSet}
@@ -75,6 +76,7 @@ pub record IsStep (choose : Chooser) (history : List Order) (order : Order) (hel
   pub leads : (old : Snapshot) → HasNoneFrom (after choose history).catalog.next_file old.contents →
       LeadsOn step.draft old (left choose history) (left choose (history ++ order ∷ []))
   pub done : AreDone (after choose (history ++ order ∷ [])).catalog step.done_with
+  pub let_go : AreLetGo (after choose history).catalog (after choose (history ++ order ∷ [])).catalog step.done_with
   pub many : step.moved ≡ machine.moved (after choose history) order.command (effective (after choose history).last order.moment)
 
 -- for every history that it may come behind, whatever moment it is given at

@@ -8,8 +8,10 @@ use Rattle.ix_disk.specs.Image.{Image}
 use Rattle.ix_disk.specs.declared.disk.Disk.{Ghosts}
 use Rattle.ix_items.specs.declared.items.Item.{Item}
 use Rattle.ix_items.specs.declared.items.Item.TheVariants as items
-use Rattle.ix_book.specs.Book.{Name, Book, NoneUnder, named, name_of, is_same, run_of, run_in, replay, empty, Replays}
+use Rattle.ix_book.specs.Book.{Name, Book, NoneUnder, named, name_of, is_same, run_of, run_in, removals_in, replay, empty, Replays}
 use Rattle.ix_book.specs.Root.{Taken}
+use Rattle.ix_book.specs.Slots.{items_of}
+use Rattle.ix_book.specs.declared.slot.Slot.{Slot}
 use Rattle.ix_book.proofs.InPlace.{none_under}
 use Rattle.ix_book.proofs.Renaming.{same_name}
 use Rattle.ix_keep.specs.Mounting.{IsFamily, IsMountedAt}
@@ -17,6 +19,7 @@ use Rattle.ix_keep.specs.Snapshot.{Snapshot, KeepsEither, Held, IsIdle, IsLike, 
 use Rattle.ix_keep.specs.declared.keeper.Keeper.{Keeper}
 use Rattle.ix_keep.specs.declared.mounting.MountFault.{MountFault as KeptFault}
 use Rattle.ix_keep.specs.declared.mounting.MountFault.TheVariants as kept
+use Rattle.ix_machine.specs.Done.{AreLetGo}
 use Rattle.ix_machine.specs.Given.{Chooser}
 use Rattle.ix_machine.specs.Step.{after}
 use Rattle.ix_machine.specs.declared.commands.Order.{Order}
@@ -31,6 +34,7 @@ use Rattle.ix_store.specs.declared.fault.MountFault.{MountFault}
 use Rattle.ix_store.specs.declared.fault.MountFault.TheVariants as faults
 use Rattle.ix_store.specs.declared.group.Group.{Group}
 use Rattle.ix_store.specs.declared.store.Store.{Store}
+use Rattle.ix_store.proofs.Going.{let_none_go}
 use Rattle.ix_store.proofs.Counted.{drop_taken, drop_whole, take_whole, take_taken, length_taken, not_below}
 
 -- ---- a commit
@@ -91,6 +95,8 @@ holds_all g fits holds choose h base k before store was disk hold held idle memo
         ready = ready_of g fits store.keeper disk st.new held;
         idle = λ whole. idle;
         done = subst (AreDone (after choose h).catalog) (sym done) tt;
+        removals = ap (λ (l : List Slot). removals_in (replay (items_of l) empty)) idle.1.1 ∙ sym done;
+        let_go = subst (λ (l : List Order). AreLetGo (after choose l).catalog (after choose h).catalog store.group.done_with) (sym (take_whole h)) (let_none_go (after choose h).catalog store.group.done_with);
         counted = subst (λ (n : ℕ). AreCounted store.drawn n store.group h base (length h)) (sym committed)
             (counted_all before.drawn before.group store.group h base k before.committed store.drawn st.counted drawn weight turned waiting);
       };
@@ -322,6 +328,8 @@ holds_mounted g fits holds is_chooser takes choose h k image store disk book cho
           ready = ready_of g fits store.keeper disk at.now at.held;
           idle = λ whole. idle;
           done = subst (AreDone (after choose prefix).catalog) (sym done) tt;
+          removals = ap (λ (l : List Slot). removals_in (replay (items_of l) empty)) idle.1.1 ∙ sym done;
+          let_go = subst (λ (l : List Order). AreLetGo (after choose l).catalog (after choose prefix).catalog store.group.done_with) (sym (take_taken n h)) (let_none_go (after choose prefix).catalog store.group.done_with);
           counted = subst (λ (a : ℕ). AreCounted a store.committed store.group prefix n n) (sym drawn)
               (subst (λ (a : ℕ). AreCounted 0 a store.group prefix n n) (sym committed) (counted_none store.group h n at.most weight turned waiting));
         };

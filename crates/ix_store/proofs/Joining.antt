@@ -2,19 +2,22 @@
 use Rattle.std.proofs.Common.{◌≡◌, ◌≤◌, ◌<◌, ◌+◌, ◌^◌, ℕ, ℤ, Bool, true, false, List, ◌++◌, length, take, drop, refl, sym, ap, ◌∙◌, subst, arith, length-append}
 use Rattle.std.specs.Prelude.{Some, None, if◌then◌else◌, is_some, ◌||◌}
 use Rattle.std.specs.List.{AllByRecursion}
+use Rattle.std.proofs.lemmas.List.Elements.{Contains-append_left, Contains-append_right}
 use Rattle.ix_base.specs.declared.files.Area.TheVariants.{Meta}
 use Rattle.ix_base.specs.declared.files.File.{File}
 use Rattle.ix_items.specs.declared.items.Item.TheVariants as items
 use Rattle.ix_log.specs.Log.{file_of, IsAtEnd}
 use Rattle.ix_log.specs.declared.log.Log.{Log}
 use Rattle.ix_disk.specs.declared.disk.Disk.{Ghosts}
-use Rattle.ix_book.specs.Book.{Book}
+use Rattle.ix_book.specs.Book.{Book, empty, removals_in, replay}
 use Rattle.ix_book.specs.Root.{Taken, roots}
+use Rattle.ix_book.specs.Slots.{items_of}
 use Rattle.ix_book.specs.declared.slot.Slot.{Slot}
 use Rattle.ix_keep.specs.Snapshot.{Snapshot, IsCommitted, Stages, AreFree, IsIdle, log_of}
 use Rattle.ix_keep.specs.Undo.{IsSame, HasSameLogs}
 use Rattle.ix_keep.specs.declared.keeper.Keeper.{Keeper}
 use Rattle.ix_keep.proofs.Steps.{stages_same}
+use Rattle.ix_machine.specs.Done.{AreLetGo}
 use Rattle.ix_machine.specs.Given.{Chooser}
 use Rattle.ix_machine.specs.Judged.{adds, draws, needs_tick}
 use Rattle.ix_machine.specs.State.{State}
@@ -31,6 +34,7 @@ use Rattle.ix_store.specs.declared.group.Group.{Group}
 use Rattle.ix_store.specs.declared.memory.Made.{Made}
 use Rattle.ix_store.specs.declared.store.Store.{Store}
 use Rattle.ix_store.proofs.Counted.{numbers_more, weights_more, has_turn_more, drop_more, take_more, capped_more, is_below}
+use Rattle.ix_store.proofs.Going.{let_go_on, removals_staged}
 use Rattle.ix_store.proofs.Booked.{Led, led_by, none_before, left_contents, done_later, all_more, done_no_logs, done_free}
 
 -- ---- what a command adds
@@ -163,6 +167,8 @@ module _ {M : Type 0} (fits : Book → Type 0) (holds : Chooser → List Order �
     ready = ready_same fits before.keeper store.keeper old st.new same.keeper st.ready;
     idle = λ whole. idle_same before.keeper store.keeper same.keeper (st.idle whole);
     done = subst (λ (g : Group). AreDone (after choose h).catalog g.done_with) (sym same.group) st.done;
+    removals = ap (λ (l : List Slot). removals_in (replay (items_of l) empty)) same.keeper.slots ∙ st.removals ∙ ap (λ (g : Group). g.done_with) (sym same.group);
+    let_go = subst (λ (g : Group). AreLetGo (after choose (take k h)).catalog (after choose h).catalog g.done_with) (sym same.group) st.let_go;
     counted = subst (λ (g : Group). AreCounted store.drawn store.committed g h base k) (sym same.group)
         (subst (λ (n : ℕ). AreCounted n store.committed before.group h base k) (sym same.drawn)
         (subst (λ (n : ℕ). AreCounted before.drawn n before.group h base k) (sym same.committed) st.counted));
@@ -171,7 +177,7 @@ module _ {M : Type 0} (fits : Book → Type 0) (holds : Chooser → List Order �
   module _ {N : Type 0} (is_ready : Chooser → List Order → N → Type 0) (order : Order) (made : Made N) where
     pub staged_more : IsMade is_ready fits choose h order before.drawn made → HasSameLogs before.keeper store.keeper → store.run ≡ before.run → store.committed ≡ before.committed → store.closed ≡ before.closed →
         holds choose (with_order choose h order) store.memory →
-        ((new mid to : Snapshot) → Stages before.keeper old new → LeadsThrough made.first (with_last (items.Removals (before.group.done_with ++ made.done_with)) made.second) old new mid to → Stages store.keeper old to) →
+        ((old new mid to : Snapshot) → Stages before.keeper old new → LeadsThrough made.first (with_last (items.Removals (before.group.done_with ++ made.done_with)) made.second) old new mid to → Stages store.keeper old to) →
         store.group.done_with ≡ before.group.done_with ++ made.done_with →
         store.drawn ≡ (if draws order.command then capped (before.drawn + 1) else before.drawn) →
         store.group.weight ≡ capped (before.group.weight + weight_of order.command) →
@@ -184,7 +190,7 @@ module _ {M : Type 0} (fits : Book → Type 0) (holds : Chooser → List Order �
         let done : AreDone (after choose next).catalog files = all_more _ before.group.done_with made.done_with (done_later choose h (adds m order) before.group.done_with st.done) is.done in
         let led : Led before.run files made.first made.second old st.new (left choose next) =
         led_by before.run files made.first made.second old (left choose h) (left choose (with_tick h order)) (left choose next) st.new (is.leads old (none_before choose h k old st.old_is.contents)) st.new_is in
-        let stages = stage st.new led.mid led.last st.ready.stages led.leads in
+        let stages = stage old st.new led.mid led.last st.ready.stages led.leads in
         let front : take k next ≡ take k h = take_more k h (adds m order) st.within in
         record {
           from_base = st.from_base;
@@ -198,6 +204,11 @@ module _ {M : Type 0} (fits : Book → Type 0) (holds : Chooser → List Order �
           ready = ready_more fits before.keeper store.keeper choose next before.run files old st.new led.last logs st.ready stages led.book led.contents (is.fit before.run files st.run done) done;
           idle = λ whole. absurd (let w = st.within in let l = length-append h (adds m order) in let s = adds_some m order in omega (arith, w, l, s, whole));
           done = subst (AreDone (after choose next).catalog) (sym done_is) done;
+          removals = removals_staged before.keeper store.keeper made.first made.second files old st.new led.mid led.last stage st.ready.stages led.leads ∙ sym done_is;
+          let_go = subst (λ (l : List File). AreLetGo (after choose (take k next)).catalog (after choose next).catalog l) (sym done_is)
+              (subst (λ (l : List Order). AreLetGo (after choose l).catalog (after choose next).catalog files) (sym front)
+              (let_go_on (after choose (take k h)).catalog m.catalog (after choose next).catalog before.group.done_with made.done_with files
+              (λ file c. Contains-append_left before.group.done_with made.done_with file c) (λ file c. Contains-append_right before.group.done_with made.done_with file c) st.let_go is.let_go));
           counted = subst (λ (n : ℕ). AreCounted store.drawn n store.group next base k) (sym committed)
               (counted_more before.drawn before.committed store.drawn before.group store.group m h order base k st.from_base st.within st.counted is.allowed.number drawn weight
               (turned ∙ ap (λ (t : Bool). before.group.turned || (is_turn order.command || t)) is.ticks) waiting);
@@ -207,7 +218,7 @@ module _ {M : Type 0} (fits : Book → Type 0) (holds : Chooser → List Order �
 module _ {M N : Type 0} (fits : Book → Type 0) (holds : Chooser → List Order → M → Type 0) (choose : Chooser) (h : List Order) (base k : ℕ)
     (is_ready : Chooser → List Order → N → Type 0) (order : Order) (made : Made N) (before took final : Store M) (old : Snapshot) (draws_it turned_it : Bool) (answer : Accepted) where
   pub accepted : IsMade is_ready fits choose h order before.drawn made → HasSameRun before took → holds choose (with_order choose h order) took.memory →
-      ((new mid to : Snapshot) → Stages before.keeper old new → LeadsThrough made.first (with_last (items.Removals (before.group.done_with ++ made.done_with)) made.second) old new mid to → Stages took.keeper old to) →
+      ((old new mid to : Snapshot) → Stages before.keeper old new → LeadsThrough made.first (with_last (items.Removals (before.group.done_with ++ made.done_with)) made.second) old new mid to → Stages took.keeper old to) →
       took.group.done_with ≡ before.group.done_with ++ made.done_with → took.group.weight ≡ capped (before.group.weight + made.weight) →
       took.group.turned ≡ (before.group.turned || (turned_it || is_some made.first)) → took.group.waiting ≡ true →
       made.weight ≡ weight_of order.command → draws_it ≡ draws order.command → turned_it ≡ is_turn order.command →
@@ -226,7 +237,7 @@ module _ {M N : Type 0} (fits : Book → Type 0) (holds : Chooser → List Order
         staged = staged_more fits holds choose h base k before final old is_ready order made is
             (subst (HasSameLogs before.keeper) (sym keeper_is) same.logs) (run_is ∙ same.run) (committed_is ∙ same.committed) (closed_is ∙ same.closed)
             (subst (holds choose (with_order choose h order)) (sym memory_is) memory)
-            (λ new mid to stages leads. subst (λ (kp : Keeper). Stages kp old to) (sym keeper_is) (stage new mid to stages leads))
+            (λ old new mid to stages leads. subst (λ (kp : Keeper). Stages kp old to) (sym keeper_is) (stage old new mid to stages leads))
             (ap (λ (g : Group). g.done_with) group_is ∙ done)
             (drawn_is ∙ ap (λ (n : ℕ). if draws_it then capped (n + 1) else n) same.drawn ∙ ap (λ (t : Bool). if t then capped (before.drawn + 1) else before.drawn) draw)
             (ap (λ (g : Group). g.weight) group_is ∙ weight ∙ ap (λ (n : ℕ). capped (before.group.weight + n)) heavy)

@@ -1,5 +1,6 @@
 pub mod Counted
 pub mod Booked
+pub mod Going
 pub mod Joining
 pub mod Undamaged
 pub mod Committed

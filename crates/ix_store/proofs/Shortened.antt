@@ -1,5 +1,5 @@
 -- A store behind a checkpoint.
-use Rattle.std.proofs.Common.{◌≡◌, ◌≤◌, ◌<◌, ◌+◌, ◌*◌, ◌-◌, ◌^◌, ℕ, zero, suc, Bool, true, false, List, [], ◌∷◌, ◌++◌, length, refl, sym, ap, ◌∙◌, subst, arith, inl, inr, length-append}
+use Rattle.std.proofs.Common.{◌≡◌, ◌≤◌, ◌<◌, ◌+◌, ◌*◌, ◌-◌, ◌^◌, ℕ, zero, suc, Bool, true, false, List, [], ◌∷◌, ◌++◌, length, take, refl, sym, ap, ◌∙◌, subst, arith, inl, inr, length-append}
 use Rattle.std.specs.Prelude.{Option, Some, None, if◌then◌else◌, ◌⊎◌}
 use Rattle.std.specs.Int.{to_be_bytes, w64}
 use Rattle.std.proofs.lemmas.List.Concat.{flat_map-append}
@@ -15,8 +15,10 @@ use Rattle.ix_items.specs.declared.items.Item.{Item}
 use Rattle.ix_items.specs.declared.items.Item.TheVariants as items
 use Rattle.ix_log.specs.Log.{blocks}
 use Rattle.ix_log.proofs.Blocks.{length-blocks_push}
-use Rattle.ix_book.specs.Book.{Name, Book, named, is_same, after_item, empty, replay, Replays}
+use Rattle.ix_book.specs.Book.{Name, Book, named, is_same, after_item, empty, removals_in, replay, Replays}
 use Rattle.ix_book.specs.Root.{Taken, roots, current}
+use Rattle.ix_book.specs.Slots.{items_of}
+use Rattle.ix_book.specs.declared.slot.Slot.{Slot}
 use Rattle.ix_book.proofs.Applying.{replay_behind}
 use Rattle.ix_book.proofs.Renaming.{same_name}
 use Rattle.ix_book.specs.Whole.{removal, whole_body}
@@ -24,6 +26,7 @@ use Rattle.ix_keep.specs.Shortening.{shortened, Tells}
 use Rattle.ix_keep.specs.Snapshot.{Snapshot, KeepsEither, AreFree, Held, IsIdle, log_of}
 use Rattle.ix_keep.proofs.Beginning.{held_always}
 use Rattle.ix_keep.proofs.Holding.{nothing_staged, number_in}
+use Rattle.ix_machine.specs.Done.{AreLetGo}
 use Rattle.ix_machine.specs.Given.{Chooser}
 use Rattle.ix_machine.specs.Step.{after}
 use Rattle.ix_machine.specs.declared.commands.Order.{Order}
@@ -201,6 +204,8 @@ module _ {D : Type 0} (g : Ghosts D) {M : Type 0} (fits : Book → Type 0) (hold
           };
           idle = λ whole. idle_now;
           done = subst (λ (x : Group). AreDone (after choose h).catalog x.done_with) (sym group) st.done;
+          removals = ap (λ (l : List Slot). removals_in (replay (items_of l) empty)) (idle_now.1.1 ∙ sym (st.idle refl).1.1) ∙ st.removals ∙ ap (λ (x : Group). x.done_with) (sym group);
+          let_go = subst (λ (x : Group). AreLetGo (after choose (take (length h) h)).catalog (after choose h).catalog x.done_with) (sym group) st.let_go;
           counted = subst (λ (x : Group). AreCounted later.drawn later.committed x h base (length h)) (sym group)
               (subst (λ (n : ℕ). AreCounted n later.committed store.group h base (length h)) (sym drawn)
               (subst (λ (n : ℕ). AreCounted store.drawn n store.group h base (length h)) (sym committed) st.counted));

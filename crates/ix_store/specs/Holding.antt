@@ -3,13 +3,15 @@ use Rattle.std.specs.Prelude.{◌≡◌, ◌≤◌, ◌<◌, ◌+◌, ◌^◌, �
 use Rattle.ix_base.specs.declared.files.Area.TheVariants.{Meta}
 use Rattle.ix_disk.specs.Image.{Image}
 use Rattle.ix_disk.specs.declared.disk.Disk.{Ghosts}
-use Rattle.ix_book.specs.Book.{Book, run_in}
+use Rattle.ix_book.specs.Book.{Book, empty, removals_in, replay, run_in}
 use Rattle.ix_book.specs.Root.{Taken}
+use Rattle.ix_book.specs.Slots.{items_of}
 use Rattle.ix_keep.specs.Mounting.{StandsFor}
 use Rattle.ix_keep.specs.Snapshot.{Snapshot, Keeps, IsCommitted, Stages, AreFree, IsIdle, log_of}
 use Rattle.ix_keep.specs.Undo.{IsSame, HasSameLogs}
 use Rattle.ix_keep.specs.declared.keeper.Keeper.{Keeper}
 use Rattle.ix_machine.specs.Bounds.{IsAllowed}
+use Rattle.ix_machine.specs.Done.{AreLetGo}
 use Rattle.ix_machine.specs.Given.{Chooser}
 use Rattle.ix_machine.specs.Judged.{draws, moved}
 use Rattle.ix_machine.specs.Step.{after, effective}
@@ -56,6 +58,9 @@ pub record Staged {M : Type 0} (fits : Book → Type 0) (holds : Chooser → Lis
   pub ready : IsReady fits store.keeper old new
   pub idle : k ≡ length history → IsIdle store.keeper
   pub done : AreDone (after choose history).catalog store.group.done_with
+  -- the staged removals are these files, and each that goes with the commands that are not committed is one of them
+  pub removals : removals_in (replay (items_of store.keeper.slots) empty) ≡ store.group.done_with
+  pub let_go : AreLetGo (after choose (take k history)).catalog (after choose history).catalog store.group.done_with
   pub counted : AreCounted store.drawn store.committed store.group history base k
 
 -- A store and a disk hold a history, of which the first `base` commands were there when the store was mounted, and the first k are

@@ -15,6 +15,7 @@ use Rattle.ix_machine.specs.Judged.{adds, moved, needs_tick}
 use Rattle.ix_machine.specs.Step.{after, effective}
 use Rattle.ix_machine.specs.declared.commands.Command.TheVariants.{Tick}
 use Rattle.ix_machine.specs.declared.commands.Order.{Order}
+use Rattle.ix_machine.specs.Done.{AreLetGo}
 use Rattle.ix_machine.specs.OnDisk.{HasNoneFrom}
 use Rattle.ix_machine.specs.Snap.{left}
 use Rattle.ix_store.specs.Written.{over, AreDone}
@@ -72,8 +73,9 @@ pub record IsMade {N : Type 0} (is_ready : Chooser → List Order → N → Type
   -- the drafts lead to what the longer history leaves, from whatever was committed before
   pub leads : (old : Snapshot) → HasNoneFrom (after choose history).catalog.next_file old.contents →
       LeadsBy made.first made.second old (left choose history) (left choose (with_tick history order)) (left choose (with_order choose history order))
-  -- the files that the command is done with
+  -- the files that the command is done with: each is, and each that a bucket or an archive had and none has any more is among them
   pub done : AreDone (after choose (with_order choose history order)).catalog made.done_with
+  pub let_go : AreLetGo (after choose history).catalog (after choose (with_order choose history order)).catalog made.done_with
   pub moved : made.moved ≡ moved (after choose history) order.command (effective (after choose history).last order.moment)
   -- a mount takes what is written then
   pub fit : (run : ℕ) (files : List File) → run < 2 ^ 63 → AreDone (after choose (with_order choose history order)).catalog files →

@@ -1,10 +1,11 @@
 -- What stands in the log of a store: the book of a history, with a run and last removals.
-use Rattle.std.specs.Prelude.{◌≡◌, ◌+◌, ℕ, if◌then◌else◌, List, [], length, Option, Some}
+use Rattle.std.specs.Prelude.{◌≡◌, ◌+◌, ℕ, if◌then◌else◌, List, [], length, Option, Some, None, true, false}
 use Rattle.std.specs.List.{AllByRecursion}
 use Rattle.ix_base.specs.declared.files.File.{File}
 use Rattle.ix_items.specs.declared.items.Item.{Item}
 use Rattle.ix_items.specs.declared.items.Item.TheVariants as items
 use Rattle.ix_disk.specs.Image.{Image}
+use Rattle.ix_disk.specs.declared.disk.Disk.{Ghosts}
 use Rattle.ix_book.specs.Book.{Book, named, is_same, run_in}
 use Rattle.ix_keep.specs.Reads.{LeadsTo}
 use Rattle.ix_keep.specs.Mounting.{KeepsOneOf}
@@ -12,7 +13,7 @@ use Rattle.ix_keep.specs.Snapshot.{Snapshot, Keeps}
 use Rattle.ix_machine.specs.Given.{Chooser}
 use Rattle.ix_machine.specs.State.{Catalog}
 use Rattle.ix_machine.specs.declared.commands.Order.{Order}
-use Rattle.ix_machine.specs.Done.{IsDone}
+use Rattle.ix_machine.specs.Done.{IsDone, is_filed}
 use Rattle.ix_machine.specs.Snap.{left, leaves}
 
 -- the book, under which a run and perhaps last removals stand too
@@ -44,6 +45,10 @@ pub record IsNextRun (fits : Book → Type 0) (run : ℕ) (image : Image) : Type
   pub found : Book
   pub leads : LeadsTo fits found image
   pub is : run ≡ run_in found + 1
+
+-- as the disk reads, each file that a bucket or an archive has in the one, and none in the other, is gone
+abbrev pub AreGone : {D : Type 0} → Ghosts D → D → Catalog → Catalog → Type 0
+AreGone d disk old new = (image : Image) → d.seen disk ≡ Some image → (file : File) → is_filed old file ≡ true → is_filed new file ≡ false → image file ≡ None
 
 -- files that are done with
 abbrev pub AreDone : Catalog → List File → Type 0

@@ -14,9 +14,10 @@ ghost use Rattle.ix_book.specs.Slots.{items_of};
 ghost use Rattle.ix_keep.specs.Reads.{HasNoRun, ReadsNone};
 ghost use Rattle.ix_keep.specs.Snapshot.{IsOver, IsIdle, IsMeasured, log_of};
 ghost use Rattle.ix_machine.specs.Given.{Chooser};
+ghost use Rattle.ix_machine.specs.Step.{after};
 ghost use Rattle.ix_machine.specs.declared.commands.Order.{Order};
 ghost use Rattle.ix_store.specs.Finding.{IsBadStore};
-ghost use Rattle.ix_store.specs.Written.{IsNextRun, Stands, StandsFrom};
+ghost use Rattle.ix_store.specs.Written.{AreGone, IsNextRun, Stands, StandsFrom};
 
 use crate::fault::{MountFault, fault_of};
 use crate::finding::blame;
@@ -48,6 +49,9 @@ impl<M: Memory + Drop> Store<M> {
         ensures measured { (IsIdle self.old.keeper → IsMeasured D.Disk self.old.keeper disk.old) → OnOk result (IsMeasured D.Disk self.new.keeper disk.new) }
         // Then the files that were superseded are gone, as the disk reads: those that the staged removals name.
         ensures removed { OnOk result (ReadsNone D.Disk disk.new (log_of self.old.keeper) (removals_in (replay (items_of self.old.keeper.slots) empty))) }
+        // They are all that went with these commands: of what a bucket or an archive has no more, nothing is left.
+        ensures gone { (choose : Chooser) (history : List Order) (base k : ℕ) → Holds D.Disk M.Book.fits M.holds choose history base k self.old disk.old →
+            OnOk result (AreGone D.Disk disk.new (after choose (take k history)).catalog (after choose history).catalog) }
         ensures run { self.new.run ≡ self.old.run }
         ensures closed { OnErr result (self.new.keeper.closed ≡ true) }
         // The named file, a bucket's or an archive's, has so many bytes, fewer than were committed.

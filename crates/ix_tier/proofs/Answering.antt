@@ -25,6 +25,7 @@ made_is choose history order held drawn weight pair f number p bounds = record {
   ticks = p.ticks;
   leads = p.leads;
   done = p.done;
+  let_go = p.let_go;
   moved = p.many;
   fit = λ run files small done. within_fits choose (with_order choose history order) run (Some files) small done (subst KeepsBounds (sym (come choose history order)) bounds);
 }

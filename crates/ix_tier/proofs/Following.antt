@@ -33,6 +33,7 @@ follows choose history order drawn held made m = record {
   ticks = m.ticks;
   leads = m.leads;
   done = m.done;
+  let_go = m.let_go;
   moved = m.moved;
   fit = m.fit;
 }

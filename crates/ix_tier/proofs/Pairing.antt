@@ -2,6 +2,7 @@
 use Rattle.std.proofs.Common.{◌≡◌, ◌≤◌, ℤ, Bool, true, false, List, [], ◌∷◌, ◌++◌, refl, sym, ap, ◌∙◌, subst, append_assoc, arith}
 use Rattle.std.specs.Prelude.{◌&&◌, Option, Some, None}
 use Rattle.std.specs.List.{AllZip}
+use Rattle.std.proofs.lemmas.List.Elements.{Contains-append_left, Contains-append_right}
 use Rattle.std.specs.List.Sorted.{IsPermutation, IsSortedBy}
 use Rattle.ix_base.specs.declared.files.File.{File}
 use Rattle.ix_bounds.specs.Parts.{Parts, IsPartsOf}
@@ -25,6 +26,7 @@ use Rattle.ix_machine.specs.declared.commands.Order.{Order}
 use Rattle.ix_machine.proofs.Following.{after_more}
 use Rattle.ix_machine.proofs.Renewing.{renews_after}
 use Rattle.ix_machine.proofs.Stepping.{sound_after}
+use Rattle.ix_machine.specs.Done.{AreLetGo}
 use Rattle.ix_machine.specs.OnDisk.{HasNoneFrom}
 use Rattle.ix_machine.specs.Snap.{left}
 use Rattle.ix_machine.specs.Shelved.{IsSet}
@@ -35,6 +37,7 @@ use Rattle.ix_kept.specs.declared.held.Storage.{Storage}
 use Rattle.ix_store.specs.Making.{LeadsOn, with_order}
 use Rattle.ix_store.specs.Written.{AreDone}
 use Rattle.ix_store.proofs.Booked.{all_more, done_later}
+use Rattle.ix_store.proofs.Going.{let_go_on}
 use Rattle.ix_bounds.specs.Ticked.{IsTicked}
 use Rattle.ix_bounds.proofs.Ticking.{ticks}
 use Rattle.ix_tier.specs.Made.{MayFollow, IsPair, IsBegun, Begins, TickMayCome, IsTickOf, pair_with, done_with_more}
@@ -200,6 +203,9 @@ module _ (choose : Chooser) (history : List Order) (command : Command) (given : 
         );
         done = subst (λ (l : List Order). AreDone (after choose l).catalog (second.done_with ++ first.done_with)) (sym added)
             (all_more _ second.done_with first.done_with t.done (done_later choose half (order ∷ []) first.done_with s.done));
+        let_go = subst (λ (l : List Order). AreLetGo (after choose history).catalog (after choose l).catalog (second.done_with ++ first.done_with)) (sym added)
+            (let_go_on (after choose history).catalog (after choose half).catalog (after choose (half ++ order ∷ [])).catalog first.done_with second.done_with (second.done_with ++ first.done_with)
+            (λ file c. Contains-append_right second.done_with first.done_with file c) (λ file c. Contains-append_left second.done_with first.done_with file c) s.let_go t.let_go);
         many = t.many ∙ (none_moved (after choose half) command (effective (after choose half).last given) waiting
             ∙ sym (none_moved (after choose history) command (effective (after choose history).last given) waiting));
       }
@@ -258,6 +264,7 @@ module _ (choose : Chooser) (history : List Order) (command : Command) (given : 
     leads = λ old none.
         subst (λ (l : List Order). LeadsOn step.draft old (left choose history) (left choose l)) (sym alone) (t.leads old none);
     done = subst (λ (l : List Order). AreDone (after choose l).catalog step.done_with) (sym alone) t.done;
+    let_go = subst (λ (l : List Order). AreLetGo (after choose history).catalog (after choose l).catalog step.done_with) (sym alone) t.let_go;
     many = t.many;
   }
 

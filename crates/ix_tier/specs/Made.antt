@@ -14,6 +14,7 @@ use Rattle.ix_base.specs.declared.files.File.{File}
 use Rattle.ix_machine.specs.declared.commands.Command.{Command}
 use Rattle.ix_machine.specs.declared.commands.Command.TheVariants.{Tick}
 use Rattle.ix_machine.specs.declared.commands.Order.{Order}
+use Rattle.ix_machine.specs.Done.{AreLetGo}
 use Rattle.ix_machine.specs.OnDisk.{HasNoneFrom}
 use Rattle.ix_machine.specs.Snap.{left}
 use Rattle.ix_kept.specs.Held.{Holds, shelves_of}
@@ -46,6 +47,7 @@ pub record IsPair (choose : Chooser) (history : List Order) (order : Order) (hel
   pub leads : (old : Snapshot) → HasNoneFrom (after choose history).catalog.next_file old.contents →
       LeadsBy pair.first pair.step.draft old (left choose history) (left choose (with_tick history order)) (left choose (with_order choose history order))
   pub done : AreDone (after choose (with_order choose history order)).catalog pair.step.done_with
+  pub let_go : AreLetGo (after choose history).catalog (after choose (with_order choose history order)).catalog pair.step.done_with
   pub many : pair.step.moved ≡ machine.moved (after choose history) order.command (effective (after choose history).last order.moment)
 
 -- its items can be written, and what it leaves can be taken without memory

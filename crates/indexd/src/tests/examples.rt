@@ -136,7 +136,13 @@ fn buckets_age(rt: HostRuntime) {
     check_each(&rt, rt.alloc(), &AGED);
 }
 
-static FROZEN: [Step; 7] = [
+/// The file of the bucket of a second index.
+const WEB: File = File {
+    area: Area::Home,
+    number: 2,
+};
+
+static FROZEN: [Step; 10] = [
     Step::Run((NOON, STORE, BOTH, "a"), "0: "),
     Step::Run(
         (
@@ -149,15 +155,19 @@ static FROZEN: [Step; 7] = [
     ),
     Step::Run((NOON, "roll web", BOTH, ""), "0: rolled 1\n"),
     Step::Run((LATER, "tick", BOTH, ""), "0: frozen 1\n"),
+    Step::Length(WEB, 0),
+    Step::Length(BUCKET, 58),
     Step::Run((LATER, "roll main", BOTH, ""), "0: rolled 1\n"),
     Step::Run((LATER, "tick", BOTH, ""), "0: frozen 1\n"),
+    Step::Length(BUCKET, 0),
     Step::Run(
         (LATER, "buckets", BOTH, ""),
         "0: index main stored 0 bytes 0 frozen 1\nindex web stored 0 bytes 0 frozen 1\nfrozen main db_1700000000_1700000000_0 age 1700000101 1 deleted\nfrozen web db_1700000000_1700000000_0 age 1700000101 1 deleted\nevents settled 2 nulled 0 dropped 0\n",
     ),
 ];
 
-/// Of two buckets that freeze at one moment the one of the first index is listed first, also where it froze behind the other.
+/// Of two buckets that freeze at one moment the one of the first index is listed first, also where it froze behind the other. With no archive their
+/// files go.
 #[test]
 fn frozen_buckets_stand_by_index(rt: HostRuntime) {
     check(&rt, rt.alloc(), &FROZEN);

@@ -4,6 +4,7 @@ use Rattle.std.proofs.lemmas.Result.{err_from_is_err_and}
 use Rattle.ix_disk.proofs.Runs.{always_weaker, seen_before}
 use Rattle.ix_keep.specs.declared.fault.CommitFault.{CommitFault}
 use Rattle.ix_store.proofs.Committed.{held_of, stands_either, holds_all}
+use Rattle.ix_store.proofs.Going.{all_gone}
 use Rattle.ix_store.proofs.store.Store.commit.Goals as goal
 
 not_err : {done : Unit} {fault : CommitFault} → (let result : Result Unit CommitFault = Ok done in result ≡ Err fault) → ⊥
@@ -23,6 +24,8 @@ returns g c = record {
   idle = c.in_ok-commit.ensures.idle;
   measured = c.in_ok-commit.ensures.measured;
   removed = c.in_ok-commit.ensures.removed;
+  gone = λ choose h base k hold.
+      all_gone g.D.Disk _ g.M.Memory.holds choose h base k c.args.self.now c.args.disk.now c.commit.new.disk hold c.in_ok-commit.ensures.removed;
   run = refl;
   closed = tt;
   damaged = λ file at is. absurd (not_err is);
@@ -45,6 +48,7 @@ returns-in_err-commit g c =
       idle = tt;
       measured = λ measured. tt;
       removed = tt;
+      gone = λ choose h base k hold. tt;
       run = refl;
       closed = c.in_err-commit.ensures.closed;
       damaged = c.in_err-commit.ensures.damaged;
