@@ -75,6 +75,9 @@ fn main(rt: HostRuntime) -> ExitCode {
         &mut disk,
         &mut listener,
     );
+    if let Some(fault) = tree.first_fault() {
+        let _ = eprintln!(&rt; "indexd: {fault}");
+    }
     if let Some(fault) = disk.first_fault() {
         let _ = eprintln!(&rt; "indexd: {fault}");
     }

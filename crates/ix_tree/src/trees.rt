@@ -1,6 +1,6 @@
 //! Files under paths.
 
-ghost use Rattle.std.specs.Prelude.{◌≡◌, ◌≤◌, ◌<◌, ◌++◌, ℕ, List, [], Option, Some, None, length, take, drop, IfOk, OnOk, IfSome, IsErrOf, IsTrue, ◌↔◌};
+ghost use Rattle.std.specs.Prelude.{◌≡◌, ◌≤◌, ◌<◌, ◌++◌, ℕ, List, [], Option, Some, None, Ok, length, take, drop, IfOk, OnOk, IfSome, IsErrOf, IsTrue, ◌↔◌};
 ghost use Rattle.std.specs.Option.{option_map, option_copied};
 ghost use Rattle.ix_base.specs.Faults.{Rose};
 ghost use Rattle.ix_base.specs.Plans.{is_due, CountsCall};
@@ -345,9 +345,26 @@ pub struct HostTree<R: Files + Drop> {
     rt: R,
     faults: u64,
     missing: u64,
+    /// The path that the first fault was about, and the system's reason.
+    first_fault: Option<String>,
 }
 
-impl<R: Files + Drop> HostTree<R> {
+/// The system's reason without the number that stands behind it.
+fn without_number(text: &str) -> &str {
+    match text.split_once(" (os error ") {
+        Some((reason, _)) => reason,
+        None => text,
+    }
+}
+
+/// What is told of a fault: the path, and the reason without its number.
+fn text_of(alloc: Global, path: &[u8], fault: &io::Error) -> Result<String, NoMemory> {
+    let path = str::from_utf8(path).unwrap_or("a path that is not UTF-8");
+    let text = format!(in alloc; "{path}: {fault}")?;
+    Ok(String::from_str(alloc, without_number(text.as_str()))?)
+}
+
+impl<R: Files + AllocGlobal + Drop> HostTree<R> {
     /// The tree of the files that this runtime reaches.
     pub fn new(rt: R) -> Self
         ensures faults { result.faults ≡ 0 }
@@ -357,20 +374,47 @@ impl<R: Files + Drop> HostTree<R> {
             rt,
             faults: 0,
             missing: 0,
+            first_fault: None,
         }
     }
 
-    /// Counts what a call has come to, and answers it.
-    fn count<T: Drop>(&mut self, answer: Result<T, TreeFault>) -> Result<T, TreeFault>
-        ensures answer { result ≡ answer }
+    /// What failed first, where something failed: the path and the system's reason, with `: ` between.
+    pub fn first_fault(&self) -> Option<&str> {
+        match &self.first_fault {
+            Some(text) => Some(text.as_str()),
+            None => None,
+        }
+    }
+
+    /// Keeps what is told of a fault, if it is the first one.
+    fn keep(&mut self, path: &[u8], fault: &io::Error)
+        ensures faults { self.new.faults ≡ self.old.faults }
+        ensures missing { self.new.missing ≡ self.old.missing }
+    {
+        if self.first_fault.is_none() {
+            self.first_fault = text_of(self.rt.alloc(), path, fault).ok();
+        }
+    }
+
+    /// Counts what a call on a path has come to, and answers it.
+    fn count<T: Drop>(&mut self, path: &[u8], found: io::Result<T>) -> Result<T, TreeFault>
+        ensures found { IfOk result (λ it. found ≡ Ok it) }
         ensures cause { HasTreeCause self.old.faults self.new.faults self.old.missing self.new.missing result }
     {
-        match &answer {
-            Err(TreeFault::Failed) => self.faults = self.faults.saturating_add(1),
-            Err(TreeFault::Missing) => self.missing = self.missing.saturating_add(1),
-            _ => {}
+        let fault = match found {
+            Ok(it) => return Ok(it),
+            Err(fault) => fault,
+        };
+        let answer = fault_of(&fault);
+        match answer {
+            TreeFault::Failed => {
+                self.keep(path, &fault);
+                self.faults = self.faults.saturating_add(1);
+            }
+            TreeFault::Missing => self.missing = self.missing.saturating_add(1),
+            TreeFault::NoMemory => {}
         }
-        answer
+        Err(answer)
     }
 }
 
@@ -384,25 +428,26 @@ fn fault_of(fault: &io::Error) -> TreeFault {
 }
 
 /// A path as the system takes it. One that is not UTF-8 has no file that could be named.
-fn path_text(path: &[u8]) -> Result<&str, TreeFault> {
+fn path_text(path: &[u8]) -> io::Result<&str> {
     match str::from_utf8(path) {
         Ok("") => Ok("."),
         Ok(text) => Ok(text),
-        Err(_) => Err(TreeFault::Failed),
+        Err(_) => Err(io::Error::from(ErrorKind::InvalidInput)),
     }
 }
 
 /// How many bytes a plain file has.
-fn size_of<R: Files>(rt: &R, path: &[u8]) -> Result<u64, TreeFault> {
-    match fs::metadata(rt, path_text(path)?) {
-        Ok(found) if found.is_file() => Ok(found.len()),
-        Ok(_) => Err(TreeFault::Missing),
-        Err(fault) => Err(fault_of(&fault)),
+fn size_of<R: Files>(rt: &R, path: &[u8]) -> io::Result<u64> {
+    let found = fs::metadata(rt, path_text(path)?)?;
+    if found.is_file() {
+        Ok(found.len())
+    } else {
+        Err(io::Error::from(ErrorKind::NotFound))
     }
 }
 
 /// Reads bytes of an open file from a place on.
-fn read_open(file: &File, at: u64, buf: &mut [u8]) -> Result<usize, TreeFault>
+fn read_open(file: &File, at: u64, buf: &mut [u8]) -> io::Result<usize>
     ensures { IfOk result (λ n. n ≤ length buf.old) }
 {
     // No file goes on so far behind.
@@ -413,10 +458,10 @@ fn read_open(file: &File, at: u64, buf: &mut [u8]) -> Result<usize, TreeFault>
         match file.read_at(buf, at) {
             Ok(count) => return Ok(count),
             Err(fault) if fault.kind() == ErrorKind::Interrupted => {}
-            Err(fault) => return Err(fault_of(&fault)),
+            Err(fault) => return Err(fault),
         }
     }
-    Err(TreeFault::Failed)
+    Err(io::Error::from(ErrorKind::Interrupted))
 }
 
 /// Reads bytes of a plain file from a place on.
@@ -425,52 +470,54 @@ fn read_file<R: Files<File = File>>(
     path: &[u8],
     at: u64,
     buf: &mut [u8],
-) -> Result<usize, TreeFault>
+) -> io::Result<usize>
     ensures { IfOk result (λ n. n ≤ length buf.old) }
 {
     // Asked before the file is opened, since opening a pipe may wait.
     size_of(rt, path)?;
-    match File::open(rt, path_text(path)?) {
-        Ok(file) => read_open(&file, at, buf),
-        Err(fault) => Err(fault_of(&fault)),
-    }
+    let file = File::open(rt, path_text(path)?)?;
+    read_open(&file, at, buf)
 }
 
 /// The names, in order.
-fn sorted(alloc: Global, mut texts: Vec<String>) -> Result<Names, NoMemory> {
+fn sorted(alloc: Global, mut texts: Vec<String>) -> io::Result<Names> {
     texts.sort()?;
     let mut names = Names::new(alloc);
     for text in texts {
-        names.push(Bytes::from_vec(text.into_bytes()))?;
+        if names.push(Bytes::from_vec(text.into_bytes())).is_err() {
+            return Err(io::Error::from(ErrorKind::OutOfMemory));
+        }
     }
     Ok(names)
 }
 
 /// Adds the name of an entry of a folder.
-fn keep_name(alloc: Global, name: &str, texts: &mut Vec<String>) -> Result<(), NoMemory> {
+fn keep_name(alloc: Global, name: &str, texts: &mut Vec<String>) -> io::Result<()> {
     let text = String::from_str(alloc, name)?;
     texts.push(text)?;
     Ok(())
 }
 
-/// The names in a folder, in order.
+/// Whether a folder has an entry whose name is no UTF-8. The system has no number for that.
+fn is_unnamed(fault: &io::Error) -> bool {
+    fault.kind() == ErrorKind::InvalidFilename && fault.raw_os_error().is_none()
+}
+
+/// The names in a folder, in order. An entry whose name is not UTF-8 is passed over.
 fn read_names<R: Files + AllocGlobal + Clone + Drop>(
     rt: &R,
     alloc: Global,
     path: &[u8],
-) -> Result<Names, TreeFault> {
-    let entries = match fs::read_dir(rt, path_text(path)?) {
-        Ok(entries) => entries,
-        Err(fault) => return Err(fault_of(&fault)),
-    };
+) -> io::Result<Names> {
     let mut texts = Vec::new(alloc);
-    for entry in entries {
+    for entry in fs::read_dir(rt, path_text(path)?)? {
         match entry {
             Ok(entry) => keep_name(alloc, entry.file_name(), &mut texts)?,
-            Err(fault) => return Err(fault_of(&fault)),
+            Err(fault) if is_unnamed(&fault) => {}
+            Err(fault) => return Err(fault),
         }
     }
-    Ok(sorted(alloc, texts)?)
+    sorted(alloc, texts)
 }
 
 impl<R: Files<File = File> + AllocGlobal + Clone + Drop> Tree for HostTree<R> {
@@ -481,17 +528,17 @@ impl<R: Files<File = File> + AllocGlobal + Clone + Drop> Tree for HostTree<R> {
     ghost missing = { λ t. t.missing };
 
     fn list(&mut self, alloc: Global, path: &[u8]) -> Result<Names, TreeFault> {
-        let answer = read_names(&self.rt, alloc, path);
-        self.count(answer)
+        let found = read_names(&self.rt, alloc, path);
+        self.count(path, found)
     }
 
     fn size(&mut self, path: &[u8]) -> Result<u64, TreeFault> {
-        let answer = size_of(&self.rt, path);
-        self.count(answer)
+        let found = size_of(&self.rt, path);
+        self.count(path, found)
     }
 
     fn read(&mut self, path: &[u8], at: u64, buf: &mut [u8]) -> Result<usize, TreeFault> {
-        let answer = read_file(&self.rt, path, at, buf);
-        self.count(answer)
+        let found = read_file(&self.rt, path, at, buf);
+        self.count(path, found)
     }
 }
