@@ -20,7 +20,7 @@ pub record Stands (fits : Book → Type 0) (snap : List ℕ → Snapshot) (run :
 
 -- an image that stands for some run, or none, and some prefix of the history with at least k commands
 abbrev pub StandsFrom : (Book → Type 0) → (List ℕ → Snapshot) → List ℕ → ℕ → Image → Type 0
-StandsFrom fits snap h k image = KeepsOneOf fits (leaves snap h) k (length h) image
+StandsFrom fits snap h k image = KeepsOneOf fits 0 (leaves snap h) k (length h) image
 
 -- store and disk hold the history, the first k commands of it committed
 pub record Holds {D : Type 0} (g : Ghosts D) (fits : Book → Type 0) (store : Small) (disk : D) (snap : List ℕ → Snapshot) (h : List ℕ) (k : ℕ) : Type 0 where

@@ -45,10 +45,10 @@ impl Small {
         requires { B.stands state.old ≡ empty }
         // Where every image stands for a prefix with at least k commands, every image since does.
         ensures images { (snap : List ℕ → Snapshot) (h : List ℕ) (k : ℕ) → IsFamily (leaves snap h) k (length h) →
-            AllKeep D.Disk disk.old B.fits (leaves snap h) k (length h) → Always D.Disk disk.old disk.new (StandsFrom B.fits snap h k) }
+            AllKeep D.Disk disk.old B.fits 0 (leaves snap h) k (length h) → Always D.Disk disk.old disk.new (StandsFrom B.fits snap h k) }
         // At Ok store and disk hold such a prefix, all of it committed.
         ensures mounted { IfOk result (λ store. (snap : List ℕ → Snapshot) (h : List ℕ) (k : ℕ) → IsFamily (leaves snap h) k (length h) →
-            AllKeep D.Disk disk.old B.fits (leaves snap h) k (length h) →
+            AllKeep D.Disk disk.old B.fits 0 (leaves snap h) k (length h) →
             (image : Image) → D.Disk.seen disk.old ≡ Some image → HoldsPrefix D.Disk B.fits store disk.new snap h k) }
         ensures over { IfOk result (λ store. IsOver D.Disk store.keeper disk.new) }
     {

@@ -5,4 +5,10 @@ use Rattle.ix_keep_tests.proofs.small.Small.mount.Goals as goal
 
 pub returns-clause-mounted : goal.returns-clause-mounted
 returns-clause-mounted g c = λ snap h k is keep image told.
-    holds_prefix g.D.Disk g.B.Replay.fits snap h _ c.mount.new.disk (g.B.Replay.stands c.mount.new.state) k image (c.in_ok-keeper.ensures.mounted (leaves snap h) k (length h) is keep image told) c.run-run.ensures
+    holds_prefix g.D.Disk g.B.Replay.fits snap h _ c.mount.new.disk (g.B.Replay.stands c.mount.new.state) k image (c.in_ok-keeper.ensures.mounted (leaves snap h) 0 k (length h) is keep image told) c.run-run.ensures
+
+pub returns-in_err-keeper-clause-images : goal.returns-in_err-keeper-clause-images
+returns-in_err-keeper-clause-images g c = λ snap h k is keep. c.mount.ensures.images (leaves snap h) 0 k (length h) is keep
+
+pub returns-clause-images : goal.returns-clause-images
+returns-clause-images g c = λ snap h k is keep. c.in_ok-keeper.ensures.images (leaves snap h) 0 k (length h) is keep
