@@ -13,7 +13,7 @@ returns-clause-task g c = λ asks.
     let leaves = c.runs_leave.ensures.tasked b.0 [] 0 _ _ _ _ _ _ _ _ _ _ _ b.1 comes.2 in
     record {
       choose = b.0;
-      again = c.the_next_run_may_begin.ensures b.0 [] 0 _ _ _ b.1 leaves told.1 (c.an_exit_is_a_stop.ensures b.0 [] 0 _ _ leaves);
+      again = c.the_next_run_may_begin.ensures b.0 [] 0 _ _ _ _ b.1 leaves told.1 (c.an_exit_is_a_stop.ensures b.0 [] 0 _ _ leaves);
       whole = λ is. of_whole _ _ _ _ _ _ _ _ _ is (λ config come. of_comes b.0 b.1 _ config _ _ _ _ _ _ _ _ _ told is come) comes.2;
     }
 
@@ -25,7 +25,7 @@ returns-clause-stored g c = λ stated asks.
     let leaves = c.runs_leave.ensures.stored b.0 [] 0 _ _ _ _ _ _ _ _ _ _ _ _ _ b.1 comes in
     record {
       choose = b.0;
-      again = c.the_next_run_may_begin.ensures b.0 [] 0 _ _ _ b.1 leaves told.1 (c.an_exit_is_a_stop.ensures b.0 [] 0 _ _ leaves);
+      again = c.the_next_run_may_begin.ensures b.0 [] 0 _ _ _ _ b.1 leaves told.1 (c.an_exit_is_a_stop.ensures b.0 [] 0 _ _ leaves);
       whole = λ is. of_whole _ _ _ _ _ _ _ _ _ is (λ config come. of_comes b.0 b.1 _ config _ _ _ _ _ _ _ _ _ told is come.0) comes;
     }
 
@@ -37,7 +37,7 @@ returns-clause-fed g c = λ asks.
     let leaves = c.runs_leave.ensures.fed b.0 [] 0 _ _ _ _ _ _ _ _ _ _ _ _ b.1 comes in
     record {
       choose = b.0;
-      again = c.the_next_run_may_begin.ensures b.0 [] 0 _ _ _ b.1 leaves told.1 (c.an_exit_is_a_stop.ensures b.0 [] 0 _ _ leaves);
+      again = c.the_next_run_may_begin.ensures b.0 [] 0 _ _ _ _ b.1 leaves told.1 (c.an_exit_is_a_stop.ensures b.0 [] 0 _ _ leaves);
       whole = λ is. of_whole _ _ _ _ _ _ _ _ _ is (λ config come. of_feed b.0 b.1 _ config _ _ _ _ _ _ _ told is come) comes;
     }
 
@@ -46,9 +46,9 @@ returns-clause-served g c = λ port requests asks.
     let b = c.empty_disk-disk.ensures.begins in
     let told = c.top-status.ensures.told (b.1.image, b.1.tells) in
     let comes = c.top-status.ensures.served port requests asks in
-    let leaves = c.runs_leave.ensures.served b.0 [] 0 _ _ _ _ _ _ _ _ _ _ _ _ b.1 comes in
+    let leaves = c.runs_leave.ensures.served b.0 [] 0 _ _ _ _ _ _ _ _ _ _ _ _ _ b.1 comes in
     record {
       choose = b.0;
-      again = c.the_next_run_may_begin.ensures b.0 [] 0 _ _ _ b.1 leaves told.1 (c.an_exit_is_a_stop.ensures b.0 [] 0 _ _ leaves);
+      again = c.the_next_run_may_begin.ensures b.0 [] 0 _ _ _ _ b.1 leaves told.1 (c.an_exit_is_a_stop.ensures b.0 [] 0 _ _ leaves);
       whole = λ is. of_whole _ _ _ _ _ _ _ _ _ is (λ config come. of_serve b.0 b.1 _ config _ _ _ _ _ _ _ _ told is come) comes;
     }
