@@ -1,6 +1,6 @@
 //! Tests of `ix_disk`. Each test asks a disk for a row of calls, and compares what they answer as one text.
 
-use crate::machine::{Work, machine_said};
+use crate::machine::steps_said;
 use crate::made::{empty, failing};
 use crate::said::{compare, front, note, shown};
 use ix_base::{Area, Failed, File};
@@ -592,12 +592,12 @@ fn compare_read_only(rt: &impl Abort, found: String) {
 
 #[test]
 fn the_disk_of_the_machine_has_real_files(rt: HostRuntime) {
-    compare(&rt, machine_said(&rt, Work::Steps(IN_PLACE)), IN_PLACE_SAID);
-    compare(&rt, machine_said(&rt, Work::Steps(FOUND)), FOUND_SAID);
-    compare(&rt, machine_said(&rt, Work::Steps(NO_FILE)), NO_FILE_SAID);
-    let taken = machine_said(&rt, Work::Steps(TAKEN_AWAY));
+    compare(&rt, steps_said(&rt, IN_PLACE), IN_PLACE_SAID);
+    compare(&rt, steps_said(&rt, FOUND), FOUND_SAID);
+    compare(&rt, steps_said(&rt, NO_FILE), NO_FILE_SAID);
+    let taken = steps_said(&rt, TAKEN_AWAY);
     compare(&rt, taken, TAKEN_AWAY_SAID);
-    compare(&rt, machine_said(&rt, Work::Steps(REPLACED)), REPLACED_SAID);
-    compare(&rt, machine_said(&rt, Work::Steps(CUT)), CUT_SAID);
-    compare_read_only(&rt, machine_said(&rt, Work::Steps(READ_ONLY)));
+    compare(&rt, steps_said(&rt, REPLACED), REPLACED_SAID);
+    compare(&rt, steps_said(&rt, CUT), CUT_SAID);
+    compare_read_only(&rt, steps_said(&rt, READ_ONLY));
 }

@@ -8,7 +8,7 @@ use crate::{archive, bucket, log};
 use ix_disk::{Disk, HostDisk, LockFiles};
 use std::alloc::Global;
 
-/// What is done with a disk.
+/// What is done with any disk.
 #[derive(Clone, Copy)]
 pub enum Work {
     /// Copies of the first bytes of a file.
@@ -17,8 +17,14 @@ pub enum Work {
     Records,
     /// A log of bodies.
     Bodies,
-    /// These steps, one behind the other, which only a disk of the machine takes.
-    Steps(&'static [Step]),
+}
+
+/// What is done with a disk of the machine.
+#[derive(Clone, Copy)]
+enum MachineWork<'a> {
+    Any(Work),
+    /// These steps, one behind the other.
+    Steps(&'a [Step]),
 }
 
 /// Does the work that any disk takes.
@@ -27,7 +33,6 @@ fn note_any<D: Disk>(text: &mut String, alloc: Global, disk: &mut D, work: Work)
         Work::Copies => archive::note_run(text, disk),
         Work::Records => bucket::note_run(text, alloc, disk),
         Work::Bodies => log::note_kept(text, alloc, disk),
-        Work::Steps(_) => {}
     }
 }
 
@@ -46,16 +51,20 @@ fn note_work<R: LockFiles + AllocGlobal + Drop>(
     rt: &R,
     disk: &mut HostDisk<R>,
     beside: &mut HostDisk<R>,
-    work: Work,
+    work: MachineWork<'_>,
 ) {
     match work {
-        Work::Steps(steps) => note_steps(text, rt, disk, beside, steps),
-        work => note_any(text, rt.alloc(), disk, work),
+        MachineWork::Steps(steps) => note_steps(text, rt, disk, beside, steps),
+        MachineWork::Any(work) => note_any(text, rt.alloc(), disk, work),
     }
 }
 
 /// Writes what the work answers on a disk of the machine, and how many calls of that disk failed, where one did.
-fn note_machine<R: LockFiles + AllocGlobal + Copy + Drop>(text: &mut String, rt: R, work: Work) {
+fn note_machine<R: LockFiles + AllocGlobal + Copy + Drop>(
+    text: &mut String,
+    rt: R,
+    work: MachineWork<'_>,
+) {
     let mut disk = HostDisk::new(rt);
     let mut beside = HostDisk::new(rt);
     note_work(text, &rt, &mut disk, &mut beside, work);
@@ -70,6 +79,13 @@ fn note_machine<R: LockFiles + AllocGlobal + Copy + Drop>(text: &mut String, rt:
 /// What the work answers on a disk of the machine, and how many calls of that disk failed, where one did.
 pub fn machine_said(rt: &HostRuntime, work: Work) -> String {
     let mut text = String::new(rt.alloc());
-    note_machine(&mut text, rt, work);
+    note_machine(&mut text, rt, MachineWork::Any(work));
+    text
+}
+
+/// What the steps answer on a disk of the machine, one behind the other, and how many calls of that disk failed.
+pub fn steps_said(rt: &HostRuntime, steps: &[Step]) -> String {
+    let mut text = String::new(rt.alloc());
+    note_machine(&mut text, rt, MachineWork::Steps(steps));
     text
 }

@@ -13,9 +13,9 @@ use std::io::Read;
 use std::rt::Files;
 
 /// A file, and its path.
-type Named = (File, &'static str);
+type Named<'a> = (File, &'a str);
 
-const ROOT: Named = (
+const ROOT: Named<'static> = (
     File {
         area: Area::Meta,
         number: 0,
@@ -23,7 +23,7 @@ const ROOT: Named = (
     "var/meta/0",
 );
 
-const LOG: Named = (
+const LOG: Named<'static> = (
     File {
         area: Area::Meta,
         number: 1,
@@ -31,7 +31,7 @@ const LOG: Named = (
     "var/meta/1",
 );
 
-const NEXT: Named = (
+const NEXT: Named<'static> = (
     File {
         area: Area::Meta,
         number: 2,
@@ -39,7 +39,7 @@ const NEXT: Named = (
     "var/meta/2",
 );
 
-const BUCKET: Named = (
+const BUCKET: Named<'static> = (
     File {
         area: Area::Home,
         number: 7,
@@ -49,17 +49,17 @@ const BUCKET: Named = (
 
 /// A call of a disk.
 #[derive(Clone, Copy)]
-enum Call {
+enum Call<'a> {
     Lock,
-    Write(Named, u64, &'static [u8]),
-    Sync(Named),
-    Remove(Named),
-    Length(Named),
-    Read(Named),
+    Write(Named<'a>, u64, &'a [u8]),
+    Sync(Named<'a>),
+    Remove(Named<'a>),
+    Length(Named<'a>),
+    Read(Named<'a>),
 }
 
 /// A log is made; a commit, whose gate is opened behind its body; one whose bucket is synced behind the log; a checkpoint.
-const LIFE: &[Call] = &[
+const LIFE: &[Call<'static>] = &[
     Call::Lock,
     Call::Write(LOG, 0, b"log"),
     Call::Sync(LOG),
@@ -84,7 +84,7 @@ const LIFE: &[Call] = &[
 ];
 
 /// A mount of what they leave.
-const MOUNT: &[Call] = &[
+const MOUNT: &[Call<'static>] = &[
     Call::Lock,
     Call::Length(ROOT),
     Call::Read(ROOT),
@@ -96,7 +96,7 @@ const MOUNT: &[Call] = &[
 ];
 
 /// Makes a call. It tells whether the disk answered `Ok`.
-fn is_done<R: LockFiles + Drop>(disk: &mut HostDisk<R>, call: Call) -> bool {
+fn is_done<R: LockFiles + Drop>(disk: &mut HostDisk<R>, call: Call<'_>) -> bool {
     match call {
         Call::Lock => disk.lock().is_ok(),
         Call::Write((file, _), at, bytes) => disk.write_at(file, at, bytes).is_ok(),
@@ -132,7 +132,7 @@ struct Run<'a> {
 }
 
 /// Whether what a call answered is so.
-fn holds<R: Files>(rt: &R, run: Run<'_>, call: Call) -> bool {
+fn holds<R: Files>(rt: &R, run: Run<'_>, call: Call<'_>) -> bool {
     match call {
         Call::Write((_, path), at, bytes) => {
             let Ok(mut whole) = String::from_str(run.alloc, run.top) else {
@@ -146,29 +146,27 @@ fn holds<R: Files>(rt: &R, run: Run<'_>, call: Call) -> bool {
 }
 
 /// Makes the calls, and writes the number of each whose answer is not so.
-fn note_calls<R: LockFiles + Copy + Drop>(
+fn note_calls<F: LockFiles + Drop, R: Files>(
     text: &mut String,
-    rt: R,
-    disk: &mut HostDisk<Watching<'_, R>>,
+    rt: &R,
+    disk: &mut HostDisk<F>,
     run: Run<'_>,
-    calls: &[Call],
+    calls: &[Call<'_>],
 ) {
     for (number, call) in calls.iter().enumerate() {
-        if is_done(disk, *call) && !holds(&rt, run, *call) {
+        if is_done(disk, *call) && !holds(rt, run, *call) {
             let _ = write!(text, "call {number} ");
         }
     }
 }
 
-/// Makes the calls on a new disk, of which the call of the system fails that is due, and answers how many calls of the
-/// system there were.
-fn note_run<R: LockFiles + Copy + Drop>(text: &mut String, rt: R, run: Run<'_>, calls: &[Call]) {
-    let files = Watching {
-        rt,
-        alloc: run.alloc,
-        top: run.top,
-        watch: run.watch,
-    };
+/// Makes the calls on a new disk over these files.
+fn note_disk<F: LockFiles + Drop, R: Files>(
+    text: &mut String,
+    (files, rt): (F, &R),
+    run: Run<'_>,
+    calls: &[Call<'_>],
+) {
     let mut disk = HostDisk::new(files);
     note_calls(text, rt, &mut disk, run, calls);
     if run.watch.forgotten() > 0 {
@@ -180,6 +178,22 @@ fn note_run<R: LockFiles + Copy + Drop>(text: &mut String, rt: R, run: Run<'_>, 
     drop(disk);
 }
 
+/// Makes the calls on a new disk, of which the call of the system fails that is due.
+fn note_run<R: LockFiles + Copy + Drop>(
+    text: &mut String,
+    rt: R,
+    run: Run<'_>,
+    calls: &[Call<'_>],
+) {
+    let files = Watching {
+        rt,
+        alloc: run.alloc,
+        top: run.top,
+        watch: run.watch,
+    };
+    note_disk(text, (files, &rt), run, calls);
+}
+
 /// Makes the calls of a part in a folder of the machine, of which the call of the system fails that is due. It answers how
 /// many calls of the system there were.
 fn note_part<R: LockFiles + Copy + Drop>(
@@ -187,7 +201,7 @@ fn note_part<R: LockFiles + Copy + Drop>(
     (rt, alloc): (R, Global),
     top: &str,
     (due, how): (u64, How),
-    calls: &[Call],
+    calls: &[Call<'_>],
 ) -> u64 {
     let watch = Watch::new(due, how);
     let run = Run {
@@ -243,6 +257,18 @@ fn a_disk_answers_no_ok_behind_a_fault_that_is_not_so(rt: HostRuntime) {
     compare_none(&rt, text);
 }
 
+/// Writes the first fault of a disk over these files.
+fn note_fault<F: LockFiles + Drop>(text: &mut String, files: F) {
+    let mut disk = HostDisk::new(files);
+    for call in LIFE {
+        let _ = is_done(&mut disk, *call);
+    }
+    if let Some(fault) = disk.first_fault() {
+        let _ = write!(text, "{fault}; ");
+    }
+    drop(disk);
+}
+
 /// Writes the first fault of a disk of which the call of the system fails that is due.
 fn note_first<R: LockFiles + Copy + Drop>(
     text: &mut String,
@@ -257,14 +283,7 @@ fn note_first<R: LockFiles + Copy + Drop>(
         top,
         watch: &watch,
     };
-    let mut disk = HostDisk::new(files);
-    for call in LIFE {
-        let _ = is_done(&mut disk, *call);
-    }
-    if let Some(fault) = disk.first_fault() {
-        let _ = write!(text, "{fault}; ");
-    }
-    drop(disk);
+    note_fault(text, files);
 }
 
 /// The first call makes `var`, and the others make, write and sync the first file, each in a folder of its own.
