@@ -1,5 +1,7 @@
 //! Peers that hold a connection up, over a network of this test in which time goes on only where a call waits.
 
+ghost use Rattle.std.specs.Prelude.{◌≤◌, length};
+
 use crate::said::{compare, note};
 use ix_http::{Kind, read_request, write_reply};
 use ix_link::{Link, Listener, TcpListen};
@@ -56,12 +58,15 @@ impl Scene {
         self.milliseconds.set(now.saturating_add(milliseconds));
     }
 
-    fn refuse(&self) -> io::Result<usize> {
+    /// Lets the time of a wait go by, and answers its error.
+    fn refused(&self) -> io::Error {
         self.wait(500);
-        Err(io::Error::from(ErrorKind::WouldBlock))
+        io::Error::from(ErrorKind::WouldBlock)
     }
 
-    fn ask(&self, buf: &mut [u8]) -> usize {
+    fn ask(&self, buf: &mut [u8]) -> usize
+        ensures { result ≤ length buf.old }
+    {
         let n = buf.len().min(ASKED.len());
         buf[..n].copy_from_slice(&ASKED[..n]);
         self.has_asked.set(true);
@@ -158,7 +163,7 @@ impl Read for Stage<'_> {
                 scene.drained.set(drained.saturating_add(buf.len() as u64));
                 Ok(buf.len())
             }
-            _ => scene.refuse(),
+            _ => Err(scene.refused()),
         }
     }
 }
@@ -166,7 +171,7 @@ impl Read for Stage<'_> {
 impl Write for Stage<'_> {
     fn write(&mut self, buf: &[u8]) -> io::Result<usize> {
         match self.scene.peer {
-            Peer::Deaf => self.scene.refuse(),
+            Peer::Deaf => Err(self.scene.refused()),
             Peer::Slow => {
                 self.scene.wait(400);
                 Ok(buf.len().min(1))
@@ -180,11 +185,9 @@ impl Write for Stage<'_> {
     }
 }
 
-/// What serving a peer comes to, and how many milliseconds it takes: up to the reply, and with the end of the connection.
-fn note_peer(text: &mut String, alloc: Global, peer: Peer) {
-    let scene = make_scene(peer, [0; 4]);
-    let mut listener = TcpListen::new(Stage { scene: &scene });
-    let _ = listener.bind(0);
+/// Serves the next connection, and writes what that comes to, and how many milliseconds it takes: up to the reply, and with
+/// the end of the connection.
+fn note_served<L: Listener>(text: &mut String, alloc: Global, listener: &mut L, scene: &Scene) {
     if let Ok(mut link) = listener.accept() {
         let is_read = read_request(alloc, &mut link).is_ok();
         note(text, is_read);
@@ -198,7 +201,25 @@ fn note_peer(text: &mut String, alloc: Global, peer: Peer) {
         note(text, scene.has_shut_down.get());
         note(text, scene.drained.get());
     }
+}
+
+/// Serves a connection of this network.
+fn note_net<R: Net + Clock + Clone + Drop>(
+    text: &mut String,
+    alloc: Global,
+    net: R,
+    scene: &Scene,
+) {
+    let mut listener = TcpListen::new(net);
+    let _ = listener.bind(0);
+    note_served(text, alloc, &mut listener, scene);
     drop(listener);
+}
+
+/// What serving a peer comes to.
+fn note_peer(text: &mut String, alloc: Global, peer: Peer) {
+    let scene = make_scene(peer, [0; 4]);
+    note_net(text, alloc, Stage { scene: &scene }, &scene);
 }
 
 fn peers_said(alloc: Global) -> String {
