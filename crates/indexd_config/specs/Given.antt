@@ -1,7 +1,9 @@
 -- The settings that a store is to go by, as the files of a tree give them.
-use Rattle.std.specs.Prelude.{◌≡◌, List, Option}
+use Rattle.std.specs.Prelude.{◌≡◌, ℤ, List, Option}
 use Rattle.ix_tree.specs.declared.trees.TreeFile.{TreeFile}
 use Rattle.ix_kept.specs.Keeping.{all_kept}
+use Rattle.ix_kept.specs.Taken.{IsTaken}
+use Rattle.ix_machine.specs.declared.commands.Command.TheVariants.{Configure}
 use Rattle.ix_machine.specs.declared.commands.Config.{Config}
 use Rattle.indexd_settings.specs.Configuration.{IsReadOf}
 use Rattle.indexd_settings.specs.Merged.{AreMergedFiles}
@@ -17,3 +19,8 @@ pub record IsConfigOf (files : Option (List TreeFile)) (config : Config) : Type 
   pub found : MergedFiles
   pub merged : AreMergedFiles files found
   pub given : IsGivenBy found config
+
+-- A change to such settings is a command that a store takes, at any moment.
+abbrev pub ConfigsAreTaken : Type 0
+ConfigsAreTaken =
+    (files : Option (List TreeFile)) (config : Config) (moment : ℤ) → IsConfigOf files config → IsTaken (record { command = Configure config; moment = moment })

@@ -3,4 +3,4 @@
 
 mod reading;
 
-pub use reading::read_config;
+pub use reading::{configs_are_taken, read_config};

@@ -4,7 +4,7 @@ ghost use Rattle.std.specs.Prelude.{◌≡◌, ◌≤◌, IfOk, IfErr};
 ghost use Rattle.ix_kept.specs.Configs.{IsConfig};
 ghost use Rattle.ix_kept.specs.Keeping.{all_kept};
 ghost use Rattle.indexd_settings.specs.Faults.{StopsAt, Stops};
-ghost use Rattle.indexd_config.specs.Given.{IsGivenBy, IsConfigOf};
+ghost use Rattle.indexd_config.specs.Given.{ConfigsAreTaken, IsGivenBy, IsConfigOf};
 
 use indexd_settings::{ConfigurationStop, MergedFiles};
 use ix_base::NoMemory;
@@ -56,4 +56,13 @@ pub fn read_config<T: Tree>(alloc: Global, tree: &mut T) -> Result<Config, Confi
     read_names_are_short();
     let found = MergedFiles::read(alloc, tree)?;
     config_of(alloc, &found)
+}
+
+/// A law of the settings that the files of a tree give: a change to them is a command that a store takes, at any moment. So a
+/// history stays one of such commands where the program gives the settings of its files.
+pub fn configs_are_taken()
+    ensures { ConfigsAreTaken }
+{
+    kept_is_config();
+    read_names_are_short();
 }
