@@ -10,18 +10,22 @@ use ix_life::LimitFault;
 use ix_props::SettingFault;
 use ix_tree::TreeFault;
 use std::alloc::Global;
+use thiserror::Error;
 
 /// The first fault in the settings of a run.
-#[derive(Drop)]
+#[derive(Debug, Drop, Error)]
 pub enum ConfigurationFault {
     /// A layer of this file is no text of settings.
+    #[error("a settings file is refused: {refusal}")]
     File {
         file: SettingsFile,
         refusal: Refusal,
     },
     /// All files are texts of settings, and a value of props.conf, or of a transform or zone that it names, is none of its kind.
+    #[error("props.conf has a bad value: {0}")]
     Props(SettingFault),
     /// There is no fault but in a value of indexes.conf or in the name of an index.
+    #[error("indexes.conf has a bad value: {0}")]
     Indexes(LimitFault),
 }
 

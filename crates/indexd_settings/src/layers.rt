@@ -12,9 +12,10 @@ use ix_base::{Bytes, Names, NoMemory};
 use ix_conf::{ConfFault, ConfFile, Layer, Layers, built_in_zones, parse};
 use ix_tree::{Tree, TreeFault};
 use std::alloc::Global;
+use thiserror::Error;
 
 /// A file of settings, which stands in each layer under its name and `.conf`.
-#[derive(Clone, Copy)]
+#[derive(Clone, Copy, Debug)]
 pub enum SettingsFile {
     Props,
     Transforms,
@@ -24,7 +25,8 @@ pub enum SettingsFile {
 }
 
 /// The fault of a file, and the layer that it stands in.
-#[derive(Drop)]
+#[derive(Debug, Drop, Error)]
+#[error("a layer of a settings file is refused: {fault}")]
 pub struct Refusal {
     pub layer: Bytes,
     pub fault: ConfFault,

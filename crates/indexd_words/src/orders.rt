@@ -9,6 +9,7 @@ ghost use Rattle.indexd_words.specs.Shown.{shown};
 use crate::values::{file_of, name_of, number_in, seconds_of};
 use clap::ArgMatches;
 use ix_base::Range;
+use thiserror::Error;
 
 /// Where bytes come from, as the words say it.
 #[derive(Clone, Copy, Debug)]
@@ -84,11 +85,13 @@ pub enum Order<'a> {
 }
 
 /// Why words give no order.
-#[derive(Clone, Copy, Debug, PartialEq, Eq)]
+#[derive(Clone, Copy, Debug, PartialEq, Eq, Error)]
 pub enum Refusal {
     /// They are not of the table of commands, or a number or a text is outside its range.
+    #[error("the words are no command")]
     Usage,
     /// There was no room in memory.
+    #[error("there was no room in memory")]
     NoMemory,
 }
 

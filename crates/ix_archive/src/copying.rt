@@ -9,13 +9,16 @@ ghost use Rattle.ix_archive.specs.Copies.{HasFirst, HasCopy, OnShort, Moves};
 
 use ix_base::{Failed, File};
 use ix_disk::Disk;
+use thiserror::Error;
 
 /// Why a file was not copied.
-#[derive(Clone, Copy, Debug, PartialEq, Eq)]
+#[derive(Clone, Copy, Debug, PartialEq, Eq, Error)]
 pub enum CopyFault {
     /// The disk has failed.
+    #[error("the disk failed")]
     Disk,
     /// The file to be copied has fewer bytes: so many.
+    #[error("the file to be copied ends at byte {at}")]
     Short { at: u64 },
 }
 

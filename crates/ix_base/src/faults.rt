@@ -4,13 +4,16 @@ ghost use Rattle.std.specs.Prelude.{◌≡◌, ◌≤◌, []};
 ghost use Rattle.ix_base.specs.Faults.{Rose};
 
 use std::alloc::{AllocError, AllocFailed, Global};
+use thiserror::Error;
 
 /// A call to the outside has failed.
-#[derive(Clone, Copy, Debug, PartialEq, Eq)]
+#[derive(Clone, Copy, Debug, PartialEq, Eq, Error)]
+#[error("the outside failed")]
 pub struct Failed;
 
 /// There was no room in memory.
-#[derive(Clone, Copy, Debug, PartialEq, Eq)]
+#[derive(Clone, Copy, Debug, PartialEq, Eq, Error)]
+#[error("there was no room in memory")]
 pub struct NoMemory;
 
 impl From<AllocError> for NoMemory {
@@ -26,7 +29,8 @@ impl<T: Drop> From<AllocFailed<T>> for NoMemory {
 }
 
 /// No prefix of the bytes is a record.
-#[derive(Clone, Copy, Debug, PartialEq, Eq)]
+#[derive(Clone, Copy, Debug, PartialEq, Eq, Error)]
+#[error("the bytes are no record")]
 pub struct BadRecord;
 
 /// Which calls of an object in memory are to fail, and how many have failed. Calls are numbered from 0.

@@ -6,7 +6,7 @@ ghost use Rattle.std.specs.Str.{IsUtf8};
 use crate::faults::NoMemory;
 use std::alloc::Global;
 use std::marker::Model;
-use std::mem;
+use std::{fmt, mem};
 
 /// A list of values in memory. Contracts see it as the list of its values.
 #[derive(Drop)]
@@ -180,6 +180,17 @@ impl Sequence<u8> {
     }
 }
 
+/// Written as the vector of its values, so that a fault that holds bytes can be printed for its maintainers.
+impl<T: fmt::Debug> fmt::Debug for Sequence<T> {
+    ghost use Rattle.std.specs.Fmt.{debug_list};
+
+    ghost debug_output = { λ s. debug_list T.debug_output s };
+
+    fn fmt<W: fmt::Write>(&self, f: &mut fmt::Formatter<W>) -> fmt::Result {
+        fmt::Debug::fmt(&self.items, f)
+    }
+}
+
 /// A text in UTF-8. Contracts see it as the list of its bytes.
 #[derive(Drop)]
 pub struct Text {
@@ -215,5 +226,16 @@ impl Text {
         ensures utf8 { IsUtf8 self.now }
     {
         self.string.as_str().as_bytes()
+    }
+}
+
+/// Written in quotes, as a string is.
+impl fmt::Debug for Text {
+    ghost use Rattle.std.specs.Fmt.{debug_str};
+
+    ghost debug_output = { λ t. debug_str t };
+
+    fn fmt<W: fmt::Write>(&self, f: &mut fmt::Formatter<W>) -> fmt::Result {
+        fmt::Debug::fmt(&self.string, f)
     }
 }

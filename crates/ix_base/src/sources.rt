@@ -1,6 +1,6 @@
 //! What bytes are read from.
 
-ghost use Rattle.std.specs.Prelude.{◌≡◌, ◌≤◌, ◌<◌, ℕ, List, [], Option, Some, None, length, take, drop, IfOk, IfSome, OnOk, OnErr, is_ok, not};
+ghost use Rattle.std.specs.Prelude.{◌≡◌, ◌≤◌, ◌<◌, ◌-◌, ◌^◌, ℕ, min, max, List, [], Option, Some, None, length, take, drop, IfOk, IfSome, OnOk, OnErr, is_ok, not};
 ghost use Rattle.ix_base.specs.Plans.{is_due, CountsCall};
 ghost use Rattle.ix_base.specs.Faults.{HasCause, Rose};
 ghost use Rattle.ix_base.specs.Told.{Told, Took};
@@ -56,6 +56,7 @@ impl MemSource {
         ensures left { ⟦<MemSource as Source>⟧.left result ≡ Some bytes }
         ensures faults { ⟦<MemSource as Source>⟧.faults result ≡ plan.faults }
         ensures plan { result.plan ≡ plan }
+        ensures whole { result.most ≡ 2 ^ 64 - 1 }
     {
         MemSource::in_pieces(bytes, usize::MAX, plan)
     }
@@ -65,6 +66,7 @@ impl MemSource {
         ensures left { ⟦<MemSource as Source>⟧.left result ≡ Some bytes }
         ensures faults { ⟦<MemSource as Source>⟧.faults result ≡ plan.faults }
         ensures plan { result.plan ≡ plan }
+        ensures pieces { result.most ≡ max most 1 }
     {
         MemSource {
             bytes,
@@ -80,6 +82,7 @@ fn copy_front(bytes: &[u8], most: usize, buf: &mut [u8]) -> usize
     requires { 0 < most }
     ensures room { result ≤ length buf.old }
     ensures within { result ≤ length bytes.now }
+    ensures most { result ≡ min (min (length bytes.now) (length buf.old)) most }
     ensures copied { take result buf.new ≡ take result bytes.now }
     ensures none { result ≡ 0 → 0 < length buf.old → bytes.now ≡ [] }
 {
@@ -93,7 +96,8 @@ impl Source for MemSource {
 
     ghost faults = { λ s. s.plan.faults };
 
-    /// It fails exactly where the plan has this call due.
+    /// It fails exactly where the plan has this call due. Else it takes as much as there is, but for the size of the buffer
+    /// and of a piece.
     fn read(&mut self, buf: &mut [u8]) -> Result<usize, Failed>
         ensures count { IfOk result (λ n. n ≤ length buf.old) }
         ensures bytes { IfOk result (λ n. Told (Took (take n buf.new)) (Some (drop self.old.at self.old.bytes)) (Some (drop self.new.at self.new.bytes))) }
@@ -103,6 +107,8 @@ impl Source for MemSource {
         ensures due { is_ok result ≡ not (is_due self.old.plan) }
         ensures counted { CountsCall self.old.plan self.new.plan }
         ensures faults { OnOk result (self.new.plan.faults ≡ self.old.plan.faults) }
+        ensures taken { IfOk result (λ n. n ≡ min (min (length self.old.bytes - self.old.at) (length buf.old)) self.old.most) }
+        ensures pieces { self.new.most ≡ self.old.most }
     {
         if self.plan.is_due() {
             return Err(self.plan.fail());

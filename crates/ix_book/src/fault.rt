@@ -6,13 +6,16 @@ ghost use Rattle.ix_book.specs.declared.fault.CheckpointFault.TheVariants as fau
 
 use ix_base::{Failed, NoMemory as OutOfMemory};
 use ix_log::BeginFault;
+use thiserror::Error;
 
 /// Why the log was not made shorter.
-#[derive(Clone, Copy, Debug, PartialEq, Eq)]
+#[derive(Clone, Copy, Debug, PartialEq, Eq, Error)]
 pub enum CheckpointFault {
     /// The disk has failed.
+    #[error("the disk failed")]
     Disk,
     /// There was no room in memory. The log from before is still the current one.
+    #[error("there was no room in memory")]
     NoMemory,
 }
 

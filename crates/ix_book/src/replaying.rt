@@ -18,6 +18,7 @@ use ix_disk::Disk;
 use ix_items::{Item, ItemFault, read_item};
 use ix_log::{Log, LogFault};
 use std::alloc::Global;
+use thiserror::Error;
 
 /// What the items of a log make, in memory: the state above, which judges each body by what it leads to.
 pub trait Replay {
@@ -52,14 +53,17 @@ pub trait Replay {
 }
 
 /// Why a log was not replayed.
-#[derive(Clone, Copy, Debug, PartialEq, Eq)]
+#[derive(Clone, Copy, Debug, PartialEq, Eq, Error)]
 pub enum ReplayFault {
     /// The disk has failed.
+    #[error("the disk failed")]
     Disk,
     /// The body behind the gate at this place does not end in the file, or is not a list of items that leads to a state
     /// that fits.
+    #[error("no body that counts stands in the log at byte {at}")]
     Damaged { at: u64 },
     /// There was no room in memory.
+    #[error("there was no room in memory")]
     NoMemory,
 }
 

@@ -16,15 +16,19 @@ use ix_base::{Area, BadRecord, EventRef, Failed, File, NoMemory};
 use ix_disk::Disk;
 use ix_fields::read_u32;
 use std::alloc::{AllocError, Global};
+use thiserror::Error;
 
 /// Why no record was read.
-#[derive(Clone, Copy, Debug, PartialEq, Eq)]
+#[derive(Clone, Copy, Debug, PartialEq, Eq, Error)]
 pub enum ReadFault {
     /// The disk has failed.
+    #[error("the disk failed")]
     Disk,
     /// No record begins at this place and ends by the last one.
+    #[error("no record that counts stands at byte {at}")]
     BadRecord { at: u64 },
     /// There was no room for the bytes of the record.
+    #[error("there was no room in memory")]
     NoMemory,
 }
 

@@ -7,6 +7,7 @@ use ix_base::NoMemory as OutOfMemory;
 use ix_fields::BadField;
 use ix_lines::LineParts;
 use ix_merge::MergeParts;
+use thiserror::Error;
 
 /// What is carried of a channel over a stop, to go on with its stream later.
 #[derive(Drop)]
@@ -31,11 +32,13 @@ pub struct CarryRules {
 }
 
 /// Why no carry was read.
-#[derive(Clone, Copy, Debug, PartialEq, Eq)]
+#[derive(Clone, Copy, Debug, PartialEq, Eq, Error)]
 pub enum ResumeFault {
     /// The bytes are no carry under these settings.
+    #[error("the bytes are no carry of a channel under these settings")]
     BadCarry,
     /// There was no room in memory.
+    #[error("there was no room in memory")]
     NoMemory,
 }
 

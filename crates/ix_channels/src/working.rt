@@ -8,6 +8,7 @@ use crate::change::ChannelChange;
 use ix_base::{NoMemory as OutOfMemory, RoutedList, Sequence};
 use ix_items::Item;
 use std::alloc::Global;
+use thiserror::Error;
 
 /// What a command makes of the open channels.
 #[derive(Drop)]
@@ -21,11 +22,13 @@ pub struct Worked {
 }
 
 /// Why it is not said what a command makes of the open channels.
-#[derive(Clone, Copy, Debug, PartialEq, Eq)]
+#[derive(Clone, Copy, Debug, PartialEq, Eq, Error)]
 pub enum WorkFault {
     /// It would pass the bounds of what a store can keep.
+    #[error("the store has no room for it")]
     Full,
     /// There is no room in memory.
+    #[error("there was no room in memory")]
     NoMemory,
 }
 

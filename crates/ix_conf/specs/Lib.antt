@@ -9,3 +9,4 @@ pub mod Names
 pub mod Walk
 pub mod Zones
 pub mod Stars
+pub mod FaultText

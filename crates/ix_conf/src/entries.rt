@@ -2,6 +2,8 @@
 
 use ix_base::{Bytes, NoMemory, Sequence};
 use std::alloc::{AllocError, AllocFailed};
+use std::fmt;
+use thiserror::Error;
 
 /// One entry of a .conf text.
 #[derive(Drop)]
@@ -16,7 +18,7 @@ pub enum Entry {
 pub type ConfFile = Sequence<Entry>;
 
 /// Why a .conf text is refused.
-#[derive(Clone, Copy, Debug, PartialEq, Eq)]
+#[derive(Clone, Copy, Debug, PartialEq, Eq, Error)]
 pub enum ConfFault {
     /// The bytes are not UTF-8. `at` is the place of the first bad one, counted from 0.
     NotUtf8 { at: u64 },
@@ -28,6 +30,24 @@ pub enum ConfFault {
     TooLong,
     /// There was no room in memory.
     NoMemory,
+}
+
+/// What a line on the fault says behind the path of the file.
+impl fmt::Display for ConfFault {
+    ghost use Rattle.std.specs.Prelude.{Some};
+    ghost use Rattle.ix_conf.specs.FaultText.{fault_text};
+
+    ghost output = { λ fault. Some (fault_text fault) };
+
+    fn fmt<W: fmt::Write>(&self, f: &mut fmt::Formatter<W>) -> fmt::Result {
+        match self {
+            ConfFault::NotUtf8 { at } => write!(f, " at {at}: NotUtf8"),
+            ConfFault::NoEquals { line } => write!(f, " line {line}: NoEquals"),
+            ConfFault::BadStanza { line } => write!(f, " line {line}: BadStanza"),
+            ConfFault::TooLong => write!(f, ": TooLong"),
+            ConfFault::NoMemory => write!(f, ": NoMemory"),
+        }
+    }
 }
 
 impl From<NoMemory> for ConfFault {

@@ -5,6 +5,7 @@ ghost use Rattle.ix_conf.specs.Names.{tokens, token_of, waiting, has_question, a
 
 use ix_base::NoMemory;
 use std::alloc::Global;
+use thiserror::Error;
 
 /// One token of a pattern.
 #[derive(Clone, Copy, Debug, PartialEq, Eq)]
@@ -22,11 +23,13 @@ pub enum Token {
 }
 
 /// Why a text is no pattern for names.
-#[derive(Clone, Copy, Debug, PartialEq, Eq)]
+#[derive(Clone, Copy, Debug, PartialEq, Eq, Error)]
 pub enum NameFault {
     /// Parentheses do not pair, or a `(` is followed by `?`.
+    #[error("the name is no pattern")]
     BadPattern,
     /// There was no room in memory.
+    #[error("there was no room in memory")]
     NoMemory,
 }
 

@@ -8,13 +8,16 @@ ghost use Rattle.ix_disk.specs.Locks.{KeepsLock, HasLockCause};
 ghost use Rattle.ix_disk.specs.declared.disk.LockFault.TheVariants.{InUse};
 
 use ix_base::{Failed, File};
+use thiserror::Error;
 
 /// Why a program does not get a disk for itself.
-#[derive(Clone, Copy, Debug, PartialEq, Eq)]
+#[derive(Clone, Copy, Debug, PartialEq, Eq, Error)]
 pub enum LockFault {
     /// Another program has it.
+    #[error("another program has the store")]
     InUse,
     /// The disk failed.
+    #[error("the disk failed")]
     Failed,
 }
 

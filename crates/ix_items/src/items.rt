@@ -5,6 +5,7 @@ ghost use Rattle.ix_items.specs.declared.items.ItemFault.TheVariants as faults;
 
 use ix_base::{Bytes, ChannelMeta, File, NoMemory as OutOfMemory, Sequence, Spot};
 use ix_fields::BadField;
+use thiserror::Error;
 
 /// What a bucket does: a hot one and a quarantine take events, a warm one and a cold one are kept, a thawed one was
 /// brought back from its archive.
@@ -149,11 +150,13 @@ pub enum Item {
 }
 
 /// Why no item was read.
-#[derive(Clone, Copy, Debug, PartialEq, Eq)]
+#[derive(Clone, Copy, Debug, PartialEq, Eq, Error)]
 pub enum ItemFault {
     /// No prefix of the bytes is an item.
+    #[error("the bytes begin with no item")]
     BadItem,
     /// There was no room in memory.
+    #[error("there was no room in memory")]
     NoMemory,
 }
 

@@ -15,13 +15,16 @@ use ix_disk::Disk;
 use ix_items::{Item, write_item};
 use ix_log::Log;
 use std::alloc::Global;
+use thiserror::Error;
 
 /// Why nothing was staged.
-#[derive(Clone, Copy, Debug, PartialEq, Eq)]
+#[derive(Clone, Copy, Debug, PartialEq, Eq, Error)]
 pub enum StageFault {
     /// The staged items and the new ones would have 2^32 bytes or more.
+    #[error("the items of one commit would have 2^32 bytes or more")]
     Full,
     /// There was no room in memory.
+    #[error("there was no room in memory")]
     NoMemory,
 }
 

@@ -30,17 +30,22 @@ use ix_disk::Disk;
 use ix_items::Item;
 use ix_log::Log;
 use std::alloc::Global;
+use thiserror::Error;
 
 /// Why nothing was mounted.
-#[derive(Clone, Copy, Debug, PartialEq, Eq)]
+#[derive(Clone, Copy, Debug, PartialEq, Eq, Error)]
 pub enum MountFault {
     /// The disk has failed.
+    #[error("the disk failed")]
     Disk,
     /// In this log, behind the gate at this place, stands no body that counts.
+    #[error("the log {file:?} is damaged at byte {at}")]
     Damaged { file: File, at: u64 },
     /// No further run has a number, or the state above has no room for the first body of a store.
+    #[error("the store has no room for another run")]
     Full,
     /// There was no room in memory.
+    #[error("there was no room in memory")]
     NoMemory,
 }
 

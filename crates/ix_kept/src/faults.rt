@@ -1,13 +1,16 @@
 //! Why kept settings are refused.
 
 use ix_base::NoMemory as OutOfMemory;
+use thiserror::Error;
 
 /// Why kept settings give no values.
-#[derive(Clone, Copy, Debug, PartialEq, Eq)]
+#[derive(Clone, Copy, Debug, PartialEq, Eq, Error)]
 pub enum ConfigFault {
     /// They do not stand in order, or a value is none of its kind: no program has kept them.
+    #[error("no program has kept these settings")]
     Unsound,
     /// There was no room in memory.
+    #[error("there was no room in memory")]
     NoMemory,
 }
 

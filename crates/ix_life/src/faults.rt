@@ -9,16 +9,20 @@ use crate::stanzas::{is_default, is_index, is_index_name, is_index_stanza, is_vo
 use ix_base::{Bytes, NoMemory as OutOfMemory};
 use ix_conf::{Item, Merged};
 use std::alloc::Global;
+use thiserror::Error;
 
 /// What is wrong in the settings of indexes. The first fault in the order of stanza and key is answered; that of a stanza
 /// itself comes before those of its keys.
-#[derive(Drop)]
+#[derive(Debug, Drop, Error)]
 pub enum LimitFault {
     /// The value of this key is none of its kind, or names no index.
+    #[error("[{stanza:?}] has a bad value of {key:?}")]
     BadValue { stanza: Bytes, key: Bytes },
     /// An index cannot have this name.
+    #[error("[{stanza:?}] is no name of an index")]
     BadIndexName { stanza: Bytes },
     /// There was no room in memory.
+    #[error("there was no room in memory")]
     NoMemory,
 }
 

@@ -16,15 +16,19 @@ use ix_base::{Bytes, Failed, File};
 use ix_disk::Disk;
 use std::alloc::Global;
 use std::mem;
+use thiserror::Error;
 
 /// Why no body was read.
-#[derive(Clone, Copy, Debug, PartialEq, Eq)]
+#[derive(Clone, Copy, Debug, PartialEq, Eq, Error)]
 pub enum LogFault {
     /// The disk has failed.
+    #[error("the disk failed")]
     Disk,
     /// The gate at this place is open, and no whole body stands behind it.
+    #[error("the log is damaged at byte {at}")]
     Damaged { at: u64 },
     /// There was no room in memory.
+    #[error("there was no room in memory")]
     NoMemory,
 }
 
@@ -37,11 +41,13 @@ impl From<Failed> for LogFault {
 }
 
 /// Why no log was begun.
-#[derive(Clone, Copy, Debug, PartialEq, Eq)]
+#[derive(Clone, Copy, Debug, PartialEq, Eq, Error)]
 pub enum BeginFault {
     /// The disk has failed.
+    #[error("the disk failed")]
     Disk,
     /// There was no room in memory.
+    #[error("there was no room in memory")]
     NoMemory,
 }
 

@@ -11,16 +11,20 @@ use ix_conf::{Item, Merged};
 use ix_life::LimitSet;
 use ix_values::read_boolean;
 use std::alloc::Global;
+use thiserror::Error;
 
 /// What is wrong in the settings of inputs. The first fault in the order of stanza and key is answered; that of a stanza
 /// itself comes before those of its keys.
-#[derive(Drop)]
+#[derive(Debug, Drop, Error)]
 pub enum InputFault {
     /// The value of this key is none of its kind, or names no index.
+    #[error("[{stanza:?}] has a bad value of {key:?}")]
     BadValue { stanza: Bytes, key: Bytes },
     /// No files can be watched under the path of this stanza: it is empty, has `...`, or a `*` in another segment than the last.
+    #[error("no files can be watched under [{stanza:?}]")]
     BadStanza { stanza: Bytes },
     /// There was no room in memory.
+    #[error("there was no room in memory")]
     NoMemory,
 }
 

@@ -11,6 +11,7 @@ use ix_kept::Storage;
 use ix_life::LimitSet;
 use ix_shelves::DealFault;
 use std::alloc::Global;
+use thiserror::Error;
 
 /// What a command makes of a state beside its channels, spots and settings.
 #[derive(Drop)]
@@ -30,11 +31,13 @@ pub struct Moved {
 }
 
 /// Why nothing was worked out.
-#[derive(Clone, Copy, Debug, PartialEq, Eq)]
+#[derive(Clone, Copy, Debug, PartialEq, Eq, Error)]
 pub enum MoveFault {
     /// The state before the command or behind it does not keep the bounds of a store.
+    #[error("the store has no room for it")]
     Full,
     /// There was no room in memory.
+    #[error("there was no room in memory")]
     NoMemory,
 }
 

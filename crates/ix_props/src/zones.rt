@@ -11,6 +11,7 @@ use ix_values::own_value;
 use jiff_tz::posix;
 use std::alloc::Global;
 use std::marker::Model;
+use thiserror::Error;
 
 /// A time zone. Contracts see it as the bytes of its POSIX rule.
 #[derive(Drop)]
@@ -32,22 +33,27 @@ impl Model for Zone {
 }
 
 /// Why a text is no rule of a zone.
-#[derive(Clone, Copy, Debug, PartialEq, Eq)]
+#[derive(Clone, Copy, Debug, PartialEq, Eq, Error)]
 pub enum RuleFault {
     /// It is no POSIX rule.
+    #[error("the text is no POSIX rule of a zone")]
     BadRule,
     /// There was no room in memory.
+    #[error("there was no room in memory")]
     NoMemory,
 }
 
 /// Why a name gives no zone.
-#[derive(Clone, Copy, Debug, PartialEq, Eq)]
+#[derive(Clone, Copy, Debug, PartialEq, Eq, Error)]
 pub enum ZoneFault {
     /// There is no stanza of this name, or it has no rule of its own, or an empty one.
+    #[error("no zone has this name")]
     Unknown,
     /// Its rule is no POSIX rule.
+    #[error("the rule of the zone is no POSIX rule")]
     BadRule,
     /// There was no room in memory.
+    #[error("there was no room in memory")]
     NoMemory,
 }
 

@@ -8,13 +8,16 @@ use ix_base::NoMemory as OutOfMemory;
 use ix_kept::ConfigFault;
 use ix_store::Subject;
 use std::alloc::AllocFailed;
+use thiserror::Error;
 
 /// Why no state is made of the items of a log.
-#[derive(Drop)]
+#[derive(Debug, Drop, Error)]
 pub enum RecallFault {
     /// None comes of the item of this subject: the settings cannot be loaded, or what is carried of the channel is no carry.
+    #[error("no state of a store comes of the item of {subject:?}")]
     Bad { subject: Subject },
     /// There was no room in memory.
+    #[error("there was no room in memory")]
     NoMemory,
 }
 

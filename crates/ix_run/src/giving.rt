@@ -21,13 +21,16 @@ use ix_disk::Disk;
 use ix_keep::CommitFault;
 use ix_machine::{Accepted, Command, Refusal};
 use ix_store::{Listing, Memory, Store};
+use thiserror::Error;
 
 /// Why a command was not given, or was not kept.
-#[derive(Clone, Copy, Debug, PartialEq, Eq)]
+#[derive(Clone, Copy, Debug, PartialEq, Eq, Error)]
 pub enum GiveFault {
     /// The store refused it; store and disk are as they were.
+    #[error("the store refused it: {0}")]
     Refused(Refusal),
     /// The store accepted it, and the disk failed at the commit. The store is closed.
+    #[error("the commit failed: {0}")]
     Commit(CommitFault),
 }
 

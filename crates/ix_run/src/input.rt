@@ -23,6 +23,7 @@ use ix_keep::CommitFault;
 use ix_machine::{Command, Refusal};
 use ix_store::{Listing, Store};
 use std::alloc::Global;
+use thiserror::Error;
 
 /// How many bytes of input are taken at the most.
 const INPUT_LIMIT: u64 = 1 << 40;
@@ -38,13 +39,16 @@ pub struct Arrival {
 }
 
 /// Why an input was not stored to its end.
-#[derive(Clone, Copy, Debug, PartialEq, Eq)]
+#[derive(Clone, Copy, Debug, PartialEq, Eq, Error)]
 pub enum RunFault {
     /// A command was not given. Where there was no room in memory for it, it is refused as the store refuses one.
+    #[error("{0}")]
     Given(GiveFault),
     /// Reading failed. What was read before is stored, and the channel stays open.
+    #[error("reading the input failed")]
     Input,
     /// 2^40 bytes were taken, and are stored. The channel stays open.
+    #[error("2^40 bytes of input were taken")]
     Endless,
 }
 

@@ -5,6 +5,7 @@ ghost use Rattle.ix_serve.specs.Answer as defs;
 
 use ix_base::File;
 use ix_keep::CommitFault;
+use thiserror::Error;
 
 /// What came of a request.
 #[derive(Clone, Copy, Debug, PartialEq, Eq)]
@@ -24,15 +25,19 @@ pub enum Served {
 }
 
 /// Why a request was not served, or not wholly.
-#[derive(Clone, Copy, Debug, PartialEq, Eq)]
+#[derive(Clone, Copy, Debug, PartialEq, Eq, Error)]
 pub enum ServeFault {
     /// The disk has failed. The store is closed.
+    #[error("the disk failed")]
     Disk,
     /// This file ends at this place, before what was committed, or no record that counts stands there. The store is closed.
+    #[error("the file {file:?} is damaged at byte {at}")]
     Damaged { file: File, at: u64 },
     /// The link has failed.
+    #[error("the link failed")]
     Link,
     /// The link ended inside the request.
+    #[error("the link ended inside a request")]
     Cut,
 }
 

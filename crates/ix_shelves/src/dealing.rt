@@ -22,6 +22,7 @@ use ix_keep::Piece;
 use ix_life::{IndexView, LimitSet, Route, Target, place};
 use std::alloc::Global;
 use std::mem;
+use thiserror::Error;
 
 /// Shelves on which events are placed, with the bytes that these add to the files of buckets.
 #[derive(Drop)]
@@ -32,11 +33,13 @@ pub struct Work {
 }
 
 /// Why events were not placed.
-#[derive(Clone, Copy, Debug, PartialEq, Eq)]
+#[derive(Clone, Copy, Debug, PartialEq, Eq, Error)]
 pub enum DealFault {
     /// A number of the store would come to 2^63: a count of events, the number of a file, or the bytes of a bucket.
+    #[error("the store has no room for it")]
     Full,
     /// There was no room in memory.
+    #[error("there was no room in memory")]
     NoMemory,
 }
 

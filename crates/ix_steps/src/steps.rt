@@ -13,6 +13,7 @@ use ix_keep::Draft;
 use ix_kept::Storage;
 use ix_machine::{Config, Refusal};
 use ix_moves::MoveFault;
+use thiserror::Error;
 
 /// What becomes of settings and spots.
 #[derive(Drop)]
@@ -37,11 +38,13 @@ pub struct Step {
 }
 
 /// Why a command is not worked out.
-#[derive(Clone, Copy, Debug, PartialEq, Eq)]
+#[derive(Clone, Copy, Debug, PartialEq, Eq, Error)]
 pub enum StepFault {
     /// It would pass the bounds of what a store can keep.
+    #[error("the store has no room for it")]
     Full,
     /// There was no room in memory.
+    #[error("there was no room in memory")]
     NoMemory,
 }
 

@@ -32,6 +32,7 @@ use ix_keep::Draft;
 use ix_life::{LimitSet, View};
 use ix_machine::{Order, Refusal};
 use std::alloc::Global;
+use thiserror::Error;
 
 /// What a command leads to, worked out and not yet taken.
 #[derive(Drop)]
@@ -51,11 +52,13 @@ pub struct Made<N> {
 }
 
 /// Why the items of a log give no state.
-#[derive(Drop)]
+#[derive(Debug, Drop, Error)]
 pub enum BookFault {
     /// None comes of the item of this subject.
+    #[error("no state of a store comes of the item of {subject:?}")]
     Bad { subject: Subject },
     /// There was no room in memory.
+    #[error("there was no room in memory")]
     NoMemory,
 }
 

@@ -30,13 +30,16 @@ use ix_disk::Disk;
 use ix_items::Item;
 use ix_keep::checkpoint;
 use std::alloc::Global;
+use thiserror::Error;
 
 /// Why a walk over the items of a state does not begin.
-#[derive(Clone, Copy, Debug, PartialEq, Eq)]
+#[derive(Clone, Copy, Debug, PartialEq, Eq, Error)]
 pub enum ListFault {
     /// They have no room in one body of a log. Those of a state that commands lead to always have.
+    #[error("the items have no room in one body of a log")]
     TooLong,
     /// There was no room in memory.
+    #[error("there was no room in memory")]
     NoMemory,
 }
 

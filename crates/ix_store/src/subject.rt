@@ -7,7 +7,7 @@ use ix_base::Bytes;
 use ix_items::Item;
 
 /// Of which item of a log no state comes.
-#[derive(Drop)]
+#[derive(Debug, Drop)]
 pub enum Subject {
     /// That of the settings.
     Settings,

@@ -15,15 +15,19 @@ use std::io::{self, ErrorKind};
 use std::os::unix::fs::FileExt;
 use std::rt::Files;
 use std::str;
+use thiserror::Error;
 
 /// Why a call of a tree was refused.
-#[derive(Clone, Copy, Debug, PartialEq, Eq)]
+#[derive(Clone, Copy, Debug, PartialEq, Eq, Error)]
 pub enum TreeFault {
     /// The tree failed.
+    #[error("the tree of files failed")]
     Failed,
     /// There is no such file, or no such folder.
+    #[error("there is no such file or folder")]
     Missing,
     /// There was no room in memory.
+    #[error("there was no room in memory")]
     NoMemory,
 }
 

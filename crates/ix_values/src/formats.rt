@@ -9,6 +9,7 @@ ghost use Rattle.ix_values.specs.Formats.{RefusesFormat};
 use ix_base::NoMemory;
 use std::alloc::{AllocError, Global};
 use std::marker::Model;
+use thiserror::Error;
 
 /// One piece of a format, and what it reads. Names are English and read in either case.
 #[derive(Clone, Copy, Debug, PartialEq, Eq)]
@@ -64,12 +65,14 @@ pub enum Directive {
 }
 
 /// Why a text is no format.
-#[derive(Clone, Copy, Debug, PartialEq, Eq)]
+#[derive(Clone, Copy, Debug, PartialEq, Eq, Error)]
 pub enum FormatFault {
     /// A directive is not known, or the format names no day: it has neither seconds since 1970, nor a month with a day, nor a day
     /// of the year.
+    #[error("the text is no format of a time with a day")]
     BadValue,
     /// There was no room in memory.
+    #[error("there was no room in memory")]
     NoMemory,
 }
 

@@ -10,6 +10,7 @@ use crate::plain::read_digits;
 use ix_base::{Bytes, NoMemory, Sequence};
 use ix_pattern::{Pattern, PatternFault};
 use std::alloc::Global;
+use thiserror::Error;
 
 /// Which matches are replaced.
 #[derive(Clone, Copy, Debug, PartialEq, Eq)]
@@ -44,13 +45,16 @@ pub enum Sed {
 pub type SedList = Sequence<Sed>;
 
 /// Why a text is no change of a raw text.
-#[derive(Clone, Copy, Debug, PartialEq, Eq)]
+#[derive(Clone, Copy, Debug, PartialEq, Eq, Error)]
 pub enum SedFault {
     /// It has neither the form `s/P/R/F` nor `y/A/B/`. The form is judged before the pattern.
+    #[error("the value is neither s/P/R/F nor y/A/B/")]
     BadValue,
     /// It has the form `s/P/R/F`, and P has this fault, which is never want of memory.
+    #[error("the value has no pattern: {fault}")]
     BadPattern { fault: PatternFault },
     /// There was no room in memory.
+    #[error("there was no room in memory")]
     NoMemory,
 }
 

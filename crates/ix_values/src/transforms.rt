@@ -15,6 +15,7 @@ use ix_base::{Bytes, NoMemory, Sequence};
 use ix_conf::Merged;
 use ix_pattern::{Pattern, PatternFault};
 use std::alloc::Global;
+use thiserror::Error;
 
 /// A part of an event that a transform reads or writes.
 #[derive(Clone, Copy, Debug, PartialEq, Eq)]
@@ -58,13 +59,16 @@ pub struct Transform {
 pub type TransformList = Sequence<Transform>;
 
 /// Why a stanza is no transform. The first fault in the order of the keys is answered.
-#[derive(Drop)]
+#[derive(Debug, Drop, Error)]
 pub enum TransformFault {
     /// The value of this key is none of its kind, or is missing where it has to be there.
+    #[error("the transform has a bad value of {key:?}")]
     BadValue { key: Bytes },
     /// The value of this key is no pattern. The fault is never want of memory.
+    #[error("the transform has no pattern in {key:?}: {fault}")]
     BadPattern { key: Bytes, fault: PatternFault },
     /// There was no room in memory.
+    #[error("there was no room in memory")]
     NoMemory,
 }
 
