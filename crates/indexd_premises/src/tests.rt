@@ -3,7 +3,7 @@
 use crate::first_run;
 use indexd_core::Status;
 use ix_base::{Bytes, FailPlan, MemClock, MemSink, MemSource, Text};
-use ix_link::{MemLinkList, MemListener};
+use ix_link::{MemLink, MemLinkList, MemListener};
 use ix_tree::{MemTree, TreeFileList};
 use std::alloc::Global;
 use std::process::Abort;
@@ -21,14 +21,25 @@ fn words_of(alloc: Global, line: &str) -> Vec<Text> {
     words
 }
 
-/// The number of the status of a first run that has no settings and an empty input, and that nobody calls.
+/// A peer that asks for the list of buckets.
+const ASKED: &[u8] = b"GET /buckets HTTP/1.1\r\n\r\n";
+
+/// A listener at which one peer waits.
+fn listener_of(alloc: Global) -> MemListener {
+    let bytes = Bytes::copy_of(alloc, ASKED).unwrap_or(Bytes::new(alloc));
+    let mut links = MemLinkList::new(alloc);
+    let _ = links.push(MemLink::new(alloc, bytes, FailPlan::none(alloc)));
+    MemListener::new(alloc, links, FailPlan::none(alloc))
+}
+
+/// The number of the status of a first run that has no settings and an empty input, and that one peer calls where it listens.
 fn code_of(alloc: Global, line: &str) -> u8 {
     let words = words_of(alloc, line);
     let mut input = MemSource::in_pieces(Bytes::new(alloc), 1, FailPlan::none(alloc));
     let mut output = MemSink::new(alloc, FailPlan::none(alloc));
     let mut clock = MemClock::new([NOON].to_vec(alloc).unwrap_or(Vec::new(alloc)));
     let mut tree = MemTree::new(TreeFileList::new(alloc), FailPlan::none(alloc));
-    let mut listener = MemListener::new(alloc, MemLinkList::new(alloc), FailPlan::none(alloc));
+    let mut listener = listener_of(alloc);
     let (status, _disk) = first_run(
         alloc,
         &words,
@@ -53,4 +64,5 @@ fn first_runs_are_done(rt: HostRuntime) {
     check(&rt, alloc, "tick");
     check(&rt, alloc, "preview --host h --source s --store");
     check(&rt, alloc, "feed");
+    check(&rt, alloc, "serve --port 8089 --requests 1");
 }
