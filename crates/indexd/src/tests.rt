@@ -19,3 +19,4 @@ mod shows;
 mod sockets;
 mod steps;
 mod stops;
+mod used;

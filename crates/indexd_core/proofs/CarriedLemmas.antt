@@ -22,7 +22,8 @@ use Rattle.indexd_core.specs.Sides.{Side}
 use Rattle.indexd_core.specs.Stored.{Stored, Tasked, unread}
 use Rattle.indexd_core.specs.Texts.{Said, status_text}
 use Rattle.indexd_core.specs.declared.status.Status.{Status}
-use Rattle.indexd_core.specs.declared.status.Status.TheVariants.{Done, Memory, Usage, Configuration, Input, DiskFault, Damaged, Output, ListenerFault, NotFound, TooManyChannels, Unreadable, Endless, Full}
+use Rattle.indexd_core.specs.declared.status.Status.TheVariants.{Done, Memory, Usage, Configuration, Input, DiskFault, Damaged, Output, ListenerFault, NotFound, TooManyChannels, Unreadable, Endless, Full, InUse}
+use Rattle.indexd_core.proofs.LockedLemmas.{left_alone, same_alone}
 use Rattle.indexd_core.proofs.PreviewLemmas.{rose-until}
 use Rattle.indexd_core.proofs.StoredLemmas.{yes_no}
 
@@ -48,6 +49,7 @@ blames TooManyChannels = false
 blames Unreadable = false
 blames Endless = false
 blames Full = false
+blames InUse = true
 
 pub blameless : (status : Status) {D : Type 0} (d : Ghosts D) (old new : Around D) → blames status ≡ false → HasCause status d old new
 blameless status d old new none = record {
@@ -56,6 +58,7 @@ blameless status d old new none = record {
   disk = λ is. absurd (yes_no (blames status) (ap blames is) none);
   listener = λ is. absurd (yes_no (blames status) (ap blames is) none);
   undamaged = λ is. absurd (yes_no (blames status) (ap blames is) none);
+  in_use = λ is. absurd (yes_no (blames status) (ap blames is) none);
 }
 
 nothing_kept : {D : Type 0} (d : Ghosts D) (old : Around D) (output : Side) → old.output.faults ≤ output.faults → Keeps d old (wrote old output)
@@ -99,7 +102,8 @@ no_room d o status old output is said later = subst (λ (s : Status). Carries o 
   refused = λ unbuilt. record { status_is = inr refl; tree_not_asked = refl; not_asked = refl; not_read = refl; line = said };
   comes = comes_of_none d o old output said;
   untouched = λ unbuilt. refl;
-  short = λ ok. inr (inl refl);
+  used = λ used stored. record { status_is = inr refl; alone = left_alone d old.disk };
+  short = λ ok. inr (inl (left_alone d old.disk));
   keeps = nothing_kept d old output later;
   cause = blameless Memory d old (wrote old output) refl;
 })
@@ -128,7 +132,8 @@ refused d o status old output unbuilt is said later = subst (λ (s : Status). Ca
   refused = λ unbuilt. record { status_is = inl refl; tree_not_asked = refl; not_asked = refl; not_read = refl; line = said };
   comes = comes_of_refused d o Usage old output unbuilt;
   untouched = λ unbuilt. refl;
-  short = λ ok. inr (inl refl);
+  used = λ used stored. record { status_is = inr refl; alone = left_alone d old.disk };
+  short = λ ok. inr (inl (left_alone d old.disk));
   keeps = nothing_kept d old output later;
   cause = blameless Usage d old (wrote old output) refl;
 })
@@ -163,6 +168,10 @@ module _ {stated : Stated} {files : Option (List TreeFile)} {failed failed' : �
   of_damaged (runs.unprepared same left wrote) = wrote
   of_damaged (runs.ran prepared is run) = run.lines.outcome
 
+  of_in_use : Previews InUse stated files failed failed' ahead ahead' input input' output output' → ⊥
+  of_in_use (runs.unprepared same left wrote) = wrote
+  of_in_use (runs.ran prepared is run) = run.lines.outcome
+
 module _ {D : Type 0} (status : Status) (old new : Around D) where
   preview_at : (stated : Stated) (s : Status) → Previews status stated old.files old.failed new.failed old.ahead new.ahead old.input new.input old.output new.output →
       status ≡ s → Previews s stated old.files old.failed new.failed old.ahead new.ahead old.input new.input old.output new.output
@@ -182,7 +191,8 @@ module _ {D : Type 0} {d : Ghosts D} {status : Status} {old new : Around D} wher
     refused = λ unbuilt. absurd (true≢false unbuilt);
     comes = told;
     untouched = λ other. same;
-    short = λ ok. inr (inl same);
+    used = λ used stored. absurd (true≢false (sym stored));
+    short = λ ok. inr (inl (same_alone d old.disk new.disk same));
     keeps = kept;
     cause = record {
       input = λ is. of_input (preview_at status old new stated Input told is);
@@ -190,6 +200,7 @@ module _ {D : Type 0} {d : Ghosts D} {status : Status} {old new : Around D} wher
       disk = λ is. absurd (of_disk (preview_at status old new stated DiskFault told is));
       listener = λ is. absurd (of_listener (preview_at status old new stated ListenerFault told is));
       undamaged = λ is. absurd (of_damaged (preview_at status old new stated Damaged told is));
+      in_use = λ is. absurd (of_in_use (preview_at status old new stated InUse told is));
     };
   }
 
@@ -205,7 +216,8 @@ module _ {D : Type 0} {d : Ghosts D} {status : Status} {old new : Around D} wher
       asked,
     );
     untouched = λ other. same;
-    short = λ ok. inr (inl same);
+    used = λ used stored. absurd (true≢false (sym stored));
+    short = λ ok. inr (inl (same_alone d old.disk new.disk same));
     keeps = kept;
     cause = record {
       input = λ is. inr (tells_at status old new file Input told is).0;
@@ -213,6 +225,7 @@ module _ {D : Type 0} {d : Ghosts D} {status : Status} {old new : Around D} wher
       disk = λ is. absurd (tells_at status old new file DiskFault told is);
       listener = λ is. absurd (tells_at status old new file ListenerFault told is);
       undamaged = λ is. absurd (tells_at status old new file Damaged told is);
+      in_use = λ is. absurd (tells_at status old new file InUse told is);
     };
   }
 

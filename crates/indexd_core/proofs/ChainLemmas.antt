@@ -2,7 +2,7 @@
 use Rattle.std.proofs.Common.{◌≡◌, ◌≤◌, ◌⊎◌, ◌∙◌, ℕ, Bool, true, false, List, [], length, take, refl, sym, ap, subst, inl, inr, ⊎_elim, Option, Some, arith}
 use Rattle.std.proofs.lemmas.List.{take-take}
 use Rattle.ix_base.specs.Clocks.{Moments}
-use Rattle.ix_disk.proofs.Runs.{always_begins}
+use Rattle.ix_disk.proofs.Runs.{always_begins, always_still}
 use Rattle.ix_disk.specs.Image.{Image}
 use Rattle.ix_disk.specs.Moments.{Always}
 use Rattle.ix_disk.specs.declared.disk.Disk.{Ghosts}
@@ -22,6 +22,7 @@ use Rattle.indexd_store.specs.declared.task.Task.{Task}
 use Rattle.indexd_core.specs.Chain.{MayRun, Leaves, unmounted, mounted, IsLeftOf, IsStopOf, MayGoOn}
 use Rattle.indexd_core.specs.Feeds.{Feeds, FeedComes}
 use Rattle.indexd_core.specs.Feeds as feeds
+use Rattle.indexd_core.specs.Locked.{IsLeftAlone, IsLockedOut}
 use Rattle.indexd_core.specs.Prepared.{Stated}
 use Rattle.indexd_core.specs.Serves as serves
 use Rattle.indexd_core.specs.Serves.{Serves, ServeComes}
@@ -29,6 +30,7 @@ use Rattle.indexd_core.specs.Sides.{Side}
 use Rattle.indexd_core.specs.Stored as stored
 use Rattle.indexd_core.specs.Stored.{Comes, Whole, Tasked, Stored}
 use Rattle.indexd_core.specs.declared.status.Status.{Status}
+use Rattle.indexd_core.proofs.LockedLemmas.{out_alone}
 
 module _ {D : Type 0} (d : Ghosts D) (choose : Chooser) (history : List Order) (k : ℕ) (before disk : D) where
   of_run : (lost : Bool) (may : List Order → List Order → List Order → Type 0) → HasRun lost d IsTaken fits choose history k may before disk → Leaves d choose history k before disk
@@ -45,14 +47,23 @@ module _ {D : Type 0} (d : Ghosts D) (choose : Chooser) (history : List Order) (
   of_served : (config : Config) (ahead : Option Moments) (serves : Serving D) → HasServed d IsTaken fits choose history k config ahead serves before disk → Leaves d choose history k before disk
   of_served config ahead serves run = mounted run.count run.now run.least run.given run.passes
 
-  -- the disk was left alone
+  -- no image of the disk has changed
+  of_alone : MayRun d choose history k before → IsLeftAlone d before disk → Leaves d choose history k before disk
+  of_alone may alone = unmounted (always_still d before disk (StandsFrom fits choose history k) alone.images may.begins)
+
+  -- the disk was not given
+  of_out : (status : Status) → MayRun d choose history k before → IsLockedOut status d before disk → Leaves d choose history k before disk
+  of_out status may out = of_alone may (out_alone d before disk status out)
+
+  -- nothing was asked of the disk
   of_same : MayRun d choose history k before → disk ≡ before → Leaves d choose history k before disk
   of_same may same = unmounted (subst (λ (x : D). Always d before x (StandsFrom fits choose history k)) (sym same) (always_begins d before (StandsFrom fits choose history k) may.begins))
 
-  of_whole : {status : Status} {files : Option (List TreeFile)} {failed failed' : ℕ} {still : Type 0} {comes : Config → Type 0} {output output' : Side} → MayRun d choose history k before →
-      (still → disk ≡ before) → ((config : Config) → comes config → Leaves d choose history k before disk) → Whole status files failed failed' still comes output output' → Leaves d choose history k before disk
-  of_whole may alone so (stored.unread still wrote) = of_same may (alone still)
-  of_whole may alone so (stored.ran config is comes) = so config comes
+  of_whole : {status : Status} {files : Option (List TreeFile)} {failed failed' : ℕ} {still out : Type 0} {comes : Config → Type 0} {output output' : Side} → MayRun d choose history k before →
+      (still → disk ≡ before) → (out → Leaves d choose history k before disk) → ((config : Config) → comes config → Leaves d choose history k before disk) → Whole status files failed failed' still out comes output output' → Leaves d choose history k before disk
+  of_whole may alone refused so (stored.unread still wrote) = of_same may (alone still)
+  of_whole may alone refused so (stored.locked_out config is out said) = refused out
+  of_whole may alone refused so (stored.ran config is comes) = so config comes
 
   of_comes : {status : Status} {config : Config} {named : List ℕ} {ahead ahead' : Option Moments} {whole : Chooser → Doing} {untouched : Side → Type 0} {part : Stop → Side → Chooser → Doing} {wrote : Stop → Side → Type 0} {output' : Side} →
       MayRun d choose history k before → Comes status d config named ahead ahead' whole untouched part wrote output' before disk → Leaves d choose history k before disk
@@ -67,24 +78,25 @@ module _ {D : Type 0} (d : Ghosts D) (choose : Chooser) (history : List Order) (
   of_serve : {status : Status} {config : Config} {requests : ℕ} {ahead ahead' : Option Moments} {heard heard' : Listened} {output output' : Side} → MayRun d choose history k before →
       ServeComes status d config requests ahead ahead' heard heard' output output' before disk → Leaves d choose history k before disk
   of_serve may (serves.unbound is clock same alone line) = of_same may alone
+  of_serve {status = status} may (serves.locked_out clock same out said) = of_out status may out
   of_serve may (serves.shut stop is from same line) = of_shut stop _ _ _ (from choose history k may.chooser may.given may.begins may.image may.tells)
   of_serve may (serves.served end reads from line) = of_served _ _ _ (from choose history k may.chooser may.given may.begins may.image may.tells)
 
   pub feeds_leave : (status : Status) (files : Option (List TreeFile)) (failed failed' : ℕ) (ahead ahead' : Option Moments) (input input' output output' : Side) → MayRun d choose history k before →
       Feeds status files failed failed' ahead ahead' input input' output output' d before disk → Leaves d choose history k before disk
-  feeds_leave status files failed failed' ahead ahead' input input' output output' may comes = of_whole may (λ still. still.2) (λ config so. of_feed may so) comes
+  feeds_leave status files failed failed' ahead ahead' input input' output output' may comes = of_whole may (λ still. still.2) (λ out. of_out status may out.2) (λ config so. of_feed may so) comes
 
   pub serves_leave : (status : Status) (requests : ℕ) (files : Option (List TreeFile)) (failed failed' : ℕ) (ahead ahead' : Option Moments) (heard heard' : Listened) (output output' : Side) → MayRun d choose history k before →
       Serves status requests files failed failed' ahead ahead' heard heard' output output' d before disk → Leaves d choose history k before disk
-  serves_leave status requests files failed failed' ahead ahead' heard heard' output output' may comes = of_whole may (λ still. still.2) (λ config so. of_serve may so) comes
+  serves_leave status requests files failed failed' ahead ahead' heard heard' output output' may comes = of_whole may (λ still. still.2) (λ out. absurd out) (λ config so. of_serve may so) comes
 
   pub task_leaves : (status : Status) (task : Task) (files : Option (List TreeFile)) (failed failed' : ℕ) (ahead ahead' : Option Moments) (output output' : Side) → MayRun d choose history k before →
       Tasked status task files failed failed' ahead ahead' output output' d before disk → Leaves d choose history k before disk
-  task_leaves status task files failed failed' ahead ahead' output output' may comes = of_whole may (λ still. still.1) (λ config so. of_comes may so) comes
+  task_leaves status task files failed failed' ahead ahead' output output' may comes = of_whole may (λ still. still.1) (λ out. of_out status may out.1) (λ config so. of_comes may so) comes
 
   pub stored_leaves : (status : Status) (stated : Stated) (files : Option (List TreeFile)) (failed failed' : ℕ) (ahead ahead' : Option Moments) (input input' output output' : Side) → MayRun d choose history k before →
       Stored status stated files failed failed' ahead ahead' input input' output output' d before disk → Leaves d choose history k before disk
-  stored_leaves status stated files failed failed' ahead ahead' input input' output output' may comes = of_whole may (λ still. still.2) (λ config so. of_comes may so.0) comes
+  stored_leaves status stated files failed failed' ahead ahead' input input' output output' may comes = of_whole may (λ still. still.2) (λ out. of_out status may out.2) (λ config so. of_comes may so.0) comes
 
 -- the exit of a run is a stop
 pub exits : {D : Type 0} (d : Ghosts D) → ((disk : D) (t : ℕ) (image : Image) → t ≤ d.moment disk → d.may_leave disk image → d.left_since disk t image) →

@@ -124,3 +124,16 @@ of_listener ends.Output is = apart statuses.ListenerFault statuses.Output refl i
 
 pub listener_end : (ended : Status) (end : End) → ended ≡ end_status end → ended ≡ statuses.ListenerFault → ⊥
 listener_end ended end is at = of_listener end (sym at ∙ is)
+
+of_in_use : (end : End) → statuses.InUse ≡ end_status end → ⊥
+of_in_use ends.Ended is = apart statuses.InUse statuses.Done refl is
+of_in_use (ends.Unreadable request) is = apart statuses.InUse statuses.Unreadable refl is
+of_in_use ends.Memory is = apart statuses.InUse statuses.Memory refl is
+of_in_use ends.Endless is = apart statuses.InUse statuses.Endless refl is
+of_in_use ends.Disk is = apart statuses.InUse statuses.DiskFault refl is
+of_in_use (ends.Damaged file at) is = apart statuses.InUse statuses.Damaged refl is
+of_in_use ends.Input is = apart statuses.InUse statuses.Input refl is
+of_in_use ends.Output is = apart statuses.InUse statuses.Output refl is
+
+pub in_use_end : (ended : Status) (end : End) → ended ≡ end_status end → ended ≡ statuses.InUse → ⊥
+in_use_end ended end is at = of_in_use end (sym at ∙ is)

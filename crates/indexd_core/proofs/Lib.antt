@@ -11,3 +11,4 @@ pub mod CarriedLemmas
 pub mod ChainLemmas
 pub mod Empty
 pub mod ReadLemmas
+pub mod LockedLemmas

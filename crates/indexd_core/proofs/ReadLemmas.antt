@@ -20,6 +20,7 @@ use Rattle.indexd_core.specs.Sides.{Side}
 use Rattle.indexd_core.specs.Stored as stored
 use Rattle.indexd_core.specs.Stored.{status_of}
 use Rattle.indexd_core.specs.declared.status.Status.TheVariants as statuses
+use Rattle.indexd_core.proofs.LockedLemmas.{out_no}
 use Rattle.indexd_core.proofs.StoredLemmas.{apart}
 
 no_stop : (stop : Stop) → statuses.Done ≡ status_of stop → ⊥
@@ -53,4 +54,5 @@ module _ {D : Type 0} (d : Ghosts D) (before disk : D) where
   pub all_read : (files : Option (List TreeFile)) (failed failed' : ℕ) (ahead ahead' : Option Moments) (input input' output output' : Side) →
       Feeds statuses.Done files failed failed' ahead ahead' input input' output output' d before disk → IfSome input'.told (λ bytes. bytes ≡ [])
   all_read files failed failed' ahead ahead' input input' output output' (stored.unread still wrote) = absurd wrote
+  all_read files failed failed' ahead ahead' input input' output output' (stored.locked_out config is out said) = absurd (out_no d before disk statuses.Done statuses.Done out.2 refl refl)
   all_read files failed failed' ahead ahead' input input' output output' (stored.ran config is comes) = of_comes comes

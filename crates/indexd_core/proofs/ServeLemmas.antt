@@ -63,3 +63,11 @@ module _ (ended : Status) (requests : ℕ) (output output' : Side) where
   usage_served ends.Memory wrote is = let e : statuses.Memory ≡ statuses.Usage = sym wrote.0 ∙ is in cc
   usage_served ends.Disk wrote is = let e : statuses.DiskFault ≡ statuses.Usage = sym wrote.0 ∙ is in cc
   usage_served (ends.Damaged file at) wrote is = let e : statuses.Damaged ≡ statuses.Usage = sym wrote.0 ∙ is in cc
+
+  pub in_use_served : (end : ServeEnd) → EndsServing ended requests end output output' → ended ≡ statuses.InUse → ⊥
+  in_use_served ends.Done (inl done) is = let e : statuses.Done ≡ statuses.InUse = sym done.0 ∙ is in cc
+  in_use_served ends.Done (inr unsaid) is = let e : statuses.Output ≡ statuses.InUse = sym unsaid.0 ∙ is in cc
+  in_use_served ends.Listener wrote is = let e : statuses.ListenerFault ≡ statuses.InUse = sym wrote.0 ∙ is in cc
+  in_use_served ends.Memory wrote is = let e : statuses.Memory ≡ statuses.InUse = sym wrote.0 ∙ is in cc
+  in_use_served ends.Disk wrote is = let e : statuses.DiskFault ≡ statuses.InUse = sym wrote.0 ∙ is in cc
+  in_use_served (ends.Damaged file at) wrote is = let e : statuses.Damaged ≡ statuses.InUse = sym wrote.0 ∙ is in cc

@@ -14,6 +14,7 @@ use Rattle.indexd_store.specs.Shortened.{EndsShort, StopsShort, HasHadItsRuns}
 use Rattle.indexd_store.specs.declared.stop.Stop.{Stop}
 use Rattle.indexd_store.specs.declared.stop.Stop.TheVariants as stops
 use Rattle.indexd_core.specs.Feeds.{end_status}
+use Rattle.indexd_core.specs.Locked.{IsLeftAlone}
 use Rattle.indexd_core.specs.Serves.{EndsServing}
 use Rattle.indexd_core.specs.Shortened.{is_short_at, LeavesShort}
 use Rattle.indexd_core.specs.Sides.{Side}
@@ -37,7 +38,7 @@ stop_as stops.Endless = refl
 
 module _ {D : Type 0} (d : Ghosts D) (disk disk' : D) where
   by : (ended : Status) (stop : Stop) → ended ≡ status_of stop → ReadsShort d disk' ⊎ ((stop ≡ stops.Full) × HasHadItsRuns d fits disk) →
-      ReadsShort d disk' ⊎ ((disk' ≡ disk) ⊎ ((ended ≡ statuses.Full) × HasHadItsRuns d fits disk))
+      ReadsShort d disk' ⊎ (IsLeftAlone d disk disk' ⊎ ((ended ≡ statuses.Full) × HasHadItsRuns d fits disk))
   by ended stop is (inl short) = inl short
   by ended stop is (inr had) = inr (inr (is ∙ ap status_of had.0, had.1))
 

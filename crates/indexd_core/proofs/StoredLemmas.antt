@@ -161,6 +161,21 @@ of_listener stops.Endless is = apart statuses.ListenerFault statuses.Endless ref
 pub listener_stop : (ended : Status) (stop : Stop) → ended ≡ status_of stop → ended ≡ statuses.ListenerFault → ⊥
 listener_stop ended stop is at = of_listener stop (sym at ∙ is)
 
+of_in_use : (stop : Stop) → statuses.InUse ≡ status_of stop → ⊥
+of_in_use stops.Memory is = apart statuses.InUse statuses.Memory refl is
+of_in_use stops.Disk is = apart statuses.InUse statuses.DiskFault refl is
+of_in_use (stops.Damaged file at) is = apart statuses.InUse statuses.Damaged refl is
+of_in_use stops.Inconsistent is = apart statuses.InUse statuses.Damaged refl is
+of_in_use stops.NotFound is = apart statuses.InUse statuses.NotFound refl is
+of_in_use stops.TooManyChannels is = apart statuses.InUse statuses.TooManyChannels refl is
+of_in_use stops.Full is = apart statuses.InUse statuses.Full refl is
+of_in_use stops.Output is = apart statuses.InUse statuses.Output refl is
+of_in_use stops.Input is = apart statuses.InUse statuses.Input refl is
+of_in_use stops.Endless is = apart statuses.InUse statuses.Endless refl is
+
+pub in_use_stop : (ended : Status) (stop : Stop) → ended ≡ status_of stop → ended ≡ statuses.InUse → ⊥
+in_use_stop ended stop is at = of_in_use stop (sym at ∙ is)
+
 of_done : (stop : Stop) → statuses.Done ≡ status_of stop → ⊥
 of_done stops.Memory is = apart statuses.Done statuses.Memory refl is
 of_done stops.Disk is = apart statuses.Done statuses.DiskFault refl is

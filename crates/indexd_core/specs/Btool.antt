@@ -13,7 +13,7 @@ use Rattle.indexd_core.specs.Texts.{status_text, Said}
 use Rattle.indexd_settings.specs.declared.layers.SettingsFile.{SettingsFile}
 use Rattle.indexd_settings.specs.declared.layers.Refusal.{Refusal}
 use Rattle.indexd_core.specs.declared.status.Status.{Status}
-use Rattle.indexd_core.specs.declared.status.Status.TheVariants.{Done, Memory, Usage, Configuration, Input, DiskFault, Damaged, Output, ListenerFault, NotFound, TooManyChannels, Unreadable, Endless, Full}
+use Rattle.indexd_core.specs.declared.status.Status.TheVariants.{Done, Memory, Usage, Configuration, Input, DiskFault, Damaged, Output, ListenerFault, NotFound, TooManyChannels, Unreadable, Endless, Full, InUse}
 
 -- the listing of layers
 pub record Lists (layers : List Layer) (text : List ℕ) : Type 0 where
@@ -48,6 +48,7 @@ Tells ListenerFault file files failed failed' output output' = ⊥
 Tells TooManyChannels file files failed failed' output output' = ⊥
 Tells Unreadable file files failed failed' output output' = ⊥
 Tells Full file files failed failed' output output' = ⊥
+Tells InUse file files failed failed' output output' = ⊥
 
 -- the line of a fault was written, or there was no room for it
 abbrev pub RefusalSaid : Status → SettingsFile → Refusal → Side → Side → Type 0
@@ -65,3 +66,4 @@ RefusalSaid ListenerFault file refusal output output' = ⊥
 RefusalSaid TooManyChannels file refusal output output' = ⊥
 RefusalSaid Unreadable file refusal output output' = ⊥
 RefusalSaid Full file refusal output output' = ⊥
+RefusalSaid InUse file refusal output output' = ⊥

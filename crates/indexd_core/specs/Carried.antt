@@ -12,6 +12,7 @@ use Rattle.indexd_store.specs.declared.task.Task.{Task}
 use Rattle.indexd_core.specs.Btool.{Tells}
 use Rattle.indexd_core.specs.Commands.{is_built, is_stored, asked_for}
 use Rattle.indexd_core.specs.Feeds.{Feeds}
+use Rattle.indexd_core.specs.Locked.{HasRefused, EndsUsed}
 use Rattle.indexd_core.specs.Runs.{Previews, Refuses}
 use Rattle.ix_feed.specs.Connections.{Listened}
 use Rattle.indexd_core.specs.Serves.{Serves}
@@ -19,7 +20,7 @@ use Rattle.indexd_core.specs.Shortened.{LeavesShort}
 use Rattle.indexd_core.specs.Sides.{Side}
 use Rattle.indexd_core.specs.Stored.{FromStart, Stored, Tasked}
 use Rattle.indexd_core.specs.declared.status.Status.{Status}
-use Rattle.indexd_core.specs.declared.status.Status.TheVariants.{Usage, Input, DiskFault, Damaged, Output, ListenerFault}
+use Rattle.indexd_core.specs.declared.status.Status.TheVariants.{Usage, Input, DiskFault, Damaged, Output, ListenerFault, InUse}
 
 -- All that the program works over, as it stands: the files of settings, and how often the tree has failed and has missed a file; what the
 -- clock is to tell; the input and the output; what the listener tells, how often it has failed, and how many connections are out; the disk.
@@ -99,6 +100,7 @@ pub record HasCause (status : Status) {D : Type 0} (d : Ghosts D) (old new : Aro
   pub disk : status ≡ DiskFault → Rose (d.faults old.disk) (d.faults new.disk)
   pub listener : status ≡ ListenerFault → Rose old.deaf new.deaf
   pub undamaged : status ≡ Damaged → FromStart d old.disk (λ choose history k. ⊥)
+  pub in_use : status ≡ InUse → HasRefused d old.disk new.disk
 
 -- what comes of what is asked for, or of words that ask for nothing
 pub record Carries (asked : Option Asked) (status : Status) {D : Type 0} (d : Ghosts D) (old new : Around D) : Type 0 where
@@ -106,6 +108,7 @@ pub record Carries (asked : Option Asked) (status : Status) {D : Type 0} (d : Gh
   pub refused : is_built asked ≡ false → Refuses status old.failed new.failed old.ahead new.ahead old.input new.input old.output new.output
   pub comes : ComesOf asked status d old new
   pub untouched : is_stored asked ≡ false → new.disk ≡ old.disk
+  pub used : d.in_use old.disk ≡ Some true → is_stored asked ≡ true → EndsUsed status d old.disk new.disk
   pub short : LeavesShort status d old.disk new.disk
   pub keeps : Keeps d old new
   pub cause : HasCause status d old new

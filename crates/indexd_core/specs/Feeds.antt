@@ -14,6 +14,7 @@ use Rattle.indexd_feed.specs.declared.end.End.{End}
 use Rattle.indexd_feed.specs.declared.end.End.TheVariants as ends
 use Rattle.indexd_store.specs.Opened.{HasShut}
 use Rattle.indexd_store.specs.declared.stop.Stop.{Stop}
+use Rattle.indexd_core.specs.Locked.{IsLockedOut}
 use Rattle.indexd_core.specs.Sides.{Side}
 use Rattle.indexd_core.specs.Stored.{status_of, line_of, damaged_line, FromStart, Whole}
 use Rattle.indexd_core.specs.Texts.{status_text, Said}
@@ -66,5 +67,5 @@ pub data FeedComes (status : Status) {D : Type 0} (d : Ghosts D) (config : Confi
 
 abbrev pub Feeds : Status → Option (List TreeFile) → ℕ → ℕ → Option Moments → Option Moments → Side → Side → Side → Side → {D : Type 0} → Ghosts D → D → D → Type 0
 Feeds status files failed failed' ahead ahead' input input' output output' d disk disk' =
-    Whole status files failed failed' ((ahead' ≡ ahead) × (input' ≡ input) × (disk' ≡ disk))
+    Whole status files failed failed' ((ahead' ≡ ahead) × (input' ≡ input) × (disk' ≡ disk)) ((ahead' ≡ ahead) × (input' ≡ input) × IsLockedOut status d disk disk')
     (λ config. FeedComes status d config ahead ahead' input input' output output' disk disk') output output'

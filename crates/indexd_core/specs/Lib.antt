@@ -14,3 +14,4 @@ pub mod Btool
 pub mod Carried
 pub mod Starts
 pub mod Chain
+pub mod Locked

@@ -12,7 +12,7 @@ use Rattle.indexd_core.specs.declared.prepare.Prepared.{Prepared}
 use Rattle.indexd_core.specs.Sides.{Side, IsAtEnd}
 use Rattle.indexd_core.specs.Texts.{preview_text, status_text, Said}
 use Rattle.indexd_core.specs.declared.status.Status.{Status}
-use Rattle.indexd_core.specs.declared.status.Status.TheVariants.{Done, Memory, Usage, Configuration, Input, DiskFault, Damaged, Output, ListenerFault, NotFound, TooManyChannels, Unreadable, Endless, Full}
+use Rattle.indexd_core.specs.declared.status.Status.TheVariants.{Done, Memory, Usage, Configuration, Input, DiskFault, Damaged, Output, ListenerFault, NotFound, TooManyChannels, Unreadable, Endless, Full, InUse}
 
 -- the lines of the events that bytes settle, of a stream that is open (false) or closed
 abbrev pub Text : Type 0
@@ -53,6 +53,7 @@ Wrote ListenerFault text taken input input' output output' = ⊥
 Wrote TooManyChannels text taken input input' output output' = ⊥
 Wrote Unreadable text taken input input' output output' = ⊥
 Wrote Full text taken input input' output output' = ⊥
+Wrote InUse text taken input input' output output' = ⊥
 
 -- a run, before the line of its status
 pub record Runs (status : Status) (text : Text) (input input' output output' : Side) : Type 0 where
@@ -90,6 +91,7 @@ WroteUnprepared ListenerFault stated files failed failed' output output' = ⊥
 WroteUnprepared TooManyChannels stated files failed failed' output output' = ⊥
 WroteUnprepared Unreadable stated files failed failed' output output' = ⊥
 WroteUnprepared Full stated files failed failed' output output' = ⊥
+WroteUnprepared InUse stated files failed failed' output output' = ⊥
 
 -- A whole run: it stops before it is prepared, or it runs with the settings that the files have for what is stated.
 pub data Previews (status : Status) (stated : Stated) (files : Option (List TreeFile)) (failed failed' : ℕ)

@@ -16,6 +16,7 @@ use Rattle.indexd_feed.specs.declared.end.ServeEnd.{ServeEnd}
 use Rattle.indexd_feed.specs.declared.end.ServeEnd.TheVariants as ends
 use Rattle.indexd_store.specs.Opened.{HasShut}
 use Rattle.indexd_store.specs.declared.stop.Stop.{Stop}
+use Rattle.indexd_core.specs.Locked.{IsLockedOut}
 use Rattle.indexd_core.specs.Sides.{Side}
 use Rattle.indexd_core.specs.Stored.{status_of, line_of, damaged_line, FromStart, Whole}
 use Rattle.indexd_core.specs.Texts.{status_text, Said}
@@ -39,11 +40,13 @@ EndsServing status requests (ends.Damaged file at) output output' = (status ≡ 
 
 -- ---- runs
 
--- A run of connections with these settings. Unbound: the port was not to be had, and nothing else was done. Shut: the run stopped before the
--- first connection, took none, and wrote the line of that. Served: connections were served up to this end, and then the output was written. How
--- many were taken, and that each was handed back, holds whatever the disk holds.
+-- A run of connections with these settings. Unbound: the port was not to be had, and nothing else was done. Locked out: the port was taken, and the
+-- store was not given. Shut: the run stopped before the first connection, took none, and wrote the line of that. Served: connections were served up to
+-- this end, and then the output was written. How many were taken, and that each was handed back, holds whatever the disk holds.
 pub data ServeComes (status : Status) {D : Type 0} (d : Ghosts D) (config : Config) (requests : ℕ) (ahead ahead' : Option Moments) (heard heard' : Listened) (output output' : Side) (disk disk' : D) : Type 0 where
   unbound : status ≡ ListenerFault → ahead' ≡ ahead → heard' ≡ heard → disk' ≡ disk → Said (status_text ListenerFault) output output' →
+      ServeComes status d config requests ahead ahead' heard heard' output output' disk disk'
+  locked_out : ahead' ≡ ahead → heard' ≡ heard → IsLockedOut status d disk disk' → Said (status_text status) output output' →
       ServeComes status d config requests ahead ahead' heard heard' output output' disk disk'
   shut : (stop : Stop) → status ≡ status_of stop →
       FromStart d disk (λ choose history k. HasShut stop d IsTaken fits choose history k config ahead ahead' disk disk') →
@@ -58,5 +61,5 @@ pub data ServeComes (status : Status) {D : Type 0} (d : Ghosts D) (config : Conf
 
 abbrev pub Serves : Status → ℕ → Option (List TreeFile) → ℕ → ℕ → Option Moments → Option Moments → Listened → Listened → Side → Side → {D : Type 0} → Ghosts D → D → D → Type 0
 Serves status requests files failed failed' ahead ahead' heard heard' output output' d disk disk' =
-    Whole status files failed failed' ((ahead' ≡ ahead) × (heard' ≡ heard) × (disk' ≡ disk))
+    Whole status files failed failed' ((ahead' ≡ ahead) × (heard' ≡ heard) × (disk' ≡ disk)) ⊥
     (λ config. ServeComes status d config requests ahead ahead' heard heard' output output' disk disk') output output'

@@ -27,11 +27,12 @@ use Rattle.indexd_store.specs.declared.stop.Stop.TheVariants as stops
 use Rattle.indexd_store.specs.declared.task.Task.{Task}
 use Rattle.indexd_store.specs.declared.task.Task.TheVariants as tasks
 use Rattle.indexd_core.specs.Prepared.{Stated, index_or_default, not_found_line}
+use Rattle.indexd_core.specs.Locked.{IsLockedOut}
 use Rattle.indexd_core.specs.Sides.{Side}
 use Rattle.indexd_core.specs.Texts.{status_text, Said}
 use Rattle.indexd_core.specs.declared.ends.Named.{Named}
 use Rattle.indexd_core.specs.declared.status.Status.{Status}
-use Rattle.indexd_core.specs.declared.status.Status.TheVariants.{Done, Memory, Usage, Configuration, Input, DiskFault, Damaged, Output, ListenerFault, NotFound, TooManyChannels, Unreadable, Endless, Full}
+use Rattle.indexd_core.specs.declared.status.Status.TheVariants.{Done, Memory, Usage, Configuration, Input, DiskFault, Damaged, Output, ListenerFault, NotFound, TooManyChannels, Unreadable, Endless, Full, InUse}
 
 -- ---- statuses and their lines
 
@@ -140,11 +141,14 @@ WroteUnread TooManyChannels files failed failed' output output' = ⊥
 WroteUnread Unreadable files failed failed' output output' = ⊥
 WroteUnread Endless files failed failed' output output' = ⊥
 WroteUnread Full files failed failed' output output' = ⊥
+WroteUnread InUse files failed failed' output output' = ⊥
 
--- A whole run: it stops before the settings are read, where all is `still` but the tree, or it runs with those of the files.
-pub data Whole (status : Status) (files : Option (List TreeFile)) (failed failed' : ℕ) (still : Type 0) (comes : Config → Type 0) (output output' : Side) : Type 0 where
-  unread : still → WroteUnread status files failed failed' output output' → Whole status files failed failed' still comes output output'
-  ran : (config : Config) → IsConfigOf files config → comes config → Whole status files failed failed' still comes output output'
+-- A whole run: it stops before the settings are read, where all is `still` but the tree; or once they are read it is not given the store, and the line of
+-- that was written; or it runs with those of the files.
+pub data Whole (status : Status) (files : Option (List TreeFile)) (failed failed' : ℕ) (still out : Type 0) (comes : Config → Type 0) (output output' : Side) : Type 0 where
+  unread : still → WroteUnread status files failed failed' output output' → Whole status files failed failed' still out comes output output'
+  locked_out : (config : Config) → IsConfigOf files config → out → Said (status_text status) output output' → Whole status files failed failed' still out comes output output'
+  ran : (config : Config) → IsConfigOf files config → comes config → Whole status files failed failed' still out comes output output'
 
 -- ---- tasks
 
@@ -157,7 +161,8 @@ TaskComes status d config task ahead ahead' output output' disk disk' =
 
 abbrev pub Tasked : Status → Task → Option (List TreeFile) → ℕ → ℕ → Option Moments → Option Moments → Side → Side → {D : Type 0} → Ghosts D → D → D → Type 0
 Tasked status task files failed failed' ahead ahead' output output' d disk disk' =
-    Whole status files failed failed' ((ahead' ≡ ahead) × (disk' ≡ disk)) (λ config. TaskComes status d config task ahead ahead' output output' disk disk') output output'
+    Whole status files failed failed' ((ahead' ≡ ahead) × (disk' ≡ disk)) ((ahead' ≡ ahead) × IsLockedOut status d disk disk')
+    (λ config. TaskComes status d config task ahead ahead' output output' disk disk') output output'
 
 -- ---- an input that is stored
 
@@ -191,5 +196,5 @@ pub record Silent (input input' output output' : Side) : Type 0 where
 
 abbrev pub Stored : Status → Stated → Option (List TreeFile) → ℕ → ℕ → Option Moments → Option Moments → Side → Side → Side → Side → {D : Type 0} → Ghosts D → D → D → Type 0
 Stored status stated files failed failed' ahead ahead' input input' output output' d disk disk' =
-    Whole status files failed failed' ((ahead' ≡ ahead) × (input' ≡ input) × (disk' ≡ disk))
+    Whole status files failed failed' ((ahead' ≡ ahead) × (input' ≡ input) × (disk' ≡ disk)) ((ahead' ≡ ahead) × (input' ≡ input) × IsLockedOut status d disk disk')
     (λ config. InputComes status d config stated ahead ahead' input input' output output' disk disk' × (status ≡ Done → Silent input input' output output')) output output'

@@ -16,7 +16,7 @@ use Rattle.ix_parse.specs.Settled.{settled}
 use Rattle.indexd_core.specs.declared.prepare.Prepared.{Prepared}
 use Rattle.indexd_core.specs.Sides.{Side}
 use Rattle.indexd_core.specs.declared.status.Status.{Status}
-use Rattle.indexd_core.specs.declared.status.Status.TheVariants.{Done, Memory, Usage, Configuration, Input, DiskFault, Damaged, Output, ListenerFault, NotFound, TooManyChannels, Unreadable, Endless, Full}
+use Rattle.indexd_core.specs.declared.status.Status.TheVariants.{Done, Memory, Usage, Configuration, Input, DiskFault, Damaged, Output, ListenerFault, NotFound, TooManyChannels, Unreadable, Endless, Full, InUse}
 
 -- Where an event of an index is kept, by how it is routed: in the index itself, in the one for events without an index of their own,
 -- or nowhere. The index is the one that the event names once its changes were made.
@@ -64,6 +64,7 @@ status_code TooManyChannels = 11
 status_code Unreadable = 12
 status_code Endless = 13
 status_code Full = 17
+status_code InUse = 18
 
 -- the line of a status that always has the same one, which stands behind the output
 abbrev pub status_text : Status → List ℕ
@@ -81,6 +82,7 @@ status_text TooManyChannels = codes "indexd: too many channels\n"
 status_text Unreadable = []
 status_text Endless = codes "indexd: endless input\n"
 status_text Full = codes "indexd: store full\n"
+status_text InUse = codes "indexd: store in use\n"
 
 -- the text stands behind what stood there, or a front of it where the output failed
 abbrev pub Said : List ℕ → Side → Side → Type 0

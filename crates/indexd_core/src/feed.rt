@@ -1,18 +1,20 @@
 //! The command `feed`: requests are served from the input to the output, and the line of the status is written behind the replies. `top`
 //! calls `feed`.
 
-ghost use Rattle.std.specs.Prelude.{◌≡◌, ◌≤◌, ◌⊎◌};
+ghost use Rattle.std.specs.Prelude.{◌≡◌, ◌≤◌, ◌⊎◌, true, Some};
 ghost use Rattle.ix_base.specs.Faults.{Rose};
 ghost use Rattle.ix_kept.specs.Configs.{IsConfig};
 ghost use Rattle.ix_serve.specs.Serving.{IsTold};
 ghost use Rattle.indexd_core.specs.Feeds as defs;
 ghost use Rattle.indexd_core.specs.Feeds.{FeedComes, Feeds};
+ghost use Rattle.indexd_core.specs.Locked.{HasRefused, EndsUsed};
 ghost use Rattle.indexd_core.specs.Shortened.{LeavesShort};
 ghost use Rattle.indexd_core.specs.Sides.{side};
 ghost use Rattle.indexd_core.specs.Stored.{FromStart};
 ghost use Rattle.indexd_core.specs.Texts.{Said};
 
 use crate::ends::{Named, say_damaged, say_stop};
+use crate::lock::{lock_out, say_locked_out};
 use crate::prepare::say_unread;
 use crate::status::{Status, say};
 use arrayvec::ArrayString;
@@ -101,6 +103,7 @@ fn feed_with<S: Source, W: Sink, C: Clock, D: Disk>(
     ensures undamaged { result ≡ Status.Damaged → FromStart D.Disk disk.old (λ choose history k. ⊥) }
     ensures usage { result ≡ Status.Usage → ⊥ }
     ensures listener { result ≡ Status.ListenerFault → ⊥ }
+    ensures in_use { result ≡ Status.InUse → ⊥ }
 {
     match run_streams::<Tier, D, C, S, W>(alloc, disk, clock, config, input, output) {
         Ok(end) => say_end(end, output),
@@ -133,12 +136,17 @@ pub fn feed<S: Source, W: Sink, C: Clock, T: Tree, D: Disk>(
     ensures undamaged { result ≡ Status.Damaged → FromStart D.Disk disk.old (λ choose history k. ⊥) }
     ensures usage { result ≡ Status.Usage → ⊥ }
     ensures listener { result ≡ Status.ListenerFault → ⊥ }
+    ensures in_use { result ≡ Status.InUse → HasRefused D.Disk disk.old disk.new }
+    ensures used { D.Disk.in_use disk.old ≡ Some true → EndsUsed result D.Disk disk.old disk.new }
     ensures same { T.files tree.new ≡ T.files tree.old }
     ensures tree_later { T.faults tree.old ≤ T.faults tree.new }
     ensures missing_later { T.missing tree.old ≤ T.missing tree.new }
 {
     match read_config(alloc, tree) {
-        Ok(config) => feed_with(alloc, config, input, output, clock, disk),
+        Ok(config) => match lock_out(disk) {
+            None => feed_with(alloc, config, input, output, clock, disk),
+            Some(status) => say_locked_out(config, status, output),
+        },
         Err(stop) => say_unread(alloc, stop, output),
     }
 }

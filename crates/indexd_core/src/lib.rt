@@ -7,6 +7,7 @@ mod ends;
 mod events;
 mod feed;
 mod laws;
+mod lock;
 mod prepare;
 mod preview;
 mod program;

@@ -11,6 +11,7 @@ ghost use Rattle.indexd_core.specs.Btool.{Tells};
 ghost use Rattle.indexd_core.specs.Carried.{Carries, around};
 ghost use Rattle.indexd_core.specs.Commands.{asked_for, is_command, is_stored, is_task, is_heard, AskPreview, AskBtool, AskTask, AskStore, AskFeed, AskServe};
 ghost use Rattle.indexd_core.specs.Feeds.{Feeds};
+ghost use Rattle.indexd_core.specs.Locked.{HasRefused, EndsUsed};
 ghost use Rattle.indexd_core.specs.Prepared.{Stated};
 ghost use Rattle.indexd_core.specs.Runs.{Previews, Refuses};
 ghost use Rattle.ix_feed.specs.Connections.{Listened, listened};
@@ -156,8 +157,9 @@ fn answer<S: Source, W: Sink, C: Clock, T: Tree, D: Disk, L: Listener>(
 /// its hot buckets, `thaw INDEX ID` brings a frozen bucket back from the archive, and `tick` is a turn of housekeeping. `feed` serves the
 /// requests that come one behind the other from the input, and writes the replies. `serve --port PORT --requests COUNT` takes the port of the
 /// machine itself, serves so many connections, one request each, whose replies go back on them, and writes `served COUNT`. The port is taken
-/// before the store is touched. Each of these commands, once it has mounted the store, makes the log short where it is long, whatever it ends
-/// with: for want of memory, or where the disk fails at it, it ends with `Memory` or `DiskFault` in place of any other status.
+/// before the store is touched. Each of these commands takes the store for itself, once it has read the settings and before it reads or writes anything of the
+/// store: where another program has it, it does nothing and ends with `InUse`. Once it has mounted the store, it makes the log short where it is long, whatever it
+/// ends with: for want of memory, or where the disk fails at it, it ends with `Memory` or `DiskFault` in place of any other status.
 ///
 /// A run may be stopped at any moment, and the next one goes on from what the disk has then. What is promised of it speaks of every history of
 /// commands of which each image that a crash may leave at its start stands for a first part, with its first k commands at least, and of a disk that tells
@@ -167,8 +169,8 @@ fn answer<S: Source, W: Sink, C: Clock, T: Tree, D: Disk, L: Listener>(
 /// the next, and `an_empty_disk_may_run` begins them.
 ///
 /// Any other words are `Usage`. `Configuration` comes exactly where the files that the command reads have a fault. `NotFound` comes where
-/// INDEX is not configured, or the bucket is not in the archive; `TooManyChannels` where 256 channels are open, and `Full` where the store
-/// would pass its bounds. `Input` comes only where the input of `preview` or the tree has failed, `Output` only where the output has,
+/// INDEX is not configured, or the bucket is not in the archive; `TooManyChannels` where 256 channels are open, `Full` where the store
+/// would pass its bounds, and `InUse` where another program has the store. `Input` comes only where the input of `preview` or the tree has failed, `Output` only where the output has,
 /// `DiskFault` only where the disk has, `ListenerFault` only where the listener has, also where it does not get its port, `Damaged` where the files of the disk hold what was not
 /// committed, `Unreadable` where a request of `feed` was cut or it is not known where it ends, `Endless` only where `preview` took 2^40 bytes or
 /// `feed` served 2^32 requests, and `Memory` where there was no room. The line of the status stands behind the output.
@@ -230,6 +232,12 @@ pub fn top<S: Source, W: Sink, C: Clock, T: Tree, D: Disk, L: Listener>(
         Serves result requests (T.files tree.old) (T.faults tree.old) (T.faults tree.new) (C.ahead clock.old) (C.ahead clock.new)
         (listened (L.waiting listener.old) (L.handed listener.old)) (listened (L.waiting listener.new) (L.handed listener.new))
         (side (W.faults output.old) (W.given output.old)) (side (W.faults output.new) (W.given output.new)) D.Disk disk.old disk.new }
+
+    // `InUse` comes only where another program has the store, which the disk has refused to this one: then nothing of it was changed, and by the clauses
+    // above the clock was not asked, the input not read, no connection heard, and nothing but the line written. Where the disk knows that another program has it,
+    // a command over the store ends so, unless want of memory, the settings or the port end it before it comes to the store.
+    ensures in_use { result ≡ Status.InUse → HasRefused D.Disk disk.old disk.new }
+    ensures used { D.Disk.in_use disk.old ≡ Some true → is_stored (asked words.now) ≡ true → EndsUsed result D.Disk disk.old disk.new }
 
     // Behind a command that has mounted the store the current log is not long, as the disk reads, unless there was no room in memory, or the
     // disk has failed or is damaged.

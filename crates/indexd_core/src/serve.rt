@@ -1,7 +1,7 @@
 //! The command `serve`: connections are served, one request each, and then it is written how many, or the line of the status. `top` calls
 //! `serve`.
 
-ghost use Rattle.std.specs.Prelude.{◌≡◌, ◌≤◌};
+ghost use Rattle.std.specs.Prelude.{◌≡◌, ◌≤◌, true, Some};
 ghost use Rattle.ix_base.specs.Faults.{Rose};
 ghost use Rattle.ix_kept.specs.Configs.{IsConfig};
 ghost use Rattle.ix_serve.specs.Serving.{IsTold};
@@ -9,12 +9,14 @@ ghost use Rattle.indexd_feed.specs.declared.end.ServeEnd.TheVariants as ends;
 ghost use Rattle.indexd_core.specs.Serves as defs;
 ghost use Rattle.ix_feed.specs.Connections.{listened};
 ghost use Rattle.indexd_core.specs.Serves.{EndsServing, ServeComes, Serves};
+ghost use Rattle.indexd_core.specs.Locked.{HasRefused, EndsUsed};
 ghost use Rattle.indexd_core.specs.Shortened.{LeavesShort};
 ghost use Rattle.indexd_core.specs.Sides.{side};
 ghost use Rattle.indexd_core.specs.Stored.{FromStart};
 ghost use Rattle.indexd_core.specs.Texts.{Said, status_text};
 
 use crate::ends::{Named, say_damaged, say_stop};
+use crate::lock::{lock_out, say_locked_out};
 use crate::prepare::say_unread;
 use crate::status::{Status, say};
 use arrayvec::ArrayString;
@@ -115,14 +117,28 @@ fn serve_with<W: Sink, C: Clock, D: Disk, L: Listener>(
     ensures undamaged { result ≡ Status.Damaged → FromStart D.Disk disk.old (λ choose history k. ⊥) }
     ensures input { result ≡ Status.Input → ⊥ }
     ensures usage { result ≡ Status.Usage → ⊥ }
+    ensures in_use { result ≡ Status.InUse → HasRefused D.Disk disk.old disk.new }
+    ensures used { D.Disk.in_use disk.old ≡ Some true → EndsUsed result D.Disk disk.old disk.new }
 {
     if let Err(_) = listener.bind(serving.port) {
         drop(config);
         return say_fault(Status::ListenerFault, output);
     }
-    match run_serve::<Tier, D, C, L>(alloc, disk, clock, config, listener, serving.requests) {
-        Ok(end) => say_end(end, serving.requests, output),
-        Err(stop) => say_stop(stop, Named::of_index(b""), output),
+    match lock_out(disk) {
+        None => {
+            match run_serve::<Tier, D, C, L>(
+                alloc,
+                disk,
+                clock,
+                config,
+                listener,
+                serving.requests,
+            ) {
+                Ok(end) => say_end(end, serving.requests, output),
+                Err(stop) => say_stop(stop, Named::of_index(b""), output),
+            }
+        }
+        Some(status) => say_locked_out(config, status, output),
     }
 }
 
@@ -154,6 +170,8 @@ pub fn serve<W: Sink, C: Clock, T: Tree, D: Disk, L: Listener>(
     // A disk that keeps what was committed, and tells what it reads, is never damaged.
     ensures undamaged { result ≡ Status.Damaged → FromStart D.Disk disk.old (λ choose history k. ⊥) }
     ensures usage { result ≡ Status.Usage → ⊥ }
+    ensures in_use { result ≡ Status.InUse → HasRefused D.Disk disk.old disk.new }
+    ensures used { D.Disk.in_use disk.old ≡ Some true → EndsUsed result D.Disk disk.old disk.new }
     ensures same { T.files tree.new ≡ T.files tree.old }
     ensures tree_later { T.faults tree.old ≤ T.faults tree.new }
     ensures missing_later { T.missing tree.old ≤ T.missing tree.new }

@@ -37,6 +37,8 @@ pub enum Status {
     Endless,
     /// 17: the store would pass the bounds of what it can keep. `indexd: store full`
     Full,
+    /// 18: another program has the store. `indexd: store in use`
+    InUse,
 }
 
 impl Status {
@@ -59,6 +61,7 @@ impl Status {
             Status::Unreadable => 12,
             Status::Endless => 13,
             Status::Full => 17,
+            Status::InUse => 18,
         }
     }
 
@@ -77,6 +80,7 @@ impl Status {
             Status::TooManyChannels => b"indexd: too many channels\n",
             Status::Endless => b"indexd: endless input\n",
             Status::Full => b"indexd: store full\n",
+            Status::InUse => b"indexd: store in use\n",
         }
     }
 }

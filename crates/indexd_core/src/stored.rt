@@ -1,7 +1,7 @@
 //! The commands over a store: their settings are read, they are run, and the line of their status is written. `top` calls `run_stored`
 //! and `store_preview`.
 
-ghost use Rattle.std.specs.Prelude.{◌≡◌, ◌≤◌, ◌⊎◌, ℕ, List, Option, None, true, false, length, Err, IfOk, IfErr, OnOk, IfSome, IsErrOf};
+ghost use Rattle.std.specs.Prelude.{◌≡◌, ◌≤◌, ◌⊎◌, ℕ, List, Option, None, Some, true, false, length, Err, IfOk, IfErr, OnOk, IfSome, IsErrOf};
 ghost use Rattle.ix_base.specs.Faults.{Rose};
 ghost use Rattle.ix_kept.specs.Configs.{IsConfig};
 ghost use Rattle.ix_kept.specs.Taken.{IsTaken};
@@ -11,6 +11,7 @@ ghost use Rattle.indexd_store.specs.Opened.{HasRun, HasStopped, WhenOpen};
 ghost use Rattle.indexd_store.specs.Previews.{HasFed, HasTaken};
 ghost use Rattle.indexd_store.specs.Shortened.{EndsShort, StopsShort};
 ghost use Rattle.indexd_store.specs.Stops.{is_output, is_input};
+ghost use Rattle.indexd_core.specs.Locked.{HasRefused, EndsUsed};
 ghost use Rattle.indexd_core.specs.Origins.{stated_of};
 ghost use Rattle.indexd_core.specs.Prepared.{index_or_default};
 ghost use Rattle.indexd_core.specs.Shortened.{LeavesShort};
@@ -19,6 +20,7 @@ ghost use Rattle.indexd_core.specs.Stored as defs;
 ghost use Rattle.indexd_core.specs.Stored.{AreShort, FromStart, InputComes, Silent, Stored, TaskComes, Tasked};
 
 use crate::ends::{Named, say_stop};
+use crate::lock::{lock_out, say_locked_out};
 use crate::prepare::{index_of, say_unread, stated_meta};
 use crate::status::{Status, say};
 use indexd_config::read_config;
@@ -64,6 +66,7 @@ fn run_with<W: Sink, C: Clock, D: Disk>(
     ensures undamaged { result ≡ Status.Damaged → FromStart D.Disk disk.old (λ choose history k. ⊥) }
     ensures usage { result ≡ Status.Usage → ⊥ }
     ensures listener { result ≡ Status.ListenerFault → ⊥ }
+    ensures in_use { result ≡ Status.InUse → ⊥ }
 {
     match run_task::<Tier, D, C, W>(alloc, disk, clock, config, task, output) {
         Ok(()) => Status::Done,
@@ -93,12 +96,17 @@ pub fn run_stored<W: Sink, C: Clock, T: Tree, D: Disk>(
     ensures undamaged { result ≡ Status.Damaged → FromStart D.Disk disk.old (λ choose history k. ⊥) }
     ensures usage { result ≡ Status.Usage → ⊥ }
     ensures listener { result ≡ Status.ListenerFault → ⊥ }
+    ensures in_use { result ≡ Status.InUse → HasRefused D.Disk disk.old disk.new }
+    ensures used { D.Disk.in_use disk.old ≡ Some true → EndsUsed result D.Disk disk.old disk.new }
     ensures same { T.files tree.new ≡ T.files tree.old }
     ensures tree_later { T.faults tree.old ≤ T.faults tree.new }
     ensures missing_later { T.missing tree.old ≤ T.missing tree.new }
 {
     match read_config(alloc, tree) {
-        Ok(config) => run_with(alloc, config, task, output, clock, disk),
+        Ok(config) => match lock_out(disk) {
+            None => run_with(alloc, config, task, output, clock, disk),
+            Some(status) => say_locked_out(config, status, output),
+        },
         Err(stop) => say_unread(alloc, stop, output),
     }
 }
@@ -224,6 +232,7 @@ fn store_with<S: Source, W: Sink, C: Clock, D: Disk>(
     ensures undamaged { result ≡ Status.Damaged → FromStart D.Disk disk.old (λ choose history k. ⊥) }
     ensures usage { result ≡ Status.Usage → ⊥ }
     ensures listener { result ≡ Status.ListenerFault → ⊥ }
+    ensures in_use { result ≡ Status.InUse → ⊥ }
 {
     let Ok((meta, index)) = stated(alloc, origin, &config.limits) else {
         drop(config);
@@ -263,12 +272,17 @@ pub fn store_preview<S: Source, W: Sink, C: Clock, T: Tree, D: Disk>(
     ensures undamaged { result ≡ Status.Damaged → FromStart D.Disk disk.old (λ choose history k. ⊥) }
     ensures usage { result ≡ Status.Usage → ⊥ }
     ensures listener { result ≡ Status.ListenerFault → ⊥ }
+    ensures in_use { result ≡ Status.InUse → HasRefused D.Disk disk.old disk.new }
+    ensures used { D.Disk.in_use disk.old ≡ Some true → EndsUsed result D.Disk disk.old disk.new }
     ensures same { T.files tree.new ≡ T.files tree.old }
     ensures tree_later { T.faults tree.old ≤ T.faults tree.new }
     ensures missing_later { T.missing tree.old ≤ T.missing tree.new }
 {
     match read_config(alloc, tree) {
-        Ok(config) => store_with(alloc, config, origin, input, output, clock, disk),
+        Ok(config) => match lock_out(disk) {
+            None => store_with(alloc, config, origin, input, output, clock, disk),
+            Some(status) => say_locked_out(config, status, output),
+        },
         Err(stop) => say_unread(alloc, stop, output),
     }
 }

@@ -36,13 +36,14 @@ use Rattle.indexd_store.specs.declared.stop.Stop.{Stop}
 use Rattle.indexd_store.specs.declared.stop.Stop.TheVariants as stops
 use Rattle.indexd_core.specs.Feeds as feeds
 use Rattle.indexd_core.specs.Feeds.{FeedComes, end_status}
+use Rattle.indexd_core.specs.Locked.{IsLockedOut}
 use Rattle.indexd_core.specs.Serves as serves
 use Rattle.indexd_core.specs.Chain.{MayRun}
 use Rattle.indexd_core.specs.Serves.{ServeComes, EndsServing}
 use Rattle.indexd_core.specs.Sides.{Side}
-use Rattle.indexd_core.specs.Stored.{status_of, FromStart, Comes, done, stopped, WroteUnread, Whole, unread, ran}
+use Rattle.indexd_core.specs.Stored.{status_of, FromStart, Comes, done, stopped, WroteUnread, Whole, unread, locked_out, ran}
 use Rattle.indexd_core.specs.declared.status.Status.{Status}
-use Rattle.indexd_core.specs.declared.status.Status.TheVariants.{Done, ListenerFault}
+use Rattle.indexd_core.specs.declared.status.Status.TheVariants.{Done, ListenerFault, DiskFault, InUse}
 use Rattle.indexd_premises.specs.Standing.{HasHistory}
 
 -- ---- statuses
@@ -58,6 +59,11 @@ not_done stops.Full e = cc
 not_done stops.Output e = cc
 not_done stops.Input e = cc
 not_done stops.Endless e = cc
+
+-- nor is one that is not given the store
+pub not_out : {D : Type 0} (d : Ghosts D) (disk disk' : D) (status : Status) → status ≡ Done → IsLockedOut status d disk disk' → ⊥
+not_out d disk disk' status is (inl used) = let e : InUse ≡ Done = sym used.0 ∙ is in cc
+not_out d disk disk' status is (inr failed) = let e : DiskFault ≡ Done = sym failed.0 ∙ is in cc
 
 -- the store is open behind requests that end so
 open_behind : (first : Fed) (end : End) → end_status end ≡ Done → FedBehind first (fed_of end) → feeding.is_open_end first ≡ true
@@ -135,6 +141,7 @@ module _ {D : Type 0} {d : Ghosts D} {disk : D} (choose : Chooser) (may : MayRun
   pub of_serve : (status : Status) (config : Config) (requests : ℕ) (ahead ahead' : Option Moments) (heard heard' : Listened) (output output' : Side) (disk' : D) → IsTold d disk' → status ≡ Done →
       ServeComes status d config requests ahead ahead' heard heard' output output' disk disk' → HasHistory d disk'
   of_serve status config requests ahead ahead' heard heard' output output' disk' told is (serves.unbound e a h s said) = absurd (cc)
+  of_serve status config requests ahead ahead' heard heard' output output' disk' told is (serves.locked_out a h out said) = absurd (not_out d disk disk' status is out)
   of_serve status config requests ahead ahead' heard heard' output output' disk' told is (serves.shut stop e from same said) = absurd (not_done stop (sym e ∙ is))
   of_serve status config requests ahead ahead' heard heard' output output' disk' told is (serves.served end hears from wrote) =
       let run = is_said (λ choose history k. HasServed d IsTaken fits choose history k config ahead
@@ -146,8 +153,9 @@ module _ {D : Type 0} {d : Ghosts D} {disk : D} (choose : Chooser) (may : MayRun
       (λ image left. whole run.run choose run.now image (visits.all (open_served visits.first behind) image left)) told
 
 -- one that is done has read the settings
-pub of_whole : (status : Status) (files : Option (List TreeFile)) (failed failed' : ℕ) (still : Type 0) (comes : Config → Type 0) (output output' : Side) (said : Type 0) → status ≡ Done →
-    ((config : Config) → comes config → said) → Whole status files failed failed' still comes output output' → said
-of_whole status files failed failed' still comes output output' said is f (unread s wrote) =
+pub of_whole : (status : Status) (files : Option (List TreeFile)) (failed failed' : ℕ) (still out : Type 0) (comes : Config → Type 0) (output output' : Side) (said : Type 0) → status ≡ Done →
+    (out → ⊥) → ((config : Config) → comes config → said) → Whole status files failed failed' still out comes output output' → said
+of_whole status files failed failed' still out comes output output' said is no f (unread s wrote) =
     absurd (subst (λ (s : Status). WroteUnread s files failed failed' output output') is wrote)
-of_whole status files failed failed' still comes output output' said is f (ran config given c) = f config c
+of_whole status files failed failed' still out comes output output' said is no f (locked_out config given o s) = absurd (no o)
+of_whole status files failed failed' still out comes output output' said is no f (ran config given c) = f config c

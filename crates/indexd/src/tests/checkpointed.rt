@@ -1,6 +1,6 @@
 //! Logs that grow long while requests are served.
 
-use crate::tests::runs::{Files, NOON, agree, crash_of, disk_of};
+use crate::tests::runs::{Files, NOON, agree, calls_since, crash_of, disk_of};
 use crate::tests::steps::{ROOT, Step, check, replied, take_all};
 use ix_disk::{MemDisk, StopDisk};
 use std::alloc::Global;
@@ -49,7 +49,7 @@ fn calls_of_eighth(rt: &impl Abort, alloc: Global, seven: &MemDisk) -> u64 {
     let mut disk = crash_of(alloc, seven, false);
     let before = disk.calls();
     take_all(rt, alloc, &mut disk, &EIGHTH);
-    let calls = disk.calls().saturating_sub(before) as u64;
+    let calls = calls_since(&disk, before);
     take_all(rt, alloc, &mut disk, &SHORT);
     calls
 }

@@ -246,7 +246,7 @@ fn words_are_those_of_the_commands(rt: HostRuntime) {
     check_all_words(&rt, rt.alloc(), WORDS);
 }
 
-static STATUSES: [Status; 14] = [
+static STATUSES: [Status; 15] = [
     Status::Done,
     Status::Memory,
     Status::Usage,
@@ -261,6 +261,7 @@ static STATUSES: [Status; 14] = [
     Status::Unreadable,
     Status::Endless,
     Status::Full,
+    Status::InUse,
 ];
 
 fn numbers_of(alloc: Global) -> String {
@@ -278,6 +279,6 @@ fn statuses_have_their_numbers(rt: HostRuntime) {
         &rt,
         "the numbers",
         numbers,
-        "0 1 2 3 4 5 6 7 9 10 11 12 13 17 ",
+        "0 1 2 3 4 5 6 7 9 10 11 12 13 17 18 ",
     );
 }

@@ -1,7 +1,7 @@
 //! Worked examples of requests: what `feed` replies to those of its input, and what is stored then.
 
 use crate::tests::exchanges::{BEGUN, Exchanges, feeds};
-use crate::tests::runs::{DEFAULT, Files, NOON, PLAIN, disk_of};
+use crate::tests::runs::{DEFAULT, Files, NOON, PLAIN, calls_since, disk_of};
 use crate::tests::steps::{Step, check, take_all};
 use ix_disk::StopDisk;
 use std::alloc::Global;
@@ -126,7 +126,7 @@ static AGAIN: [Step; 2] = [
 fn calls_of_begin(rt: &impl Abort, alloc: Global) -> u64 {
     let mut disk = disk_of(alloc);
     take_all(rt, alloc, &mut disk, &BEGINNING);
-    disk.calls() as u64
+    calls_since(&disk, 0)
 }
 
 /// A disk that fails behind so many calls, and what is sent then.

@@ -105,6 +105,12 @@ pub(crate) fn disk_of(alloc: Global) -> MemDisk {
     MemDisk::new(alloc, FailPlan::none(alloc))
 }
 
+/// How many calls of a disk a run has made, behind which the record was so long: those in the record, and the lock.
+pub(crate) fn calls_since(disk: &MemDisk, before: usize) -> u64 {
+    let recorded = disk.calls().saturating_sub(before) as u64;
+    recorded.saturating_add(1)
+}
+
 /// What a crash leaves of a disk.
 pub(crate) fn crash_of(alloc: Global, disk: &MemDisk, torn: bool) -> MemDisk {
     disk.crash(torn).unwrap_or(disk_of(alloc))

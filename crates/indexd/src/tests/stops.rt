@@ -1,6 +1,8 @@
 //! Runs that are stopped at each call of the disk, or for which one call fails.
 
-use crate::tests::runs::{Files, KEPT, LATER, NOON, PLAIN, STORE, Task, crash_of, disk_of, told};
+use crate::tests::runs::{
+    Files, KEPT, LATER, NOON, PLAIN, STORE, Task, calls_since, crash_of, disk_of, told,
+};
 use crate::tests::steps::{LOG, LONG, Step, take_all};
 use ix_base::{Area, File};
 use ix_disk::{MemDisk, OneFail, StopDisk};
@@ -81,7 +83,7 @@ fn calls_of(alloc: Global, base: &MemDisk, trial: &Trial) -> u64 {
     let mut disk = crash_of(alloc, base, false);
     let before = disk.calls();
     drop(told(alloc, trial.task, &mut disk));
-    disk.calls().saturating_sub(before) as u64
+    calls_since(&disk, before)
 }
 
 /// How many calls of a disk have changed something, of files with these numbers.

@@ -1,5 +1,5 @@
 use Rattle.std.proofs.Common.{[]}
-use Rattle.indexd_premises.proofs.Finished.{of_comes, of_feed, of_serve, of_whole}
+use Rattle.indexd_premises.proofs.Finished.{not_out, of_comes, of_feed, of_serve, of_whole}
 use Rattle.indexd_premises.proofs.first_run.Goals as goal
 
 pub returns-clause-undamaged : goal.returns-clause-undamaged
@@ -14,7 +14,7 @@ returns-clause-task g c = λ asks.
     record {
       choose = b.0;
       again = c.the_next_run_may_begin.ensures b.0 [] 0 _ _ _ _ b.1 leaves told.1 (c.an_exit_is_a_stop.ensures b.0 [] 0 _ _ leaves);
-      whole = λ is. of_whole _ _ _ _ _ _ _ _ _ is (λ config come. of_comes b.0 b.1 _ config _ _ _ _ _ _ _ _ _ told is come) comes.2;
+      whole = λ is. of_whole _ _ _ _ _ _ _ _ _ _ is (λ out. not_out _ _ _ _ is out.1) (λ config come. of_comes b.0 b.1 _ config _ _ _ _ _ _ _ _ _ told is come) comes.2;
     }
 
 pub returns-clause-stored : goal.returns-clause-stored
@@ -26,7 +26,7 @@ returns-clause-stored g c = λ stated asks.
     record {
       choose = b.0;
       again = c.the_next_run_may_begin.ensures b.0 [] 0 _ _ _ _ b.1 leaves told.1 (c.an_exit_is_a_stop.ensures b.0 [] 0 _ _ leaves);
-      whole = λ is. of_whole _ _ _ _ _ _ _ _ _ is (λ config come. of_comes b.0 b.1 _ config _ _ _ _ _ _ _ _ _ told is come.0) comes;
+      whole = λ is. of_whole _ _ _ _ _ _ _ _ _ _ is (λ out. not_out _ _ _ _ is out.2) (λ config come. of_comes b.0 b.1 _ config _ _ _ _ _ _ _ _ _ told is come.0) comes;
     }
 
 pub returns-clause-fed : goal.returns-clause-fed
@@ -38,7 +38,7 @@ returns-clause-fed g c = λ asks.
     record {
       choose = b.0;
       again = c.the_next_run_may_begin.ensures b.0 [] 0 _ _ _ _ b.1 leaves told.1 (c.an_exit_is_a_stop.ensures b.0 [] 0 _ _ leaves);
-      whole = λ is. of_whole _ _ _ _ _ _ _ _ _ is (λ config come. of_feed b.0 b.1 _ config _ _ _ _ _ _ _ told is come) comes;
+      whole = λ is. of_whole _ _ _ _ _ _ _ _ _ _ is (λ out. not_out _ _ _ _ is out.2) (λ config come. of_feed b.0 b.1 _ config _ _ _ _ _ _ _ told is come) comes;
     }
 
 pub returns-clause-served : goal.returns-clause-served
@@ -50,5 +50,5 @@ returns-clause-served g c = λ port requests asks.
     record {
       choose = b.0;
       again = c.the_next_run_may_begin.ensures b.0 [] 0 _ _ _ _ b.1 leaves told.1 (c.an_exit_is_a_stop.ensures b.0 [] 0 _ _ leaves);
-      whole = λ is. of_whole _ _ _ _ _ _ _ _ _ is (λ config come. of_serve b.0 b.1 _ config _ _ _ _ _ _ _ _ told is come) comes;
+      whole = λ is. of_whole _ _ _ _ _ _ _ _ _ _ is (λ out. out) (λ config come. of_serve b.0 b.1 _ config _ _ _ _ _ _ _ _ told is come) comes;
     }

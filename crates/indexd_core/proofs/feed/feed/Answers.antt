@@ -1,27 +1,60 @@
-use Rattle.std.proofs.Common.{refl, inl, inr, le_refl}
+use Rattle.std.proofs.Common.{refl, sym, subst, inl, inr, le_refl, le_trans}
+use Rattle.ix_disk.proofs.Runs.{rose_later}
+use Rattle.indexd_core.specs.Locked.{IsLockedOut}
 use Rattle.indexd_core.specs.Sides.{side}
-use Rattle.indexd_core.specs.Stored.{unread, ran}
+use Rattle.indexd_core.specs.Stored.{unread, locked_out, ran}
+use Rattle.indexd_core.specs.Texts.{status_text, Said}
 use Rattle.indexd_core.specs.declared.status.Status.{Status}
 use Rattle.indexd_core.specs.declared.status.Status.TheVariants as statuses
+use Rattle.indexd_core.proofs.LockedLemmas.{left_alone, feed_from, told_on, none_from_start, short_from, out_no, out_disk, out_used, out_ends, unread_ends}
 use Rattle.indexd_core.proofs.StoredLemmas.{unread_at}
 use Rattle.indexd_core.proofs.feed.feed.Goals as goal
 
-pub returns-in-Ok : goal.returns-in-Ok
-returns-in-Ok g c =
+pub returns-in-None : goal.returns-in-None
+returns-in-None g c =
     let did = c.feed_with.ensures in
+    let alone = c.lock_out.ensures.alone in
     record {
-      feeds = ran c.in-Ok.config c.in-Ok.ensures.of_files did.comes;
-      short = did.short;
+      feeds = ran c.in-Ok.config c.in-Ok.ensures.of_files (feed_from alone did.comes);
+      short = short_from alone c.feed_with.result c.feed_with.new.disk did.short;
       output = did.output;
       input = λ is. inl (did.input is);
       read_later = did.read_later;
       written_later = did.written_later;
-      told = did.told;
-      disk_later = did.disk_later;
-      disk = did.disk;
-      undamaged = did.undamaged;
+      told = λ told. did.told (told_on alone told);
+      disk_later = le_trans c.lock_out.ensures.later did.disk_later;
+      disk = λ is. rose_later (g.D.Disk.faults c.args.disk.now) (g.D.Disk.faults c.lock_out.new.disk) (g.D.Disk.faults c.feed_with.new.disk) c.lock_out.ensures.later (did.disk is);
+      undamaged = λ is. none_from_start alone (did.undamaged is);
       usage = did.usage;
       listener = did.listener;
+      in_use = λ is. absurd (did.in_use is);
+      used = λ known. absurd (c.lock_out.ensures.given c.in-None.is known);
+      same = c.read_config.ensures.same;
+      tree_later = c.read_config.ensures.later;
+      missing_later = c.read_config.ensures.later_missing;
+    }
+
+pub returns-in-Some : goal.returns-in-Some
+returns-in-Some g c =
+    let said = c.say_locked_out.ensures in
+    let out = subst (λ (s : Status). IsLockedOut s g.D.Disk c.args.disk.now c.lock_out.new.disk) (sym said.status) c.in-Some.ensures.out in
+    let no = λ (at : Status). out_no g.D.Disk c.args.disk.now c.lock_out.new.disk c.say_locked_out.result at out in
+    record {
+      feeds = locked_out c.in-Ok.config c.in-Ok.ensures.of_files (refl, refl, out) (subst (λ (s : Status). Said (status_text s) (side (g.W.Sink.faults c.args.output.now) (g.W.Sink.given c.args.output.now))
+          (side (g.W.Sink.faults c.say_locked_out.new.output) (g.W.Sink.given c.say_locked_out.new.output))) (sym said.status) said.said);
+      short = λ ok. inr (inl c.lock_out.ensures.alone);
+      output = λ is. absurd (no statuses.Output refl is);
+      input = λ is. absurd (no statuses.Input refl is);
+      read_later = le_refl _;
+      written_later = said.later;
+      told = λ told. told_on c.lock_out.ensures.alone told;
+      disk_later = c.lock_out.ensures.later;
+      disk = λ is. out_disk g.D.Disk c.args.disk.now c.lock_out.new.disk c.say_locked_out.result out is;
+      undamaged = λ is. absurd (no statuses.Damaged refl is);
+      usage = λ is. no statuses.Usage refl is;
+      listener = λ is. no statuses.ListenerFault refl is;
+      in_use = λ is. out_used g.D.Disk c.args.disk.now c.lock_out.new.disk c.say_locked_out.result out is;
+      used = λ known. out_ends g.D.Disk c.args.disk.now c.lock_out.new.disk c.say_locked_out.result out known;
       same = c.read_config.ensures.same;
       tree_later = c.read_config.ensures.later;
       missing_later = c.read_config.ensures.later_missing;
@@ -36,7 +69,7 @@ returns-in-Err g c =
     (side (g.W.Sink.faults c.args.output.now) (g.W.Sink.given c.args.output.now)) (side (g.W.Sink.faults c.say_unread.new.output) (g.W.Sink.given c.say_unread.new.output)) wrote in
     record {
       feeds = unread (refl, refl, refl) wrote;
-      short = λ ok. inr (inl refl);
+      short = λ ok. inr (inl (left_alone g.D.Disk c.args.disk.now));
       output = λ is. absurd (at statuses.Output is);
       input = λ is. inr (at statuses.Input is).0;
       read_later = le_refl _;
@@ -47,6 +80,8 @@ returns-in-Err g c =
       undamaged = λ is. absurd (at statuses.Damaged is);
       usage = λ is. at statuses.Usage is;
       listener = λ is. at statuses.ListenerFault is;
+      in_use = λ is. absurd (at statuses.InUse is);
+      used = λ known. unread_ends g.D.Disk c.args.disk.now c.say_unread.result (g.T.Tree.files c.args.tree.now) (g.T.Tree.faults c.args.tree.now) (g.T.Tree.faults c.read_config.new.tree) _ _ wrote;
       same = c.read_config.ensures.same;
       tree_later = c.read_config.ensures.later;
       missing_later = c.read_config.ensures.later_missing;

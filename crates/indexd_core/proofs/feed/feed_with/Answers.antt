@@ -6,8 +6,8 @@ use Rattle.indexd_core.specs.Sides.{Side, side}
 use Rattle.indexd_core.specs.Stored.{line_of, named_of}
 use Rattle.indexd_core.specs.Texts.{Said}
 use Rattle.indexd_core.proofs.PreviewLemmas.{rose-until}
-use Rattle.indexd_core.proofs.FeedLemmas.{asks_taken, disk_end, input_end, output_end, damaged_end, usage_end, listener_end}
-use Rattle.indexd_core.proofs.StoredLemmas.{disk_stop, output_stop, input_stop, usage_stop, listener_stop, yes_no, err_as, by_blame}
+use Rattle.indexd_core.proofs.FeedLemmas.{asks_taken, disk_end, input_end, output_end, damaged_end, usage_end, listener_end, in_use_end}
+use Rattle.indexd_core.proofs.StoredLemmas.{disk_stop, output_stop, input_stop, usage_stop, listener_stop, in_use_stop, yes_no, err_as, by_blame}
 use Rattle.indexd_core.proofs.ShortLemmas.{left_at_stop, end_short}
 use Rattle.indexd_core.proofs.feed.feed_with.Goals as goal
 
@@ -35,6 +35,7 @@ returns-in-Ok g c = record {
       (λ file at damaged. c.run_streams.ensures.unbroken file at (c.in-Ok.is ∙ ap (λ e. Ok e) damaged));
   usage = λ is. usage_end c.say_end.result c.in-Ok.end c.say_end.ensures.status is;
   listener = λ is. listener_end c.say_end.result c.in-Ok.end c.say_end.ensures.status is;
+  in_use = λ is. in_use_end c.say_end.result c.in-Ok.end c.say_end.ensures.status is;
 }
 
 pub returns-in-Err : goal.returns-in-Err
@@ -61,4 +62,5 @@ returns-in-Err g c = record {
       (λ file at damaged. c.run_streams.ensures.undamaged file at (c.in-Err.is ∙ err_as c.in-Err.stop _ damaged));
   usage = λ is. usage_stop c.say_stop.result c.in-Err.stop c.say_stop.ensures.status is;
   listener = λ is. listener_stop c.say_stop.result c.in-Err.stop c.say_stop.ensures.status is;
+  in_use = λ is. in_use_stop c.say_stop.result c.in-Err.stop c.say_stop.ensures.status is;
 }

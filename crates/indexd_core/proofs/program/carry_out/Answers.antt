@@ -41,6 +41,7 @@ returns-then-store g c =
         refused = λ unbuilt. absurd (true≢false unbuilt);
         comes = did.stored;
         untouched = λ other. absurd (true≢false other);
+        used = λ known stored. did.used known;
         short = did.short;
         keeps = record {
           files = did.same;
@@ -59,6 +60,7 @@ returns-then-store g c =
           disk = did.disk;
           listener = λ is. absurd (did.listener is);
           undamaged = did.undamaged;
+          in_use = did.in_use;
         };
       });
       unheard = λ other. refl;
@@ -73,6 +75,7 @@ returns-in-Feed g c =
         refused = λ unbuilt. absurd (true≢false unbuilt);
         comes = did.feeds;
         untouched = λ other. absurd (true≢false other);
+        used = λ known stored. did.used known;
         short = did.short;
         keeps = record {
           files = did.same;
@@ -91,6 +94,7 @@ returns-in-Feed g c =
           disk = did.disk;
           listener = λ is. absurd (did.listener is);
           undamaged = did.undamaged;
+          in_use = did.in_use;
         };
       });
       unheard = λ other. refl;
@@ -105,6 +109,7 @@ returns-in-Serve g c =
         refused = λ unbuilt. absurd (true≢false unbuilt);
         comes = (did.serves, refl);
         untouched = λ other. absurd (true≢false other);
+        used = λ known stored. did.used known;
         short = did.short;
         keeps = record {
           files = did.same;
@@ -123,6 +128,7 @@ returns-in-Serve g c =
           disk = did.disk;
           listener = did.listener;
           undamaged = did.undamaged;
+          in_use = did.in_use;
         };
       });
       unheard = λ other. absurd (true≢false (sym (ap (λ (o : Order). is_heard (Some (shown o))) c.in-Serve.is) ∙ other));

@@ -11,6 +11,7 @@ returns g c = λ input heard deaf left.
       refused = λ no. absurd (yes_no _ (task_is_built c.args.task) no);
       comes = task_comes g.D.Disk _ _ _ c.args.task did.tasked refl;
       untouched = λ no. absurd (yes_no _ (task_is_stored c.args.task) no);
+      used = λ known stored. did.used known;
       short = did.short;
       keeps = record {
         files = did.same;
@@ -29,5 +30,6 @@ returns g c = λ input heard deaf left.
         disk = did.disk;
         listener = λ is. absurd (did.listener is);
         undamaged = did.undamaged;
+        in_use = did.in_use;
       };
     }

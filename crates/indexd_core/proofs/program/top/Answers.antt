@@ -15,6 +15,8 @@ returns g c =
       stored = λ stated asks. by_store stated did asks;
       fed = λ asks. by_feed did asks;
       served = λ port requests asks. (by_serve port requests did asks).0;
+      in_use = did.cause.in_use;
+      used = did.used;
       short = did.short;
       untouched = did.untouched;
       unasked = λ is. let same = (by_task did is).3 in (ap (λ (s : Side). s.told) same, ap (λ (s : Side). s.faults) same);

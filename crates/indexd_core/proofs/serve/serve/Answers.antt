@@ -3,6 +3,7 @@ use Rattle.indexd_core.specs.Sides.{side}
 use Rattle.indexd_core.specs.Stored.{unread, ran}
 use Rattle.indexd_core.specs.declared.status.Status.{Status}
 use Rattle.indexd_core.specs.declared.status.Status.TheVariants as statuses
+use Rattle.indexd_core.proofs.LockedLemmas.{left_alone, unread_ends}
 use Rattle.indexd_core.proofs.StoredLemmas.{unread_at}
 use Rattle.indexd_core.proofs.serve.serve.Goals as goal
 
@@ -23,6 +24,8 @@ returns-in-Ok g c =
       out = did.out;
       undamaged = did.undamaged;
       usage = did.usage;
+      in_use = did.in_use;
+      used = did.used;
       same = c.read_config.ensures.same;
       tree_later = c.read_config.ensures.later;
       missing_later = c.read_config.ensures.later_missing;
@@ -37,7 +40,7 @@ returns-in-Err g c =
     (side (g.W.Sink.faults c.args.output.now) (g.W.Sink.given c.args.output.now)) (side (g.W.Sink.faults c.say_unread.new.output) (g.W.Sink.given c.say_unread.new.output)) wrote in
     record {
       serves = unread (refl, refl, refl) wrote;
-      short = λ ok. inr (inl refl);
+      short = λ ok. inr (inl (left_alone g.D.Disk c.args.disk.now));
       output = λ is. absurd (at statuses.Output is);
       input = λ is. (at statuses.Input is).0;
       written_later = c.say_unread.ensures.later;
@@ -49,6 +52,8 @@ returns-in-Err g c =
       out = refl;
       undamaged = λ is. absurd (at statuses.Damaged is);
       usage = λ is. at statuses.Usage is;
+      in_use = λ is. absurd (at statuses.InUse is);
+      used = λ known. unread_ends g.D.Disk c.args.disk.now c.say_unread.result (g.T.Tree.files c.args.tree.now) (g.T.Tree.faults c.args.tree.now) (g.T.Tree.faults c.read_config.new.tree) _ _ wrote;
       same = c.read_config.ensures.same;
       tree_later = c.read_config.ensures.later;
       missing_later = c.read_config.ensures.later_missing;

@@ -4,7 +4,7 @@ use Rattle.indexd_store.specs.declared.stop.Stop.TheVariants as stops
 use Rattle.indexd_core.specs.Stored.{line_of, done, stopped}
 use Rattle.indexd_core.specs.Texts.{Said}
 use Rattle.indexd_core.proofs.PreviewLemmas.{rose-until}
-use Rattle.indexd_core.proofs.StoredLemmas.{apart, task_taken, disk_stop, output_stop, input_stop, usage_stop, listener_stop, yes_no, err_as, by_blame}
+use Rattle.indexd_core.proofs.StoredLemmas.{apart, task_taken, disk_stop, output_stop, input_stop, usage_stop, listener_stop, in_use_stop, yes_no, err_as, by_blame}
 use Rattle.indexd_core.specs.declared.status.Status.TheVariants as statuses
 use Rattle.indexd_core.proofs.ShortLemmas.{left_at_ok, left_at_err}
 use Rattle.ix_serve.proofs.Standing.{tells_on}
@@ -29,6 +29,7 @@ returns-in-Ok g c = record {
   undamaged = λ is. absurd (apart statuses.Done statuses.Damaged refl is);
   usage = λ is. apart statuses.Done statuses.Usage refl is;
   listener = λ is. apart statuses.Done statuses.ListenerFault refl is;
+  in_use = λ is. apart statuses.Done statuses.InUse refl is;
 }
 
 pub returns-in-Err : goal.returns-in-Err
@@ -51,4 +52,5 @@ returns-in-Err g c = record {
       (λ file at damaged. c.run_task.ensures.undamaged file at (c.in-Err.is ∙ err_as c.in-Err.stop _ damaged));
   usage = λ is. usage_stop c.say_stop.result c.in-Err.stop c.say_stop.ensures.status is;
   listener = λ is. listener_stop c.say_stop.result c.in-Err.stop c.say_stop.ensures.status is;
+  in_use = λ is. in_use_stop c.say_stop.result c.in-Err.stop c.say_stop.ensures.status is;
 }

@@ -12,7 +12,8 @@ use Rattle.indexd_core.specs.Prepared.{index_or_default}
 use Rattle.indexd_core.specs.Sides.{side}
 use Rattle.indexd_core.specs.Stored.{FromStart, done, stopped, line_of, named_of}
 use Rattle.indexd_core.specs.Texts.{Said}
-use Rattle.indexd_core.proofs.StoredLemmas.{apart, unmounted, disk_stop, output_stop, input_stop, usage_stop, listener_stop, done_stop, yes_no, err_as}
+use Rattle.indexd_core.proofs.LockedLemmas.{left_alone}
+use Rattle.indexd_core.proofs.StoredLemmas.{apart, unmounted, disk_stop, output_stop, input_stop, usage_stop, listener_stop, in_use_stop, done_stop, yes_no, err_as}
 use Rattle.indexd_core.specs.declared.status.Status.TheVariants as statuses
 use Rattle.indexd_core.proofs.ShortLemmas.{left_at_ok, left_at_err}
 use Rattle.indexd_core.proofs.stored.store_with.Goals as goal
@@ -23,7 +24,7 @@ returns-in_default g c = record {
       (λ choose history k chooser taken begins image seen. unmounted g.D.Disk _ choose history k c.args.config _ _ _ c.args.disk.now refl begins (omega arith))
       (refl, none_taken stops.Memory (g.S.Source.left c.args.input.now) refl) c.say.ensures.said;
   silent = λ is. absurd (apart statuses.Memory statuses.Done refl is);
-  short = λ ok. inr (inl refl);
+  short = λ ok. inr (inl (left_alone g.D.Disk c.args.disk.now));
   output = λ is. apart statuses.Memory statuses.Output refl is;
   input = λ is. absurd (apart statuses.Memory statuses.Input refl is);
   read_later = le_refl _;
@@ -34,6 +35,7 @@ returns-in_default g c = record {
   undamaged = λ is. absurd (apart statuses.Memory statuses.Damaged refl is);
   usage = λ is. apart statuses.Memory statuses.Usage refl is;
   listener = λ is. apart statuses.Memory statuses.ListenerFault refl is;
+  in_use = λ is. apart statuses.Memory statuses.InUse refl is;
 }
 
 pub returns-in-Ok-store_input : goal.returns-in-Ok-store_input
@@ -54,6 +56,7 @@ returns-in-Ok-store_input g c = record {
   undamaged = λ is. absurd (apart statuses.Done statuses.Damaged refl is);
   usage = λ is. apart statuses.Done statuses.Usage refl is;
   listener = λ is. apart statuses.Done statuses.ListenerFault refl is;
+  in_use = λ is. apart statuses.Done statuses.InUse refl is;
 }
 
 pub returns : goal.returns
@@ -79,4 +82,5 @@ returns g c = record {
   undamaged = λ is. c.in-Err.ensures.undamaged (sym c.say_stop.ensures.status ∙ is);
   usage = λ is. usage_stop c.say_stop.result c.in-Err.stop c.say_stop.ensures.status is;
   listener = λ is. listener_stop c.say_stop.result c.in-Err.stop c.say_stop.ensures.status is;
+  in_use = λ is. in_use_stop c.say_stop.result c.in-Err.stop c.say_stop.ensures.status is;
 }
