@@ -155,7 +155,7 @@ module _ {D : Type 0} {d : Ghosts D} {disk : D} (choose : Chooser) (may : MayRun
 -- one that is done has read the settings
 pub of_whole : (status : Status) (files : Option (List TreeFile)) (failed failed' : ℕ) (still out : Type 0) (comes : Config → Type 0) (output output' : Side) (said : Type 0) → status ≡ Done →
     (out → ⊥) → ((config : Config) → comes config → said) → Whole status files failed failed' still out comes output output' → said
-of_whole status files failed failed' still out comes output output' said is no f (unread s wrote) =
+of_whole status files failed failed' still out comes output output' said is never f (unread s wrote) =
     absurd (subst (λ (s : Status). WroteUnread s files failed failed' output output') is wrote)
-of_whole status files failed failed' still out comes output output' said is no f (locked_out config given o s) = absurd (no o)
-of_whole status files failed failed' still out comes output output' said is no f (ran config given c) = f config c
+of_whole status files failed failed' still out comes output output' said is never f (locked_out config given o s) = absurd (never o)
+of_whole status files failed failed' still out comes output output' said is never f (ran config given c) = f config c
