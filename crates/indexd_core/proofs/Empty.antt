@@ -9,7 +9,7 @@ use Rattle.ix_keep.specs.Contents.{BeginsWith, filling}
 use Rattle.ix_keep.specs.Snapshot.{Snapshot}
 use Rattle.ix_machine.specs.Given.{Chooser}
 use Rattle.ix_machine.specs.Snap.{first_snap, leaves}
-use Rattle.ix_run.specs.Running.{StandsFrom}
+use Rattle.ix_store.specs.Written.{StandsFrom}
 
 none_filled : (file : File) → filling first_snap.contents file ≡ []
 none_filled file = grind arith
@@ -17,7 +17,7 @@ none_filled file = grind arith
 books_first : (name : Name) → name.kind ≢ 2 → name.kind ≢ 12 → after_item (items.Settings []) empty name ≡ first_snap.book name
 books_first name not_run not_removals = refl
 
-pub empty_stands : (fits : Book → Type 0) (choose : Chooser) → StandsFrom fits choose [] 0 nothing
+pub empty_stands : (fits : Book → Type 0) (choose : Chooser) → StandsFrom fits 0 choose [] 0 nothing
 empty_stands fits choose = record {
   which = 0;
   least = omega arith;

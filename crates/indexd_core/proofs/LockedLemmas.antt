@@ -12,13 +12,14 @@ use Rattle.ix_machine.specs.declared.commands.Config.{Config}
 use Rattle.ix_machine.specs.declared.commands.Order.{Order}
 use Rattle.ix_replay.specs.Fits.{fits}
 use Rattle.ix_run.specs.Resting.{ReadsShort}
-use Rattle.ix_run.specs.Running.{StandsFrom}
 use Rattle.ix_serve.specs.Serving.{IsTold}
+use Rattle.ix_store.specs.Written.{StandsFrom}
 use Rattle.ix_tree.specs.declared.trees.TreeFile.{TreeFile}
 use Rattle.indexd_feed.specs.Serving.{Serving, HasServed}
 use Rattle.indexd_store.specs.Opened.{Begins, Doing, Passes, HasRun, HasNotMounted, HasShut, HasStopped}
 use Rattle.indexd_store.specs.Shortened.{HasHadItsRuns}
 use Rattle.indexd_store.specs.declared.stop.Stop.{Stop}
+use Rattle.indexd_core.specs.Chain.{MayRun}
 use Rattle.indexd_core.specs.Feeds as feeds
 use Rattle.indexd_core.specs.Feeds.{FeedComes}
 use Rattle.indexd_core.specs.Locked.{IsLeftAlone, HasRefused, IsLockedOut, EndsUsed, is_before_store}
@@ -39,113 +40,125 @@ same_alone d disk disk' is = subst (λ x. IsLeftAlone d disk x) (sym is) (left_a
 -- ---- from the start on
 
 module _ {D : Type 0} {d : Ghosts D} {old mid : D} (alone : IsLeftAlone d old mid) where
-  begins_on : (choose : Chooser) (history : List Order) (k : ℕ) → Begins d fits choose history k old → Begins d fits choose history k mid
-  begins_on choose history k begins = still_all d old mid (StandsFrom fits choose history k) alone.images begins
+  begins_on : (choose : Chooser) (history : List Order) (run k : ℕ) → Begins d fits choose history run k old → Begins d fits choose history run k mid
+  begins_on choose history run k begins = still_all d old mid (StandsFrom fits run choose history k) alone.images begins
+
+  may_on : (choose : Chooser) (history : List Order) (run k : ℕ) → MayRun d choose history run k old → MayRun d choose history run k mid
+  may_on choose history run k may = record {
+    chooser = may.chooser;
+    given = may.given;
+    begins = begins_on choose history run k may.begins;
+    image = may.image;
+    tells = alone.same ∙ may.tells;
+  }
 
   always_from : (P : Image → Type 0) (new : D) → ((image : Image) → d.may_leave old image → P image) → Always d mid new P → Always d old new P
   always_from P new holds always = always_on d old mid new P (always_still d old mid P alone.images holds) always
 
-  passes_from : {choose : Chooser} {history now : List Order} {k count : ℕ} {new : D} → Begins d fits choose history k old →
-      Passes d fits choose history k now count mid new → Passes d fits choose history k now count old new
-  passes_from {choose = choose} {history = history} {k = k} begins passes = record {
+  passes_from : {choose : Chooser} {history now : List Order} {run k new_run count : ℕ} {new : D} → Begins d fits choose history run k old →
+      Passes d fits choose history run k now new_run count mid new → Passes d fits choose history run k now new_run count old new
+  passes_from {choose = choose} {history = history} {run = run} {k = k} begins passes = record {
+    later = passes.later;
     mounted = passes.mounted;
     first = passes.first;
     within = passes.within;
-    up_to = always_from (StandsFrom fits choose history k) passes.mounted begins passes.up_to;
+    up_to = always_from (StandsFrom fits run choose history k) passes.mounted begins passes.up_to;
     at_mount = passes.at_mount;
     from_on = passes.from_on;
   }
 
-  run_from : {lost : Bool} {choose : Chooser} {history : List Order} {k : ℕ} {may : List Order → List Order → List Order → Type 0} {new : D} → Begins d fits choose history k old →
-      HasRun lost d IsTaken fits choose history k may mid new → HasRun lost d IsTaken fits choose history k may old new
-  run_from begins run = record {
-    count = run.count;
-    least = run.least;
-    most = run.most;
-    configured = run.configured;
-    orders = run.orders;
-    runs_left = λ image seen. run.runs_left image (alone.same ∙ seen);
-    allowed = run.allowed;
-    given = run.given;
-    passes = passes_from begins run.passes;
-    exit = run.exit;
+  run_from : {lost : Bool} {choose : Chooser} {history : List Order} {run k : ℕ} {may : List Order → List Order → List Order → Type 0} {new : D} → Begins d fits choose history run k old →
+      HasRun lost d IsTaken fits choose history run k may mid new → HasRun lost d IsTaken fits choose history run k may old new
+  run_from begins was = record {
+    count = was.count;
+    least = was.least;
+    most = was.most;
+    configured = was.configured;
+    orders = was.orders;
+    new_run = was.new_run;
+    number = λ image seen. was.number image (alone.same ∙ seen);
+    runs_left = λ image seen. was.runs_left image (alone.same ∙ seen);
+    allowed = was.allowed;
+    given = was.given;
+    passes = passes_from begins was.passes;
+    exit = was.exit;
   }
 
-  none_from : {stop : Stop} {choose : Chooser} {history : List Order} {k : ℕ} {ahead ahead' : Option Moments} {new : D} → Begins d fits choose history k old →
-      HasNotMounted stop d fits choose history k ahead ahead' mid new → HasNotMounted stop d fits choose history k ahead ahead' old new
-  none_from {choose = choose} {history = history} {k = k} {new = new} begins none = record {
+  none_from : {stop : Stop} {choose : Chooser} {history : List Order} {run k : ℕ} {ahead ahead' : Option Moments} {new : D} → Begins d fits choose history run k old →
+      HasNotMounted stop d fits choose history run k ahead ahead' mid new → HasNotMounted stop d fits choose history run k ahead ahead' old new
+  none_from {choose = choose} {history = history} {run = run} {k = k} {new = new} begins none = record {
     fault = none.fault;
     stop_is = none.stop_is;
     sound = none.sound;
     spent = λ full image seen. none.spent full image (alone.same ∙ seen);
     not_asked = none.not_asked;
-    stood = always_from (StandsFrom fits choose history k) new begins none.stood;
+    stood = always_from (StandsFrom fits run choose history k) new begins none.stood;
   }
 
-  shut_at : (stop : Stop) (choose : Chooser) (history : List Order) (k : ℕ) (config : Config) (ahead ahead' : Option Moments) (new : D) → Begins d fits choose history k old →
-      HasShut stop d IsTaken fits choose history k config ahead ahead' mid new → HasShut stop d IsTaken fits choose history k config ahead ahead' old new
-  shut_at stop choose history k config ahead ahead' new begins (inl none) = inl (none_from begins none)
-  shut_at stop choose history k config ahead ahead' new begins (inr run) = inr (run_from begins run)
+  shut_at : (stop : Stop) (choose : Chooser) (history : List Order) (run k : ℕ) (config : Config) (ahead ahead' : Option Moments) (new : D) → Begins d fits choose history run k old →
+      HasShut stop d IsTaken fits choose history run k config ahead ahead' mid new → HasShut stop d IsTaken fits choose history run k config ahead ahead' old new
+  shut_at stop choose history run k config ahead ahead' new begins (inl none) = inl (none_from begins none)
+  shut_at stop choose history run k config ahead ahead' new begins (inr was) = inr (run_from begins was)
 
   pub shut_from : (stop : Stop) (config : Config) (ahead ahead' : Option Moments) (new : D) →
-      FromStart d mid (λ choose history k. HasShut stop d IsTaken fits choose history k config ahead ahead' mid new) →
-      FromStart d old (λ choose history k. HasShut stop d IsTaken fits choose history k config ahead ahead' old new)
-  shut_from stop config ahead ahead' new from = λ choose history k chooser given begins image seen.
-      shut_at stop choose history k config ahead ahead' new begins (from choose history k chooser given (begins_on choose history k begins) image (alone.same ∙ seen))
+      FromStart d mid (λ choose history run k. HasShut stop d IsTaken fits choose history run k config ahead ahead' mid new) →
+      FromStart d old (λ choose history run k. HasShut stop d IsTaken fits choose history run k config ahead ahead' old new)
+  shut_from stop config ahead ahead' new from = λ choose history run k may.
+      shut_at stop choose history run k config ahead ahead' new may.begins (from choose history run k (may_on choose history run k may))
 
-  stopped_at : (stop : Stop) (choose : Chooser) (history : List Order) (k : ℕ) (config : Config) (ahead ahead' : Option Moments) (untouched : Type 0) (may : Doing) (new : D) → Begins d fits choose history k old →
-      HasStopped stop d IsTaken fits choose history k config ahead ahead' untouched may mid new → HasStopped stop d IsTaken fits choose history k config ahead ahead' untouched may old new
-  stopped_at stop choose history k config ahead ahead' untouched may new begins (inl shut) = inl (shut_at stop choose history k config ahead ahead' new begins shut.0, shut.1)
-  stopped_at stop choose history k config ahead ahead' untouched may new begins (inr run) = inr (run_from begins run)
+  stopped_at : (stop : Stop) (choose : Chooser) (history : List Order) (run k : ℕ) (config : Config) (ahead ahead' : Option Moments) (untouched : Type 0) (may : Doing) (new : D) → Begins d fits choose history run k old →
+      HasStopped stop d IsTaken fits choose history run k config ahead ahead' untouched may mid new → HasStopped stop d IsTaken fits choose history run k config ahead ahead' untouched may old new
+  stopped_at stop choose history run k config ahead ahead' untouched may new begins (inl shut) = inl (shut_at stop choose history run k config ahead ahead' new begins shut.0, shut.1)
+  stopped_at stop choose history run k config ahead ahead' untouched may new begins (inr was) = inr (run_from begins was)
 
   pub comes_from : {status : Status} {config : Config} {named : List ℕ} {ahead ahead' : Option Moments} {whole : Chooser → Doing} {untouched : Side → Type 0} {part : Stop → Side → Chooser → Doing} {wrote : Stop → Side → Type 0} {output' : Side} {new : D} →
       Comes status d config named ahead ahead' whole untouched part wrote output' mid new → Comes status d config named ahead ahead' whole untouched part wrote output' old new
-  comes_from (stored.done is from) = stored.done is (λ choose history k chooser given begins image seen.
-      run_from begins (from choose history k chooser given (begins_on choose history k begins) image (alone.same ∙ seen)))
+  comes_from (stored.done is from) = stored.done is (λ choose history run k may.
+      run_from may.begins (from choose history run k (may_on choose history run k may)))
   comes_from {config = config} {ahead = ahead} {ahead' = ahead'} {untouched = untouched} {part = part} {new = new} (stored.stopped stop middle is from wrote said) =
-      stored.stopped stop middle is (λ choose history k chooser given begins image seen.
-      stopped_at stop choose history k config ahead ahead' (untouched middle) (part stop middle choose) new begins (from choose history k chooser given (begins_on choose history k begins) image (alone.same ∙ seen)))
+      stored.stopped stop middle is (λ choose history run k may.
+      stopped_at stop choose history run k config ahead ahead' (untouched middle) (part stop middle choose) new may.begins (from choose history run k (may_on choose history run k may)))
       wrote said
 
   pub told_on : IsTold d old → IsTold d mid
   told_on told = (told.0, alone.same ∙ told.1)
 
-  served_at : {choose : Chooser} {history : List Order} {k : ℕ} {config : Config} {ahead : Option Moments} {serves : Serving D} {new : D} → Begins d fits choose history k old →
-      HasServed d IsTaken fits choose history k config ahead serves mid new → HasServed d IsTaken fits choose history k config ahead serves old new
-  served_at begins run = record {
-    count = run.count;
-    least = run.least;
-    most = run.most;
-    configured = run.configured;
-    configures = run.configures;
-    told = run.told;
-    asked = run.asked;
-    run = run.run;
-    number = λ image seen. run.number image (alone.same ∙ seen);
-    middle = run.middle;
-    now = run.now;
-    tells = λ told. run.tells (told_on told);
-    runs_left = λ image seen. run.runs_left image (alone.same ∙ seen);
-    served = run.served;
-    given = run.given;
-    passes = passes_from begins run.passes;
+  served_at : {choose : Chooser} {history : List Order} {run k : ℕ} {config : Config} {ahead : Option Moments} {serves : Serving D} {new : D} → Begins d fits choose history run k old →
+      HasServed d IsTaken fits choose history run k config ahead serves mid new → HasServed d IsTaken fits choose history run k config ahead serves old new
+  served_at begins was = record {
+    count = was.count;
+    least = was.least;
+    most = was.most;
+    configured = was.configured;
+    configures = was.configures;
+    told = was.told;
+    asked = was.asked;
+    new_run = was.new_run;
+    number = λ image seen. was.number image (alone.same ∙ seen);
+    middle = was.middle;
+    now = was.now;
+    tells = λ told. was.tells (told_on told);
+    runs_left = λ image seen. was.runs_left image (alone.same ∙ seen);
+    served = was.served;
+    given = was.given;
+    passes = passes_from begins was.passes;
   }
 
   pub served_from : (config : Config) (ahead : Option Moments) (serves : Serving D) (new : D) →
-      FromStart d mid (λ choose history k. HasServed d IsTaken fits choose history k config ahead serves mid new) →
-      FromStart d old (λ choose history k. HasServed d IsTaken fits choose history k config ahead serves old new)
-  served_from config ahead serves new from = λ choose history k chooser given begins image seen.
-      served_at begins (from choose history k chooser given (begins_on choose history k begins) image (alone.same ∙ seen))
+      FromStart d mid (λ choose history run k. HasServed d IsTaken fits choose history run k config ahead serves mid new) →
+      FromStart d old (λ choose history run k. HasServed d IsTaken fits choose history run k config ahead serves old new)
+  served_from config ahead serves new from = λ choose history run k may.
+      served_at may.begins (from choose history run k (may_on choose history run k may))
 
   pub feed_from : {status : Status} {config : Config} {ahead ahead' : Option Moments} {input input' output output' : Side} {new : D} →
       FeedComes status d config ahead ahead' input input' output output' mid new → FeedComes status d config ahead ahead' input input' output output' old new
   feed_from {config = config} {ahead = ahead} {ahead' = ahead'} {new = new} (feeds.shut stop is from same said) = feeds.shut stop is (shut_from stop config ahead ahead' new from) same said
   feed_from (feeds.served end middle is later after reads from said) = feeds.served end middle is later after reads
-      (λ choose history k chooser given begins image seen. served_at begins (from choose history k chooser given (begins_on choose history k begins) image (alone.same ∙ seen))) said
+      (λ choose history run k may. served_at may.begins (from choose history run k (may_on choose history run k may))) said
 
   -- no history stands behind a damage
-  pub none_from_start : FromStart d mid (λ choose history k. ⊥) → FromStart d old (λ choose history k. ⊥)
-  none_from_start from = λ choose history k chooser given begins image seen. from choose history k chooser given (begins_on choose history k begins) image (alone.same ∙ seen)
+  pub none_from_start : FromStart d mid (λ choose history run k. ⊥) → FromStart d old (λ choose history run k. ⊥)
+  none_from_start from = λ choose history run k may. from choose history run k (may_on choose history run k may)
 
   short_at : (status : Status) (new : D) → ReadsShort d new ⊎ (IsLeftAlone d mid new ⊎ ((status ≡ statuses.Full) × HasHadItsRuns d fits mid)) →
       ReadsShort d new ⊎ (IsLeftAlone d old new ⊎ ((status ≡ statuses.Full) × HasHadItsRuns d fits old))

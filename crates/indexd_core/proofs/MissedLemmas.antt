@@ -138,28 +138,28 @@ missed_by choose begun config origin is forced long = record {
 }
 
 -- it ends so, or its checkpoint stops it
-pub missed : {D : Type 0} (d : Ghosts D) {M : Type 0} (fits : Book → Type 0) (holds : Chooser → List Order → M → Type 0) (choose : Chooser) (history : List Order) (k : ℕ)
+pub missed : {D : Type 0} (d : Ghosts D) {M : Type 0} (fits : Book → Type 0) (holds : Chooser → List Order → M → Type 0) (choose : Chooser) (history : List Order) (run k : ℕ)
     (config : Config) (store later : Store M) (ahead mid ahead' : Option Moments) (first at last : D) (origin : ChannelMeta) (left : Option (List ℕ)) (moment : ℤ) (other : Stop) →
-    IsConfig config → is_long origin.index ≡ true → AreGiven history → HasOpened d fits holds choose history k config store ahead mid first at → Told (Answered moment) mid ahead' →
-    (other ≡ stops.NotFound) ⊎ IsOfCheckpoint other →
+    IsConfig config → is_long origin.index ≡ true → AreGiven history → HasOpened d fits holds choose history run k config store ahead mid first at → Told (Answered moment) mid ahead' →
+    later.run ≡ store.run → (other ≡ stops.NotFound) ⊎ IsOfCheckpoint other →
     ((now : List Order) (base : ℕ) → AreGiven now → Holds d fits holds choose now base (length now) store at → Always d at last (Stands fits store.run choose now)) →
     (loses other ≡ false → (now : List Order) (base : ℕ) → AreGiven now → Holds d fits holds choose now base (length now) store at → Holds d fits holds choose now base (length now) later last) →
-    HasStopped other d IsTaken fits choose history k config ahead ahead' (left ≡ left) (HasFed choose origin (Err other) ahead' left left) first last
-missed d fits holds choose history k config store later ahead mid ahead' first at last origin left moment other is long given ready told why images held =
+    HasStopped other d IsTaken fits choose history run k config ahead ahead' (left ≡ left) (HasFed choose origin (Err other) ahead' left left) first last
+missed d fits holds choose history run k config store later ahead mid ahead' first at last origin left moment other is long given ready told same why images held =
     let begun : List Order = given_all choose (take ready.count history) ready.configured in
     let forced : (after choose begun).force ≡ config.kept =
     in_force choose (take ready.count history) ready.configured config (opened.is_configured choose (take ready.count history) config) refl ready.configures in
     let all : AreGiven begun = begun_taken IsTaken (λ moment. tt) choose (take ready.count history) config (opened.is_configured choose (take ready.count history) config) ready.configured (λ moment. is)
     (front_has IsTaken ready.count history given) ready.configures in
     let fed = none_fed choose ready.count begun origin moment left (missed_by choose begun config origin is forced long) in
-    inr (fed_when d fits holds choose history k config store ahead mid first at last ready later origin moment ahead' told left left IsTaken (Err other)
-    (stopped_short d fits holds IsTaken choose begun ready.count store.run store later at at last stops.NotFound other (λ orders. orders ≡ []) (λ orders. Fed choose ready.count begun origin moment (Err other) left left orders × AreGiven (given_all choose begun orders))
+    inr (fed_when d fits holds choose history run k config store ahead mid first at last ready later origin moment ahead' told left left IsTaken (Err other)
+    (stopped_short d fits store.run holds IsTaken choose begun ready.count store later at at last stops.NotFound other (λ orders. orders ≡ []) (λ orders. Fed choose ready.count begun origin moment (Err other) left left orders × AreGiven (given_all choose begun orders))
     (λ orders none. (
       subst (λ (os : List Order). Fed choose ready.count begun origin moment (Err other) left left os) (sym none) (fed_stop choose ready.count begun origin moment stops.NotFound other left left [] why fed),
       subst (λ (os : List Order). AreGiven (given_all choose begun os)) (sym none) all,
     ))
     (λ orders none. subst (λ (os : List Order). AreGiven (given_all choose begun os)) (sym none) all)
-    (λ lost. absurd (cc)) (λ kept now taken hold. images now ready.count taken hold) (λ kept also now taken hold. held also now ready.count taken hold)
+    same (λ lost. absurd (cc)) (λ kept now taken hold. images now ready.count taken hold) (λ kept also now taken hold. held also now ready.count taken hold)
     (none_given d fits holds choose begun ready.count store at (λ orders. orders ≡ []) refl ready.hold)))
 
 -- only the disk is at fault where it says so

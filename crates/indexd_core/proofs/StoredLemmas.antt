@@ -8,12 +8,15 @@ use Rattle.ix_base.proofs.ToldLemmas.{then_written, then_begun, begun_of_more}
 use Rattle.ix_base.specs.Clocks.{Moments}
 use Rattle.ix_base.specs.declared.files.File.{File}
 use Rattle.ix_tree.specs.declared.trees.TreeFile.{TreeFile}
+use Rattle.ix_disk.specs.Image.{Image}
 use Rattle.ix_disk.specs.declared.disk.Disk.{Ghosts}
 use Rattle.ix_book.specs.Book.{Book}
-use Rattle.ix_kept.specs.Taken.{IsTaken}
+use Rattle.ix_kept.specs.Configs.{IsChooser}
+use Rattle.ix_kept.specs.Taken.{IsTaken, AreGiven}
 use Rattle.ix_machine.specs.Given.{Chooser}
 use Rattle.ix_machine.specs.declared.commands.Config.{Config}
 use Rattle.ix_machine.specs.declared.commands.Order.{Order}
+use Rattle.ix_replay.specs.Fits.{fits}
 use Rattle.ix_store.specs.declared.fault.MountFault.TheVariants as mounts
 use Rattle.indexd_store.specs.Opened.{Begins, Doing, HasStopped}
 use Rattle.indexd_store.specs.Stops.{is_output, is_input}
@@ -24,7 +27,7 @@ use Rattle.indexd_store.specs.declared.task.Task.{Task}
 use Rattle.indexd_store.specs.declared.task.Task.TheVariants as tasks
 use Rattle.indexd_core.specs.Commands.{asked_for, is_stored}
 use Rattle.indexd_core.specs.Sides.{Side}
-use Rattle.indexd_core.specs.Stored.{status_of, named_by, tail_of, is_long, WroteUnread}
+use Rattle.indexd_core.specs.Stored.{status_of, named_by, tail_of, is_long, FromStart, WroteUnread}
 use Rattle.indexd_core.specs.declared.status.Status.{Status}
 use Rattle.indexd_core.specs.declared.status.Status.TheVariants as statuses
 use Rattle.indexd_core.specs.Texts.{Said, status_code}
@@ -219,12 +222,20 @@ pub unread_at : (ended at : Status) (files : Option (List TreeFile)) (failed fai
     WroteUnread ended files failed failed' output output' → ended ≡ at → WroteUnread at files failed failed' output output'
 unread_at ended at files failed failed' output output' wrote is = subst (λ (s : Status). WroteUnread s files failed failed' output output') is wrote
 
+-- ---- what is said of every start
+
+-- each part of the premise by itself
+pub from_start : {D : Type 0} (d : Ghosts D) (disk : D) (comes : Chooser → List Order → ℕ → ℕ → Type 0) →
+    ((choose : Chooser) (history : List Order) (run k : ℕ) → IsChooser choose → AreGiven history → Begins d fits choose history run k disk → (image : Image) → d.seen disk ≡ Some image → comes choose history run k) →
+    FromStart d disk comes
+from_start d disk comes so = λ choose history run k may. so choose history run k may.chooser may.given may.begins may.image may.tells
+
 -- ---- nothing is mounted for want of memory
 
-pub unmounted : {D : Type 0} (d : Ghosts D) (fits : Book → Type 0) (choose : Chooser) (history : List Order) (k : ℕ) (config : Config) (ahead : Option Moments)
-    (untouched : Type 0) (may : Doing) (disk : D) → untouched → Begins d fits choose history k disk → d.moment disk ≤ d.moment disk →
-    HasStopped stops.Memory d IsTaken fits choose history k config ahead ahead untouched may disk disk
-unmounted d fits choose history k config ahead untouched may disk same begins now = inl (
+pub unmounted : {D : Type 0} (d : Ghosts D) (fits : Book → Type 0) (choose : Chooser) (history : List Order) (run k : ℕ) (config : Config) (ahead : Option Moments)
+    (untouched : Type 0) (may : Doing) (disk : D) → untouched → Begins d fits choose history run k disk → d.moment disk ≤ d.moment disk →
+    HasStopped stops.Memory d IsTaken fits choose history run k config ahead ahead untouched may disk disk
+unmounted d fits choose history run k config ahead untouched may disk same begins now = inl (
   inl (record {
     fault = mounts.NoMemory;
     stop_is = refl;

@@ -99,7 +99,7 @@ pub record HasCause (status : Status) {D : Type 0} (d : Ghosts D) (old new : Aro
   pub output : status ≡ Output → Rose old.output.faults new.output.faults
   pub disk : status ≡ DiskFault → Rose (d.faults old.disk) (d.faults new.disk)
   pub listener : status ≡ ListenerFault → Rose old.deaf new.deaf
-  pub undamaged : status ≡ Damaged → FromStart d old.disk (λ choose history k. ⊥)
+  pub undamaged : status ≡ Damaged → FromStart d old.disk (λ choose history run k. ⊥)
   pub in_use : status ≡ InUse → HasRefused d old.disk new.disk
 
 -- what comes of what is asked for, or of words that ask for nothing

@@ -8,23 +8,23 @@ use Rattle.ix_kept.specs.Taken.{AreGiven}
 use Rattle.ix_machine.specs.Given.{Chooser}
 use Rattle.ix_machine.specs.declared.commands.Order.{Order}
 use Rattle.ix_replay.specs.Fits.{fits}
-use Rattle.ix_run.specs.Running.{StandsFrom}
+use Rattle.ix_store.specs.Written.{StandsFrom}
 use Rattle.indexd_store.specs.Opened.{Begins, Passes}
 
 -- The premise of a run, for which `FromStart` asks: every image of the disk stands for a first part of one history of commands that may be given, with the first k
--- of them at least, and the disk tells what it reads.
-pub record MayRun {D : Type 0} (d : Ghosts D) (choose : Chooser) (history : List Order) (k : ℕ) (disk : D) : Type 0 where
+-- of them at least, and for this run or a later one; and the disk tells what it reads.
+pub record MayRun {D : Type 0} (d : Ghosts D) (choose : Chooser) (history : List Order) (run k : ℕ) (disk : D) : Type 0 where
   pub chooser : IsChooser choose
   pub given : AreGiven history
-  pub begins : Begins d fits choose history k disk
+  pub begins : Begins d fits choose history run k disk
   pub image : Image
   pub tells : d.seen disk ≡ Some image
 
--- What a run leaves. Unmounted: every image since its start stands for a first part of what was there. Mounted: so it does up to the mount, and from then on for one of
--- what was mounted and accepted since, with all that was mounted.
-pub data Leaves {D : Type 0} (d : Ghosts D) (choose : Chooser) (history : List Order) (k : ℕ) (before disk : D) : Type 0 where
-  unmounted : Always d before disk (StandsFrom fits choose history k) → Leaves d choose history k before disk
-  mounted : (count : ℕ) (now : List Order) → k ≤ count → AreGiven now → Passes d fits choose history k now count before disk → Leaves d choose history k before disk
+-- What a run leaves. Unmounted: every image since its start stands for a first part of what was there, and for no earlier run. Mounted: so it does up to the mount, and
+-- from then on for one of what was mounted and accepted since, with all that was mounted, and for the number of this run or a later one.
+pub data Leaves {D : Type 0} (d : Ghosts D) (choose : Chooser) (history : List Order) (run k : ℕ) (before disk : D) : Type 0 where
+  unmounted : Always d before disk (StandsFrom fits run choose history k) → Leaves d choose history run k before disk
+  mounted : (new_run count : ℕ) (now : List Order) → k ≤ count → AreGiven now → Passes d fits choose history run k now new_run count before disk → Leaves d choose history run k before disk
 
 -- all that a disk may leave was left by another at one of its moments between these two
 abbrev pub IsLeftOf : {D E : Type 0} → Ghosts D → D → D → Ghosts E → E → Type 0
@@ -32,14 +32,16 @@ IsLeftOf d old new e disk = (image : Image) → e.may_leave disk image → d.lef
 
 -- A stop of a run: all that the next disk may leave was left at moments up to the mount, or at moments from it on. So it is where the power was lost, where the
 -- process was killed, and where the run has ended.
-abbrev pub IsStopOf : {D E : Type 0} (d : Ghosts D) (choose : Chooser) (history : List Order) (k : ℕ) (before disk : D) → Leaves d choose history k before disk → Ghosts E → E → Type 0
-IsStopOf d choose history k before disk (unmounted stood) e later = IsLeftOf d before disk e later
-IsStopOf d choose history k before disk (mounted count now least given passes) e later = IsLeftOf d before passes.mounted e later ⊎ IsLeftOf d passes.mounted disk e later
+abbrev pub IsStopOf : {D E : Type 0} (d : Ghosts D) (choose : Chooser) (history : List Order) (run k : ℕ) (before disk : D) → Leaves d choose history run k before disk → Ghosts E → E → Type 0
+IsStopOf d choose history run k before disk (unmounted stood) e later = IsLeftOf d before disk e later
+IsStopOf d choose history run k before disk (mounted new_run count now least given passes) e later = IsLeftOf d before passes.mounted e later ⊎ IsLeftOf d passes.mounted disk e later
 
--- The next run may begin: over some history that begins with what was sure to be there before.
-pub record MayGoOn {E : Type 0} (e : Ghosts E) (choose : Chooser) (history : List Order) (k : ℕ) (later : E) : Type 0 where
+-- The next run may begin: over some history that begins with what was sure to be there before, and over no earlier run.
+pub record MayGoOn {E : Type 0} (e : Ghosts E) (choose : Chooser) (history : List Order) (run k : ℕ) (later : E) : Type 0 where
   pub next : List Order
   pub n : ℕ
+  pub least_run : ℕ
   pub least : k ≤ n
+  pub no_earlier : run ≤ least_run
   pub first : take k next ≡ take k history
-  pub may_run : MayRun e choose next n later
+  pub may_run : MayRun e choose next least_run n later

@@ -54,13 +54,13 @@ end_line ends.Output = status_text Output
 -- disk holds.
 pub data FeedComes (status : Status) {D : Type 0} (d : Ghosts D) (config : Config) (ahead ahead' : Option Moments) (input input' output output' : Side) (disk disk' : D) : Type 0 where
   shut : (stop : Stop) → status ≡ status_of stop →
-      FromStart d disk (λ choose history k. HasShut stop d IsTaken fits choose history k config ahead ahead' disk disk') →
+      FromStart d disk (λ choose history run k. HasShut stop d IsTaken fits choose history run k config ahead ahead' disk disk') →
       input' ≡ input → Said (line_of [] stop) output output' →
       FeedComes status d config ahead ahead' input input' output output' disk disk'
   served : (end : End) (middle : Side) → status ≡ end_status end → output.faults ≤ middle.faults → middle.faults ≤ output'.faults →
       ReadsTo (fed_of end) input.told input'.told →
-      FromStart d disk (λ choose history k.
-      HasServed d IsTaken fits choose history k config ahead
+      FromStart d disk (λ choose history run k.
+      HasServed d IsTaken fits choose history run k config ahead
       (Requests d fits (fed_of end) (IsSound output.faults middle.faults) input.told input'.told ahead' output.told middle.told disk') disk disk') →
       Said (end_line end) middle output' →
       FeedComes status d config ahead ahead' input input' output output' disk disk'

@@ -49,12 +49,12 @@ pub data ServeComes (status : Status) {D : Type 0} (d : Ghosts D) (config : Conf
   locked_out : ahead' ≡ ahead → heard' ≡ heard → IsLockedOut status d disk disk' → Said (status_text status) output output' →
       ServeComes status d config requests ahead ahead' heard heard' output output' disk disk'
   shut : (stop : Stop) → status ≡ status_of stop →
-      FromStart d disk (λ choose history k. HasShut stop d IsTaken fits choose history k config ahead ahead' disk disk') →
+      FromStart d disk (λ choose history run k. HasShut stop d IsTaken fits choose history run k config ahead ahead' disk disk') →
       heard' ≡ heard → Said (line_of [] stop) output output' →
       ServeComes status d config requests ahead ahead' heard heard' output output' disk disk'
   served : (end : ServeEnd) →
       HearsMany (AsManyServed requests end) heard heard' →
-      FromStart d disk (λ choose history k. HasServed d IsTaken fits choose history k config ahead
+      FromStart d disk (λ choose history run k. HasServed d IsTaken fits choose history run k config ahead
       (Connections d fits requests end heard heard' ahead' disk') disk disk') →
       EndsServing status requests end output output' →
       ServeComes status d config requests ahead ahead' heard heard' output output' disk disk'

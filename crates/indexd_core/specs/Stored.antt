@@ -7,10 +7,8 @@ use Rattle.ix_base.specs.declared.files.Area.{Area}
 use Rattle.ix_base.specs.declared.files.Area.TheVariants.{Meta, Home, Cold, Frozen, Thawed}
 use Rattle.ix_base.specs.declared.files.File.{File}
 use Rattle.ix_tree.specs.declared.trees.TreeFile.{TreeFile}
-use Rattle.ix_disk.specs.Image.{Image}
 use Rattle.ix_disk.specs.declared.disk.Disk.{Ghosts}
-use Rattle.ix_kept.specs.Configs.{IsChooser}
-use Rattle.ix_kept.specs.Taken.{IsTaken, AreGiven}
+use Rattle.ix_kept.specs.Taken.{IsTaken}
 use Rattle.ix_machine.specs.Given.{Chooser}
 use Rattle.ix_machine.specs.declared.commands.Config.{Config}
 use Rattle.ix_machine.specs.declared.commands.Order.{Order}
@@ -19,13 +17,14 @@ use Rattle.indexd_config.specs.Given.{IsConfigOf}
 use Rattle.indexd_settings.specs.Faults.{HasFault}
 use Rattle.indexd_settings.specs.Texts.{fault_line}
 use Rattle.indexd_settings.specs.declared.faults.ConfigurationFault.{ConfigurationFault}
-use Rattle.indexd_store.specs.Opened.{Begins, Doing, WhenOpen, HasRun, HasStopped}
+use Rattle.indexd_store.specs.Opened.{Doing, WhenOpen, HasRun, HasStopped}
 use Rattle.indexd_store.specs.Previews.{HasFed, HasTaken}
 use Rattle.indexd_store.specs.Tasks.{says, HasDone, HasHalted}
 use Rattle.indexd_store.specs.declared.stop.Stop.{Stop}
 use Rattle.indexd_store.specs.declared.stop.Stop.TheVariants as stops
 use Rattle.indexd_store.specs.declared.task.Task.{Task}
 use Rattle.indexd_store.specs.declared.task.Task.TheVariants as tasks
+use Rattle.indexd_core.specs.Chain.{MayRun}
 use Rattle.indexd_core.specs.Prepared.{Stated, index_or_default, not_found_line}
 use Rattle.indexd_core.specs.Locked.{IsLockedOut}
 use Rattle.indexd_core.specs.Sides.{Side}
@@ -100,13 +99,10 @@ named_in tasks.Tick = codes ""
 
 -- ---- runs
 
--- Whatever the images at the start stand for: some history of commands that may be given, of which each has the first k at least, the
--- settings of channels being those that the kept settings give. The disk tells what it reads. A premise that nothing meets would make all that is said
--- so empty: whoever adds one here shows in `indexd_premises` what meets it.
-abbrev pub FromStart : {D : Type 0} → Ghosts D → D → (Chooser → List Order → ℕ → Type 0) → Type 0
-FromStart d disk comes =
-    (choose : Chooser) (history : List Order) (k : ℕ) → IsChooser choose → AreGiven history →
-    Begins d fits choose history k disk → (image : Image) → d.seen disk ≡ Some image → comes choose history k
+-- Whatever the images at the start stand for: some history of commands, of which each has the first k at least, and some least run. A premise that nothing meets
+-- would make all that is said so empty: whoever adds one to `MayRun` shows in `indexd_premises` what meets it.
+abbrev pub FromStart : {D : Type 0} → Ghosts D → D → (Chooser → List Order → ℕ → ℕ → Type 0) → Type 0
+FromStart d disk comes = (choose : Chooser) (history : List Order) (run k : ℕ) → MayRun d choose history run k disk → comes choose history run k
 
 -- A run with these settings. Done: what was given and written is as `whole` says, and every image at the exit has all commands. Stopped: the
 -- middle is what the output was before the line of the stop; what was given and written is as `part` says, where nothing was given behind the
@@ -116,10 +112,10 @@ pub data Comes (status : Status) {D : Type 0} (d : Ghosts D) (config : Config) (
     (whole : Chooser → Doing) (untouched : Side → Type 0) (part : Stop → Side → Chooser → Doing) (wrote : Stop → Side → Type 0)
     (output' : Side) (disk disk' : D) : Type 0 where
   done : status ≡ Done →
-      FromStart d disk (λ choose history k. HasRun false d IsTaken fits choose history k (WhenOpen choose config ahead (whole choose)) disk disk') →
+      FromStart d disk (λ choose history run k. HasRun false d IsTaken fits choose history run k (WhenOpen choose config ahead (whole choose)) disk disk') →
       Comes status d config named ahead ahead' whole untouched part wrote output' disk disk'
   stopped : (stop : Stop) (middle : Side) → status ≡ status_of stop →
-      FromStart d disk (λ choose history k. HasStopped stop d IsTaken fits choose history k config ahead ahead' (untouched middle) (part stop middle choose) disk disk') →
+      FromStart d disk (λ choose history run k. HasStopped stop d IsTaken fits choose history run k config ahead ahead' (untouched middle) (part stop middle choose) disk disk') →
       wrote stop middle → Said (line_of named stop) middle output' →
       Comes status d config named ahead ahead' whole untouched part wrote output' disk disk'
 

@@ -100,7 +100,7 @@ fn feed_with<S: Source, W: Sink, C: Clock, D: Disk>(
     ensures told { IsTold D.Disk disk.old → IsTold D.Disk disk.new }
     ensures disk_later { D.Disk.faults disk.old ≤ D.Disk.faults disk.new }
     ensures disk { result ≡ Status.DiskFault → Rose (D.Disk.faults disk.old) (D.Disk.faults disk.new) }
-    ensures undamaged { result ≡ Status.Damaged → FromStart D.Disk disk.old (λ choose history k. ⊥) }
+    ensures undamaged { result ≡ Status.Damaged → FromStart D.Disk disk.old (λ choose history run k. ⊥) }
     ensures usage { result ≡ Status.Usage → ⊥ }
     ensures listener { result ≡ Status.ListenerFault → ⊥ }
     ensures in_use { result ≡ Status.InUse → ⊥ }
@@ -133,7 +133,7 @@ pub fn feed<S: Source, W: Sink, C: Clock, T: Tree, D: Disk>(
     ensures disk_later { D.Disk.faults disk.old ≤ D.Disk.faults disk.new }
     ensures disk { result ≡ Status.DiskFault → Rose (D.Disk.faults disk.old) (D.Disk.faults disk.new) }
     // A disk that keeps what was committed, and tells what it reads, is never damaged.
-    ensures undamaged { result ≡ Status.Damaged → FromStart D.Disk disk.old (λ choose history k. ⊥) }
+    ensures undamaged { result ≡ Status.Damaged → FromStart D.Disk disk.old (λ choose history run k. ⊥) }
     ensures usage { result ≡ Status.Usage → ⊥ }
     ensures listener { result ≡ Status.ListenerFault → ⊥ }
     ensures in_use { result ≡ Status.InUse → HasRefused D.Disk disk.old disk.new }

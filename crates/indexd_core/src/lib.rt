@@ -16,7 +16,10 @@ mod serve;
 mod status;
 mod stored;
 
-pub use chain::{an_empty_disk_may_run, an_exit_is_a_stop, runs_leave, the_next_run_may_begin};
+pub use chain::{
+    an_empty_disk_may_run, an_exit_is_a_stop, runs_leave, the_next_run_has_a_greater_number,
+    the_next_run_may_begin,
+};
 /// What the program's store is over, for callers that open that store themselves.
 pub use ix_tier::Tier;
 pub use laws::blank_disks_are_starts;

@@ -162,15 +162,18 @@ fn answer<S: Source, W: Sink, C: Clock, T: Tree, D: Disk, L: Listener>(
 /// ends with: for want of memory, or where the disk fails at it, it ends with `Memory` or `DiskFault` in place of any other status.
 ///
 /// A run may be stopped at any moment, and the next one goes on from what the disk has then. What is promised of it speaks of every history of
-/// commands of which each image that a crash may leave at its start stands for a first part, with its first k commands at least, and of a disk that tells
-/// what it reads. Up to the mount each image still does; from the mount on each stands for a first part of what was mounted and accepted since, with all
-/// that was mounted. A number that a reply tells as stored is that of a command of this run which every image has from then on. At the exit every image
-/// has all that was accepted, unless the disk has failed or a file is damaged. `runs_leave`, `an_exit_is_a_stop` and `the_next_run_may_begin` join one run to
-/// the next, and `an_empty_disk_may_run` begins them.
+/// commands of which each image that a crash may leave at its start stands for a first part, with its first k commands at least, and for a run with
+/// some least number or a later one, and of a disk that tells what it reads (`MayRun`). Up to the mount each image still does. The number of a run
+/// that mounts is one more than the one that the disk reads, and greater than that least one; from the mount on each image stands for a first part
+/// of what was mounted and accepted since, with all that was mounted, and for this run or a later one. So no image goes back to an earlier run,
+/// whether a run serves, does a task, is stopped or does not mount, and no number of a run is used twice. A number that a reply tells as stored is
+/// that of a command of this run which every image has from then on. At the exit every image has all that was accepted, unless the disk has failed or
+/// a file is damaged. `runs_leave`, `an_exit_is_a_stop` and `the_next_run_may_begin` join one run to the next, `an_empty_disk_may_run` begins them,
+/// and `the_next_run_has_a_greater_number` is on their numbers.
 ///
 /// Any other words are `Usage`. `Configuration` comes exactly where the files that the command reads have a fault. `NotFound` comes where
 /// INDEX is not configured, or the bucket is not in the archive; `TooManyChannels` where 256 channels are open, `Full` where the store
-/// would pass its bounds, and `InUse` where another program has the store. `Input` comes only where the input of `preview` or the tree has failed, `Output` only where the output has,
+/// would pass its bounds or has had its last run, and `InUse` where another program has the store. `Input` comes only where the input of `preview` or the tree has failed, `Output` only where the output has,
 /// `DiskFault` only where the disk has, `ListenerFault` only where the listener has, also where it does not get its port, `Damaged` where the files of the disk hold what was not
 /// committed, `Unreadable` where a request of `feed` was cut or it is not known where it ends, `Endless` only where `preview` took 2^40 bytes or
 /// `feed` served 2^32 requests, and `Memory` where there was no room. The line of the status stands behind the output.
@@ -260,7 +263,7 @@ pub fn top<S: Source, W: Sink, C: Clock, T: Tree, D: Disk, L: Listener>(
     ensures disk { result ≡ Status.DiskFault → Rose (D.Disk.faults disk.old) (D.Disk.faults disk.new) }
     ensures listener { result ≡ Status.ListenerFault → Rose (L.faults listener.old) (L.faults listener.new) }
     // A disk that tells what it reads, and whose images at the start stand for some history, is never damaged.
-    ensures undamaged { result ≡ Status.Damaged → FromStart D.Disk disk.old (λ choose history k. ⊥) }
+    ensures undamaged { result ≡ Status.Damaged → FromStart D.Disk disk.old (λ choose history run k. ⊥) }
     // A disk that tells what it reads goes on telling.
     ensures told { IsTold D.Disk disk.old → IsTold D.Disk disk.new }
     ensures disk_later { D.Disk.faults disk.old ≤ D.Disk.faults disk.new }

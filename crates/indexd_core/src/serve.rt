@@ -114,7 +114,7 @@ fn serve_with<W: Sink, C: Clock, D: Disk, L: Listener>(
     ensures disk { result ≡ Status.DiskFault → Rose (D.Disk.faults disk.old) (D.Disk.faults disk.new) }
     ensures listener { result ≡ Status.ListenerFault → Rose (L.faults listener.old) (L.faults listener.new) }
     ensures out { L.out listener.new ≡ L.out listener.old }
-    ensures undamaged { result ≡ Status.Damaged → FromStart D.Disk disk.old (λ choose history k. ⊥) }
+    ensures undamaged { result ≡ Status.Damaged → FromStart D.Disk disk.old (λ choose history run k. ⊥) }
     ensures input { result ≡ Status.Input → ⊥ }
     ensures usage { result ≡ Status.Usage → ⊥ }
     ensures in_use { result ≡ Status.InUse → HasRefused D.Disk disk.old disk.new }
@@ -168,7 +168,7 @@ pub fn serve<W: Sink, C: Clock, T: Tree, D: Disk, L: Listener>(
     ensures listener { result ≡ Status.ListenerFault → Rose (L.faults listener.old) (L.faults listener.new) }
     ensures out { L.out listener.new ≡ L.out listener.old }
     // A disk that keeps what was committed, and tells what it reads, is never damaged.
-    ensures undamaged { result ≡ Status.Damaged → FromStart D.Disk disk.old (λ choose history k. ⊥) }
+    ensures undamaged { result ≡ Status.Damaged → FromStart D.Disk disk.old (λ choose history run k. ⊥) }
     ensures usage { result ≡ Status.Usage → ⊥ }
     ensures in_use { result ≡ Status.InUse → HasRefused D.Disk disk.old disk.new }
     ensures used { D.Disk.in_use disk.old ≡ Some true → EndsUsed result D.Disk disk.old disk.new }

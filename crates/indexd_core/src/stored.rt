@@ -63,7 +63,7 @@ fn run_with<W: Sink, C: Clock, D: Disk>(
     ensures told { IsTold D.Disk disk.old → IsTold D.Disk disk.new }
     ensures disk_later { D.Disk.faults disk.old ≤ D.Disk.faults disk.new }
     ensures disk { result ≡ Status.DiskFault → Rose (D.Disk.faults disk.old) (D.Disk.faults disk.new) }
-    ensures undamaged { result ≡ Status.Damaged → FromStart D.Disk disk.old (λ choose history k. ⊥) }
+    ensures undamaged { result ≡ Status.Damaged → FromStart D.Disk disk.old (λ choose history run k. ⊥) }
     ensures usage { result ≡ Status.Usage → ⊥ }
     ensures listener { result ≡ Status.ListenerFault → ⊥ }
     ensures in_use { result ≡ Status.InUse → ⊥ }
@@ -93,7 +93,7 @@ pub fn run_stored<W: Sink, C: Clock, T: Tree, D: Disk>(
     ensures disk_later { D.Disk.faults disk.old ≤ D.Disk.faults disk.new }
     ensures disk { result ≡ Status.DiskFault → Rose (D.Disk.faults disk.old) (D.Disk.faults disk.new) }
     // A disk that keeps what was committed, and tells what it reads, is never damaged.
-    ensures undamaged { result ≡ Status.Damaged → FromStart D.Disk disk.old (λ choose history k. ⊥) }
+    ensures undamaged { result ≡ Status.Damaged → FromStart D.Disk disk.old (λ choose history run k. ⊥) }
     ensures usage { result ≡ Status.Usage → ⊥ }
     ensures listener { result ≡ Status.ListenerFault → ⊥ }
     ensures in_use { result ≡ Status.InUse → HasRefused D.Disk disk.old disk.new }
@@ -135,14 +135,14 @@ fn miss<C: Clock, D: Disk>(
 ) -> Stop
     requires settings { IsConfig config }
     requires long { defs.is_long origin.now.index ≡ true }
-    ensures stopped { (left : Option (List ℕ)) → FromStart D.Disk disk.old (λ choose history k. HasStopped result D.Disk IsTaken fits choose history k config
+    ensures stopped { (left : Option (List ℕ)) → FromStart D.Disk disk.old (λ choose history run k. HasStopped result D.Disk IsTaken fits choose history run k config
         (C.ahead clock.old) (C.ahead clock.new) (left ≡ left)
         (HasFed choose origin.now (Err result) (C.ahead clock.new) left left) disk.old disk.new) }
     ensures short { StopsShort D.Disk fits result disk.old disk.new }
     ensures told { IsTold D.Disk disk.old → IsTold D.Disk disk.new }
     ensures later { D.Disk.faults disk.old ≤ D.Disk.faults disk.new }
     ensures cause { result ≡ Stop.Disk → Rose (D.Disk.faults disk.old) (D.Disk.faults disk.new) }
-    ensures undamaged { defs.status_of result ≡ Status.Damaged → FromStart D.Disk disk.old (λ choose history k. ⊥) }
+    ensures undamaged { defs.status_of result ≡ Status.Damaged → FromStart D.Disk disk.old (λ choose history run k. ⊥) }
     ensures quiet { is_output result ≡ false }
     ensures unread { is_input result ≡ false }
 {
@@ -168,9 +168,9 @@ fn store_input<C: Clock, S: Source, D: Disk>(
     requires host { length origin.host ≤ 1024 }
     requires source { length origin.source ≤ 1024 }
     requires sourcetype { IfSome origin.sourcetype (λ (name : List ℕ). length name ≤ 1024) }
-    ensures done { OnOk result (FromStart D.Disk disk.old (λ choose history k. HasRun false D.Disk IsTaken fits choose history k
+    ensures done { OnOk result (FromStart D.Disk disk.old (λ choose history run k. HasRun false D.Disk IsTaken fits choose history run k
         (WhenOpen choose config (C.ahead clock.old) (HasFed choose origin result (C.ahead clock.new) (S.left input.old) (S.left input.new))) disk.old disk.new)) }
-    ensures stopped { IfErr result (λ stop. FromStart D.Disk disk.old (λ choose history k. HasStopped stop D.Disk IsTaken fits choose history k config
+    ensures stopped { IfErr result (λ stop. FromStart D.Disk disk.old (λ choose history run k. HasStopped stop D.Disk IsTaken fits choose history run k config
         (C.ahead clock.old) (C.ahead clock.new) (S.left input.new ≡ S.left input.old)
         (HasFed choose origin result (C.ahead clock.new) (S.left input.old) (S.left input.new)) disk.old disk.new)) }
     ensures short { EndsShort D.Disk fits result disk.old disk.new }
@@ -179,7 +179,7 @@ fn store_input<C: Clock, S: Source, D: Disk>(
     ensures cause { IsErrOf result Stop.Disk → Rose (D.Disk.faults disk.old) (D.Disk.faults disk.new) }
     ensures read_later { S.faults input.old ≤ S.faults input.new }
     ensures input { IsErrOf result Stop.Input → Rose (S.faults input.old) (S.faults input.new) }
-    ensures undamaged { IfErr result (λ stop. defs.status_of stop ≡ Status.Damaged → FromStart D.Disk disk.old (λ choose history k. ⊥)) }
+    ensures undamaged { IfErr result (λ stop. defs.status_of stop ≡ Status.Damaged → FromStart D.Disk disk.old (λ choose history run k. ⊥)) }
     ensures quiet { IfErr result (λ stop. is_output stop ≡ false) }
     ensures read { HasTaken result (S.left input.old) (S.left input.new) }
 {
@@ -229,7 +229,7 @@ fn store_with<S: Source, W: Sink, C: Clock, D: Disk>(
     ensures told { IsTold D.Disk disk.old → IsTold D.Disk disk.new }
     ensures disk_later { D.Disk.faults disk.old ≤ D.Disk.faults disk.new }
     ensures disk { result ≡ Status.DiskFault → Rose (D.Disk.faults disk.old) (D.Disk.faults disk.new) }
-    ensures undamaged { result ≡ Status.Damaged → FromStart D.Disk disk.old (λ choose history k. ⊥) }
+    ensures undamaged { result ≡ Status.Damaged → FromStart D.Disk disk.old (λ choose history run k. ⊥) }
     ensures usage { result ≡ Status.Usage → ⊥ }
     ensures listener { result ≡ Status.ListenerFault → ⊥ }
     ensures in_use { result ≡ Status.InUse → ⊥ }
@@ -269,7 +269,7 @@ pub fn store_preview<S: Source, W: Sink, C: Clock, T: Tree, D: Disk>(
     ensures disk_later { D.Disk.faults disk.old ≤ D.Disk.faults disk.new }
     ensures disk { result ≡ Status.DiskFault → Rose (D.Disk.faults disk.old) (D.Disk.faults disk.new) }
     // A disk that keeps what was committed, and tells what it reads, is never damaged.
-    ensures undamaged { result ≡ Status.Damaged → FromStart D.Disk disk.old (λ choose history k. ⊥) }
+    ensures undamaged { result ≡ Status.Damaged → FromStart D.Disk disk.old (λ choose history run k. ⊥) }
     ensures usage { result ≡ Status.Usage → ⊥ }
     ensures listener { result ≡ Status.ListenerFault → ⊥ }
     ensures in_use { result ≡ Status.InUse → HasRefused D.Disk disk.old disk.new }

@@ -16,14 +16,14 @@ use Rattle.ix_machine.specs.declared.commands.Config.{Config}
 use Rattle.ix_machine.specs.declared.commands.Order.{Order}
 use Rattle.ix_run.proofs.Gone.{longer, stands_from}
 use Rattle.ix_run.specs.Giving.{given_all}
-use Rattle.ix_run.specs.Running.{StandsFrom}
+use Rattle.ix_store.specs.Written.{StandsFrom}
 use Rattle.ix_store.specs.declared.store.Store.{Store}
 use Rattle.ix_serve.specs.Serving.{IsTold}
 use Rattle.indexd_store.specs.Opened.{HasOpened, Passes}
 use Rattle.indexd_feed.specs.Serving.{Serving, Requests, HasServed, begun_with}
 
-module _ {D : Type 0} (g : Ghosts D) {M : Type 0} (takes : Order → Type 0) (fits : Book → Type 0) (holds : Chooser → List Order → M → Type 0) (choose : Chooser) (h : List Order) (k : ℕ) (config : Config) (store : Store M)
-    (ahead told : Option Moments) (first mid : D) (opened : HasOpened g fits holds choose h k config store ahead told first mid) where
+module _ {D : Type 0} (g : Ghosts D) {M : Type 0} (takes : Order → Type 0) (fits : Book → Type 0) (holds : Chooser → List Order → M → Type 0) (choose : Chooser) (h : List Order) (run k : ℕ) (config : Config) (store : Store M)
+    (ahead told : Option Moments) (first mid : D) (opened : HasOpened g fits holds choose h run k config store ahead told first mid) where
   abbrev begun : List Order
   begun = given_all choose (take opened.count h) opened.configured
 
@@ -34,10 +34,10 @@ module _ {D : Type 0} (g : Ghosts D) {M : Type 0} (takes : Order → Type 0) (fi
   at_least = opened.hold.staged.from_base
 
   -- what stood before the requests stands for a prefix also of what comes of them
-  before_turns : (turns : List (Turn D)) (image : Image) → StandsFrom fits choose begun opened.count image → StandsFrom fits choose (history_after from turns) opened.count image
+  before_turns : (turns : List (Turn D)) (image : Image) → StandsFrom fits store.run choose begun opened.count image → StandsFrom fits store.run choose (history_after from turns) opened.count image
   before_turns [] image is = is
   before_turns (turn ∷ earlier) image is =
-      longer fits choose (history_after from earlier) turn.answer.more opened.count opened.count image (omega arith) (before_turns earlier image is)
+      longer fits store.run choose (history_after from earlier) turn.answer.more opened.count opened.count image (omega arith) (before_turns earlier image is)
 
   within_turns : (turns : List (Turn D)) → opened.count ≤ length (history_after from turns)
   within_turns [] = opened.passes.within
@@ -47,17 +47,18 @@ module _ {D : Type 0} (g : Ghosts D) {M : Type 0} (takes : Order → Type 0) (fi
   first_turns [] = refl
   first_turns (turn ∷ earlier) = take-append-le opened.count (history_after from earlier) turn.answer.more (within_turns earlier) ∙ first_turns earlier
 
-  behind : (turns : List (Turn D)) (n : ℕ) → length begun ≤ n → (image : Image) → Has fits from turns n image → StandsFrom fits choose (history_after from turns) opened.count image
-  behind turns n le image is = stands_from fits store.run choose (history_after from turns) opened.count is.count image (omega (arith, at_least, le, is.least)) is.most is.stands
+  behind : (turns : List (Turn D)) (n : ℕ) → length begun ≤ n → (image : Image) → Has fits from turns n image → StandsFrom fits store.run choose (history_after from turns) opened.count image
+  behind turns n le image is = stands_from fits store.run store.run choose (history_after from turns) opened.count is.count image (omega arith) (omega (arith, at_least, le, is.least)) is.most is.stands
 
   passes_by : (turns : List (Turn D)) (last : D) → AreSafe g fits from turns → Always g (disk_after from turns) last (Has fits from turns (known from turns)) →
-      Passes g fits choose h k (history_after from turns) opened.count first last
+      Passes g fits choose h run k (history_after from turns) store.run opened.count first last
   passes_by turns last safe since =
-      let P = StandsFrom fits choose (history_after from turns) opened.count in
+      let P = StandsFrom fits store.run choose (history_after from turns) opened.count in
       let now = disk_after from turns in
       let mounted = opened.passes.mounted in
       let served = images_all g fits from turns (held_in g fits holds choose begun opened.count (length begun) (length begun) store.run store mid refl (omega arith) opened.hold) safe in
       record {
+        later = opened.passes.later;
         mounted = mounted;
         first = first_turns turns ∙ opened.passes.first;
         within = within_turns turns;
@@ -69,7 +70,7 @@ module _ {D : Type 0} (g : Ghosts D) {M : Type 0} (takes : Order → Type 0) (fi
       }
 
   pub served_behind : (serves : Serving D) (turns : List (Turn D)) (now : List Order) (last : D) → (IsTold g first → IsTold g mid) → AllByRecursion takes now → now ≡ history_after from turns → serves from told now →
-      AreSafe g fits from turns → Always g (disk_after from turns) last (Has fits from turns (known from turns)) → HasServed g takes fits choose h k config ahead serves first last
+      AreSafe g fits from turns → Always g (disk_after from turns) last (Has fits from turns (known from turns)) → HasServed g takes fits choose h run k config ahead serves first last
   served_behind serves turns now last tells given same served safe since = record {
     count = opened.count;
     least = opened.least;
@@ -78,7 +79,7 @@ module _ {D : Type 0} (g : Ghosts D) {M : Type 0} (takes : Order → Type 0) (fi
     configures = opened.configures;
     told = told;
     asked = opened.asked;
-    run = store.run;
+    new_run = store.run;
     number = opened.number;
     middle = mid;
     now = now;
@@ -86,14 +87,14 @@ module _ {D : Type 0} (g : Ghosts D) {M : Type 0} (takes : Order → Type 0) (fi
     runs_left = opened.runs_left;
     served = served;
     given = given;
-    passes = subst (λ (all : List Order). Passes g fits choose h k all opened.count first last) (sym same) (passes_by turns last safe since);
+    passes = subst (λ (all : List Order). Passes g fits choose h run k all store.run opened.count first last) (sym same) (passes_by turns last safe since);
   }
 
 -- more may be said of requests
-pub served_as : {D : Type 0} (g : Ghosts D) (takes : Order → Type 0) (fits : Book → Type 0) (choose : Chooser) (h : List Order) (k : ℕ) (config : Config) (ahead : Option Moments) (serves says : Serving D) (first last : D) →
-    (has : HasServed g takes fits choose h k config ahead serves first last) →
-    says (begun_with choose h has.count has.configured has.run has.middle) has.told has.now → HasServed g takes fits choose h k config ahead says first last
-served_as g takes fits choose h k config ahead serves says first last has said = record {
+pub served_as : {D : Type 0} (g : Ghosts D) (takes : Order → Type 0) (fits : Book → Type 0) (choose : Chooser) (h : List Order) (run k : ℕ) (config : Config) (ahead : Option Moments) (serves says : Serving D) (first last : D) →
+    (has : HasServed g takes fits choose h run k config ahead serves first last) →
+    says (begun_with choose h has.count has.configured has.new_run has.middle) has.told has.now → HasServed g takes fits choose h run k config ahead says first last
+served_as g takes fits choose h run k config ahead serves says first last has said = record {
   count = has.count;
   least = has.least;
   most = has.most;
@@ -101,7 +102,7 @@ served_as g takes fits choose h k config ahead serves says first last has said =
   configures = has.configures;
   told = has.told;
   asked = has.asked;
-  run = has.run;
+  new_run = has.new_run;
   number = has.number;
   middle = has.middle;
   now = has.now;

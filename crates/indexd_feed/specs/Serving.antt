@@ -72,8 +72,8 @@ begun_with choose history count configured run disk =
     start choose (given_all choose (take count history) configured) count (length (given_all choose (take count history) configured)) run disk
 
 -- A store was mounted with the first `count` commands of the history, the settings were put in force, for whose command alone the clock was
--- asked, and requests were served behind these. The run has a new number, and what was given may be given again.
-pub record HasServed {D : Type 0} (d : Ghosts D) (takes : Order → Type 0) (fits : Book → Type 0) (choose : Chooser) (history : List Order) (k : ℕ) (config : Config) (ahead : Option Moments) (serves : Serving D) (before disk : D) : Type 0 where
+-- asked, and requests were served behind these. The run has a new number, later than that of each run before it, and what was given may be given again.
+pub record HasServed {D : Type 0} (d : Ghosts D) (takes : Order → Type 0) (fits : Book → Type 0) (choose : Chooser) (history : List Order) (run k : ℕ) (config : Config) (ahead : Option Moments) (serves : Serving D) (before disk : D) : Type 0 where
   pub count : ℕ
   pub least : k ≤ count
   pub most : count ≤ length history
@@ -82,13 +82,13 @@ pub record HasServed {D : Type 0} (d : Ghosts D) (takes : Order → Type 0) (fit
   pub told : Option Moments
   pub asked : Asks configured ahead told
   -- the number of the run, the disk when the requests began, and the history behind them
-  pub run : ℕ
-  pub number : IsNewRun d fits run before
+  pub new_run : ℕ
+  pub number : IsNewRun d fits new_run before
   pub middle : D
   pub now : List Order
   -- a disk that tells what it reads does so still when they begin
   pub tells : IsTold d before → IsTold d middle
   pub runs_left : HasRunsLeft d fits before
-  pub served : serves (begun_with choose history count configured run middle) told now
+  pub served : serves (begun_with choose history count configured new_run middle) told now
   pub given : AllByRecursion takes now
-  pub passes : Passes d fits choose history k now count before disk
+  pub passes : Passes d fits choose history run k now new_run count before disk

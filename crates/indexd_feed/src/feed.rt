@@ -78,30 +78,30 @@ pub fn run_feed<M: Listing + Drop, D: Disk, C: Clock, K: Link>(
     requires asks { TakesAsks M.takes }
     // Requests are served over some prefix of what was there, with the settings in force, up to this end. All replies are written, unless the
     // count of the link has risen, and that of its writing side.
-    ensures served { IfOk result (λ end. (choose : Chooser) (history : List Order) (k : ℕ) → M.is_chooser choose → AllByRecursion M.takes history →
-        Begins D.Disk M.Book.fits choose history k disk.old → (image : Image) → D.Disk.seen disk.old ≡ Some image →
-        HasServed D.Disk M.takes M.Book.fits choose history k config (C.ahead clock.old)
+    ensures served { IfOk result (λ end. (choose : Chooser) (history : List Order) (run k : ℕ) → M.is_chooser choose → AllByRecursion M.takes history →
+        Begins D.Disk M.Book.fits choose history run k disk.old → (image : Image) → D.Disk.seen disk.old ≡ Some image →
+        HasServed D.Disk M.takes M.Book.fits choose history run k config (C.ahead clock.old)
         (Requests D.Disk M.Book.fits end (IsClean (K.faults link.old) (K.faults link.new) (K.standing link.old) (K.standing link.new))
         (K.left link.old) (K.left link.new) (C.ahead clock.new) (K.given link.old) (K.given link.new) disk.new) disk.old disk.new) }
     // Which requests were read, and where the run ended by them, goes by the bytes of the link, whatever the disk holds.
     ensures reads { IfOk result (λ end. ReadsTo end (K.left link.old) (K.left link.new)) }
     // A run that stops before them has lost nothing, has its cause, and leaves the link alone.
-    ensures shut { IfErr result (λ stop. (choose : Chooser) (history : List Order) (k : ℕ) → M.is_chooser choose → AllByRecursion M.takes history →
-        Begins D.Disk M.Book.fits choose history k disk.old → (image : Image) → D.Disk.seen disk.old ≡ Some image →
-        HasShut stop D.Disk M.takes M.Book.fits choose history k config (C.ahead clock.old) (C.ahead clock.new) disk.old disk.new) }
+    ensures shut { IfErr result (λ stop. (choose : Chooser) (history : List Order) (run k : ℕ) → M.is_chooser choose → AllByRecursion M.takes history →
+        Begins D.Disk M.Book.fits choose history run k disk.old → (image : Image) → D.Disk.seen disk.old ≡ Some image →
+        HasShut stop D.Disk M.takes M.Book.fits choose history run k config (C.ahead clock.old) (C.ahead clock.new) disk.old disk.new) }
     ensures untouched { OnErr result (link.new ≡ link.old) }
     // Behind the run the current log is not long, as the disk reads; but for want of memory, where the disk is at fault, or where nothing was
     // mounted.
     ensures short { IfOk result (λ end. ends.is_short end ≡ true → ReadsShort D.Disk disk.new) }
     ensures stopped_short { IfErr result (λ stop. StopsShort D.Disk M.Book.fits stop disk.old disk.new) }
     // What is on the disk is not damaged where it keeps what was committed and tells what it reads,
-    ensures undamaged { (file : File) (at : ℕ) → result ≡ Err (Stop.Damaged file at) → (choose : Chooser) (history : List Order) (k : ℕ) → M.is_chooser choose → AllByRecursion M.takes history →
-        Begins D.Disk M.Book.fits choose history k disk.old → (image : Image) → D.Disk.seen disk.old ≡ Some image → ⊥ }
-    ensures unbroken { (file : File) (at : ℕ) → result ≡ Ok (Fed.Broken (CommitFault.Damaged file at)) → (choose : Chooser) (history : List Order) (k : ℕ) → M.is_chooser choose →
-        AllByRecursion M.takes history → Begins D.Disk M.Book.fits choose history k disk.old → (image : Image) → D.Disk.seen disk.old ≡ Some image → ⊥ }
+    ensures undamaged { (file : File) (at : ℕ) → result ≡ Err (Stop.Damaged file at) → (choose : Chooser) (history : List Order) (run k : ℕ) → M.is_chooser choose → AllByRecursion M.takes history →
+        Begins D.Disk M.Book.fits choose history run k disk.old → (image : Image) → D.Disk.seen disk.old ≡ Some image → ⊥ }
+    ensures unbroken { (file : File) (at : ℕ) → result ≡ Ok (Fed.Broken (CommitFault.Damaged file at)) → (choose : Chooser) (history : List Order) (run k : ℕ) → M.is_chooser choose →
+        AllByRecursion M.takes history → Begins D.Disk M.Book.fits choose history run k disk.old → (image : Image) → D.Disk.seen disk.old ≡ Some image → ⊥ }
     // and what is in memory contradicts nothing.
-    ensures sound { IsErrOf result Stop.Inconsistent → (choose : Chooser) (history : List Order) (k : ℕ) → M.is_chooser choose → AllByRecursion M.takes history →
-        Begins D.Disk M.Book.fits choose history k disk.old → (image : Image) → D.Disk.seen disk.old ≡ Some image → ⊥ }
+    ensures sound { IsErrOf result Stop.Inconsistent → (choose : Chooser) (history : List Order) (run k : ℕ) → M.is_chooser choose → AllByRecursion M.takes history →
+        Begins D.Disk M.Book.fits choose history run k disk.old → (image : Image) → D.Disk.seen disk.old ≡ Some image → ⊥ }
     ensures quiet { IfErr result (λ stop. is_output stop ≡ false) }
     ensures still { IfErr result (λ stop. is_input stop ≡ false) }
     // The link is the same still, a disk that tells what it reads goes on telling, and no count falls.

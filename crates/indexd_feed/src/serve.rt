@@ -82,31 +82,31 @@ pub fn run_serve<M: Listing + Drop, D: Disk, C: Clock, L: Listener>(
     requires settings { (moment : ℤ) → M.takes (configuring config moment) }
     requires asks { TakesAsks M.takes }
     // Connections are served over some prefix of what was there, with the settings in force, up to this end.
-    ensures served { IfOk result (λ end. (choose : Chooser) (history : List Order) (k : ℕ) → M.is_chooser choose → AllByRecursion M.takes history →
-        Begins D.Disk M.Book.fits choose history k disk.old → (image : Image) → D.Disk.seen disk.old ≡ Some image →
-        HasServed D.Disk M.takes M.Book.fits choose history k config (C.ahead clock.old)
+    ensures served { IfOk result (λ end. (choose : Chooser) (history : List Order) (run k : ℕ) → M.is_chooser choose → AllByRecursion M.takes history →
+        Begins D.Disk M.Book.fits choose history run k disk.old → (image : Image) → D.Disk.seen disk.old ≡ Some image →
+        HasServed D.Disk M.takes M.Book.fits choose history run k config (C.ahead clock.old)
         (Connections D.Disk M.Book.fits requests end (listened (L.waiting listener.old) (L.handed listener.old)) (listened (L.waiting listener.new) (L.handed listener.new)) (C.ahead clock.new) disk.new) disk.old disk.new) }
     // How many connections were taken, that each request was read of what its connection held, and that each was handed back, holds whatever the
     // disk holds.
     ensures reads { IfOk result (λ end. HearsMany (ends.AsManyServed requests end)
         (listened (L.waiting listener.old) (L.handed listener.old)) (listened (L.waiting listener.new) (L.handed listener.new))) }
     // A run that stops before them has lost nothing, has its cause, and leaves the listener alone.
-    ensures shut { IfErr result (λ stop. (choose : Chooser) (history : List Order) (k : ℕ) → M.is_chooser choose → AllByRecursion M.takes history →
-        Begins D.Disk M.Book.fits choose history k disk.old → (image : Image) → D.Disk.seen disk.old ≡ Some image →
-        HasShut stop D.Disk M.takes M.Book.fits choose history k config (C.ahead clock.old) (C.ahead clock.new) disk.old disk.new) }
+    ensures shut { IfErr result (λ stop. (choose : Chooser) (history : List Order) (run k : ℕ) → M.is_chooser choose → AllByRecursion M.takes history →
+        Begins D.Disk M.Book.fits choose history run k disk.old → (image : Image) → D.Disk.seen disk.old ≡ Some image →
+        HasShut stop D.Disk M.takes M.Book.fits choose history run k config (C.ahead clock.old) (C.ahead clock.new) disk.old disk.new) }
     ensures untouched { OnErr result (listener.new ≡ listener.old) }
     // Behind the run the current log is not long, as the disk reads; but for want of memory, where the disk is at fault, or where nothing was
     // mounted.
     ensures short { IfOk result (λ end. ends.is_short_served end ≡ true → ReadsShort D.Disk disk.new) }
     ensures stopped_short { IfErr result (λ stop. StopsShort D.Disk M.Book.fits stop disk.old disk.new) }
     // What is on the disk is not damaged where it keeps what was committed and tells what it reads,
-    ensures undamaged { (file : File) (at : ℕ) → result ≡ Err (Stop.Damaged file at) → (choose : Chooser) (history : List Order) (k : ℕ) → M.is_chooser choose → AllByRecursion M.takes history →
-        Begins D.Disk M.Book.fits choose history k disk.old → (image : Image) → D.Disk.seen disk.old ≡ Some image → ⊥ }
-    ensures unbroken { (file : File) (at : ℕ) → result ≡ Ok (ServeEnd.Damaged file at) → (choose : Chooser) (history : List Order) (k : ℕ) → M.is_chooser choose →
-        AllByRecursion M.takes history → Begins D.Disk M.Book.fits choose history k disk.old → (image : Image) → D.Disk.seen disk.old ≡ Some image → ⊥ }
+    ensures undamaged { (file : File) (at : ℕ) → result ≡ Err (Stop.Damaged file at) → (choose : Chooser) (history : List Order) (run k : ℕ) → M.is_chooser choose → AllByRecursion M.takes history →
+        Begins D.Disk M.Book.fits choose history run k disk.old → (image : Image) → D.Disk.seen disk.old ≡ Some image → ⊥ }
+    ensures unbroken { (file : File) (at : ℕ) → result ≡ Ok (ServeEnd.Damaged file at) → (choose : Chooser) (history : List Order) (run k : ℕ) → M.is_chooser choose →
+        AllByRecursion M.takes history → Begins D.Disk M.Book.fits choose history run k disk.old → (image : Image) → D.Disk.seen disk.old ≡ Some image → ⊥ }
     // and what is in memory contradicts nothing.
-    ensures sound { IsErrOf result Stop.Inconsistent → (choose : Chooser) (history : List Order) (k : ℕ) → M.is_chooser choose → AllByRecursion M.takes history →
-        Begins D.Disk M.Book.fits choose history k disk.old → (image : Image) → D.Disk.seen disk.old ≡ Some image → ⊥ }
+    ensures sound { IsErrOf result Stop.Inconsistent → (choose : Chooser) (history : List Order) (run k : ℕ) → M.is_chooser choose → AllByRecursion M.takes history →
+        Begins D.Disk M.Book.fits choose history run k disk.old → (image : Image) → D.Disk.seen disk.old ≡ Some image → ⊥ }
     ensures quiet { IfErr result (λ stop. is_output stop ≡ false) }
     ensures still { IfErr result (λ stop. is_input stop ≡ false) }
     // A disk that tells what it reads goes on telling, as many connections are out as before, no count falls, and each fault has its cause.

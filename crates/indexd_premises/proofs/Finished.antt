@@ -1,5 +1,5 @@
 -- A run that is done, over a disk on which nothing was written: what is said of every run from a start is said of it. For `first_run`.
-use Rattle.std.proofs.Common.{◌≡◌, inl, inr, ℕ, true, List, [], sym, ap, ◌∙◌, subst, length, take, arith, refl}
+use Rattle.std.proofs.Common.{◌≡◌, ◌<◌, inl, inr, ℕ, true, List, [], sym, ap, ◌∙◌, subst, length, take, arith, refl}
 use Rattle.std.specs.Prelude.{Option, false}
 use Rattle.std.proofs.lemmas.List.{take_all}
 use Rattle.ix_base.specs.Clocks.{Moments}
@@ -20,9 +20,8 @@ use Rattle.ix_machine.specs.declared.commands.Order.{Order}
 use Rattle.ix_replay.specs.Fits.{fits}
 use Rattle.ix_run.specs.Giving.{given_all}
 use Rattle.ix_run.proofs.Gone.{stands_from}
-use Rattle.ix_run.specs.Running.{StandsFrom}
 use Rattle.ix_serve.specs.Serving.{IsTold}
-use Rattle.ix_store.specs.Written.{Stands}
+use Rattle.ix_store.specs.Written.{Stands, StandsFrom}
 use Rattle.ix_tree.specs.declared.trees.TreeFile.{TreeFile}
 use Rattle.indexd_feed.specs.Ends.{FedBehind, HeardBehind, fed_of, heard_end}
 use Rattle.indexd_feed.specs.Serving.{HasServed, Requests, Connections}
@@ -95,36 +94,38 @@ served_whole status requests (serving.Damaged file at) output output' is e = let
 -- ---- images
 
 -- an image that a run has written for a history stands for all of it
-whole : (run : ℕ) (choose : Chooser) (history : List Order) (image : Image) → Stands fits run choose history image → StandsFrom fits choose history (length history) image
+whole : (run : ℕ) (choose : Chooser) (history : List Order) (image : Image) → Stands fits run choose history image → StandsFrom fits run choose history (length history) image
 whole run choose history image stands =
-    stands_from fits run choose history (length history) (length history) image (omega arith) (omega arith)
+    stands_from fits run run choose history (length history) (length history) image (omega arith) (omega arith) (omega arith)
     (subst (λ (h : List Order). Stands fits run choose h image) (sym (take_all (length history) history (omega arith))) stands)
 
 -- ---- runs
 
-module _ {D : Type 0} {d : Ghosts D} {disk : D} (choose : Chooser) (may : MayRun d choose [] 0 disk) where
+module _ {D : Type 0} {d : Ghosts D} {disk : D} (choose : Chooser) (may : MayRun d choose [] 0 0 disk) where
   -- what is said of every run from here is said of this one
-  is_said : (comes : Chooser → List Order → ℕ → Type 0) → FromStart d disk comes → comes choose [] 0
-  is_said comes from = from choose [] 0 may.chooser may.given may.begins may.image may.tells
+  is_said : (comes : Chooser → List Order → ℕ → ℕ → Type 0) → FromStart d disk comes → comes choose [] 0 0
+  is_said comes from = from choose [] 0 0 may
 
-  history_of : (now : List Order) (disk' : D) → AreGiven now → ((image : Image) → d.may_leave disk' image → StandsFrom fits choose now (length now) image) → IsTold d disk' →
+  history_of : (now : List Order) (run : ℕ) (disk' : D) → 0 < run → AreGiven now → ((image : Image) → d.may_leave disk' image → StandsFrom fits run choose now (length now) image) → IsTold d disk' →
       HasHistory d disk'
-  history_of now disk' given all told = record {
+  history_of now run disk' begun given all told = record {
     choose = choose;
     history = now;
+    run = run;
+    begun = begun;
     may_run = record { chooser = may.chooser; given = given; begins = all; image = told.0; tells = told.1 };
   }
 
-  of_run : (mays : List Order → List Order → List Order → Type 0) (disk' : D) → IsTold d disk' → HasRun false d IsTaken fits choose [] 0 mays disk disk' → HasHistory d disk'
-  of_run mays disk' told run =
-      history_of (given_all choose (given_all choose (take run.count []) run.configured) run.orders) disk' run.given run.exit told
+  of_run : (mays : List Order → List Order → List Order → Type 0) (disk' : D) → IsTold d disk' → HasRun false d IsTaken fits choose [] 0 0 mays disk disk' → HasHistory d disk'
+  of_run mays disk' told was =
+      history_of (given_all choose (given_all choose (take was.count []) was.configured) was.orders) was.new_run disk' was.passes.later was.given was.exit told
 
   pub of_comes : (status : Status) (config : Config) (named : List ℕ) (ahead ahead' : Option Moments) (what : Chooser → Doing) (untouched : Side → Type 0)
       (part : Stop → Side → Chooser → Doing) (wrote : Stop → Side → Type 0) (output' : Side) (disk' : D) → IsTold d disk' → status ≡ Done →
       Comes status d config named ahead ahead' what untouched part wrote output' disk disk' → HasHistory d disk'
   of_comes status config named ahead ahead' what untouched part wrote output' disk' told is (done e from) =
       of_run (WhenOpen choose config ahead (what choose)) disk' told
-      (is_said (λ choose history k. HasRun false d IsTaken fits choose history k (WhenOpen choose config ahead (what choose)) disk disk') from)
+      (is_said (λ choose history run k. HasRun false d IsTaken fits choose history run k (WhenOpen choose config ahead (what choose)) disk disk') from)
   of_comes status config named ahead ahead' what untouched part wrote output' disk' told is (stopped stop middle e from w s) =
       absurd (not_done stop (sym e ∙ is))
 
@@ -132,11 +133,11 @@ module _ {D : Type 0} {d : Ghosts D} {disk : D} (choose : Chooser) (may : MayRun
       FeedComes status d config ahead ahead' input input' output output' disk disk' → HasHistory d disk'
   of_feed status config ahead ahead' input input' output output' disk' told is (feeds.shut stop e from same said) = absurd (not_done stop (sym e ∙ is))
   of_feed status config ahead ahead' input input' output output' disk' told is (feeds.served end middle e l m reads from said) =
-      let run = is_said (λ choose history k. HasServed d IsTaken fits choose history k config ahead
+      let was = is_said (λ choose history run k. HasServed d IsTaken fits choose history run k config ahead
       (Requests d fits (fed_of end) (IsSound output.faults middle.faults) input.told input'.told ahead' output.told middle.told disk') disk disk') from in
-      let requests = run.served in
-      history_of run.now disk' run.given
-      (λ image left. whole run.run choose run.now image (requests.all (open_behind requests.first end (sym e ∙ is) requests.ends_behind) image left)) told
+      let requests = was.served in
+      history_of was.now was.new_run disk' was.passes.later was.given
+      (λ image left. whole was.new_run choose was.now image (requests.all (open_behind requests.first end (sym e ∙ is) requests.ends_behind) image left)) told
 
   pub of_serve : (status : Status) (config : Config) (requests : ℕ) (ahead ahead' : Option Moments) (heard heard' : Listened) (output output' : Side) (disk' : D) → IsTold d disk' → status ≡ Done →
       ServeComes status d config requests ahead ahead' heard heard' output output' disk disk' → HasHistory d disk'
@@ -144,13 +145,13 @@ module _ {D : Type 0} {d : Ghosts D} {disk : D} (choose : Chooser) (may : MayRun
   of_serve status config requests ahead ahead' heard heard' output output' disk' told is (serves.locked_out a h out said) = absurd (not_out d disk disk' status is out)
   of_serve status config requests ahead ahead' heard heard' output output' disk' told is (serves.shut stop e from same said) = absurd (not_done stop (sym e ∙ is))
   of_serve status config requests ahead ahead' heard heard' output output' disk' told is (serves.served end hears from wrote) =
-      let run = is_said (λ choose history k. HasServed d IsTaken fits choose history k config ahead
+      let was = is_said (λ choose history run k. HasServed d IsTaken fits choose history run k config ahead
       (Connections d fits requests end heard heard' ahead' disk') disk disk') from in
-      let visits = run.served in
+      let visits = was.served in
       let behind : HeardBehind visits.first serving.Done =
       subst (HeardBehind visits.first) (served_whole status requests end output output' is wrote) visits.ends_behind in
-      history_of run.now disk' run.given
-      (λ image left. whole run.run choose run.now image (visits.all (open_served visits.first behind) image left)) told
+      history_of was.now was.new_run disk' was.passes.later was.given
+      (λ image left. whole was.new_run choose was.now image (visits.all (open_served visits.first behind) image left)) told
 
 -- one that is done has read the settings
 pub of_whole : (status : Status) (files : Option (List TreeFile)) (failed failed' : ℕ) (still out : Type 0) (comes : Config → Type 0) (output output' : Side) (said : Type 0) → status ≡ Done →

@@ -1,5 +1,5 @@
 -- What a first run leaves for a second one, with no premise on histories.
-use Rattle.std.specs.Prelude.{◌≡◌, List, [], length}
+use Rattle.std.specs.Prelude.{◌≡◌, ◌<◌, ℕ, List, [], length}
 use Rattle.ix_disk.specs.declared.disk.Disk.{Ghosts}
 use Rattle.ix_machine.specs.Given.{Chooser}
 use Rattle.ix_machine.specs.declared.commands.Order.{Order}
@@ -7,14 +7,16 @@ use Rattle.indexd_core.specs.Chain.{MayRun, MayGoOn}
 use Rattle.indexd_core.specs.declared.status.Status.{Status}
 use Rattle.indexd_core.specs.declared.status.Status.TheVariants.{Done}
 
--- every image that a crash may leave stands for all of one history of commands, and a second run may begin over that
+-- every image that a crash may leave stands for all of one history of commands and a run that was begun, and a second run may begin over that
 pub record HasHistory {D : Type 0} (d : Ghosts D) (disk : D) : Type 0 where
   pub choose : Chooser
   pub history : List Order
-  pub may_run : MayRun d choose history (length history) disk
+  pub run : ℕ
+  pub begun : 0 < run
+  pub may_run : MayRun d choose history run (length history) disk
 
 -- Whatever the status is, a second run may begin over some history; and at `Done` over one that every image has whole.
 pub record GoesOn (status : Status) {D : Type 0} (d : Ghosts D) (disk : D) : Type 0 where
   pub choose : Chooser
-  pub again : MayGoOn d choose [] 0 disk
+  pub again : MayGoOn d choose [] 0 0 disk
   pub whole : status ≡ Done → HasHistory d disk

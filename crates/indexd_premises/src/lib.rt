@@ -1,7 +1,7 @@
 //! A guard: a sentence whose premises nobody can meet says nothing, and no wrong body of code shows it. What `top` says of runs over a store
 //! has premises: a chooser of settings, a history for which the images at the start stand, a disk that tells what it reads. Here the program runs
 //! over an empty disk in memory, which meets them all, and what is said of that run has no premise on histories left. So the gate fails where a
-//! definition changes into one that nothing meets. Whoever adds a premise to `FromStart` of `indexd_core` shows here what meets it.
+//! definition changes into one that nothing meets. Whoever adds a premise to `MayRun` of `indexd_core` shows here what meets it.
 #![tactic(auto)]
 
 ghost use Rattle.std.specs.Prelude.{◌≡◌, ℕ, [], true};
@@ -29,7 +29,7 @@ use std::alloc::Global;
 /// An empty disk in memory. It meets all that the clauses of `top` ask of a start.
 pub fn empty_disk(alloc: Global) -> MemDisk
     ensures blank { IsBlank ⟦<MemDisk as Disk>⟧ result }
-    ensures begins { (choose : Chooser) × MayRun ⟦<MemDisk as Disk>⟧ choose [] 0 result }
+    ensures begins { (choose : Chooser) × MayRun ⟦<MemDisk as Disk>⟧ choose [] 0 0 result }
     ensures start { IsStart ⟦<MemDisk as Disk>⟧ result }
 {
     ix_kept::choosers_exist();
@@ -39,7 +39,8 @@ pub fn empty_disk(alloc: Global) -> MemDisk
 }
 
 /// Runs the program over an empty disk in memory, and answers with its status the disk that it leaves. Nothing is damaged, whatever the
-/// status is a second run may begin there, and at 0 every image that a crash may leave stands for all of one history of commands.
+/// status is a second run may begin there, and at 0 every image that a crash may leave stands for all of one history of commands and for a run
+/// that was begun, so that the second one has a greater number.
 pub fn first_run<S: Source, W: Sink, C: Clock, T: Tree, L: Listener>(
     alloc: Global,
     words: &[Text],

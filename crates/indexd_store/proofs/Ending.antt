@@ -26,7 +26,7 @@ use Rattle.ix_store.specs.declared.store.Store.{Store}
 use Rattle.ix_keep.proofs.Beginning.{over_same}
 use Rattle.ix_run.proofs.Rested.{idle_same, measured_same}
 use Rattle.ix_run.specs.Resting.{IsAtRest}
-use Rattle.ix_run.specs.Giving.{IsKept}
+use Rattle.ix_run.specs.Giving.{HasKeptAll, IsKept}
 use Rattle.ix_run.specs.Running.{HasStood, HasGone, IsNotGiven}
 use Rattle.ix_run.specs.declared.giving.GiveFault.{GiveFault}
 use Rattle.ix_run.specs.declared.giving.GiveFault.TheVariants.{Refused, Commit}
@@ -51,16 +51,17 @@ none_more : (h : List Order) → h ++ [] ≡ h
 none_more [] = refl
 none_more (o ∷ h) = ap (λ (l : List Order). o ∷ l) (none_more h)
 
-module _ {D : Type 0} (g : Ghosts D) {M : Type 0} (fits : Book → Type 0) (holds : Chooser → List Order → M → Type 0) (choose : Chooser) (h : List Order) (base : ℕ) (order : Order) (store : Store M) (first last : D) where
+module _ {D : Type 0} (g : Ghosts D) {M : Type 0} (fits : Book → Type 0) (run : ℕ) (holds : Chooser → List Order → M → Type 0) (choose : Chooser) (h : List Order) (base : ℕ) (order : Order) (store : Store M) (first last : D) where
   -- nothing was given
-  none_left : HasGone g fits holds choose h [] base (length h) store first last → IsLeft g fits holds choose h base (AtMost order) store first last
+  none_left : HasGone g fits run holds choose h [] base (length h) store first last → IsLeft g fits run holds choose h base (AtMost order) store first last
   none_left gone = record {
     orders = [];
     allowed = inl refl;
     all = record {
       allowed = tt;
+      same_run = gone.same_run;
       hold = subst (λ (n : ℕ). Holds g fits holds choose h base n store last) same hold;
-      stood = subst (λ (some : List Order). HasStood g fits choose some (length h) first last) (none_more h) gone.stood;
+      stood = subst (λ (some : List Order). HasStood g fits run choose some (length h) first last) (none_more h) gone.stood;
     };
   } where
     hold : Holds g fits holds choose h base gone.count store last
@@ -69,27 +70,27 @@ module _ {D : Type 0} (g : Ghosts D) {M : Type 0} (fits : Book → Type 0) (hold
     same : gone.count ≡ length h
     same = omega (arith, gone.kept, hold.staged.within)
 
-  none_lasted : HasGone g fits holds choose h [] base (length h) store first last → HasLasted g fits choose h (AtMost order) first last
-  none_lasted gone = record { orders = []; allowed = inl refl; stood = subst (λ (some : List Order). HasStood g fits choose some (length h) first last) (none_more h) gone.stood }
+  none_lasted : HasGone g fits run holds choose h [] base (length h) store first last → HasLasted g fits run choose h (AtMost order) first last
+  none_lasted gone = record { orders = []; allowed = inl refl; stood = subst (λ (some : List Order). HasStood g fits run choose some (length h) first last) (none_more h) gone.stood }
 
-  by_loss : (lost : Bool) → HasGone g fits holds choose h [] base (length h) store first last → Ends lost g fits holds choose h base (AtMost order) store first last
+  by_loss : (lost : Bool) → HasGone g fits run holds choose h [] base (length h) store first last → Ends lost g fits run holds choose h base (AtMost order) store first last
   by_loss true gone = none_lasted gone
   by_loss false gone = none_left gone
 
-  one_lasted : (fault : CommitFault) → HasStood g fits choose (h ++ adds (after choose h) order) (length h) first last → Ends (loses (of_commit fault)) g fits holds choose h base (AtMost order) store first last
+  one_lasted : (fault : CommitFault) → HasStood g fits run choose (h ++ adds (after choose h) order) (length h) first last → Ends (loses (of_commit fault)) g fits run holds choose h base (AtMost order) store first last
   one_lasted commits.Disk stood = record { orders = order ∷ []; allowed = inr refl; stood = stood }
   one_lasted (commits.Damaged file at) stood = record { orders = order ∷ []; allowed = inr refl; stood = stood }
 
-  by_fault : (old : Store M) (fault : GiveFault) → IsNotGiven g fits holds choose h base (length h) order old fault store first last → Ends (loses (of_give fault)) g fits holds choose h base (AtMost order) store first last
-  by_fault old (Refused refusal) not = by_loss (loses (of_refusal refusal)) not.1
-  by_fault old (Commit fault) stood = one_lasted fault stood
+  by_fault : (old : Store M) (fault : GiveFault) → old.run ≡ run → IsNotGiven g fits holds choose h base (length h) order old fault store first last → Ends (loses (of_give fault)) g fits run holds choose h base (AtMost order) store first last
+  by_fault old (Refused refusal) same not = by_loss (loses (of_refusal refusal)) (subst (λ (r : ℕ). HasGone g fits r holds choose h [] base (length h) store first last) same not.1)
+  by_fault old (Commit fault) same stood = one_lasted fault (subst (λ (r : ℕ). HasStood g fits r choose (h ++ adds (after choose h) order) (length h) first last) same stood)
 
-  pub stopped : (old : Store M) (fault : GiveFault) (stop : Stop) → stop ≡ of_give fault → IsNotGiven g fits holds choose h base (length h) order old fault store first last →
-      Ends (loses stop) g fits holds choose h base (AtMost order) store first last
-  stopped old fault stop is not = subst (λ (s : Stop). Ends (loses s) g fits holds choose h base (AtMost order) store first last) (sym is) (by_fault old fault not)
+  pub stopped : (old : Store M) (fault : GiveFault) (stop : Stop) → old.run ≡ run → stop ≡ of_give fault → IsNotGiven g fits holds choose h base (length h) order old fault store first last →
+      Ends (loses stop) g fits run holds choose h base (AtMost order) store first last
+  stopped old fault stop same is not = subst (λ (s : Stop). Ends (loses s) g fits run holds choose h base (AtMost order) store first last) (sym is) (by_fault old fault same not)
 
-  pub left_by : (old : Store M) (answer : Accepted) → IsKept g fits holds choose h base (length h) order old answer store first last → IsLeft g fits holds choose h base (Only order) store first last
-  left_by old answer kept = record { orders = order ∷ []; allowed = refl; all = kept.all }
+  pub left_by : (old : Store M) (answer : Accepted) → old.run ≡ run → IsKept g fits holds choose h base (length h) order old answer store first last → IsLeft g fits run holds choose h base (Only order) store first last
+  left_by old answer same kept = record { orders = order ∷ []; allowed = refl; all = subst (λ (r : ℕ). HasKeptAll g fits r holds choose h (order ∷ []) base (length h) store first last) same kept.all }
 
   pub caused : (old : Store M) (fault : GiveFault) (stop : Stop) → stop ≡ of_give fault → IsNotGiven g fits holds choose h base (length h) order old fault store first last → Caused choose old.drawn h order stop
   caused old (Refused refusal) stop is not = inl (refusal, is, not.0)

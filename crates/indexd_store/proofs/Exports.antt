@@ -13,7 +13,7 @@ use Rattle.ix_store.specs.Faults.{is_of_disk}
 use Rattle.ix_machine.specs.Step.{after}
 use Rattle.ix_store.specs.Exporting.{is_seen}
 use Rattle.ix_store.specs.Holding.{Holds, is_closed}
-use Rattle.ix_run.specs.Running.{StandsFrom}
+use Rattle.ix_store.specs.Written.{StandsFrom}
 use Rattle.ix_store.specs.declared.fault.ExportFault.{ExportFault}
 use Rattle.ix_store.specs.declared.fault.ExportFault.TheVariants as exports
 use Rattle.ix_store.specs.declared.store.Store.{Store}
@@ -23,29 +23,29 @@ use Rattle.indexd_store.specs.Tasks.{IsUnexported}
 use Rattle.indexd_store.specs.declared.stop.Stop.{Stop}
 
 module _ {D : Type 0} (g : Ghosts D) {M : Type 0} (fits : Book → Type 0) (holds : Chooser → List Order → M → Type 0) (choose : Chooser) (h : List Order) (base : ℕ) (old store : Store M) (first last : D) where
-  stayed : Holds g fits holds choose h base (length h) old first → Goes g first last Stays → HasStood g fits choose h (length h) first last
-  stayed hold goes = always g first last Stays (StandsFrom fits choose h (length h)) (StandsFrom fits choose h (length h)) goes
-      (λ image left. (stood_here g fits holds choose h base (length h) (length h) old first (omega arith) hold).now image left)
-      (λ before after stands same. subst (λ (image : Image). StandsFrom fits choose h (length h) image) (sym same) stands)
+  stayed : Holds g fits holds choose h base (length h) old first → Goes g first last Stays → HasStood g fits old.run choose h (length h) first last
+  stayed hold goes = always g first last Stays (StandsFrom fits old.run choose h (length h)) (StandsFrom fits old.run choose h (length h)) goes
+      (λ image left. (stood_here g fits old.run holds choose h base (length h) (length h) old first refl (omega arith) hold).now image left)
+      (λ before after stands same. subst (λ (image : Image). StandsFrom fits old.run choose h (length h) image) (sym same) stands)
 
   open_still : Holds g fits holds choose h base (length h) old first → is_closed old ≡ true → ⊥
   open_still hold closed = let e : is_closed old ≡ false = ap (λ (x : Bool). x || old.closed) hold.staged.ready.usable ∙ hold.staged.is_open in cc
 
-  pub left_as_was : Holds g fits holds choose h base (length h) old first → Goes g first last Stays → Holds g fits holds choose h base (length h) store last → IsLeft g fits holds choose h base (λ (orders : List Order). orders ≡ []) store first last
-  left_as_was hold goes now = record { orders = []; allowed = refl; all = record { allowed = tt; hold = now; stood = stayed hold goes } }
+  pub left_as_was : store.run ≡ old.run → Holds g fits holds choose h base (length h) old first → Goes g first last Stays → Holds g fits holds choose h base (length h) store last → IsLeft g fits old.run holds choose h base (λ (orders : List Order). orders ≡ []) store first last
+  left_as_was same hold goes now = record { orders = []; allowed = refl; all = record { allowed = tt; same_run = same; hold = now; stood = stayed hold goes } }
 
-  pub not_exported : (fault : ExportFault) → Holds g fits holds choose h base (length h) old first → Goes g first last Stays → (is_of_disk fault ≡ false → Holds g fits holds choose h base (length h) store last) →
-      Ends (loses (of_export fault)) g fits holds choose h base (λ (orders : List Order). orders ≡ []) store first last
-  not_exported exports.Closed hold goes now = left_as_was hold goes (now refl)
-  not_exported exports.UnknownIndex hold goes now = left_as_was hold goes (now refl)
-  not_exported exports.Disk hold goes now = record { orders = []; allowed = refl; stood = stayed hold goes }
-  not_exported (exports.Damaged file at) hold goes now = record { orders = []; allowed = refl; stood = stayed hold goes }
-  not_exported exports.Output hold goes now = left_as_was hold goes (now refl)
-  not_exported exports.NoMemory hold goes now = left_as_was hold goes (now refl)
+  pub not_exported : (fault : ExportFault) → store.run ≡ old.run → Holds g fits holds choose h base (length h) old first → Goes g first last Stays → (is_of_disk fault ≡ false → Holds g fits holds choose h base (length h) store last) →
+      Ends (loses (of_export fault)) g fits old.run holds choose h base (λ (orders : List Order). orders ≡ []) store first last
+  not_exported exports.Closed same hold goes now = left_as_was same hold goes (now refl)
+  not_exported exports.UnknownIndex same hold goes now = left_as_was same hold goes (now refl)
+  not_exported exports.Disk same hold goes now = record { orders = []; allowed = refl; stood = stayed hold goes }
+  not_exported (exports.Damaged file at) same hold goes now = record { orders = []; allowed = refl; stood = stayed hold goes }
+  not_exported exports.Output same hold goes now = left_as_was same hold goes (now refl)
+  not_exported exports.NoMemory same hold goes now = left_as_was same hold goes (now refl)
 
-  pub stopped_as : (stop : Stop) (fault : ExportFault) → stop ≡ of_export fault → Holds g fits holds choose h base (length h) old first → Goes g first last Stays →
-      (is_of_disk fault ≡ false → Holds g fits holds choose h base (length h) store last) → Ends (loses stop) g fits holds choose h base (λ (orders : List Order). orders ≡ []) store first last
-  stopped_as stop fault is hold goes now = subst (λ (s : Stop). Ends (loses s) g fits holds choose h base (λ (orders : List Order). orders ≡ []) store first last) (sym is) (not_exported fault hold goes now)
+  pub stopped_as : (stop : Stop) (fault : ExportFault) → store.run ≡ old.run → stop ≡ of_export fault → Holds g fits holds choose h base (length h) old first → Goes g first last Stays →
+      (is_of_disk fault ≡ false → Holds g fits holds choose h base (length h) store last) → Ends (loses stop) g fits old.run holds choose h base (λ (orders : List Order). orders ≡ []) store first last
+  stopped_as stop fault same is hold goes now = subst (λ (s : Stop). Ends (loses s) g fits old.run holds choose h base (λ (orders : List Order). orders ≡ []) store first last) (sym is) (not_exported fault same hold goes now)
 
   -- an index is missed exactly where it is not seen, and a store that holds a history is not closed
   pub unexported : (index : List ℕ) (stop : Stop) (fault : ExportFault) → stop ≡ of_export fault → Holds g fits holds choose h base (length h) old first → (fault ≡ exports.Closed → is_closed old ≡ true) →

@@ -98,8 +98,8 @@ so choose base h given rest origin moment refusals.TooManyChannels why sound = (
 so choose base h given rest origin moment refusals.Full why sound = (refusals.Full, refl, why)
 so choose base h given rest origin moment refusals.NoMemory why sound = tt
 
-module _ {D : Type 0} (g : Ghosts D) {M : Type 0} (fits : Book → Type 0) (holds : Chooser → List Order → M → Type 0) (choose : Chooser) (h : List Order) (base : ℕ) (store : Store M) (first last : D) where
-  by_loss : (lost : Bool) (may : List Order → Type 0) → IsLeft g fits holds choose h base may store first last → Ends lost g fits holds choose h base may store first last
+module _ {D : Type 0} (g : Ghosts D) {M : Type 0} (fits : Book → Type 0) (run : ℕ) (holds : Chooser → List Order → M → Type 0) (choose : Chooser) (h : List Order) (base : ℕ) (store : Store M) (first last : D) where
+  by_loss : (lost : Bool) (may : List Order → Type 0) → IsLeft g fits run holds choose h base may store first last → Ends lost g fits run holds choose h base may store first last
   by_loss true may left = record { orders = left.orders; allowed = left.allowed; stood = left.all.stood }
   by_loss false may left = left
 
@@ -108,10 +108,10 @@ module _ {D : Type 0} (g : Ghosts D) {M : Type 0} (fits : Book → Type 0) (hold
     open_is = is_begun (after choose h) tilde
 
     abbrev Given : Result Unit RunFault → List (List ℕ) → Type 0
-    Given result pieces = Stores g fits holds choose h base (length h) store first last result (filling open_is origin moment pieces) (end_order moment ∷ [])
+    Given result pieces = Stores g fits run holds choose h base (length h) store first last result (filling open_is origin moment pieces) (end_order moment ∷ [])
 
     pub feeds : (pieces : List (List ℕ)) (failed failed' : ℕ) → AllByRecursion IsBlock pieces → Told (Took (joined pieces)) left left' → runs_read (Ok tt) (length (joined pieces)) left' failed failed' → Misses choose h origin false → Given (Ok tt) pieces →
-        IsLeft g fits holds choose h base (Fed choose base h origin moment (Ok tt) left left') store first last
+        IsLeft g fits run holds choose h base (Fed choose base h origin moment (Ok tt) left left') store first last
     feeds pieces failed failed' sizes took read found given = record {
       orders = storing open_is origin moment pieces;
       allowed = record { pieces = pieces; sizes = sizes; took = took; read = read; rest = []; whole = none_behind (storing open_is origin moment pieces); end = (refl, found, given.allowed) };
@@ -124,7 +124,7 @@ module _ {D : Type 0} (g : Ghosts D) {M : Type 0} (fits : Book → Type 0) (hold
       front fault orders rest read parts why = record { pieces = pieces; sizes = sizes; took = took; read = read_so fault (length (joined pieces)) left' failed failed' read; rest = rest; whole = parts; end = why }
 
       unfed : (fault : RunFault) → runs_read (Err fault) (length (joined pieces)) left' failed failed' → Given (Err fault) pieces →
-          Ends (loses (of_run fault)) g fits holds choose h base (Fed choose base h origin moment (Err (of_run fault)) left left') store first last
+          Ends (loses (of_run fault)) g fits run holds choose h base (Fed choose base h origin moment (Err (of_run fault)) left left') store first last
       unfed (runs.Given (Refused refusal)) read given = by_loss (loses (of_refusal refusal)) (Fed choose base h origin moment (Err (of_refusal refusal)) left left') (record {
         orders = given.given;
         allowed = front (runs.Given (Refused refusal)) given.given given.rest read given.parts (so choose base h given.given given.rest origin moment refusal given.halts.0
@@ -137,12 +137,12 @@ module _ {D : Type 0} (g : Ghosts D) {M : Type 0} (fits : Book → Type 0) (hold
       unfed runs.Endless read given = record { orders = filling open_is origin moment pieces; allowed = front runs.Endless (filling open_is origin moment pieces) (end_order moment ∷ []) read refl refl; all = given }
 
       pub unfed_as : (fault : RunFault) (stop : Stop) → stop ≡ of_run fault → runs_read (Err fault) (length (joined pieces)) left' failed failed' → Given (Err fault) pieces →
-          Ends (loses stop) g fits holds choose h base (Fed choose base h origin moment (Err stop) left left') store first last
-      unfed_as fault stop is read given = subst (λ (s : Stop). Ends (loses s) g fits holds choose h base (Fed choose base h origin moment (Err s) left left') store first last) (sym is) (unfed fault read given)
+          Ends (loses stop) g fits run holds choose h base (Fed choose base h origin moment (Err stop) left left') store first last
+      unfed_as fault stop is read given = subst (λ (s : Stop). Ends (loses s) g fits run holds choose h base (Fed choose base h origin moment (Err s) left left') store first last) (sym is) (unfed fault read given)
 
   -- an input is not stopped by what stands on the disk
-  pub fed_sound : (origin : ChannelMeta) (moment : ℤ) (result : Result Unit Stop) (left left' : Option (List ℕ)) → result ≡ Err stops.Inconsistent → Ends (loses_in result) g fits holds choose h base (Fed choose base h origin moment result left left') store first last → ⊥
+  pub fed_sound : (origin : ChannelMeta) (moment : ℤ) (result : Result Unit Stop) (left left' : Option (List ℕ)) → result ≡ Err stops.Inconsistent → Ends (loses_in result) g fits run holds choose h base (Fed choose base h origin moment result left left') store first last → ⊥
   fed_sound origin moment result left left' is ends =
-      let was : IsLeft g fits holds choose h base (Fed choose base h origin moment (Err stops.Inconsistent) left left') store first last =
-      subst (λ (r : Result Unit Stop). Ends (loses_in r) g fits holds choose h base (Fed choose base h origin moment r left left') store first last) is ends in
+      let was : IsLeft g fits run holds choose h base (Fed choose base h origin moment (Err stops.Inconsistent) left left') store first last =
+      subst (λ (r : Result Unit Stop). Ends (loses_in r) g fits run holds choose h base (Fed choose base h origin moment r left left') store first last) is ends in
       was.allowed.end

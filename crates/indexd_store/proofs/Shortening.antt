@@ -29,8 +29,7 @@ use Rattle.ix_store.proofs.Booked.{all_more}
 use Rattle.ix_store.proofs.Counted.{take_whole}
 use Rattle.ix_run.proofs.Gone.{stands_from}
 use Rattle.ix_store.specs.Holding.{Holds}
-use Rattle.ix_run.specs.Running.{StandsFrom}
-use Rattle.ix_store.specs.Written.{Stands}
+use Rattle.ix_store.specs.Written.{Stands, StandsFrom}
 use Rattle.ix_store.specs.declared.store.Store.{Store}
 use Rattle.indexd_store.specs.Ends.{IsLeft, Ends, AtMost}
 use Rattle.indexd_store.specs.Previews.{IsRead, HasTaken, IsWhy, Fed}
@@ -101,20 +100,20 @@ ends_as g fits (Err stop) before disk so = λ ok. inl (so ok)
 
 -- ---- what was given stays given
 
-module _ {D : Type 0} (g : Ghosts D) {M : Type 0} (fits : Book → Type 0) (holds : Chooser → List Order → M → Type 0) (takes : Order → Type 0) (choose : Chooser) (h : List Order) (base run : ℕ)
+module _ {D : Type 0} (g : Ghosts D) {M : Type 0} (fits : Book → Type 0) (run : ℕ) (holds : Chooser → List Order → M → Type 0) (takes : Order → Type 0) (choose : Chooser) (h : List Order) (base : ℕ)
     (before store : Store M) (first mid last : D) where
   -- every image since stands for all
   abbrev pub HasImages : Type 0
-  HasImages = (now : List Order) → AllByRecursion takes now → Holds g fits holds choose now base (length now) before mid → Always g mid last (Stands fits run choose now)
+  HasImages = (now : List Order) → AllByRecursion takes now → Holds g fits holds choose now base (length now) before mid → Always g mid last (Stands fits before.run choose now)
 
   -- and all is held still
   abbrev pub IsHeld : Type 0
   IsHeld = (now : List Order) → AllByRecursion takes now → Holds g fits holds choose now base (length now) before mid → Holds g fits holds choose now base (length now) store last
 
-  kept_stood : HasImages → (orders : List Order) → AllByRecursion takes (given_all choose h orders) → HasKeptAll g fits holds choose h orders base (length h) before first mid →
-      HasStood g fits choose (given_all choose h orders) (length h) first last
+  kept_stood : HasImages → (orders : List Order) → AllByRecursion takes (given_all choose h orders) → HasKeptAll g fits run holds choose h orders base (length h) before first mid →
+      HasStood g fits run choose (given_all choose h orders) (length h) first last
   kept_stood images orders all kept =
-      always_on g first mid last (StandsFrom fits choose (given_all choose h orders) (length h)) kept.stood
+      always_on g first mid last (StandsFrom fits run choose (given_all choose h orders) (length h)) kept.stood
       (always_weaker g mid last _ _ (λ image stands. from image stands) (images (given_all choose h orders) all kept.hold))
     where
       now : List Order
@@ -123,61 +122,63 @@ module _ {D : Type 0} (g : Ghosts D) {M : Type 0} (fits : Book → Type 0) (hold
       fewer : length h ≤ length (given_all choose h orders)
       fewer = subst (λ (l : List Order). length h ≤ length l) (sym (given_more choose h orders)) (omega (arith, length-append h (more_of choose h orders)))
 
-      from : (image : Image) → Stands fits run choose (given_all choose h orders) image → StandsFrom fits choose (given_all choose h orders) (length h) image
-      from image stands = stands_from fits run choose (given_all choose h orders) (length h) (length (given_all choose h orders)) image fewer (omega arith)
-          (subst (λ (some : List Order). Stands fits run choose some image) (sym (take_whole (given_all choose h orders))) stands)
+      from : (image : Image) → Stands fits before.run choose (given_all choose h orders) image → StandsFrom fits run choose (given_all choose h orders) (length h) image
+      from image stands = stands_from fits run before.run choose (given_all choose h orders) (length h) (length (given_all choose h orders)) image (omega (arith, kept.same_run)) fewer (omega arith)
+          (subst (λ (some : List Order). Stands fits before.run choose some image) (sym (take_whole (given_all choose h orders))) stands)
 
-  pub ends_short : HasImages → (lost : Bool) (may must : List Order → Type 0) → ((orders : List Order) → may orders → must orders) → ((orders : List Order) → may orders → AllByRecursion takes (given_all choose h orders)) →
-      (lost ≡ false → IsHeld) → IsLeft g fits holds choose h base may before first mid → Ends lost g fits holds choose h base must store first last
-  ends_short images true may must so all held left = record { orders = left.orders; allowed = so left.orders left.allowed; stood = kept_stood images left.orders (all left.orders left.allowed) left.all }
-  ends_short images false may must so all held left = record {
+  pub ends_short : store.run ≡ before.run → HasImages → (lost : Bool) (may must : List Order → Type 0) → ((orders : List Order) → may orders → must orders) → ((orders : List Order) → may orders → AllByRecursion takes (given_all choose h orders)) →
+      (lost ≡ false → IsHeld) → IsLeft g fits run holds choose h base may before first mid → Ends lost g fits run holds choose h base must store first last
+  ends_short same images true may must so all held left = record { orders = left.orders; allowed = so left.orders left.allowed; stood = kept_stood images left.orders (all left.orders left.allowed) left.all }
+  ends_short same images false may must so all held left = record {
     orders = left.orders;
     allowed = so left.orders left.allowed;
     all = record {
       allowed = left.all.allowed;
+      same_run = same ∙ left.all.same_run;
       hold = held refl (given_all choose h left.orders) (all left.orders left.allowed) left.all.hold;
       stood = kept_stood images left.orders (all left.orders left.allowed) left.all;
     };
   }
 
   -- nothing was given
-  pub short_stood : Always g mid last (Stands fits run choose h) → HasStood g fits choose h (length h) mid last
-  short_stood short = always_weaker g mid last _ _ (λ image stands. from image stands) short
+  pub short_stood : before.run ≡ run → Always g mid last (Stands fits before.run choose h) → HasStood g fits run choose h (length h) mid last
+  short_stood is short = always_weaker g mid last _ _ (λ image stands. from image stands) short
     where
-      from : (image : Image) → Stands fits run choose h image → StandsFrom fits choose h (length h) image
-      from image stands = stands_from fits run choose h (length h) (length h) image (omega arith) (omega arith) (subst (λ (some : List Order). Stands fits run choose some image) (sym (take_whole h)) stands)
+      from : (image : Image) → Stands fits before.run choose h image → StandsFrom fits run choose h (length h) image
+      from image stands = stands_from fits run before.run choose h (length h) (length h) image (omega (arith, is)) (omega arith) (omega arith) (subst (λ (some : List Order). Stands fits before.run choose some image) (sym (take_whole h)) stands)
 
   -- a run that stops, and ends
   pub stopped_short : (stop other : Stop) (may must : List Order → Type 0) → ((orders : List Order) → may orders → must orders) → ((orders : List Order) → may orders → AllByRecursion takes (given_all choose h orders)) →
-      (loses stop ≡ true → (other ≡ stop) × ((store ≡ before) × (last ≡ mid))) → (loses stop ≡ false → HasImages) → (loses stop ≡ false → loses other ≡ false → IsHeld) →
-      Ends (loses stop) g fits holds choose h base may before first mid → Ends (loses other) g fits holds choose h base must store first last
-  stopped_short stop other may must so all closed images held ends = by (loses stop) refl ends
+      store.run ≡ before.run → (loses stop ≡ true → (other ≡ stop) × ((store ≡ before) × (last ≡ mid))) → (loses stop ≡ false → HasImages) → (loses stop ≡ false → loses other ≡ false → IsHeld) →
+      Ends (loses stop) g fits run holds choose h base may before first mid → Ends (loses other) g fits run holds choose h base must store first last
+  stopped_short stop other may must so all same_run closed images held ends = by (loses stop) refl ends
     where
-      by : (lost : Bool) → loses stop ≡ lost → Ends lost g fits holds choose h base may before first mid → Ends (loses other) g fits holds choose h base must store first last
+      by : (lost : Bool) → loses stop ≡ lost → Ends lost g fits run holds choose h base may before first mid → Ends (loses other) g fits run holds choose h base must store first last
       by true is ends =
           let same = closed is in
           let lost : true ≡ loses other = sym (ap loses same.0 ∙ is) in
-          subst (λ (b : Bool). Ends b g fits holds choose h base must store first last) lost
-          (record { orders = ends.orders; allowed = so ends.orders ends.allowed; stood = subst (λ (d : D). HasStood g fits choose (given_all choose h ends.orders) (length h) first d) (sym same.1.1) ends.stood })
-      by false is ends = ends_short (images is) (loses other) may must so all (held is) ends
+          subst (λ (b : Bool). Ends b g fits run holds choose h base must store first last) lost
+          (record { orders = ends.orders; allowed = so ends.orders ends.allowed; stood = subst (λ (d : D). HasStood g fits run choose (given_all choose h ends.orders) (length h) first d) (sym same.1.1) ends.stood })
+      by false is ends = ends_short same_run (images is) (loses other) may must so all (held is) ends
 
 -- nothing was given, before and behind
-pub ends_behind : {D : Type 0} (g : Ghosts D) {M : Type 0} (fits : Book → Type 0) (holds : Chooser → List Order → M → Type 0) (choose : Chooser) (h : List Order) (base : ℕ) (store : Store M) (first mid last : D) (lost : Bool) →
-    HasStood g fits choose h (length h) first mid → Ends lost g fits holds choose h base (λ orders. orders ≡ []) store mid last → Ends lost g fits holds choose h base (λ orders. orders ≡ []) store first last
-ends_behind g fits holds choose h base store first mid last true stood ends = record {
+pub ends_behind : {D : Type 0} (g : Ghosts D) {M : Type 0} (fits : Book → Type 0) (run : ℕ) (holds : Chooser → List Order → M → Type 0) (choose : Chooser) (h : List Order) (base : ℕ) (store : Store M) (first mid last : D) (lost : Bool) →
+    HasStood g fits run choose h (length h) first mid → Ends lost g fits run holds choose h base (λ orders. orders ≡ []) store mid last → Ends lost g fits run holds choose h base (λ orders. orders ≡ []) store first last
+ends_behind g fits run holds choose h base store first mid last true stood ends = record {
   orders = ends.orders;
   allowed = ends.allowed;
-  stood = stood_on g fits holds choose (given_all choose h ends.orders) (length h) first mid last
-      (subst (λ (os : List Order). HasStood g fits choose (given_all choose h os) (length h) first mid) (sym ends.allowed) stood) ends.stood;
+  stood = stood_on g fits run holds choose (given_all choose h ends.orders) (length h) first mid last
+      (subst (λ (os : List Order). HasStood g fits run choose (given_all choose h os) (length h) first mid) (sym ends.allowed) stood) ends.stood;
 }
-ends_behind g fits holds choose h base store first mid last false stood ends = record {
+ends_behind g fits run holds choose h base store first mid last false stood ends = record {
   orders = ends.orders;
   allowed = ends.allowed;
   all = record {
     allowed = ends.all.allowed;
+    same_run = ends.all.same_run;
     hold = ends.all.hold;
-    stood = stood_on g fits holds choose (given_all choose h ends.orders) (length h) first mid last
-        (subst (λ (os : List Order). HasStood g fits choose (given_all choose h os) (length h) first mid) (sym ends.allowed) stood) ends.all.stood;
+    stood = stood_on g fits run holds choose (given_all choose h ends.orders) (length h) first mid last
+        (subst (λ (os : List Order). HasStood g fits run choose (given_all choose h os) (length h) first mid) (sym ends.allowed) stood) ends.all.stood;
   };
 }
 

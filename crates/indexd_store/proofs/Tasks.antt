@@ -118,20 +118,20 @@ output_is stops.Endless out = cc
 pub output_of : (result : Result Unit Stop) (stop : Stop) → result ≡ Err stop → is_output stop ≡ true → IsErrOf result stops.Output
 output_of result stop is output = is ∙ ap stopped_at (output_is stop output)
 
-module _ {D : Type 0} (g : Ghosts D) {M : Type 0} (fits : Book → Type 0) (holds : Chooser → List Order → M → Type 0) (choose : Chooser) (h : List Order) (base : ℕ) (store : Store M) (first last : D) where
-  pub left_weaker : (may must : List Order → Type 0) → ((orders : List Order) → may orders → must orders) → IsLeft g fits holds choose h base may store first last → IsLeft g fits holds choose h base must store first last
+module _ {D : Type 0} (g : Ghosts D) {M : Type 0} (fits : Book → Type 0) (run : ℕ) (holds : Chooser → List Order → M → Type 0) (choose : Chooser) (h : List Order) (base : ℕ) (store : Store M) (first last : D) where
+  pub left_weaker : (may must : List Order → Type 0) → ((orders : List Order) → may orders → must orders) → IsLeft g fits run holds choose h base may store first last → IsLeft g fits run holds choose h base must store first last
   left_weaker may must so left = record { orders = left.orders; allowed = so left.orders left.allowed; all = left.all }
 
-  pub ends_weaker : (lost : Bool) (may must : List Order → Type 0) → ((orders : List Order) → may orders → must orders) → Ends lost g fits holds choose h base may store first last → Ends lost g fits holds choose h base must store first last
+  pub ends_weaker : (lost : Bool) (may must : List Order → Type 0) → ((orders : List Order) → may orders → must orders) → Ends lost g fits run holds choose h base may store first last → Ends lost g fits run holds choose h base must store first last
   ends_weaker true may must so ends = record { orders = ends.orders; allowed = so ends.orders ends.allowed; stood = ends.stood }
   ends_weaker false may must so ends = left_weaker may must so ends
 
-  pub ends_safe : (lost : Bool) (may : List Order → Type 0) → lost ≡ false → IsLeft g fits holds choose h base may store first last → Ends lost g fits holds choose h base may store first last
-  ends_safe lost may safe left = subst (λ (b : Bool). Ends b g fits holds choose h base may store first last) (sym safe) left
+  pub ends_safe : (lost : Bool) (may : List Order → Type 0) → lost ≡ false → IsLeft g fits run holds choose h base may store first last → Ends lost g fits run holds choose h base may store first last
+  ends_safe lost may safe left = subst (λ (b : Bool). Ends b g fits run holds choose h base may store first last) (sym safe) left
 
   -- what was given stays given when its text is written, or is not
   pub said : (count : ℕ) (result : Result Unit Stop) (all : List Order) (task : Task) (view : View) → IfErr result (λ stop. IsUnsaid task view stop) →
-      IsLeft g fits holds choose h base (Gave {T = ℕ} (Ok count) all) store first last → Ends (loses_in result) g fits holds choose h base (Gave result all) store first last
+      IsLeft g fits run holds choose h base (Gave {T = ℕ} (Ok count) all) store first last → Ends (loses_in result) g fits run holds choose h base (Gave result all) store first last
   said count (Ok done) all task view safe left = left_weaker (Gave {T = ℕ} (Ok count) all) (Gave {T = Unit} (Ok done) all) (λ orders is. is) left
   said count (Err stop) all task view unsaid left =
       ends_safe (loses stop) (Gave {T = Unit} (Err stop) all) (unsaid_safe task view stop unsaid)
@@ -139,9 +139,9 @@ module _ {D : Type 0} (g : Ghosts D) {M : Type 0} (fits : Book → Type 0) (hold
 
 -- nothing is given
 pub none_given : {D : Type 0} (g : Ghosts D) {M : Type 0} (fits : Book → Type 0) (holds : Chooser → List Order → M → Type 0) (choose : Chooser) (h : List Order) (base : ℕ) (store : Store M) (disk : D) (may : List Order → Type 0) →
-    may [] → Holds g fits holds choose h base (length h) store disk → IsLeft g fits holds choose h base may store disk disk
+    may [] → Holds g fits holds choose h base (length h) store disk → IsLeft g fits store.run holds choose h base may store disk disk
 none_given g fits holds choose h base store disk may so hold = record {
   orders = [];
   allowed = so;
-  all = record { allowed = tt; hold = hold; stood = stood_here g fits holds choose h base (length h) (length h) store disk (omega arith) hold };
+  all = record { allowed = tt; same_run = refl; hold = hold; stood = stood_here g fits store.run holds choose h base (length h) (length h) store disk refl (omega arith) hold };
 }

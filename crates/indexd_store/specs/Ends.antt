@@ -9,22 +9,22 @@ use Rattle.ix_store.specs.declared.store.Store.{Store}
 use Rattle.ix_run.specs.Giving.{given_all, HasKeptAll}
 use Rattle.ix_run.specs.Running.{HasStood}
 
--- Commands such as these were accepted behind the history, and all are committed; every image since has all of the history.
-pub record IsLeft {D : Type 0} (d : Ghosts D) {M : Type 0} (fits : Book → Type 0) (holds : Chooser → List Order → M → Type 0) (choose : Chooser) (history : List Order) (base : ℕ) (may : List Order → Type 0) (store : Store M) (before disk : D) : Type 0 where
+-- Commands such as these were accepted behind the history in this run, and all are committed; every image since has all of the history.
+pub record IsLeft {D : Type 0} (d : Ghosts D) {M : Type 0} (fits : Book → Type 0) (run : ℕ) (holds : Chooser → List Order → M → Type 0) (choose : Chooser) (history : List Order) (base : ℕ) (may : List Order → Type 0) (store : Store M) (before disk : D) : Type 0 where
   pub orders : List Order
   pub allowed : may orders
-  pub all : HasKeptAll d fits holds choose history orders base (length history) store before disk
+  pub all : HasKeptAll d fits run holds choose history orders base (length history) store before disk
 
 -- The same where it is not known what of them is committed.
-pub record HasLasted {D : Type 0} (d : Ghosts D) (fits : Book → Type 0) (choose : Chooser) (history : List Order) (may : List Order → Type 0) (before disk : D) : Type 0 where
+pub record HasLasted {D : Type 0} (d : Ghosts D) (fits : Book → Type 0) (run : ℕ) (choose : Chooser) (history : List Order) (may : List Order → Type 0) (before disk : D) : Type 0 where
   pub orders : List Order
   pub allowed : may orders
-  pub stood : HasStood d fits choose (given_all choose history orders) (length history) before disk
+  pub stood : HasStood d fits run choose (given_all choose history orders) (length history) before disk
 
 -- by whether what was accepted may be lost
-abbrev pub Ends : Bool → {D : Type 0} → Ghosts D → {M : Type 0} → (Book → Type 0) → (Chooser → List Order → M → Type 0) → Chooser → List Order → ℕ → (List Order → Type 0) → Store M → D → D → Type 0
-Ends true d fits holds choose history base may store before disk = HasLasted d fits choose history may before disk
-Ends false d fits holds choose history base may store before disk = IsLeft d fits holds choose history base may store before disk
+abbrev pub Ends : Bool → {D : Type 0} → Ghosts D → {M : Type 0} → (Book → Type 0) → ℕ → (Chooser → List Order → M → Type 0) → Chooser → List Order → ℕ → (List Order → Type 0) → Store M → D → D → Type 0
+Ends true d fits run holds choose history base may store before disk = HasLasted d fits run choose history may before disk
+Ends false d fits run holds choose history base may store before disk = IsLeft d fits run holds choose history base may store before disk
 
 -- this command alone
 abbrev pub Only : Order → List Order → Type 0

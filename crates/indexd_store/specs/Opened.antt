@@ -1,5 +1,5 @@
 -- A run of the program over whatever stands on the disk at its start: a store is mounted, settings are put in force, and commands are given.
-use Rattle.std.specs.Prelude.{◌≡◌, ◌≤◌, ◌⊎◌, ℕ, ℤ, Bool, true, false, List, [], ◌∷◌, length, take, Option, Some}
+use Rattle.std.specs.Prelude.{◌≡◌, ◌≤◌, ◌<◌, ◌⊎◌, ℕ, ℤ, Bool, true, false, List, [], ◌∷◌, length, take, Option, Some}
 use Rattle.std.specs.List.{AllByRecursion}
 use Rattle.ix_base.specs.Clocks.{Moments}
 use Rattle.ix_disk.specs.Image.{Image}
@@ -14,8 +14,7 @@ use Rattle.ix_machine.specs.declared.commands.Config.{Config}
 use Rattle.ix_machine.specs.declared.commands.Order.{Order}
 use Rattle.ix_run.specs.Giving.{given_all}
 use Rattle.ix_store.specs.Holding.{Holds}
-use Rattle.ix_run.specs.Running.{StandsFrom}
-use Rattle.ix_store.specs.Written.{IsNextRun}
+use Rattle.ix_store.specs.Written.{IsNextRun, StandsFrom}
 use Rattle.ix_store.specs.declared.fault.MountFault.{MountFault}
 use Rattle.ix_store.specs.declared.store.Store.{Store}
 use Rattle.indexd_store.specs.Asked.{Asks}
@@ -25,9 +24,9 @@ use Rattle.indexd_store.specs.Stops.{of_mount, loses}
 use Rattle.indexd_store.specs.declared.stop.Stop.{Stop}
 use Rattle.indexd_store.specs.declared.stop.Stop.TheVariants as stops
 
--- whatever a crash at the start may leave stands for a prefix of the history with at least k commands
-abbrev pub Begins : {D : Type 0} → Ghosts D → (Book → Type 0) → Chooser → List Order → ℕ → D → Type 0
-Begins d fits choose history k disk = (image : Image) → d.may_leave disk image → StandsFrom fits choose history k image
+-- whatever a crash at the start may leave stands for a prefix of the history with at least k commands, and for this run or a later one
+abbrev pub Begins : {D : Type 0} → Ghosts D → (Book → Type 0) → Chooser → List Order → ℕ → ℕ → D → Type 0
+Begins d fits choose history run k disk = (image : Image) → d.may_leave disk image → StandsFrom fits run choose history k image
 
 -- ---- settings
 
@@ -80,24 +79,26 @@ pub record WhenShut (choose : Chooser) (config : Config) (stop : Stop) (ahead ah
 
 -- ---- runs
 
--- Every image up to the answer of the mount stands for a prefix of what was there at the start; and every image from then on for one of what was mounted and
--- accepted since, with all that was mounted.
-pub record Passes {D : Type 0} (d : Ghosts D) (fits : Book → Type 0) (choose : Chooser) (history : List Order) (k : ℕ) (now : List Order) (count : ℕ) (before disk : D) : Type 0 where
+-- Every image up to the answer of the mount stands for a prefix of what was there at the start, and for the least run there or a later one; and every image from
+-- then on for one of what was mounted and accepted since, with all that was mounted, and for this new run or a later one.
+pub record Passes {D : Type 0} (d : Ghosts D) (fits : Book → Type 0) (choose : Chooser) (history : List Order) (run k : ℕ) (now : List Order) (new_run count : ℕ) (before disk : D) : Type 0 where
+  -- the new run is later than each before it
+  pub later : run < new_run
   pub mounted : D
   -- what was mounted stands first
   pub first : take count now ≡ take count history
   pub within : count ≤ length now
-  pub up_to : Always d before mounted (StandsFrom fits choose history k)
-  pub at_mount : (image : Image) → d.may_leave mounted image → StandsFrom fits choose now count image
-  pub from_on : Always d mounted disk (StandsFrom fits choose now count)
+  pub up_to : Always d before mounted (StandsFrom fits run choose history k)
+  pub at_mount : (image : Image) → d.may_leave mounted image → StandsFrom fits new_run choose now count image
+  pub from_on : Always d mounted disk (StandsFrom fits new_run choose now count)
 
--- as the disk reads, this is the run behind the one that it keeps: so it has another number than each run before it
+-- as the disk reads, this is the run behind the one that it keeps
 abbrev pub IsNewRun : {D : Type 0} → Ghosts D → (Book → Type 0) → ℕ → D → Type 0
 IsNewRun d fits run before = (image : Image) → d.seen before ≡ Some image → IsNextRun fits run image
 
--- A store was mounted with the first `count` commands of the history, and the settings are in force, for whose command alone the clock was
--- asked. All is committed.
-pub record HasOpened {D : Type 0} (d : Ghosts D) {M : Type 0} (fits : Book → Type 0) (holds : Chooser → List Order → M → Type 0) (choose : Chooser) (history : List Order) (k : ℕ) (config : Config) (store : Store M) (ahead ahead' : Option Moments) (before disk : D) : Type 0 where
+-- A store was mounted with the first `count` commands of the history, in a new run, and the settings are in force, for whose command alone the clock
+-- was asked. All is committed.
+pub record HasOpened {D : Type 0} (d : Ghosts D) {M : Type 0} (fits : Book → Type 0) (holds : Chooser → List Order → M → Type 0) (choose : Chooser) (history : List Order) (run k : ℕ) (config : Config) (store : Store M) (ahead ahead' : Option Moments) (before disk : D) : Type 0 where
   pub count : ℕ
   pub least : k ≤ count
   pub most : count ≤ length history
@@ -107,45 +108,48 @@ pub record HasOpened {D : Type 0} (d : Ghosts D) {M : Type 0} (fits : Book → T
   pub runs_left : HasRunsLeft d fits before
   pub hold : Holds d fits holds choose (given_all choose (take count history) configured) count (length (given_all choose (take count history) configured)) store disk
   pub number : IsNewRun d fits store.run before
-  pub passes : Passes d fits choose history k (given_all choose (take count history) configured) count before disk
+  pub passes : Passes d fits choose history run k (given_all choose (take count history) configured) store.run count before disk
 
 -- how many of all commands every image at the exit has: all, or where the disk failed those that were mounted
 abbrev pub lasting : Bool → ℕ → ℕ → ℕ
 lasting true mounted all = mounted
 lasting false mounted all = all
 
--- A run has mounted the first `count` commands of the history, put settings in force, and given orders.
-pub record HasRun (lost : Bool) {D : Type 0} (d : Ghosts D) (takes : Order → Type 0) (fits : Book → Type 0) (choose : Chooser) (history : List Order) (k : ℕ) (may : List Order → List Order → List Order → Type 0) (before disk : D) : Type 0 where
+-- A run has mounted the first `count` commands of the history, put settings in force, and given orders. It has a new number, and so has every image
+-- from the mount on, or a later one.
+pub record HasRun (lost : Bool) {D : Type 0} (d : Ghosts D) (takes : Order → Type 0) (fits : Book → Type 0) (choose : Chooser) (history : List Order) (run k : ℕ) (may : List Order → List Order → List Order → Type 0) (before disk : D) : Type 0 where
   pub count : ℕ
   pub least : k ≤ count
   pub most : count ≤ length history
   pub configured : List Order
   pub orders : List Order
-  -- a run was left to mount
+  -- the number of the run: there was one left, and it is the next
+  pub new_run : ℕ
+  pub number : IsNewRun d fits new_run before
   pub runs_left : HasRunsLeft d fits before
   pub allowed : may (take count history) configured orders
   pub given : AllByRecursion takes (given_all choose (given_all choose (take count history) configured) orders)
-  pub passes : Passes d fits choose history k (given_all choose (given_all choose (take count history) configured) orders) count before disk
+  pub passes : Passes d fits choose history run k (given_all choose (given_all choose (take count history) configured) orders) new_run count before disk
   pub exit : (image : Image) → d.may_leave disk image →
-      StandsFrom fits choose (given_all choose (given_all choose (take count history) configured) orders)
+      StandsFrom fits new_run choose (given_all choose (given_all choose (take count history) configured) orders)
       (lasting lost count (length (given_all choose (given_all choose (take count history) configured) orders))) image
 
--- Nothing was mounted: the clock was not asked, and every image stands for what was there. A store is full then where, as the
+-- Nothing was mounted: the clock was not asked, and every image stands for what was there, and for no earlier run. A store is full then where, as the
 -- disk reads, no further run is left; with one that was mounted a run was.
-pub record HasNotMounted (stop : Stop) {D : Type 0} (d : Ghosts D) (fits : Book → Type 0) (choose : Chooser) (history : List Order) (k : ℕ) (ahead ahead' : Option Moments) (before disk : D) : Type 0 where
+pub record HasNotMounted (stop : Stop) {D : Type 0} (d : Ghosts D) (fits : Book → Type 0) (choose : Chooser) (history : List Order) (run k : ℕ) (ahead ahead' : Option Moments) (before disk : D) : Type 0 where
   pub fault : MountFault
   pub stop_is : stop ≡ of_mount fault
   pub sound : stop ≡ stops.Inconsistent → ⊥
   pub spent : stop ≡ stops.Full → HasHadItsRuns d fits before
   pub not_asked : ahead' ≡ ahead
-  pub stood : Always d before disk (StandsFrom fits choose history k)
+  pub stood : Always d before disk (StandsFrom fits run choose history k)
 
 -- A run stopped before its settings were in force.
-abbrev pub HasShut : Stop → {D : Type 0} → Ghosts D → (Order → Type 0) → (Book → Type 0) → Chooser → List Order → ℕ → Config → Option Moments → Option Moments → D → D → Type 0
-HasShut stop d takes fits choose history k config ahead ahead' before disk =
-    HasNotMounted stop d fits choose history k ahead ahead' before disk ⊎ HasRun (loses stop) d takes fits choose history k (WhenShut choose config stop ahead ahead') before disk
+abbrev pub HasShut : Stop → {D : Type 0} → Ghosts D → (Order → Type 0) → (Book → Type 0) → Chooser → List Order → ℕ → ℕ → Config → Option Moments → Option Moments → D → D → Type 0
+HasShut stop d takes fits choose history run k config ahead ahead' before disk =
+    HasNotMounted stop d fits choose history run k ahead ahead' before disk ⊎ HasRun (loses stop) d takes fits choose history run k (WhenShut choose config stop ahead ahead') before disk
 
 -- It stopped so, and what else it works on is untouched; or behind that.
-abbrev pub HasStopped : Stop → {D : Type 0} → Ghosts D → (Order → Type 0) → (Book → Type 0) → Chooser → List Order → ℕ → Config → Option Moments → Option Moments → Type 0 → Doing → D → D → Type 0
-HasStopped stop d takes fits choose history k config ahead ahead' untouched may before disk =
-    (HasShut stop d takes fits choose history k config ahead ahead' before disk × untouched) ⊎ HasRun (loses stop) d takes fits choose history k (WhenOpen choose config ahead may) before disk
+abbrev pub HasStopped : Stop → {D : Type 0} → Ghosts D → (Order → Type 0) → (Book → Type 0) → Chooser → List Order → ℕ → ℕ → Config → Option Moments → Option Moments → Type 0 → Doing → D → D → Type 0
+HasStopped stop d takes fits choose history run k config ahead ahead' untouched may before disk =
+    (HasShut stop d takes fits choose history run k config ahead ahead' before disk × untouched) ⊎ HasRun (loses stop) d takes fits choose history run k (WhenOpen choose config ahead may) before disk

@@ -34,7 +34,7 @@ fn write_lines<M: Memory + Drop, D: Disk, W: Sink>(
 ) -> Result<(), Stop>
     ensures ends { (choose : Chooser) (history : List Order) (base : ℕ) →
         Holds D.Disk M.Book.fits M.holds choose history base (length history) store.old disk.old →
-        Ends (loses_in result) D.Disk M.Book.fits M.holds choose history base (λ orders. orders ≡ []) store.new disk.old disk.new }
+        Ends (loses_in result) D.Disk M.Book.fits store.old.run M.holds choose history base (λ orders. orders ≡ []) store.new disk.old disk.new }
     // An index is exported where it is seen, and missed exactly where it is not.
     ensures fine { OnOk result ((choose : Chooser) (history : List Order) (base : ℕ) → Holds D.Disk M.Book.fits M.holds choose history base (length history) store.old disk.old →
         is_seen (after choose history) index.now ≡ true) }
@@ -73,7 +73,7 @@ pub(crate) fn export<M: Listing + Drop, D: Disk, W: Sink>(
     requires { IsAtRest D.Disk store.old.keeper disk.old }
     ensures ends { (choose : Chooser) (history : List Order) (base : ℕ) → M.is_chooser choose → AllByRecursion M.takes history →
         Holds D.Disk M.Book.fits M.holds choose history base (length history) store.old disk.old →
-        Ends (loses_in result) D.Disk M.Book.fits M.holds choose history base (λ orders. orders ≡ []) store.new disk.old disk.new }
+        Ends (loses_in result) D.Disk M.Book.fits store.old.run M.holds choose history base (λ orders. orders ≡ []) store.new disk.old disk.new }
     // An index is exported where it is seen, and missed exactly where it is not.
     ensures fine { OnOk result ((choose : Chooser) (history : List Order) (base : ℕ) → M.is_chooser choose → AllByRecursion M.takes history →
         Holds D.Disk M.Book.fits M.holds choose history base (length history) store.old disk.old →

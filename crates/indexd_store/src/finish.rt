@@ -32,6 +32,7 @@ pub(crate) fn make_short<M: Listing + Drop, D: Disk>(
     ensures held { loses_in result ≡ false → (choose : Chooser) (history : List Order) (base : ℕ) → M.is_chooser choose → AllByRecursion M.takes history →
         Holds D.Disk M.Book.fits M.holds choose history base (length history) store.old disk.old →
         Holds D.Disk M.Book.fits M.holds choose history base (length history) store.new disk.new }
+    ensures run { store.new.run ≡ store.old.run }
     ensures short { OnOk result (ReadsShort D.Disk disk.new) }
     ensures faults { IfErr result IsOfCheckpoint }
     // A disk that tells what it reads goes on telling.
@@ -58,6 +59,7 @@ pub fn stop_run<M: Listing + Drop, D: Disk>(store: &mut Store<M>, disk: &mut D, 
     ensures held { loses stop ≡ false → loses result ≡ false → (choose : Chooser) (history : List Order) (base : ℕ) → M.is_chooser choose → AllByRecursion M.takes history →
         Holds D.Disk M.Book.fits M.holds choose history base (length history) store.old disk.old →
         Holds D.Disk M.Book.fits M.holds choose history base (length history) store.new disk.new }
+    ensures run { store.new.run ≡ store.old.run }
     ensures why { (result ≡ stop) ⊎ IsOfCheckpoint result }
     ensures short { is_short_at result ≡ true → ReadsShort D.Disk disk.new }
     // A disk that tells what it reads goes on telling.

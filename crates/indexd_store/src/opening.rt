@@ -35,16 +35,16 @@ pub fn open<M: Listing + Drop, D: Disk, C: Clock>(
 ) -> Result<Store<M>, Stop>
     requires { (moment : ℤ) → M.takes (configuring config moment) }
     // Some prefix of what the images at the start stand for is there, with the settings; all is committed, and no image has lost any of it.
-    ensures opened { IfOk result (λ store. (choose : Chooser) (history : List Order) (k : ℕ) → M.is_chooser choose → AllByRecursion M.takes history →
-        Begins D.Disk M.Book.fits choose history k disk.old → (image : Image) → D.Disk.seen disk.old ≡ Some image →
-        HasOpened D.Disk M.Book.fits M.holds choose history k config store (C.ahead clock.old) (C.ahead clock.new) disk.old disk.new) }
+    ensures opened { IfOk result (λ store. (choose : Chooser) (history : List Order) (run k : ℕ) → M.is_chooser choose → AllByRecursion M.takes history →
+        Begins D.Disk M.Book.fits choose history run k disk.old → (image : Image) → D.Disk.seen disk.old ≡ Some image →
+        HasOpened D.Disk M.Book.fits M.holds choose history run k config store (C.ahead clock.old) (C.ahead clock.new) disk.old disk.new) }
     // At a stop nothing of before is lost either, and it has its cause.
-    ensures stopped { IfErr result (λ stop. (choose : Chooser) (history : List Order) (k : ℕ) → M.is_chooser choose → AllByRecursion M.takes history →
-        Begins D.Disk M.Book.fits choose history k disk.old → (image : Image) → D.Disk.seen disk.old ≡ Some image →
-        HasShut stop D.Disk M.takes M.Book.fits choose history k config (C.ahead clock.old) (C.ahead clock.new) disk.old disk.new) }
+    ensures stopped { IfErr result (λ stop. (choose : Chooser) (history : List Order) (run k : ℕ) → M.is_chooser choose → AllByRecursion M.takes history →
+        Begins D.Disk M.Book.fits choose history run k disk.old → (image : Image) → D.Disk.seen disk.old ≡ Some image →
+        HasShut stop D.Disk M.takes M.Book.fits choose history run k config (C.ahead clock.old) (C.ahead clock.new) disk.old disk.new) }
     // A disk that keeps what was committed, and tells what it reads, is not damaged.
-    ensures undamaged { (file : File) (at : ℕ) → result ≡ Err (Stop.Damaged file at) → (choose : Chooser) (history : List Order) (k : ℕ) → M.is_chooser choose → AllByRecursion M.takes history →
-        Begins D.Disk M.Book.fits choose history k disk.old → (image : Image) → D.Disk.seen disk.old ≡ Some image → ⊥ }
+    ensures undamaged { (file : File) (at : ℕ) → result ≡ Err (Stop.Damaged file at) → (choose : Chooser) (history : List Order) (run k : ℕ) → M.is_chooser choose → AllByRecursion M.takes history →
+        Begins D.Disk M.Book.fits choose history run k disk.old → (image : Image) → D.Disk.seen disk.old ≡ Some image → ⊥ }
     ensures over { IfOk result (λ store. IsOver D.Disk store.keeper disk.new) }
     // What the end of a run asks for, and what it leaves at a stop.
     ensures rest { IfOk result (λ store. IsAtRest D.Disk store.keeper disk.new) }

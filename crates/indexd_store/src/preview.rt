@@ -55,7 +55,7 @@ fn store_all<M: Listing + Drop, D: Disk, S: Source>(
     ensures rest { loses_in result ≡ false → IsAtRest D.Disk store.new.keeper disk.new }
     ensures ends { (choose : Chooser) (history : List Order) (base : ℕ) → M.is_chooser choose → AllByRecursion M.takes history →
         Holds D.Disk M.Book.fits M.holds choose history base (length history) store.old disk.old →
-        Ends (loses_in result) D.Disk M.Book.fits M.holds choose history base
+        Ends (loses_in result) D.Disk M.Book.fits store.old.run M.holds choose history base
         (Fed choose base history arrival.origin arrival.moment result (S.left input.old) (S.left input.new)) store.new disk.old disk.new }
     ensures read { HasTaken result (S.left input.old) (S.left input.new) }
     ensures quiet { IfErr result (λ stop. is_output stop ≡ false) }
@@ -90,7 +90,7 @@ fn store_preview<M: Listing + Drop, D: Disk, S: Source>(
     requires adds { (bytes : List ℕ) → IsBlock bytes → M.takes (block_order arrival.moment bytes) }
     ensures ends { (choose : Chooser) (history : List Order) (base : ℕ) → M.is_chooser choose → AllByRecursion M.takes history →
         Holds D.Disk M.Book.fits M.holds choose history base (length history) store.old disk.old →
-        Ends (loses_in result) D.Disk M.Book.fits M.holds choose history base
+        Ends (loses_in result) D.Disk M.Book.fits store.old.run M.holds choose history base
         (Fed choose base history arrival.origin arrival.moment result (S.left input.old) (S.left input.new)) store.new disk.old disk.new }
     ensures read { HasTaken result (S.left input.old) (S.left input.new) }
     ensures quiet { IfErr result (λ stop. is_output stop ≡ false) }
@@ -125,21 +125,21 @@ pub fn run_preview<M: Listing + Drop, D: Disk, C: Clock, S: Source>(
     requires begins { (moment : ℤ) → M.takes (begin_order origin moment) }
     requires adds { (moment : ℤ) (bytes : List ℕ) → IsBlock bytes → M.takes (block_order moment bytes) }
     // A run that is done has given all the commands that store the whole input, and every image at the exit has them.
-    ensures done { OnOk result ((choose : Chooser) (history : List Order) (k : ℕ) → M.is_chooser choose → AllByRecursion M.takes history →
-        Begins D.Disk M.Book.fits choose history k disk.old → (image : Image) → D.Disk.seen disk.old ≡ Some image →
-        HasRun false D.Disk M.takes M.Book.fits choose history k
+    ensures done { OnOk result ((choose : Chooser) (history : List Order) (run k : ℕ) → M.is_chooser choose → AllByRecursion M.takes history →
+        Begins D.Disk M.Book.fits choose history run k disk.old → (image : Image) → D.Disk.seen disk.old ≡ Some image →
+        HasRun false D.Disk M.takes M.Book.fits choose history run k
         (WhenOpen choose config (C.ahead clock.old) (HasFed choose origin result (C.ahead clock.new) (S.left input.old) (S.left input.new))) disk.old disk.new) }
     // One that stops has a cause, and has given a front of those that store what it has read.
-    ensures stopped { IfErr result (λ stop. (choose : Chooser) (history : List Order) (k : ℕ) → M.is_chooser choose → AllByRecursion M.takes history →
-        Begins D.Disk M.Book.fits choose history k disk.old → (image : Image) → D.Disk.seen disk.old ≡ Some image →
-        HasStopped stop D.Disk M.takes M.Book.fits choose history k config (C.ahead clock.old) (C.ahead clock.new) (S.left input.new ≡ S.left input.old)
+    ensures stopped { IfErr result (λ stop. (choose : Chooser) (history : List Order) (run k : ℕ) → M.is_chooser choose → AllByRecursion M.takes history →
+        Begins D.Disk M.Book.fits choose history run k disk.old → (image : Image) → D.Disk.seen disk.old ≡ Some image →
+        HasStopped stop D.Disk M.takes M.Book.fits choose history run k config (C.ahead clock.old) (C.ahead clock.new) (S.left input.new ≡ S.left input.old)
         (HasFed choose origin result (C.ahead clock.new) (S.left input.old) (S.left input.new)) disk.old disk.new) }
     // What is on the disk is not damaged where it keeps what was committed and tells what it reads,
-    ensures undamaged { (file : File) (at : ℕ) → result ≡ Err (Stop.Damaged file at) → (choose : Chooser) (history : List Order) (k : ℕ) → M.is_chooser choose → AllByRecursion M.takes history →
-        Begins D.Disk M.Book.fits choose history k disk.old → (image : Image) → D.Disk.seen disk.old ≡ Some image → ⊥ }
+    ensures undamaged { (file : File) (at : ℕ) → result ≡ Err (Stop.Damaged file at) → (choose : Chooser) (history : List Order) (run k : ℕ) → M.is_chooser choose → AllByRecursion M.takes history →
+        Begins D.Disk M.Book.fits choose history run k disk.old → (image : Image) → D.Disk.seen disk.old ≡ Some image → ⊥ }
     // and what is in memory contradicts nothing.
-    ensures sound { IsErrOf result Stop.Inconsistent → (choose : Chooser) (history : List Order) (k : ℕ) → M.is_chooser choose → AllByRecursion M.takes history →
-        Begins D.Disk M.Book.fits choose history k disk.old → (image : Image) → D.Disk.seen disk.old ≡ Some image → ⊥ }
+    ensures sound { IsErrOf result Stop.Inconsistent → (choose : Chooser) (history : List Order) (run k : ℕ) → M.is_chooser choose → AllByRecursion M.takes history →
+        Begins D.Disk M.Book.fits choose history run k disk.old → (image : Image) → D.Disk.seen disk.old ≡ Some image → ⊥ }
     // Its log is not long then, as the disk reads, whatever it stops for; but where memory was short, or the disk has failed or is not sound.
     ensures short { EndsShort D.Disk M.Book.fits result disk.old disk.new }
     ensures read { HasTaken result (S.left input.old) (S.left input.new) }

@@ -55,7 +55,7 @@ fn give_command<M: Listing + Drop, D: Disk>(
     ensures rest { loses_in result ≡ false → IsAtRest D.Disk store.new.keeper disk.new }
     ensures ends { (choose : Chooser) (history : List Order) (base : ℕ) → M.is_chooser choose → AllByRecursion M.takes history →
         Holds D.Disk M.Book.fits M.holds choose history base (length history) store.old disk.old →
-        Ends (loses_in result) D.Disk M.Book.fits M.holds choose history base (Gave result (orders_in task.entry moment)) store.new disk.old disk.new }
+        Ends (loses_in result) D.Disk M.Book.fits store.old.run M.holds choose history base (Gave result (orders_in task.entry moment)) store.new disk.old disk.new }
     ensures moved { IfOk result (λ count. (choose : Chooser) (history : List Order) (base : ℕ) → M.is_chooser choose → AllByRecursion M.takes history →
         Holds D.Disk M.Book.fits M.holds choose history base (length history) store.old disk.old →
         count ≡ moved_by (after choose history) (command_in task.entry) moment) }
@@ -96,7 +96,7 @@ fn give_task<M: Listing + Drop, D: Disk>(
     requires takes { AllByRecursion M.takes (orders_in task moment) }
     ensures ends { (choose : Chooser) (history : List Order) (base : ℕ) → M.is_chooser choose → AllByRecursion M.takes history →
         Holds D.Disk M.Book.fits M.holds choose history base (length history) store.old disk.old →
-        Ends (loses_in result) D.Disk M.Book.fits M.holds choose history base (Gave result (orders_in task.entry moment)) store.new disk.old disk.new }
+        Ends (loses_in result) D.Disk M.Book.fits store.old.run M.holds choose history base (Gave result (orders_in task.entry moment)) store.new disk.old disk.new }
     ensures moved { IfOk result (λ count. (choose : Chooser) (history : List Order) (base : ℕ) → M.is_chooser choose → AllByRecursion M.takes history →
         Holds D.Disk M.Book.fits M.holds choose history base (length history) store.old disk.old →
         count ≡ moved_by (after choose history) (command_in task.entry) moment) }
@@ -138,7 +138,7 @@ fn give_and_say<M: Listing + Drop, D: Disk, W: Sink>(
     requires takes { AllByRecursion M.takes (orders_in task moment) }
     ensures ends { (choose : Chooser) (history : List Order) (base : ℕ) → M.is_chooser choose → AllByRecursion M.takes history →
         Holds D.Disk M.Book.fits M.holds choose history base (length history) store.old disk.old →
-        Ends (loses_in result) D.Disk M.Book.fits M.holds choose history base (Gave result (orders_in task.entry moment)) store.new disk.old disk.new }
+        Ends (loses_in result) D.Disk M.Book.fits store.old.run M.holds choose history base (Gave result (orders_in task.entry moment)) store.new disk.old disk.new }
     ensures printed { OnOk result ((choose : Chooser) (history : List Order) (base : ℕ) → M.is_chooser choose → AllByRecursion M.takes history →
         Holds D.Disk M.Book.fits M.holds choose history base (length history) store.old disk.old →
         HasSaid HasWritten choose history task.entry moment (W.given output.old) (W.given output.new)) }
@@ -181,7 +181,7 @@ fn carry_out<M: Listing + Drop, D: Disk, W: Sink>(
     requires takes { AllByRecursion M.takes (orders_in task moment) }
     ensures ends { (choose : Chooser) (history : List Order) (base : ℕ) → M.is_chooser choose → AllByRecursion M.takes history →
         Holds D.Disk M.Book.fits M.holds choose history base (length history) store.old disk.old →
-        Ends (loses_in result) D.Disk M.Book.fits M.holds choose history base (Gave result (orders_in task.entry moment)) store.new disk.old disk.new }
+        Ends (loses_in result) D.Disk M.Book.fits store.old.run M.holds choose history base (Gave result (orders_in task.entry moment)) store.new disk.old disk.new }
     ensures printed { OnOk result ((choose : Chooser) (history : List Order) (base : ℕ) → M.is_chooser choose → AllByRecursion M.takes history →
         Holds D.Disk M.Book.fits M.holds choose history base (length history) store.old disk.old →
         HasPrinted HasWritten D.Disk choose history task.entry moment disk.new (W.given output.old) (W.given output.new)) }
@@ -224,23 +224,23 @@ pub fn run_task<M: Listing + Drop, D: Disk, C: Clock, W: Sink>(
     requires settings { (moment : ℤ) → M.takes (configuring config moment) }
     requires takes { (moment : ℤ) → AllByRecursion M.takes (orders_in task moment) }
     // A run that is done has given the task behind the settings and written its text, and every image at the exit has all.
-    ensures done { OnOk result ((choose : Chooser) (history : List Order) (k : ℕ) → M.is_chooser choose → AllByRecursion M.takes history →
-        Begins D.Disk M.Book.fits choose history k disk.old → (image : Image) → D.Disk.seen disk.old ≡ Some image →
-        HasRun false D.Disk M.takes M.Book.fits choose history k
+    ensures done { OnOk result ((choose : Chooser) (history : List Order) (run k : ℕ) → M.is_chooser choose → AllByRecursion M.takes history →
+        Begins D.Disk M.Book.fits choose history run k disk.old → (image : Image) → D.Disk.seen disk.old ≡ Some image →
+        HasRun false D.Disk M.takes M.Book.fits choose history run k
         (WhenOpen choose config (C.ahead clock.old) (HasDone D.Disk choose task.entry (C.ahead clock.new) (W.given output.old) (W.given output.new) disk.new)) disk.old disk.new) }
     // One that stops has a cause. It has lost nothing of what was mounted, and where the disk is not at fault nothing that was accepted since.
-    ensures stopped { IfErr result (λ stop. (choose : Chooser) (history : List Order) (k : ℕ) → M.is_chooser choose → AllByRecursion M.takes history →
-        Begins D.Disk M.Book.fits choose history k disk.old → (image : Image) → D.Disk.seen disk.old ≡ Some image →
-        HasStopped stop D.Disk M.takes M.Book.fits choose history k config (C.ahead clock.old) (C.ahead clock.new) (W.given output.new ≡ W.given output.old)
+    ensures stopped { IfErr result (λ stop. (choose : Chooser) (history : List Order) (run k : ℕ) → M.is_chooser choose → AllByRecursion M.takes history →
+        Begins D.Disk M.Book.fits choose history run k disk.old → (image : Image) → D.Disk.seen disk.old ≡ Some image →
+        HasStopped stop D.Disk M.takes M.Book.fits choose history run k config (C.ahead clock.old) (C.ahead clock.new) (W.given output.new ≡ W.given output.old)
         (HasHalted D.Disk choose task.entry stop (C.ahead clock.new) (W.given output.old) (W.given output.new) disk.new) disk.old disk.new) }
     // Only an export, and an output that fails, leave a part of a text.
     ensures quiet { IfErr result (λ stop. says task.entry stop ≡ false → W.given output.new ≡ W.given output.old) }
     // What is on the disk is not damaged where it keeps what was committed and tells what it reads,
-    ensures undamaged { (file : File) (at : ℕ) → result ≡ Err (Stop.Damaged file at) → (choose : Chooser) (history : List Order) (k : ℕ) → M.is_chooser choose → AllByRecursion M.takes history →
-        Begins D.Disk M.Book.fits choose history k disk.old → (image : Image) → D.Disk.seen disk.old ≡ Some image → ⊥ }
+    ensures undamaged { (file : File) (at : ℕ) → result ≡ Err (Stop.Damaged file at) → (choose : Chooser) (history : List Order) (run k : ℕ) → M.is_chooser choose → AllByRecursion M.takes history →
+        Begins D.Disk M.Book.fits choose history run k disk.old → (image : Image) → D.Disk.seen disk.old ≡ Some image → ⊥ }
     // and what is in memory contradicts nothing.
-    ensures sound { IsErrOf result Stop.Inconsistent → (choose : Chooser) (history : List Order) (k : ℕ) → M.is_chooser choose → AllByRecursion M.takes history →
-        Begins D.Disk M.Book.fits choose history k disk.old → (image : Image) → D.Disk.seen disk.old ≡ Some image → ⊥ }
+    ensures sound { IsErrOf result Stop.Inconsistent → (choose : Chooser) (history : List Order) (run k : ℕ) → M.is_chooser choose → AllByRecursion M.takes history →
+        Begins D.Disk M.Book.fits choose history run k disk.old → (image : Image) → D.Disk.seen disk.old ≡ Some image → ⊥ }
     // Its log is not long then, as the disk reads, whatever it stops for; but where memory was short, or the disk has failed or is not sound.
     ensures short { EndsShort D.Disk M.Book.fits result disk.old disk.new }
     ensures unread { IfErr result (λ stop. is_input stop ≡ false) }

@@ -33,14 +33,14 @@ pub fn run_last<M: Listing + Drop, D: Disk>(
     // The command is behind the others, and all are committed.
     ensures left { OnOk result ((choose : Chooser) (history : List Order) (base : ℕ) → M.is_chooser choose → AllByRecursion M.takes history →
         Holds D.Disk M.Book.fits M.holds choose history base (length history) store.old disk.old →
-        IsLeft D.Disk M.Book.fits M.holds choose history base (Only (record { command = command; moment = moment })) store.new disk.old disk.new) }
+        IsLeft D.Disk M.Book.fits store.old.run M.holds choose history base (Only (record { command = command; moment = moment })) store.new disk.old disk.new) }
     ensures answers { IfOk result (λ answer. (choose : Chooser) (history : List Order) (base : ℕ) → M.is_chooser choose → AllByRecursion M.takes history →
         Holds D.Disk M.Book.fits M.holds choose history base (length history) store.old disk.old →
         IsAnswer store.old.run store.old.drawn choose history (record { command = command; moment = moment }) answer) }
     // A stop is the end of a run: what was accepted is committed, unless the disk is at fault. In no case is anything of before lost.
     ensures stopped { IfErr result (λ stop. (choose : Chooser) (history : List Order) (base : ℕ) → M.is_chooser choose → AllByRecursion M.takes history →
         Holds D.Disk M.Book.fits M.holds choose history base (length history) store.old disk.old →
-        Ends (loses stop) D.Disk M.Book.fits M.holds choose history base (AtMost (record { command = command; moment = moment })) store.new disk.old disk.new) }
+        Ends (loses stop) D.Disk M.Book.fits store.old.run M.holds choose history base (AtMost (record { command = command; moment = moment })) store.new disk.old disk.new) }
     // It has a cause.
     ensures caused { IfErr result (λ stop. (choose : Chooser) (history : List Order) (base : ℕ) → M.is_chooser choose → AllByRecursion M.takes history →
         Holds D.Disk M.Book.fits M.holds choose history base (length history) store.old disk.old →

@@ -35,29 +35,29 @@ end_still (b ∷ bytes) (Some x) (Some y) end p = absurd (not_none b (bytes ++ y
     not_none : (b : ℕ) (l : List ℕ) → [] ≡ b ∷ l → ⊥
     not_none b l is = cc
 
-module _ {D : Type 0} (g : Ghosts D) {M : Type 0} (fits : Book → Type 0) (holds : Chooser → List Order → M → Type 0) (choose : Chooser) where
+module _ {D : Type 0} (g : Ghosts D) {M : Type 0} (fits : Book → Type 0) (run : ℕ) (holds : Chooser → List Order → M → Type 0) (choose : Chooser) where
   -- a block more
   pub given_block : (h : List Order) (base k : ℕ) (mid_store store : Store M) (first mid last : D) (moment : ℤ) (blocks : List (List ℕ)) (bytes : List ℕ) (result : Result Unit GiveFault) →
-      (one : HasGivenAll g fits holds choose h (map (block_order moment) blocks) base k mid_store first mid) →
-      Gives g fits holds choose (given_all choose h (map (block_order moment) blocks)) base one.count store mid last result (block_order moment bytes ∷ []) →
-      Gives g fits holds choose h base k store first last result (map (block_order moment) (blocks ++ bytes ∷ []))
+      (one : HasGivenAll g fits run holds choose h (map (block_order moment) blocks) base k mid_store first mid) →
+      Gives g fits mid_store.run holds choose (given_all choose h (map (block_order moment) blocks)) base one.count store mid last result (block_order moment bytes ∷ []) →
+      Gives g fits run holds choose h base k store first last result (map (block_order moment) (blocks ++ bytes ∷ []))
   given_block h base k mid_store store first mid last moment blocks bytes result one gives =
-      subst (λ (some : List Order). Gives g fits holds choose h base k store first last result some) (sym (map-append (block_order moment) blocks (bytes ∷ [])))
-      (gives_on g fits holds choose h (map (block_order moment) blocks) (block_order moment bytes ∷ []) base k mid_store store first mid last one result gives)
+      subst (λ (some : List Order). Gives g fits run holds choose h base k store first last result some) (sym (map-append (block_order moment) blocks (bytes ∷ [])))
+      (gives_on g fits run holds choose h (map (block_order moment) blocks) (block_order moment bytes ∷ []) base k mid_store store first mid last one result gives)
 
   -- the last was not given
-  pub feeds_halt : (h filled : List Order) (base k : ℕ) (store : Store M) (first last : D) (fault : GiveFault) → Gives g fits holds choose h base k store first last (Err fault) filled →
-      Feeds g fits holds choose h base k store first last (Err (stops.Given fault)) filled []
+  pub feeds_halt : (h filled : List Order) (base k : ℕ) (store : Store M) (first last : D) (fault : GiveFault) → Gives g fits run holds choose h base k store first last (Err fault) filled →
+      Feeds g fits run holds choose h base k store first last (Err (stops.Given fault)) filled []
   feeds_halt h filled base k store first last fault gives =
-      halted_more g fits holds choose h base (λ (given : List Order). HasGivenAll g fits holds choose h given base k store first last) (λ (given : List Order). HasStood g fits choose (given_all choose h given) k first last) fault filled [] gives
+      halted_more g fits run holds choose h base (λ (given : List Order). HasGivenAll g fits run holds choose h given base k store first last) (λ (given : List Order). HasStood g fits run choose (given_all choose h given) k first last) fault filled [] gives
 
   -- all were
-  pub feeds_all : (h filled : List Order) (base k : ℕ) (store : Store M) (first last : D) → HasGivenAll g fits holds choose h filled base k store first last →
-      Feeds g fits holds choose h base k store first last (Ok tt) filled []
-  feeds_all h filled base k store first last all = subst (λ (some : List Order). HasGivenAll g fits holds choose h some base k store first last) (sym (append-nil filled)) all
+  pub feeds_all : (h filled : List Order) (base k : ℕ) (store : Store M) (first last : D) → HasGivenAll g fits run holds choose h filled base k store first last →
+      Feeds g fits run holds choose h base k store first last (Ok tt) filled []
+  feeds_all h filled base k store first last all = subst (λ (some : List Order). HasGivenAll g fits run holds choose h some base k store first last) (sym (append-nil filled)) all
 
   -- behind those that open the channel
-  pub filled_on : (h a filled : List Order) (base k : ℕ) (mid_store store : Store M) (first mid last : D) → (one : HasGivenAll g fits holds choose h a base k mid_store first mid) →
-      HasGivenAll g fits holds choose (given_all choose h a) (filled ++ []) base one.count store mid last → HasGivenAll g fits holds choose h (a ++ filled) base k store first last
+  pub filled_on : (h a filled : List Order) (base k : ℕ) (mid_store store : Store M) (first mid last : D) → (one : HasGivenAll g fits run holds choose h a base k mid_store first mid) →
+      HasGivenAll g fits mid_store.run holds choose (given_all choose h a) (filled ++ []) base one.count store mid last → HasGivenAll g fits run holds choose h (a ++ filled) base k store first last
   filled_on h a filled base k mid_store store first mid last one two =
-      given_on g fits holds choose h a filled base k mid_store store first mid last one (filled_all g fits holds choose (given_all choose h a) filled base one.count store mid last two)
+      given_on g fits run holds choose h a filled base k mid_store store first mid last one (filled_all g fits mid_store.run holds choose (given_all choose h a) filled base one.count store mid last two)

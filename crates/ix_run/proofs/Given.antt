@@ -14,7 +14,8 @@ use Rattle.ix_store.specs.Holding.{Holds}
 use Rattle.ix_store.specs.Making.{with_order}
 use Rattle.ix_store.specs.declared.store.Store.{Store}
 use Rattle.ix_run.specs.Giving.{given_all, AreAllowed, IsKept}
-use Rattle.ix_run.specs.Running.{StandsFrom, HasStood, IsGiven}
+use Rattle.ix_store.specs.Written.{StandsFrom}
+use Rattle.ix_run.specs.Running.{HasStood, IsGiven}
 use Rattle.ix_run.proofs.Gone.{stood_longer, stood_on}
 
 -- more commands behind others
@@ -44,31 +45,35 @@ pub given_more : (choose : Chooser) (h os : List Order) → given_all choose h o
 given_more choose h [] = none_behind h
 given_more choose h (o ∷ os) = given_more choose (with_order choose h o) os ∙ sym (more_join h (adds (after choose h) o) (more_of choose (with_order choose h o) os))
 
-module _ {D : Type 0} (g : Ghosts D) {M : Type 0} (fits : Book → Type 0) (holds : Chooser → List Order → M → Type 0) (choose : Chooser) where
+module _ {D : Type 0} (g : Ghosts D) {M : Type 0} (fits : Book → Type 0) (run : ℕ) (holds : Chooser → List Order → M → Type 0) (choose : Chooser) where
   -- images that stood for a history have stood for it with further commands
-  pub stood_given : (h os : List Order) (k n : ℕ) (before disk : D) → n ≤ k → HasStood g fits choose h k before disk → HasStood g fits choose (given_all choose h os) n before disk
+  pub stood_given : (h os : List Order) (k n : ℕ) (before disk : D) → n ≤ k → HasStood g fits run choose h k before disk → HasStood g fits run choose (given_all choose h os) n before disk
   stood_given h os k n before disk fewer stood =
-      subst (λ (some : List Order). HasStood g fits choose some n before disk) (sym (given_more choose h os)) (stood_longer g fits holds choose h (more_of choose h os) k n before disk fewer stood)
+      subst (λ (some : List Order). HasStood g fits run choose some n before disk) (sym (given_more choose h os)) (stood_longer g fits run holds choose h (more_of choose h os) k n before disk fewer stood)
 
-  pub fewer : (h : List Order) (k n : ℕ) (before disk : D) → n ≤ k → HasStood g fits choose h k before disk → HasStood g fits choose h n before disk
+  pub fewer : (h : List Order) (k n : ℕ) (before disk : D) → n ≤ k → HasStood g fits run choose h k before disk → HasStood g fits run choose h n before disk
   fewer h k n before disk less stood = always_weaker g before disk _ _ (λ image. one image) stood where
-    one : (image : Image) → StandsFrom fits choose h k image → StandsFrom fits choose h n image
+    one : (image : Image) → StandsFrom fits run choose h k image → StandsFrom fits run choose h n image
     one image stands = record { which = stands.which; least = omega (arith, less, stands.least); most = stands.most; kept = stands.kept; later = stands.later; stands = stands.stands; keeps = stands.keeps }
 
+module _ {D : Type 0} (g : Ghosts D) {M : Type 0} (fits : Book → Type 0) (holds : Chooser → List Order → M → Type 0) (choose : Chooser) where
   pub stood_last : (h : List Order) (base k : ℕ) (order : Order) (before mid : Store M) (first half last : D) (answer : Accepted) → (one : IsGiven g fits holds choose h base k order before answer mid first half) →
-      HasStood g fits choose (with_order choose h order) one.gone.count half last → HasStood g fits choose (with_order choose h order) k first last
+      HasStood g fits mid.run choose (with_order choose h order) one.gone.count half last → HasStood g fits before.run choose (with_order choose h order) k first last
   stood_last h base k order before mid first half last answer one stood =
-      stood_on g fits holds choose (with_order choose h order) k first half last one.gone.stood (fewer (with_order choose h order) one.gone.count k half last one.gone.kept stood)
+      stood_on g fits before.run holds choose (with_order choose h order) k first half last one.gone.stood
+      (fewer g fits before.run holds choose (with_order choose h order) one.gone.count k half last one.gone.kept
+      (subst (λ (run : ℕ). HasStood g fits run choose (with_order choose h order) one.gone.count half last) one.gone.same_run stood))
 
   -- a command, and then a commit of all
   pub kept_last : (h : List Order) (base k : ℕ) (order : Order) (before mid store : Store M) (first half last : D) (answer : Accepted) → Holds g fits holds choose h base k before first → (one : IsGiven g fits holds choose h base k order before answer mid first half) →
-      Holds g fits holds choose (with_order choose h order) base (length (with_order choose h order)) store last → HasStood g fits choose (with_order choose h order) one.gone.count half last →
+      Holds g fits holds choose (with_order choose h order) base (length (with_order choose h order)) store last → store.run ≡ mid.run → HasStood g fits mid.run choose (with_order choose h order) one.gone.count half last →
       IsKept g fits holds choose h base k order before answer store first last
-  kept_last h base k order before mid store first half last answer old one hold stood = record {
+  kept_last h base k order before mid store first half last answer old one hold same stood = record {
     allowed = one.allowed;
     answers = one.answers;
     all = record {
       allowed = (subst (λ (drawn : ℕ). IsAllowed choose false drawn (after choose h) order) old.staged.counted.drawn_are one.allowed, tt);
+      same_run = same ∙ one.gone.same_run;
       hold = hold;
       stood = stood_last h base k order before mid first half last answer one stood;
     };

@@ -75,48 +75,85 @@ pub opening_taken : (takes : Order → Type 0) (origin : ChannelMeta) (moment : 
 opening_taken takes origin moment ends begins true = (ends, (begins, tt))
 opening_taken takes origin moment ends begins false = (begins, tt)
 
--- ---- commands that are given
+-- ---- one command
 
 module _ {D : Type 0} (g : Ghosts D) {M : Type 0} (fits : Book → Type 0) (holds : Chooser → List Order → M → Type 0) (choose : Chooser) where
-  pub given_none : (h : List Order) (base k : ℕ) (store : Store M) (disk : D) → Holds g fits holds choose h base k store disk → HasGivenAll g fits holds choose h [] base k store disk disk
-  given_none h base k store disk hold = record {
+  pub gave_one : (h : List Order) (base k : ℕ) (order : Order) (old store : Store M) (first last : D) (answer : Accepted) → Holds g fits holds choose h base k old first → IsGiven g fits holds choose h base k order old answer store first last →
+      HasGivenAll g fits old.run holds choose h (order ∷ []) base k store first last
+  gave_one h base k order old store first last answer hold is = record {
+    count = is.gone.count;
+    kept = is.gone.kept;
+    same_run = is.gone.same_run;
+    allowed = (subst (λ (drawn : ℕ). IsAllowed choose false drawn (after choose h) order) hold.staged.counted.drawn_are is.allowed, tt);
+    hold = is.gone.hold;
+    stood = is.gone.stood;
+  }
+
+  pub gave_none : (h : List Order) (base k : ℕ) (order : Order) (old store : Store M) (first last : D) (fault : GiveFault) → Holds g fits holds choose h base k old first →
+      IsNotGiven g fits holds choose h base k order old fault store first last → Gives g fits old.run holds choose h base k store first last (Err fault) (order ∷ [])
+  gave_none h base k order old store first last (faults.Refused refusal) hold not = record {
+    given = [];
+    rest = order ∷ [];
+    parts = refl;
+    halts = (
+      subst (λ (drawn : ℕ). IsNextRefused choose drawn (after choose h) refusal (order ∷ [])) hold.staged.counted.drawn_are not.0,
+      record {
+        count = not.1.count;
+        kept = not.1.kept;
+        allowed = tt;
+        same_run = not.1.same_run;
+        hold = subst (λ (some : List Order). Holds g fits holds choose some base not.1.count store last) (none_more h) not.1.hold;
+        stood = subst (λ (some : List Order). HasStood g fits old.run choose some k first last) (none_more h) not.1.stood;
+      },
+    );
+  }
+  gave_none h base k order old store first last (faults.Commit fault) hold not = record { given = order ∷ []; rest = []; parts = refl; halts = not }
+
+-- ---- commands that are given
+
+module _ {D : Type 0} (g : Ghosts D) {M : Type 0} (fits : Book → Type 0) (run : ℕ) (holds : Chooser → List Order → M → Type 0) (choose : Chooser) where
+  pub given_none : (h : List Order) (base k : ℕ) (store : Store M) (disk : D) → store.run ≡ run → Holds g fits holds choose h base k store disk → HasGivenAll g fits run holds choose h [] base k store disk disk
+  given_none h base k store disk is hold = record {
     count = k;
     kept = omega arith;
     allowed = tt;
+    same_run = is;
     hold = hold;
-    stood = stood_here g fits holds choose h base k k store disk (omega arith) hold;
+    stood = stood_here g fits run holds choose h base k k store disk is (omega arith) hold;
   }
 
-  stood_join : (h a b : List Order) (k n : ℕ) (first mid last : D) → k ≤ n → HasStood g fits choose (given_all choose h a) k first mid →
-      HasStood g fits choose (given_all choose (given_all choose h a) b) n mid last → HasStood g fits choose (given_all choose h (a ++ b)) k first last
+  stood_join : (h a b : List Order) (k n : ℕ) (first mid last : D) → k ≤ n → HasStood g fits run choose (given_all choose h a) k first mid →
+      HasStood g fits run choose (given_all choose (given_all choose h a) b) n mid last → HasStood g fits run choose (given_all choose h (a ++ b)) k first last
   stood_join h a b k n first mid last le one two =
-      subst (λ (some : List Order). HasStood g fits choose some k first last) (sym (given_join choose h a b))
-      (stood_on g fits holds choose (given_all choose (given_all choose h a) b) k first mid last
-      (stood_given g fits holds choose (given_all choose h a) b k k first mid (omega arith) one)
-      (fewer g fits holds choose (given_all choose (given_all choose h a) b) n k mid last le two))
+      subst (λ (some : List Order). HasStood g fits run choose some k first last) (sym (given_join choose h a b))
+      (stood_on g fits run holds choose (given_all choose (given_all choose h a) b) k first mid last
+      (stood_given g fits run holds choose (given_all choose h a) b k k first mid (omega arith) one)
+      (fewer g fits run holds choose (given_all choose (given_all choose h a) b) n k mid last le two))
 
-  pub given_on : (h a b : List Order) (base k : ℕ) (mid_store store : Store M) (first mid last : D) → (one : HasGivenAll g fits holds choose h a base k mid_store first mid) →
-      HasGivenAll g fits holds choose (given_all choose h a) b base one.count store mid last → HasGivenAll g fits holds choose h (a ++ b) base k store first last
+  pub given_on : (h a b : List Order) (base k : ℕ) (mid_store store : Store M) (first mid last : D) → (one : HasGivenAll g fits run holds choose h a base k mid_store first mid) →
+      HasGivenAll g fits mid_store.run holds choose (given_all choose h a) b base one.count store mid last → HasGivenAll g fits run holds choose h (a ++ b) base k store first last
   given_on h a b base k mid_store store first mid last one two = record {
     count = two.count;
     kept = omega (arith, one.kept, two.kept);
     allowed = allowed_join choose base h a b one.allowed two.allowed;
+    same_run = two.same_run ∙ one.same_run;
     hold = subst (λ (some : List Order). Holds g fits holds choose some base two.count store last) (sym (given_join choose h a b)) two.hold;
-    stood = stood_join h a b k one.count first mid last one.kept one.stood two.stood;
+    stood = stood_join h a b k one.count first mid last one.kept one.stood (subst (λ (run : ℕ). HasStood g fits run choose (given_all choose (given_all choose h a) b) one.count mid last) one.same_run two.stood);
   }
 
-  halts_on : (h a : List Order) (base k : ℕ) (mid_store store : Store M) (first mid last : D) → (one : HasGivenAll g fits holds choose h a base k mid_store first mid) → (fault : GiveFault) (given rest : List Order) →
-      HaltsAt choose (given_all choose h a) base (λ (given : List Order). HasGivenAll g fits holds choose (given_all choose h a) given base one.count store mid last)
-      (λ (given : List Order). HasStood g fits choose (given_all choose (given_all choose h a) given) one.count mid last) fault given rest →
-      HaltsAt choose h base (λ (given : List Order). HasGivenAll g fits holds choose h given base k store first last) (λ (given : List Order). HasStood g fits choose (given_all choose h given) k first last) fault (a ++ given) rest
+  halts_on : (h a : List Order) (base k : ℕ) (mid_store store : Store M) (first mid last : D) → (one : HasGivenAll g fits run holds choose h a base k mid_store first mid) → (fault : GiveFault) (given rest : List Order) →
+      HaltsAt choose (given_all choose h a) base (λ (given : List Order). HasGivenAll g fits mid_store.run holds choose (given_all choose h a) given base one.count store mid last)
+      (λ (given : List Order). HasStood g fits mid_store.run choose (given_all choose (given_all choose h a) given) one.count mid last) fault given rest →
+      HaltsAt choose h base (λ (given : List Order). HasGivenAll g fits run holds choose h given base k store first last) (λ (given : List Order). HasStood g fits run choose (given_all choose h given) k first last) fault (a ++ given) rest
   halts_on h a base k mid_store store first mid last one (faults.Refused refusal) given rest halts = (
     subst (λ (some : List Order). IsNextRefused choose (numbers (drop base some)) (after choose some) refusal rest) (sym (given_join choose h a given)) halts.0,
     given_on h a given base k mid_store store first mid last one halts.1,
   )
-  halts_on h a base k mid_store store first mid last one (faults.Commit fault) given rest halts = stood_join h a given k one.count first mid last one.kept one.stood halts
+  halts_on h a base k mid_store store first mid last one (faults.Commit fault) given rest halts =
+      stood_join h a given k one.count first mid last one.kept one.stood (subst (λ (run : ℕ). HasStood g fits run choose (given_all choose (given_all choose h a) given) one.count mid last) one.same_run halts)
 
-  pub gives_on : (h a b : List Order) (base k : ℕ) (mid_store store : Store M) (first mid last : D) → (one : HasGivenAll g fits holds choose h a base k mid_store first mid) → (result : Result Unit GiveFault) →
-      Gives g fits holds choose (given_all choose h a) base one.count store mid last result b → Gives g fits holds choose h base k store first last result (a ++ b)
+  pub gives_on : (h a b : List Order) (base k : ℕ) (mid_store store : Store M) (first mid last : D) → (one : HasGivenAll g fits run holds choose h a base k mid_store first mid) → (result : Result Unit GiveFault) →
+      Gives g fits mid_store.run holds choose (given_all choose h a) base one.count store mid last result b → Gives g fits run holds choose h base k store first last result (a ++ b)
   gives_on h a b base k mid_store store first mid last one (Ok done) two = given_on h a b base k mid_store store first mid last one two
   gives_on h a b base k mid_store store first mid last one (Err fault) two = record {
     given = a ++ two.given;
@@ -140,111 +177,81 @@ module _ {D : Type 0} (g : Ghosts D) {M : Type 0} (fits : Book → Type 0) (hold
   }
 
   -- there was no room for the first
-  pub halted_none : (h : List Order) (base k : ℕ) (store : Store M) (disk : D) (o : Order) (os : List Order) → Holds g fits holds choose h base k store disk →
-      Gives g fits holds choose h base k store disk disk (Err (faults.Refused refusals.NoMemory)) (o ∷ os)
-  halted_none h base k store disk o os hold = record { given = []; rest = o ∷ os; parts = refl; halts = (tt, given_none h base k store disk hold) }
+  pub halted_none : (h : List Order) (base k : ℕ) (store : Store M) (disk : D) (o : Order) (os : List Order) → store.run ≡ run → Holds g fits holds choose h base k store disk →
+      Gives g fits run holds choose h base k store disk disk (Err (faults.Refused refusals.NoMemory)) (o ∷ os)
+  halted_none h base k store disk o os is hold = record { given = []; rest = o ∷ os; parts = refl; halts = (tt, given_none h base k store disk is hold) }
 
-  pub halted_first : (h : List Order) (base k : ℕ) (store : Store M) (disk : D) (is_open : Bool) (origin : ChannelMeta) (moment : ℤ) → Holds g fits holds choose h base k store disk →
-      Feeds g fits holds choose h base k store disk disk (Err (stops.Given (faults.Refused refusals.NoMemory))) (filling is_open origin moment []) (end_order moment ∷ [])
-  halted_first h base k store disk true origin moment hold =
-      halted_none h base k store disk (end_order moment) (begin_order origin moment ∷ end_order moment ∷ []) hold
-  halted_first h base k store disk false origin moment hold = halted_none h base k store disk (begin_order origin moment) (end_order moment ∷ []) hold
-
-  -- ---- one of them
-
-  pub gave_one : (h : List Order) (base k : ℕ) (order : Order) (old store : Store M) (first last : D) (answer : Accepted) → Holds g fits holds choose h base k old first → IsGiven g fits holds choose h base k order old answer store first last →
-      HasGivenAll g fits holds choose h (order ∷ []) base k store first last
-  gave_one h base k order old store first last answer hold is = record {
-    count = is.gone.count;
-    kept = is.gone.kept;
-    allowed = (subst (λ (drawn : ℕ). IsAllowed choose false drawn (after choose h) order) hold.staged.counted.drawn_are is.allowed, tt);
-    hold = is.gone.hold;
-    stood = is.gone.stood;
-  }
-
-  pub gave_none : (h : List Order) (base k : ℕ) (order : Order) (old store : Store M) (first last : D) (fault : GiveFault) → Holds g fits holds choose h base k old first →
-      IsNotGiven g fits holds choose h base k order old fault store first last → Gives g fits holds choose h base k store first last (Err fault) (order ∷ [])
-  gave_none h base k order old store first last (faults.Refused refusal) hold not = record {
-    given = [];
-    rest = order ∷ [];
-    parts = refl;
-    halts = (
-      subst (λ (drawn : ℕ). IsNextRefused choose drawn (after choose h) refusal (order ∷ [])) hold.staged.counted.drawn_are not.0,
-      record {
-        count = not.1.count;
-        kept = not.1.kept;
-        allowed = tt;
-        hold = subst (λ (some : List Order). Holds g fits holds choose some base not.1.count store last) (none_more h) not.1.hold;
-        stood = subst (λ (some : List Order). HasStood g fits choose some k first last) (none_more h) not.1.stood;
-      },
-    );
-  }
-  gave_none h base k order old store first last (faults.Commit fault) hold not = record { given = order ∷ []; rest = []; parts = refl; halts = not }
+  pub halted_first : (h : List Order) (base k : ℕ) (store : Store M) (disk : D) (is_open : Bool) (origin : ChannelMeta) (moment : ℤ) → store.run ≡ run → Holds g fits holds choose h base k store disk →
+      Feeds g fits run holds choose h base k store disk disk (Err (stops.Given (faults.Refused refusals.NoMemory))) (filling is_open origin moment []) (end_order moment ∷ [])
+  halted_first h base k store disk true origin moment is hold =
+      halted_none h base k store disk (end_order moment) (begin_order origin moment ∷ end_order moment ∷ []) is hold
+  halted_first h base k store disk false origin moment is hold = halted_none h base k store disk (begin_order origin moment) (end_order moment ∷ []) is hold
 
   -- ---- the channel is ended where it is open, and begun
 
   pub began : (h : List Order) (base k : ℕ) (store : Store M) (first last : D) (result : Result Unit GiveFault) (is_open : Bool) (origin : ChannelMeta) (moment : ℤ) → is_open ≡ false →
-      Gives g fits holds choose h base k store first last result (begin_order origin moment ∷ []) → Gives g fits holds choose h base k store first last result (opening is_open origin moment)
+      Gives g fits run holds choose h base k store first last result (begin_order origin moment ∷ []) → Gives g fits run holds choose h base k store first last result (opening is_open origin moment)
   began h base k store first last result is_open origin moment is gives =
-      subst (λ (opens : Bool). Gives g fits holds choose h base k store first last result (opening opens origin moment)) (sym is) gives
+      subst (λ (opens : Bool). Gives g fits run holds choose h base k store first last result (opening opens origin moment)) (sym is) gives
 
   pub begun_again : (h : List Order) (base k : ℕ) (mid_store store : Store M) (first mid last : D) (result : Result Unit GiveFault) (is_open : Bool) (origin : ChannelMeta) (moment : ℤ) → is_open ≡ true →
-      (one : HasGivenAll g fits holds choose h (end_order moment ∷ []) base k mid_store first mid) →
-      Gives g fits holds choose (given_all choose h (end_order moment ∷ [])) base one.count store mid last result (begin_order origin moment ∷ []) →
-      Gives g fits holds choose h base k store first last result (opening is_open origin moment)
+      (one : HasGivenAll g fits run holds choose h (end_order moment ∷ []) base k mid_store first mid) →
+      Gives g fits mid_store.run holds choose (given_all choose h (end_order moment ∷ [])) base one.count store mid last result (begin_order origin moment ∷ []) →
+      Gives g fits run holds choose h base k store first last result (opening is_open origin moment)
   begun_again h base k mid_store store first mid last result is_open origin moment is one gives =
-      subst (λ (opens : Bool). Gives g fits holds choose h base k store first last result (opening opens origin moment)) (sym is)
+      subst (λ (opens : Bool). Gives g fits run holds choose h base k store first last result (opening opens origin moment)) (sym is)
       (gives_on h (end_order moment ∷ []) (begin_order origin moment ∷ []) base k mid_store store first mid last one result gives)
 
   pub not_ended : (h : List Order) (base k : ℕ) (store : Store M) (first last : D) (fault : GiveFault) (is_open : Bool) (origin : ChannelMeta) (moment : ℤ) → is_open ≡ true →
-      Gives g fits holds choose h base k store first last (Err fault) (end_order moment ∷ []) → Gives g fits holds choose h base k store first last (Err fault) (opening is_open origin moment)
+      Gives g fits run holds choose h base k store first last (Err fault) (end_order moment ∷ []) → Gives g fits run holds choose h base k store first last (Err fault) (opening is_open origin moment)
   not_ended h base k store first last fault is_open origin moment is gives =
-      subst (λ (opens : Bool). Gives g fits holds choose h base k store first last (Err fault) (opening opens origin moment)) (sym is)
-      (halted_more h base (λ (given : List Order). HasGivenAll g fits holds choose h given base k store first last) (λ (given : List Order). HasStood g fits choose (given_all choose h given) k first last) fault
+      subst (λ (opens : Bool). Gives g fits run holds choose h base k store first last (Err fault) (opening opens origin moment)) (sym is)
+      (halted_more h base (λ (given : List Order). HasGivenAll g fits run holds choose h given base k store first last) (λ (given : List Order). HasStood g fits run choose (given_all choose h given) k first last) fault
       (end_order moment ∷ []) (begin_order origin moment ∷ []) gives)
 
   -- ---- the parts of a run
 
-  pub feeds_on : (h a filled ending : List Order) (base k : ℕ) (mid_store store : Store M) (first mid last : D) → (one : HasGivenAll g fits holds choose h a base k mid_store first mid) → (result : Result Unit RunFault) →
-      Feeds g fits holds choose (given_all choose h a) base one.count store mid last result filled ending → Feeds g fits holds choose h base k store first last result (a ++ filled) ending
+  pub feeds_on : (h a filled ending : List Order) (base k : ℕ) (mid_store store : Store M) (first mid last : D) → (one : HasGivenAll g fits run holds choose h a base k mid_store first mid) → (result : Result Unit RunFault) →
+      Feeds g fits mid_store.run holds choose (given_all choose h a) base one.count store mid last result filled ending → Feeds g fits run holds choose h base k store first last result (a ++ filled) ending
   feeds_on h a filled ending base k mid_store store first mid last one (Ok done) two =
-      subst (λ (some : List Order). HasGivenAll g fits holds choose h some base k store first last) (sym (append_assoc a filled ending))
+      subst (λ (some : List Order). HasGivenAll g fits run holds choose h some base k store first last) (sym (append_assoc a filled ending))
       (given_on h a (filled ++ ending) base k mid_store store first mid last one two)
   feeds_on h a filled ending base k mid_store store first mid last one (Err (stops.Given fault)) two =
-      subst (λ (some : List Order). Gives g fits holds choose h base k store first last (Err fault) some) (sym (append_assoc a filled ending))
+      subst (λ (some : List Order). Gives g fits run holds choose h base k store first last (Err fault) some) (sym (append_assoc a filled ending))
       (gives_on h a (filled ++ ending) base k mid_store store first mid last one (Err fault) two)
   feeds_on h a filled ending base k mid_store store first mid last one (Err stops.Input) two = given_on h a filled base k mid_store store first mid last one two
   feeds_on h a filled ending base k mid_store store first mid last one (Err stops.Endless) two = given_on h a filled base k mid_store store first mid last one two
 
   -- the input was not read to its end, so its channel is not ended
   pub feeds_more : (h filled ending : List Order) (base k : ℕ) (store : Store M) (first last : D) (fault : RunFault) →
-      Feeds g fits holds choose h base k store first last (Err fault) filled [] → Feeds g fits holds choose h base k store first last (Err fault) filled ending
+      Feeds g fits run holds choose h base k store first last (Err fault) filled [] → Feeds g fits run holds choose h base k store first last (Err fault) filled ending
   feeds_more h filled ending base k store first last (stops.Given fault) feeds =
-      halted_more h base (λ (given : List Order). HasGivenAll g fits holds choose h given base k store first last) (λ (given : List Order). HasStood g fits choose (given_all choose h given) k first last) fault filled ending
-      (subst (λ (some : List Order). Gives g fits holds choose h base k store first last (Err fault) some) (append-nil filled) feeds)
+      halted_more h base (λ (given : List Order). HasGivenAll g fits run holds choose h given base k store first last) (λ (given : List Order). HasStood g fits run choose (given_all choose h given) k first last) fault filled ending
+      (subst (λ (some : List Order). Gives g fits run holds choose h base k store first last (Err fault) some) (append-nil filled) feeds)
   feeds_more h filled ending base k store first last stops.Input feeds = feeds
   feeds_more h filled ending base k store first last stops.Endless feeds = feeds
 
-  pub filled_all : (h filled : List Order) (base k : ℕ) (store : Store M) (first last : D) → HasGivenAll g fits holds choose h (filled ++ []) base k store first last → HasGivenAll g fits holds choose h filled base k store first last
-  filled_all h filled base k store first last all = subst (λ (some : List Order). HasGivenAll g fits holds choose h some base k store first last) (append-nil filled) all
+  pub filled_all : (h filled : List Order) (base k : ℕ) (store : Store M) (first last : D) → HasGivenAll g fits run holds choose h (filled ++ []) base k store first last → HasGivenAll g fits run holds choose h filled base k store first last
+  filled_all h filled base k store first last all = subst (λ (some : List Order). HasGivenAll g fits run holds choose h some base k store first last) (append-nil filled) all
 
-  pub opened : (h a : List Order) (base k : ℕ) (store : Store M) (first last : D) (fault : GiveFault) (filled ending : List Order) → Gives g fits holds choose h base k store first last (Err fault) a →
-      Feeds g fits holds choose h base k store first last (Err (stops.Given fault)) (a ++ filled) ending
+  pub opened : (h a : List Order) (base k : ℕ) (store : Store M) (first last : D) (fault : GiveFault) (filled ending : List Order) → Gives g fits run holds choose h base k store first last (Err fault) a →
+      Feeds g fits run holds choose h base k store first last (Err (stops.Given fault)) (a ++ filled) ending
   opened h a base k store first last fault filled ending gives =
-      subst (λ (some : List Order). Gives g fits holds choose h base k store first last (Err fault) some) (sym (append_assoc a filled ending))
-      (halted_more h base (λ (given : List Order). HasGivenAll g fits holds choose h given base k store first last) (λ (given : List Order). HasStood g fits choose (given_all choose h given) k first last) fault a (filled ++ ending) gives)
+      subst (λ (some : List Order). Gives g fits run holds choose h base k store first last (Err fault) some) (sym (append_assoc a filled ending))
+      (halted_more h base (λ (given : List Order). HasGivenAll g fits run holds choose h given base k store first last) (λ (given : List Order). HasStood g fits run choose (given_all choose h given) k first last) fault a (filled ++ ending) gives)
 
   -- ---- the commit at the end
 
   module _ (h : List Order) (base k : ℕ) (mid_store store : Store M) (first mid last : D)
-      (stood : (history : List Order) (base k : ℕ) → Holds g fits holds choose history base k mid_store mid → HasStood g fits choose history k mid last) where
-    stood_to : (os : List Order) → HasGivenAll g fits holds choose h os base k mid_store first mid → HasStood g fits choose (given_all choose h os) k first last
-    stood_to os one = stood_on g fits holds choose (given_all choose h os) k first mid last one.stood
-        (fewer g fits holds choose (given_all choose h os) one.count k mid last one.kept (stood (given_all choose h os) base one.count one.hold))
+      (stood : (history : List Order) (base k : ℕ) → Holds g fits holds choose history base k mid_store mid → HasStood g fits mid_store.run choose history k mid last) where
+    stood_to : (os : List Order) → HasGivenAll g fits run holds choose h os base k mid_store first mid → HasStood g fits run choose (given_all choose h os) k first last
+    stood_to os one = stood_on g fits run holds choose (given_all choose h os) k first mid last one.stood
+        (fewer g fits run holds choose (given_all choose h os) one.count k mid last one.kept
+        (subst (λ (run : ℕ). HasStood g fits run choose (given_all choose h os) one.count mid last) one.same_run (stood (given_all choose h os) base one.count one.hold)))
 
     -- the disk fails
-    pub failed : (result : Result Unit RunFault) (fault : CommitFault) (filled ending : List Order) → is_run_cut result ≡ false → Feeds g fits holds choose h base k mid_store first mid result filled ending →
-        Stores g fits holds choose h base k store first last (Err (stops.Given (faults.Commit fault))) filled ending
+    pub failed : (result : Result Unit RunFault) (fault : CommitFault) (filled ending : List Order) → is_run_cut result ≡ false → Feeds g fits run holds choose h base k mid_store first mid result filled ending →
+        Stores g fits run holds choose h base k store first last (Err (stops.Given (faults.Commit fault))) filled ending
     failed (Ok done) fault filled ending uncut feeds = record {
       given = filled ++ ending;
       rest = [];
@@ -261,12 +268,12 @@ module _ {D : Type 0} (g : Ghosts D) {M : Type 0} (fits : Book → Type 0) (hold
     failed (Err stops.Input) fault filled ending uncut feeds = record { given = filled; rest = ending; parts = refl; halts = stood_to filled feeds }
     failed (Err stops.Endless) fault filled ending uncut feeds = record { given = filled; rest = ending; parts = refl; halts = stood_to filled feeds }
 
-    module _ (done : (history : List Order) (base k : ℕ) → Holds g fits holds choose history base k mid_store mid → Holds g fits holds choose history base (length history) store last) where
-      kept_to : (os : List Order) → HasGivenAll g fits holds choose h os base k mid_store first mid → HasKeptAll g fits holds choose h os base k store first last
-      kept_to os one = record { allowed = one.allowed; hold = done (given_all choose h os) base one.count one.hold; stood = stood_to os one }
+    module _ (same : store.run ≡ mid_store.run) (done : (history : List Order) (base k : ℕ) → Holds g fits holds choose history base k mid_store mid → Holds g fits holds choose history base (length history) store last) where
+      kept_to : (os : List Order) → HasGivenAll g fits run holds choose h os base k mid_store first mid → HasKeptAll g fits run holds choose h os base k store first last
+      kept_to os one = record { allowed = one.allowed; same_run = same ∙ one.same_run; hold = done (given_all choose h os) base one.count one.hold; stood = stood_to os one }
 
-      pub settled : (result : Result Unit RunFault) (filled ending : List Order) → is_run_cut result ≡ false → Feeds g fits holds choose h base k mid_store first mid result filled ending →
-          Stores g fits holds choose h base k store first last result filled ending
+      pub settled : (result : Result Unit RunFault) (filled ending : List Order) → is_run_cut result ≡ false → Feeds g fits run holds choose h base k mid_store first mid result filled ending →
+          Stores g fits run holds choose h base k store first last result filled ending
       settled (Ok ended) filled ending uncut feeds = kept_to (filled ++ ending) feeds
       settled (Err (stops.Given (faults.Refused refusal))) filled ending uncut feeds = record {
         given = feeds.given;
@@ -279,8 +286,8 @@ module _ {D : Type 0} (g : Ghosts D) {M : Type 0} (fits : Book → Type 0) (hold
       settled (Err stops.Endless) filled ending uncut feeds = kept_to filled feeds
 
   -- it failed before
-  pub cut : (h : List Order) (base k : ℕ) (store : Store M) (first last : D) (result : Result Unit RunFault) (filled ending : List Order) → is_run_cut result ≡ true → Feeds g fits holds choose h base k store first last result filled ending →
-      Stores g fits holds choose h base k store first last result filled ending
+  pub cut : (h : List Order) (base k : ℕ) (store : Store M) (first last : D) (result : Result Unit RunFault) (filled ending : List Order) → is_run_cut result ≡ true → Feeds g fits run holds choose h base k store first last result filled ending →
+      Stores g fits run holds choose h base k store first last result filled ending
   cut h base k store first last (Ok done) filled ending is feeds = absurd (cc)
   cut h base k store first last (Err (stops.Given (faults.Refused refusal))) filled ending is feeds = absurd (cc)
   cut h base k store first last (Err (stops.Given (faults.Commit fault))) filled ending is feeds = record { given = feeds.given; rest = feeds.rest; parts = feeds.parts; halts = feeds.halts }
@@ -289,7 +296,7 @@ module _ {D : Type 0} (g : Ghosts D) {M : Type 0} (fits : Book → Type 0) (hold
 
   -- ---- what store and disk hold behind a run in which the disk did not fail
 
-  pub fed_holds : (h : List Order) (base k : ℕ) (store : Store M) (first last : D) (result : Result Unit RunFault) (filled ending : List Order) → is_run_cut result ≡ false → Feeds g fits holds choose h base k store first last result filled ending →
+  pub fed_holds : (h : List Order) (base k : ℕ) (store : Store M) (first last : D) (result : Result Unit RunFault) (filled ending : List Order) → is_run_cut result ≡ false → Feeds g fits run holds choose h base k store first last result filled ending →
       (now : List Order) × (count : ℕ) × Holds g fits holds choose now base count store last
   fed_holds h base k store first last (Ok done) filled ending uncut feeds = (given_all choose h (filled ++ ending), feeds.count, feeds.hold)
   fed_holds h base k store first last (Err (stops.Given (faults.Refused refusal))) filled ending uncut feeds = (given_all choose h feeds.given, feeds.halts.1.count, feeds.halts.1.hold)

@@ -100,10 +100,10 @@ pub record HasHalted (choose : Chooser) (history : List Order) (base : ℕ) (kee
   pub halts : HaltsAt choose history base keeps stood fault given rest
 
 -- all of them were given, or not all
-abbrev pub Gives : {D : Type 0} → Ghosts D → {M : Type 0} → (Book → Type 0) → (Chooser → List Order → M → Type 0) → Chooser → List Order → ℕ → ℕ → Store M → D → D → Result Unit GiveFault → List Order → Type 0
-Gives d fits holds choose history base k store before disk (Ok done) orders = HasGivenAll d fits holds choose history orders base k store before disk
-Gives d fits holds choose history base k store before disk (Err fault) orders =
-    HasHalted choose history base (λ given. HasGivenAll d fits holds choose history given base k store before disk) (λ given. HasStood d fits choose (given_all choose history given) k before disk) fault orders
+abbrev pub Gives : {D : Type 0} → Ghosts D → {M : Type 0} → (Book → Type 0) → ℕ → (Chooser → List Order → M → Type 0) → Chooser → List Order → ℕ → ℕ → Store M → D → D → Result Unit GiveFault → List Order → Type 0
+Gives d fits run holds choose history base k store before disk (Ok done) orders = HasGivenAll d fits run holds choose history orders base k store before disk
+Gives d fits run holds choose history base k store before disk (Err fault) orders =
+    HasHalted choose history base (λ given. HasGivenAll d fits run holds choose history given base k store before disk) (λ given. HasStood d fits run choose (given_all choose history given) k before disk) fault orders
 
 -- ---- a run that stores an input
 
@@ -114,17 +114,17 @@ Follows keeps halts (Err (stops.Given fault)) filled ending = halts fault (fille
 Follows keeps halts (Err stops.Input) filled ending = keeps filled
 Follows keeps halts (Err stops.Endless) filled ending = keeps filled
 
-abbrev pub Feeds : {D : Type 0} → Ghosts D → {M : Type 0} → (Book → Type 0) → (Chooser → List Order → M → Type 0) → Chooser → List Order → ℕ → ℕ → Store M → D → D → Result Unit RunFault → List Order → List Order → Type 0
-Feeds d fits holds choose history base k store before disk result filled ending =
-    Follows (λ given. HasGivenAll d fits holds choose history given base k store before disk)
-    (HasHalted choose history base (λ given. HasGivenAll d fits holds choose history given base k store before disk) (λ given. HasStood d fits choose (given_all choose history given) k before disk))
+abbrev pub Feeds : {D : Type 0} → Ghosts D → {M : Type 0} → (Book → Type 0) → ℕ → (Chooser → List Order → M → Type 0) → Chooser → List Order → ℕ → ℕ → Store M → D → D → Result Unit RunFault → List Order → List Order → Type 0
+Feeds d fits run holds choose history base k store before disk result filled ending =
+    Follows (λ given. HasGivenAll d fits run holds choose history given base k store before disk)
+    (HasHalted choose history base (λ given. HasGivenAll d fits run holds choose history given base k store before disk) (λ given. HasStood d fits run choose (given_all choose history given) k before disk))
     result filled ending
 
 -- and all that were given are committed, but where the disk failed
-abbrev pub Stores : {D : Type 0} → Ghosts D → {M : Type 0} → (Book → Type 0) → (Chooser → List Order → M → Type 0) → Chooser → List Order → ℕ → ℕ → Store M → D → D → Result Unit RunFault → List Order → List Order → Type 0
-Stores d fits holds choose history base k store before disk result filled ending =
-    Follows (λ given. HasKeptAll d fits holds choose history given base k store before disk)
-    (HasHalted choose history base (λ given. HasKeptAll d fits holds choose history given base k store before disk) (λ given. HasStood d fits choose (given_all choose history given) k before disk))
+abbrev pub Stores : {D : Type 0} → Ghosts D → {M : Type 0} → (Book → Type 0) → ℕ → (Chooser → List Order → M → Type 0) → Chooser → List Order → ℕ → ℕ → Store M → D → D → Result Unit RunFault → List Order → List Order → Type 0
+Stores d fits run holds choose history base k store before disk result filled ending =
+    Follows (λ given. HasKeptAll d fits run holds choose history given base k store before disk)
+    (HasHalted choose history base (λ given. HasKeptAll d fits run holds choose history given base k store before disk) (λ given. HasStood d fits run choose (given_all choose history given) k before disk))
     result filled ending
 
 -- ---- where the disk has failed, and the store is closed

@@ -43,10 +43,10 @@ fn commit_due<M: Listing + Drop, D: Disk>(
     requires { IsOver D.Disk store.old.keeper disk.old }
     ensures gone { OnOk result ((choose : Chooser) (history : List Order) (base k : ℕ) → M.is_chooser choose → AllByRecursion M.takes history →
         Holds D.Disk M.Book.fits M.holds choose history base k store.old disk.old →
-        HasSettled D.Disk M.Book.fits M.holds choose history [] base k store.new disk.old disk.new) }
+        HasSettled D.Disk M.Book.fits store.old.run M.holds choose history [] base k store.new disk.old disk.new) }
     ensures stood { (choose : Chooser) (history : List Order) (base k : ℕ) → M.is_chooser choose → AllByRecursion M.takes history →
         Holds D.Disk M.Book.fits M.holds choose history base k store.old disk.old →
-        HasStood D.Disk M.Book.fits choose history k disk.old disk.new }
+        HasStood D.Disk M.Book.fits store.old.run choose history k disk.old disk.new }
     ensures over { OnOk result (IsOver D.Disk store.new.keeper disk.new) }
     ensures measured { IsMeasured D.Disk store.old.keeper disk.old → OnOk result (IsMeasured D.Disk store.new.keeper disk.new) }
     ensures closed { OnErr result (store.new.keeper.closed ≡ true) }
@@ -121,7 +121,7 @@ pub fn commit_all<M: Memory + Drop, D: Disk>(
     ensures done { OnOk result ((choose : Chooser) (history : List Order) (base k : ℕ) → Holds D.Disk M.Book.fits M.holds choose history base k store.old disk.old →
         Holds D.Disk M.Book.fits M.holds choose history base (length history) store.new disk.new) }
     ensures stood { (choose : Chooser) (history : List Order) (base k : ℕ) → Holds D.Disk M.Book.fits M.holds choose history base k store.old disk.old →
-        HasStood D.Disk M.Book.fits choose history k disk.old disk.new }
+        HasStood D.Disk M.Book.fits store.old.run choose history k disk.old disk.new }
     ensures over { OnOk result (IsOver D.Disk store.new.keeper disk.new) }
     ensures run { store.new.run ≡ store.old.run }
     // What `shorten` asks for.

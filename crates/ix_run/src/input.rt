@@ -70,7 +70,7 @@ fn give_one<M: Listing + Drop, D: Disk>(
     requires takes { M.takes (record { command = command; moment = moment }) }
     ensures given { (choose : Chooser) (history : List Order) (base k : ℕ) → M.is_chooser choose → AllByRecursion M.takes history →
         Holds D.Disk M.Book.fits M.holds choose history base k store.old disk.old →
-        Gives D.Disk M.Book.fits M.holds choose history base k store.new disk.old disk.new result (record { command = command; moment = moment } ∷ []) }
+        Gives D.Disk M.Book.fits store.old.run M.holds choose history base k store.new disk.old disk.new result (record { command = command; moment = moment } ∷ []) }
     ensures over { is_cut result ≡ false → IsOver D.Disk store.new.keeper disk.new }
     ensures measured { is_cut result ≡ false → IsMeasured D.Disk store.old.keeper disk.old → IsMeasured D.Disk store.new.keeper disk.new }
     ensures undamaged { (file : File) (at : ℕ) → result ≡ Err (GiveFault.Commit (CommitFault.Damaged file at)) → (choose : Chooser) (history : List Order) (base k : ℕ) → M.is_chooser choose →
@@ -119,7 +119,7 @@ impl Stream {
         requires takes { M.takes (end_order self.moment) }
         ensures given { (choose : Chooser) (history : List Order) (base k : ℕ) → M.is_chooser choose → AllByRecursion M.takes history →
             Holds D.Disk M.Book.fits M.holds choose history base k store.old disk.old →
-            Gives D.Disk M.Book.fits M.holds choose history base k store.new disk.old disk.new result (end_order self.moment ∷ []) }
+            Gives D.Disk M.Book.fits store.old.run M.holds choose history base k store.new disk.old disk.new result (end_order self.moment ∷ []) }
         ensures over { is_cut result ≡ false → IsOver D.Disk store.new.keeper disk.new }
         ensures measured { is_cut result ≡ false → IsMeasured D.Disk store.old.keeper disk.old → IsMeasured D.Disk store.new.keeper disk.new }
         ensures undamaged { (file : File) (at : ℕ) → result ≡ Err (GiveFault.Commit (CommitFault.Damaged file at)) → (choose : Chooser) (history : List Order) (base k : ℕ) → M.is_chooser choose →
@@ -146,7 +146,7 @@ impl Stream {
         requires takes { M.takes (begin_order origin self.moment) }
         ensures given { (choose : Chooser) (history : List Order) (base k : ℕ) → M.is_chooser choose → AllByRecursion M.takes history →
             Holds D.Disk M.Book.fits M.holds choose history base k store.old disk.old →
-            Gives D.Disk M.Book.fits M.holds choose history base k store.new disk.old disk.new result (begin_order origin self.moment ∷ []) }
+            Gives D.Disk M.Book.fits store.old.run M.holds choose history base k store.new disk.old disk.new result (begin_order origin self.moment ∷ []) }
         ensures over { is_cut result ≡ false → IsOver D.Disk store.new.keeper disk.new }
         ensures measured { is_cut result ≡ false → IsMeasured D.Disk store.old.keeper disk.old → IsMeasured D.Disk store.new.keeper disk.new }
         ensures undamaged { (file : File) (at : ℕ) → result ≡ Err (GiveFault.Commit (CommitFault.Damaged file at)) → (choose : Chooser) (history : List Order) (base k : ℕ) → M.is_chooser choose →
@@ -174,7 +174,7 @@ impl Stream {
         requires takes { M.takes (block_order self.moment bytes.now) }
         ensures given { (choose : Chooser) (history : List Order) (base k : ℕ) → M.is_chooser choose → AllByRecursion M.takes history →
             Holds D.Disk M.Book.fits M.holds choose history base k store.old disk.old →
-            Gives D.Disk M.Book.fits M.holds choose history base k store.new disk.old disk.new result (block_order self.moment bytes.now ∷ []) }
+            Gives D.Disk M.Book.fits store.old.run M.holds choose history base k store.new disk.old disk.new result (block_order self.moment bytes.now ∷ []) }
         ensures over { is_cut result ≡ false → IsOver D.Disk store.new.keeper disk.new }
         ensures measured { is_cut result ≡ false → IsMeasured D.Disk store.old.keeper disk.old → IsMeasured D.Disk store.new.keeper disk.new }
         ensures undamaged { (file : File) (at : ℕ) → result ≡ Err (GiveFault.Commit (CommitFault.Damaged file at)) → (choose : Chooser) (history : List Order) (base k : ℕ) → M.is_chooser choose →
@@ -216,7 +216,7 @@ impl Stream {
         requires begins { M.takes (begin_order origin self.moment) }
         ensures given { (choose : Chooser) (history : List Order) (base k : ℕ) → M.is_chooser choose → AllByRecursion M.takes history →
             Holds D.Disk M.Book.fits M.holds choose history base k store.old disk.old →
-            Gives D.Disk M.Book.fits M.holds choose history base k store.new disk.old disk.new result (opening (is_begun (after choose history) tilde) origin self.moment) }
+            Gives D.Disk M.Book.fits store.old.run M.holds choose history base k store.new disk.old disk.new result (opening (is_begun (after choose history) tilde) origin self.moment) }
         ensures over { is_cut result ≡ false → IsOver D.Disk store.new.keeper disk.new }
         ensures measured { is_cut result ≡ false → IsMeasured D.Disk store.old.keeper disk.old → IsMeasured D.Disk store.new.keeper disk.new }
         ensures undamaged { (file : File) (at : ℕ) → result ≡ Err (GiveFault.Commit (CommitFault.Damaged file at)) → (choose : Chooser) (history : List Order) (base k : ℕ) → M.is_chooser choose →
@@ -248,7 +248,7 @@ impl Stream {
         requires takes { (bytes : List ℕ) → IsBlock bytes → M.takes (block_order self.moment bytes) }
         ensures read { HasRead result (λ blocks. (choose : Chooser) (history : List Order) (base k : ℕ) → M.is_chooser choose → AllByRecursion M.takes history →
             Holds D.Disk M.Book.fits M.holds choose history base k store.old disk.old →
-            Feeds D.Disk M.Book.fits M.holds choose history base k store.new disk.old disk.new result (map (block_order self.moment) blocks) [])
+            Feeds D.Disk M.Book.fits store.old.run M.holds choose history base k store.new disk.old disk.new result (map (block_order self.moment) blocks) [])
             (S.left input.old) (S.left input.new) (S.faults input.old) (S.faults input.new) }
         ensures over { is_run_cut result ≡ false → IsOver D.Disk store.new.keeper disk.new }
         ensures measured { is_run_cut result ≡ false → IsMeasured D.Disk store.old.keeper disk.old → IsMeasured D.Disk store.new.keeper disk.new }
@@ -293,7 +293,7 @@ impl Stream {
         requires adds { (bytes : List ℕ) → IsBlock bytes → M.takes (block_order self.moment bytes) }
         ensures read { HasRead result (λ blocks. (choose : Chooser) (history : List Order) (base k : ℕ) → M.is_chooser choose → AllByRecursion M.takes history →
             Holds D.Disk M.Book.fits M.holds choose history base k store.old disk.old →
-            Feeds D.Disk M.Book.fits M.holds choose history base k store.new disk.old disk.new result
+            Feeds D.Disk M.Book.fits store.old.run M.holds choose history base k store.new disk.old disk.new result
             (filling (is_begun (after choose history) tilde) origin self.moment blocks) (end_order self.moment ∷ []))
             (S.left input.old) (S.left input.new) (S.faults input.old) (S.faults input.new) }
         ensures over { is_run_cut result ≡ false → IsOver D.Disk store.new.keeper disk.new }
@@ -350,7 +350,7 @@ pub fn store_input<M: Listing + Drop, D: Disk, S: Source>(
     requires adds { (bytes : List ℕ) → IsBlock bytes → M.takes (block_order arrival.moment bytes) }
     ensures stored { HasRead result (λ blocks. (choose : Chooser) (history : List Order) (base k : ℕ) → M.is_chooser choose → AllByRecursion M.takes history →
         Holds D.Disk M.Book.fits M.holds choose history base k store.old disk.old →
-        Stores D.Disk M.Book.fits M.holds choose history base k store.new disk.old disk.new result
+        Stores D.Disk M.Book.fits store.old.run M.holds choose history base k store.new disk.old disk.new result
         (filling (is_begun (after choose history) tilde) arrival.origin arrival.moment blocks) (end_order arrival.moment ∷ []))
         (S.left input.old) (S.left input.new) (S.faults input.old) (S.faults input.new) }
     ensures over { is_run_cut result ≡ false → IsOver D.Disk store.new.keeper disk.new }

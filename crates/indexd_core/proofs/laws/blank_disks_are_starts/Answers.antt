@@ -4,5 +4,4 @@ use Rattle.indexd_core.proofs.laws.blank_disks_are_starts.Goals as goal
 pub returns : goal.returns
 returns g c = λ disk blank from.
     let exist = c.choosers_exist.ensures in
-    let may = c.an_empty_disk_may_run.ensures exist.0 disk exist.1 blank.left blank.seen in
-    from exist.0 [] 0 may.chooser may.given may.begins may.image may.tells
+    from exist.0 [] 0 0 (c.an_empty_disk_may_run.ensures exist.0 disk exist.1 blank.left blank.seen)

@@ -19,7 +19,7 @@ use Rattle.indexd_core.proofs.FeedLemmas.{asks_taken}
 use Rattle.indexd_core.proofs.LockedLemmas.{left_alone, told_on, none_from_start, shut_from, served_from, short_from, out_no, out_disk, out_used, out_ends}
 use Rattle.indexd_core.proofs.ServeLemmas.{same_listened, output_served, disk_served, listener_served, damaged_served, input_served, usage_served, in_use_served}
 use Rattle.indexd_core.proofs.ShortLemmas.{left_at_stop, serve_short}
-use Rattle.indexd_core.proofs.StoredLemmas.{apart, disk_stop, output_stop, input_stop, usage_stop, listener_stop, in_use_stop, yes_no, err_as, by_blame}
+use Rattle.indexd_core.proofs.StoredLemmas.{apart, disk_stop, output_stop, input_stop, usage_stop, listener_stop, in_use_stop, yes_no, err_as, by_blame, from_start}
 use Rattle.indexd_core.proofs.serve.serve_with.Goals as goal
 
 pub run_serve-requires-clause-settings : goal.run_serve-requires-clause-settings
@@ -80,12 +80,12 @@ returns-in-Ok g c = record {
       (same_listened _ _ _ _ c.bind.ensures.waiting c.bind.ensures.handed) c.in-Ok.ensures.reads)
       (served_from c.lock_out.ensures.alone c.args.config (g.C.Clock.ahead c.args.clock.now) (Connections g.D.Disk fits c.args.serving.requests c.in-Ok.end
       (listened (g.L.Listener.waiting c.args.listener.now) (g.L.Listener.handed c.args.listener.now)) (listened (g.L.Listener.waiting run.listener) (g.L.Listener.handed run.listener)) (g.C.Clock.ahead run.clock) run.disk) run.disk
-      (subst (λ w. FromStart g.D.Disk c.lock_out.new.disk (λ choose history k. HasServed g.D.Disk IsTaken fits choose history k c.args.config (g.C.Clock.ahead c.args.clock.now)
+      (subst (λ w. FromStart g.D.Disk c.lock_out.new.disk (λ choose history run k. HasServed g.D.Disk IsTaken fits choose history run k c.args.config (g.C.Clock.ahead c.args.clock.now)
       (Connections g.D.Disk fits c.args.serving.requests c.in-Ok.end (listened w (g.L.Listener.handed c.args.listener.now)) (listened (g.L.Listener.waiting run.listener) (g.L.Listener.handed run.listener)) (g.C.Clock.ahead run.clock) run.disk) c.lock_out.new.disk run.disk))
       c.bind.ensures.waiting
-      (subst (λ b. FromStart g.D.Disk c.lock_out.new.disk (λ choose history k. HasServed g.D.Disk IsTaken fits choose history k c.args.config (g.C.Clock.ahead c.args.clock.now)
+      (subst (λ b. FromStart g.D.Disk c.lock_out.new.disk (λ choose history run k. HasServed g.D.Disk IsTaken fits choose history run k c.args.config (g.C.Clock.ahead c.args.clock.now)
       (Connections g.D.Disk fits c.args.serving.requests c.in-Ok.end (listened (g.L.Listener.waiting c.bind.new.self) b) (listened (g.L.Listener.waiting run.listener) (g.L.Listener.handed run.listener)) (g.C.Clock.ahead run.clock) run.disk) c.lock_out.new.disk run.disk))
-      c.bind.ensures.handed c.in-Ok.ensures.served))) c.say_end.ensures.said;
+      c.bind.ensures.handed (from_start _ _ _ c.in-Ok.ensures.served)))) c.say_end.ensures.said;
   short = λ ok. inl (c.in-Ok.ensures.short (serve_short c.say_end.result _ c.in-Ok.end _ _ c.say_end.ensures.said ok));
   output = λ is. output_served c.say_end.result _ _ _ c.in-Ok.end c.say_end.ensures.said is;
   written_later = c.say_end.ensures.later;
@@ -100,7 +100,7 @@ returns-in-Ok g c = record {
       rose_later (g.L.Listener.faults c.args.listener.now) (g.L.Listener.faults c.bind.new.self) (g.L.Listener.faults c.run_serve.new.listener) c.bind.ensures.cause.later rose;
   out = c.run_serve.ensures.out ∙ c.bind.ensures.out;
   undamaged = λ is. none_from_start c.lock_out.ensures.alone (damaged_served c.say_end.result _ _ _ c.in-Ok.end _ c.say_end.ensures.said is
-      (λ file at damaged. c.run_serve.ensures.unbroken file at (c.in-Ok.is ∙ ap (λ e. Ok e) damaged)));
+      (λ file at damaged. from_start _ _ _ (c.run_serve.ensures.unbroken file at (c.in-Ok.is ∙ ap (λ e. Ok e) damaged))));
   input = λ is. input_served c.say_end.result _ _ _ c.in-Ok.end c.say_end.ensures.said is;
   usage = λ is. usage_served c.say_end.result _ _ _ c.in-Ok.end c.say_end.ensures.said is;
   in_use = λ is. absurd (in_use_served c.say_end.result _ _ _ c.in-Ok.end c.say_end.ensures.said is);
@@ -111,7 +111,7 @@ pub returns-in-Err-run_serve : goal.returns-in-Err-run_serve
 returns-in-Err-run_serve g c = record {
   comes = let named : named_of c.of_index.result ≡ [] = cc (c.of_index.ensures) in
       shut c.in-Err-run_serve.stop c.say_stop.ensures.status
-      (shut_from c.lock_out.ensures.alone c.in-Err-run_serve.stop c.args.config (g.C.Clock.ahead c.args.clock.now) (g.C.Clock.ahead c.run_serve.new.clock) c.run_serve.new.disk c.in-Err-run_serve.ensures.shut)
+      (shut_from c.lock_out.ensures.alone c.in-Err-run_serve.stop c.args.config (g.C.Clock.ahead c.args.clock.now) (g.C.Clock.ahead c.run_serve.new.clock) c.run_serve.new.disk (from_start _ _ _ c.in-Err-run_serve.ensures.shut))
       (same_listened _ _ _ _ (ap (λ l. g.L.Listener.waiting l) c.in-Err-run_serve.ensures.untouched ∙ c.bind.ensures.waiting) (ap (λ l. g.L.Listener.handed l) c.in-Err-run_serve.ensures.untouched ∙ c.bind.ensures.handed))
       (subst (λ (name : List ℕ). Said (line_of name c.in-Err-run_serve.stop) (side (g.W.Sink.faults c.args.output.now) (g.W.Sink.given c.args.output.now))
       (side (g.W.Sink.faults c.say_stop.new.output) (g.W.Sink.given c.say_stop.new.output))) named c.say_stop.ensures.said);
@@ -128,8 +128,8 @@ returns-in-Err-run_serve g c = record {
   listener = λ is. absurd (listener_stop c.say_stop.result c.in-Err-run_serve.stop c.say_stop.ensures.status is);
   out = c.run_serve.ensures.out ∙ c.bind.ensures.out;
   undamaged = λ is. none_from_start c.lock_out.ensures.alone (by_blame c.in-Err-run_serve.stop _ (sym c.say_stop.ensures.status ∙ is)
-      (λ unsound. λ choose history k chooser taken begins image seen. c.run_serve.ensures.sound (c.in-Err-run_serve.is ∙ err_as c.in-Err-run_serve.stop _ unsound) choose history k chooser taken begins image seen)
-      (λ file at damaged. c.run_serve.ensures.undamaged file at (c.in-Err-run_serve.is ∙ err_as c.in-Err-run_serve.stop _ damaged)));
+      (λ unsound. from_start _ _ _ (c.run_serve.ensures.sound (c.in-Err-run_serve.is ∙ err_as c.in-Err-run_serve.stop _ unsound)))
+      (λ file at damaged. from_start _ _ _ (c.run_serve.ensures.undamaged file at (c.in-Err-run_serve.is ∙ err_as c.in-Err-run_serve.stop _ damaged))));
   input = λ is. yes_no _ (input_stop c.say_stop.result c.in-Err-run_serve.stop c.say_stop.ensures.status is).0 c.in-Err-run_serve.ensures.still;
   usage = λ is. usage_stop c.say_stop.result c.in-Err-run_serve.stop c.say_stop.ensures.status is;
   in_use = λ is. absurd (in_use_stop c.say_stop.result c.in-Err-run_serve.stop c.say_stop.ensures.status is);

@@ -9,7 +9,7 @@ use Rattle.indexd_store.proofs.Shortening.{by_end}
 use Rattle.indexd_core.specs.Stored.{status_of}
 use Rattle.indexd_core.specs.declared.status.Status.TheVariants as statuses
 use Rattle.indexd_core.proofs.MissedLemmas.{missed, by_disk}
-use Rattle.indexd_core.proofs.StoredLemmas.{by_blame, err_as}
+use Rattle.indexd_core.proofs.StoredLemmas.{by_blame, err_as, from_start}
 use Rattle.ix_serve.proofs.Standing.{tells_on}
 use Rattle.indexd_core.proofs.stored.miss.Goals as goal
 
@@ -18,26 +18,26 @@ open-requires g c = λ moment. c.requires.settings
 
 pub returns-in-Err : goal.returns-in-Err
 returns-in-Err g c = record {
-  stopped = λ left choose history k chooser taken begins image seen. inl (c.in-Err.ensures.stopped choose history k chooser taken begins image seen, refl);
+  stopped = λ left. from_start _ _ _ (λ choose history run k chooser taken begins image seen. inl (c.in-Err.ensures.stopped choose history run k chooser taken begins image seen, refl));
   short = c.in-Err.ensures.short;
   told = tells_on g.D.Disk _ c.args.disk.now c.open.new.disk c.open.ensures.told;
   later = c.open.ensures.later;
   cause = λ is. c.open.ensures.cause (c.in-Err.is ∙ err_as c.in-Err.stop _ is);
   undamaged = λ is. by_blame c.in-Err.stop _ is
-      (λ unsound. λ choose history k chooser taken begins image seen.
-      shut_sound c.in-Err.stop g.D.Disk IsTaken _ choose history k c.args.config _ _ c.args.disk.now c.open.new.disk unsound (c.in-Err.ensures.stopped choose history k chooser taken begins image seen))
-      (λ file at damaged. c.open.ensures.undamaged file at (c.in-Err.is ∙ err_as c.in-Err.stop _ damaged));
+      (λ unsound. from_start _ _ _ (λ choose history run k chooser taken begins image seen.
+      shut_sound c.in-Err.stop g.D.Disk IsTaken _ choose history run k c.args.config _ _ c.args.disk.now c.open.new.disk unsound (c.in-Err.ensures.stopped choose history run k chooser taken begins image seen)))
+      (λ file at damaged. from_start _ _ _ (c.open.ensures.undamaged file at (c.in-Err.is ∙ err_as c.in-Err.stop _ damaged)));
   quiet = c.in-Err.ensures.quiet;
   unread = c.in-Err.ensures.unread;
 }
 
 pub returns : goal.returns
 returns g c = record {
-  stopped = λ left choose history k chooser taken begins image seen.
-      missed g.D.Disk _ _ choose history k c.args.config c.in-Ok.store c.stop_run.new.store (g.C.Clock.ahead c.args.clock.now) (g.C.Clock.ahead c.open.new.clock) (g.C.Clock.ahead c.now-moment.new.self)
+  stopped = λ left. from_start _ _ _ (λ choose history run k chooser taken begins image seen.
+      missed g.D.Disk _ _ choose history run k c.args.config c.in-Ok.store c.stop_run.new.store (g.C.Clock.ahead c.args.clock.now) (g.C.Clock.ahead c.open.new.clock) (g.C.Clock.ahead c.now-moment.new.self)
       c.args.disk.now c.open.new.disk c.stop_run.new.disk c.args.origin.now left c.now-moment.result c.stop_run.result c.requires.settings c.requires.long taken
-      (c.in-Ok.ensures.opened choose history k chooser taken begins image seen) c.now-moment.ensures c.stop_run.ensures.why
-      (λ now base all hold. c.stop_run.ensures.images refl choose now base chooser all hold) (λ kept now base all hold. c.stop_run.ensures.held refl kept choose now base chooser all hold);
+      (c.in-Ok.ensures.opened choose history run k chooser taken begins image seen) c.now-moment.ensures c.stop_run.ensures.run c.stop_run.ensures.why
+      (λ now base all hold. c.stop_run.ensures.images refl choose now base chooser all hold) (λ kept now base all hold. c.stop_run.ensures.held refl kept choose now base chooser all hold));
   short = λ ok. inl (c.stop_run.ensures.short ok);
   told = λ is. tells_on g.D.Disk _ c.open.new.disk c.stop_run.new.disk c.stop_run.ensures.told (tells_on g.D.Disk _ c.args.disk.now c.open.new.disk c.open.ensures.told is);
   later = le_trans c.open.ensures.later c.stop_run.ensures.later;

@@ -4,7 +4,7 @@ use Rattle.indexd_store.specs.declared.stop.Stop.TheVariants as stops
 use Rattle.indexd_core.specs.Stored.{line_of, done, stopped}
 use Rattle.indexd_core.specs.Texts.{Said}
 use Rattle.indexd_core.proofs.PreviewLemmas.{rose-until}
-use Rattle.indexd_core.proofs.StoredLemmas.{apart, task_taken, disk_stop, output_stop, input_stop, usage_stop, listener_stop, in_use_stop, yes_no, err_as, by_blame}
+use Rattle.indexd_core.proofs.StoredLemmas.{apart, task_taken, disk_stop, output_stop, input_stop, usage_stop, listener_stop, in_use_stop, yes_no, err_as, by_blame, from_start}
 use Rattle.indexd_core.specs.declared.status.Status.TheVariants as statuses
 use Rattle.indexd_core.proofs.ShortLemmas.{left_at_ok, left_at_err}
 use Rattle.ix_serve.proofs.Standing.{tells_on}
@@ -18,7 +18,7 @@ run_task-requires-clause-takes g c = λ moment. task_taken c.args.task moment
 
 pub returns-in-Ok : goal.returns-in-Ok
 returns-in-Ok g c = record {
-  comes = done refl c.in-Ok.ensures.done;
+  comes = done refl (from_start _ _ _ c.in-Ok.ensures.done);
   short = left_at_ok g.D.Disk c.args.disk.now c.run_task.new.disk c.run_task.result statuses.Done tt c.in-Ok.is c.run_task.ensures.short;
   output = λ is. absurd (apart statuses.Done statuses.Output refl is);
   input = λ is. apart statuses.Done statuses.Input refl is;
@@ -35,7 +35,7 @@ returns-in-Ok g c = record {
 pub returns-in-Err : goal.returns-in-Err
 returns-in-Err g c = record {
   comes = stopped c.in-Err.stop (side (g.W.Sink.faults c.run_task.new.output) (g.W.Sink.given c.run_task.new.output)) c.say_stop.ensures.status
-      c.in-Err.ensures.stopped c.in-Err.ensures.quiet
+      (from_start _ _ _ c.in-Err.ensures.stopped) c.in-Err.ensures.quiet
       (subst (λ (named : List ℕ). Said (line_of named c.in-Err.stop) (side (g.W.Sink.faults c.run_task.new.output) (g.W.Sink.given c.run_task.new.output))
       (side (g.W.Sink.faults c.say_stop.new.output) (g.W.Sink.given c.say_stop.new.output))) c.named_in.ensures c.say_stop.ensures.said);
   short = left_at_err g.D.Disk c.args.disk.now c.run_task.new.disk c.run_task.result c.say_stop.result c.in-Err.stop c.in-Err.is c.say_stop.ensures.status c.run_task.ensures.short;
@@ -48,8 +48,8 @@ returns-in-Err g c = record {
   disk_later = c.run_task.ensures.later;
   disk = λ is. c.in-Err.ensures.cause (err_as c.in-Err.stop stops.Disk (disk_stop c.say_stop.result c.in-Err.stop c.say_stop.ensures.status is));
   undamaged = λ is. by_blame c.in-Err.stop _ (sym c.say_stop.ensures.status ∙ is)
-      (λ unsound. λ choose history k chooser taken begins image seen. c.run_task.ensures.sound (c.in-Err.is ∙ err_as c.in-Err.stop _ unsound) choose history k chooser taken begins image seen)
-      (λ file at damaged. c.run_task.ensures.undamaged file at (c.in-Err.is ∙ err_as c.in-Err.stop _ damaged));
+      (λ unsound. from_start _ _ _ (c.run_task.ensures.sound (c.in-Err.is ∙ err_as c.in-Err.stop _ unsound)))
+      (λ file at damaged. from_start _ _ _ (c.run_task.ensures.undamaged file at (c.in-Err.is ∙ err_as c.in-Err.stop _ damaged)));
   usage = λ is. usage_stop c.say_stop.result c.in-Err.stop c.say_stop.ensures.status is;
   listener = λ is. listener_stop c.say_stop.result c.in-Err.stop c.say_stop.ensures.status is;
   in_use = λ is. in_use_stop c.say_stop.result c.in-Err.stop c.say_stop.ensures.status is;

@@ -1,8 +1,8 @@
 use Rattle.std.proofs.Common.{◌≤◌, ◌∙◌, ap, arith, le_refl}
 use Rattle.indexd_store.proofs.Feeding.{none_taken}
-use Rattle.indexd_store.proofs.Tasks.{if_err_by}
+use Rattle.indexd_store.proofs.Tasks.{on_ok_by, at_ok, if_err_by, at_err}
 use Rattle.indexd_store.specs.Stops.{is_input}
-use Rattle.indexd_core.proofs.StoredLemmas.{brief_index, by_blame, err_as, same_stop, yes_no}
+use Rattle.indexd_core.proofs.StoredLemmas.{brief_index, by_blame, err_as, from_start, same_stop, yes_no}
 use Rattle.ix_serve.proofs.Standing.{tells_on}
 use Rattle.indexd_core.proofs.stored.store_input.Goals as goal
 
@@ -38,8 +38,8 @@ returns-then-is_long g c = record {
 
 pub returns : goal.returns
 returns g c = record {
-  done = c.run_preview.ensures.done;
-  stopped = c.run_preview.ensures.stopped;
+  done = on_ok_by c.run_preview.result _ (λ done is. from_start _ _ _ (at_ok c.run_preview.result done _ is c.run_preview.ensures.done));
+  stopped = if_err_by c.run_preview.result _ (λ stop is. from_start _ _ _ (at_err c.run_preview.result stop _ is c.run_preview.ensures.stopped));
   short = c.run_preview.ensures.short;
   told = tells_on g.D.Disk _ c.args.disk.now c.run_preview.new.disk c.run_preview.ensures.told;
   later = c.run_preview.ensures.later;
@@ -47,8 +47,8 @@ returns g c = record {
   read_later = c.run_preview.ensures.read_later;
   input = c.run_preview.ensures.input;
   undamaged = if_err_by c.run_preview.result _ (λ stop is. λ blamed. by_blame stop _ blamed
-      (λ unsound. λ choose history k chooser taken begins image seen. c.run_preview.ensures.sound (is ∙ err_as stop _ unsound) choose history k chooser taken begins image seen)
-      (λ file at damaged. c.run_preview.ensures.undamaged file at (is ∙ err_as stop _ damaged)));
+      (λ unsound. from_start _ _ _ (c.run_preview.ensures.sound (is ∙ err_as stop _ unsound)))
+      (λ file at damaged. from_start _ _ _ (c.run_preview.ensures.undamaged file at (is ∙ err_as stop _ damaged))));
   quiet = c.run_preview.ensures.quiet;
   read = c.run_preview.ensures.read;
 }

@@ -21,7 +21,7 @@ use Rattle.indexd_core.proofs.stored.store_with.Goals as goal
 pub returns-in_default : goal.returns-in_default
 returns-in_default g c = record {
   comes = stopped stops.Memory (side (g.W.Sink.faults c.args.output.now) (g.W.Sink.given c.args.output.now)) refl
-      (λ choose history k chooser taken begins image seen. unmounted g.D.Disk _ choose history k c.args.config _ _ _ c.args.disk.now refl begins (omega arith))
+      (λ choose history run k may. unmounted g.D.Disk _ choose history run k c.args.config _ _ _ c.args.disk.now refl may.begins (omega arith))
       (refl, none_taken stops.Memory (g.S.Source.left c.args.input.now) refl) c.say.ensures.said;
   silent = λ is. absurd (apart statuses.Memory statuses.Done refl is);
   short = λ ok. inr (inl (left_alone g.D.Disk c.args.disk.now));
@@ -41,7 +41,7 @@ returns-in_default g c = record {
 pub returns-in-Ok-store_input : goal.returns-in-Ok-store_input
 returns-in-Ok-store_input g c = record {
   comes = done refl
-      (subst (λ (meta : ChannelMeta). FromStart g.D.Disk c.args.disk.now (λ choose history k. HasRun false g.D.Disk IsTaken fits choose history k
+      (subst (λ (meta : ChannelMeta). FromStart g.D.Disk c.args.disk.now (λ choose history run k. HasRun false g.D.Disk IsTaken fits choose history run k
       (WhenOpen choose c.args.config (g.C.Clock.ahead c.args.clock.now) (HasFed choose meta (Ok tt) (g.C.Clock.ahead c.store_input.new.clock) (g.S.Source.left c.args.input.now) (g.S.Source.left c.store_input.new.input)))
       c.args.disk.now c.store_input.new.disk)) c.in-Ok.ensures.meta c.in-Ok-store_input.ensures.done);
   silent = λ is. record { taken = c.in-Ok-store_input.ensures.read; same = refl };
@@ -63,7 +63,7 @@ pub returns : goal.returns
 returns g c = record {
   comes = let name : named_of c.of_index.result ≡ index_or_default (stated_of c.args.origin).index c.args.config.limits = cc (c.of_index.ensures, c.as_slice.ensures, c.in-Ok.ensures.index) in
       stopped c.in-Err.stop (side (g.W.Sink.faults c.args.output.now) (g.W.Sink.given c.args.output.now)) c.say_stop.ensures.status
-      (subst (λ (meta : ChannelMeta). FromStart g.D.Disk c.args.disk.now (λ choose history k. HasStopped c.in-Err.stop g.D.Disk IsTaken fits choose history k c.args.config
+      (subst (λ (meta : ChannelMeta). FromStart g.D.Disk c.args.disk.now (λ choose history run k. HasStopped c.in-Err.stop g.D.Disk IsTaken fits choose history run k c.args.config
       (g.C.Clock.ahead c.args.clock.now) (g.C.Clock.ahead c.store_input.new.clock) (g.S.Source.left c.store_input.new.input ≡ g.S.Source.left c.args.input.now)
       (HasFed choose meta (Err c.in-Err.stop) (g.C.Clock.ahead c.store_input.new.clock) (g.S.Source.left c.args.input.now) (g.S.Source.left c.store_input.new.input))
       c.args.disk.now c.store_input.new.disk)) c.in-Ok.ensures.meta c.in-Err.ensures.stopped)

@@ -16,12 +16,12 @@ use Rattle.ix_serve.proofs.Standing.{tells_on}
 use Rattle.indexd_feed.proofs.feed.run_feed.Goals as goal
 
 pub returns-clause-served : goal.returns-clause-served
-returns-clause-served g c = λ choose history k chooser taken begins image seen.
-    let opened = c.in-Ok.ensures.opened choose history k chooser taken begins image seen in
+returns-clause-served g c = λ choose history run k chooser taken begins image seen.
+    let opened = c.in-Ok.ensures.opened choose history run k chooser taken begins image seen in
     let taken_now = begun_taken g.M.Memory.takes g.met.M.Memory.ticks_are_taken choose (take opened.count history) c.args.config (is_configured choose (take opened.count history) c.args.config) opened.configured
     c.requires.settings (front_has g.M.Memory.takes opened.count history taken) opened.configures in
     let requests = c.feed_open.ensures.requests choose (given_all choose (take opened.count history) opened.configured) opened.count chooser taken_now opened.hold in
-    served_behind g.D.Disk g.M.Memory.takes g.M.Book.Replay.fits g.M.Memory.holds choose history k c.args.config c.in-Ok.store (g.C.Clock.ahead c.args.clock.now) (g.C.Clock.ahead c.open.new.clock) c.args.disk.now c.open.new.disk opened
+    served_behind g.D.Disk g.M.Memory.takes g.M.Book.Replay.fits g.M.Memory.holds choose history run k c.args.config c.in-Ok.store (g.C.Clock.ahead c.args.clock.now) (g.C.Clock.ahead c.open.new.clock) c.args.disk.now c.open.new.disk opened
     (Requests g.D.Disk g.M.Book.Replay.fits c.feed_open.result
     (IsClean (g.K.Link.faults c.args.link.now) (g.K.Link.faults c.feed_open.new.link) (g.K.Link.standing c.args.link.now) (g.K.Link.standing c.feed_open.new.link))
     (g.K.Link.left c.args.link.now) (g.K.Link.left c.feed_open.new.link) (g.C.Clock.ahead c.feed_open.new.clock) (g.K.Link.given c.args.link.now) (g.K.Link.given c.feed_open.new.link) c.feed_open.new.disk)
@@ -29,9 +29,9 @@ returns-clause-served g c = λ choose history k chooser taken begins image seen.
     (safe_turns g.D.Disk g.M.Book.Replay.fits _ requests.1.1.turns _ _ requests.1.1.are) requests.1.1.behind
 
 pub returns-clause-unbroken : goal.returns-clause-unbroken
-returns-clause-unbroken g c = λ file at is choose history k chooser taken begins image seen.
+returns-clause-unbroken g c = λ file at is choose history run k chooser taken begins image seen.
     let mounted = seen_on _ (g.D.Disk.seen c.args.disk.now) (g.D.Disk.seen c.open.new.disk) image c.open.ensures.told seen in
-    let opened = c.in-Ok.ensures.opened choose history k chooser taken begins image seen in
+    let opened = c.in-Ok.ensures.opened choose history run k chooser taken begins image seen in
     let taken_now = begun_taken g.M.Memory.takes g.met.M.Memory.ticks_are_taken choose (take opened.count history) c.args.config (is_configured choose (take opened.count history) c.args.config) opened.configured
     c.requires.settings (front_has g.M.Memory.takes opened.count history taken) opened.configures in
     c.feed_open.ensures.unbroken file at (same_ok is) choose (given_all choose (take opened.count history) opened.configured) opened.count chooser taken_now opened.hold mounted.0 mounted.1
@@ -43,8 +43,8 @@ pub returns-clause-link : goal.returns-clause-link
 returns-clause-link g c = λ is. c.feed_open.ensures.comes.by_link (same_ok is)
 
 pub returns-in-Err-clause-sound : goal.returns-in-Err-clause-sound
-returns-in-Err-clause-sound g c = λ unsound choose history k chooser taken begins image seen.
-    shut_sound c.in-Err.stop g.D.Disk g.M.Memory.takes _ choose history k c.args.config _ _ c.args.disk.now c.open.new.disk (cc (unsound)) (c.in-Err.ensures.stopped choose history k chooser taken begins image seen)
+returns-in-Err-clause-sound g c = λ unsound choose history run k chooser taken begins image seen.
+    shut_sound c.in-Err.stop g.D.Disk g.M.Memory.takes _ choose history run k c.args.config _ _ c.args.disk.now c.open.new.disk (cc (unsound)) (c.in-Err.ensures.stopped choose history run k chooser taken begins image seen)
 
 pub returns-in-Err-clause-undamaged : goal.returns-in-Err-clause-undamaged
 returns-in-Err-clause-undamaged g c = λ file at is.

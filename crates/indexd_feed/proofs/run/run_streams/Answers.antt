@@ -10,16 +10,16 @@ use Rattle.ix_feed.specs.declared.feed.Fed.{Fed}
 use Rattle.indexd_feed.proofs.run.run_streams.Goals as goal
 
 pub returns-in-Ok-clause-served : goal.returns-in-Ok-clause-served
-returns-in-Ok-clause-served g c = λ choose history k chooser taken begins image seen.
-    let has = c.in-Ok.ensures.served choose history k chooser taken begins image seen in
+returns-in-Ok-clause-served g c = λ choose history run k chooser taken begins image seen.
+    let has = c.in-Ok.ensures.served choose history run k chooser taken begins image seen in
     let requests = has.served in
-    let told = served_as g.D.Disk g.M.Memory.takes _ choose history k c.args.config _ _
+    let told = served_as g.D.Disk g.M.Memory.takes _ choose history run k c.args.config _ _
     (Requests g.D.Disk g.M.Book.Replay.fits (fed_of c.end_of.result) (IsSound (g.W.Sink.faults c.new-link.result.sink.now) (g.W.Sink.faults c.run_feed.new.link.sink.now))
     (g.S.Source.left c.new-link.result.source.now) (g.S.Source.left c.run_feed.new.link.source.now) (g.C.Clock.ahead c.run_feed.new.clock)
     (g.W.Sink.given c.new-link.result.sink.now) (g.W.Sink.given c.run_feed.new.link.sink.now) c.run_feed.new.disk) _ _ has
     (requests_where g.D.Disk _ c.in-Ok.fed (fed_of c.end_of.result) _ _ _ _ _ _ _ _ _ _ _ (λ sound. inr sound)
     (ap fed_of c.end_of.ensures ∙ told_end c.in-Ok.fed c.run_feed.new.link.failed) requests) in
-    along (λ s s' w w'. HasServed g.D.Disk g.M.Memory.takes g.M.Book.Replay.fits choose history k c.args.config (g.C.Clock.ahead c.args.clock.now)
+    along (λ s s' w w'. HasServed g.D.Disk g.M.Memory.takes g.M.Book.Replay.fits choose history run k c.args.config (g.C.Clock.ahead c.args.clock.now)
     (Requests g.D.Disk g.M.Book.Replay.fits (fed_of c.end_of.result) (IsSound (g.W.Sink.faults w) (g.W.Sink.faults w'))
     (g.S.Source.left s) (g.S.Source.left s') (g.C.Clock.ahead c.run_feed.new.clock) (g.W.Sink.given w) (g.W.Sink.given w') c.run_feed.new.disk) c.args.disk.now c.run_feed.new.disk)
     c.new-link.ensures.read (search rules) c.new-link.ensures.written (search rules) told

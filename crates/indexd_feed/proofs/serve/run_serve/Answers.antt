@@ -15,12 +15,12 @@ use Rattle.ix_serve.proofs.Standing.{tells_on}
 use Rattle.indexd_feed.proofs.serve.run_serve.Goals as goal
 
 pub returns-clause-served : goal.returns-clause-served
-returns-clause-served g c = λ choose history k chooser taken begins image seen.
-    let opened = c.in-Ok.ensures.opened choose history k chooser taken begins image seen in
+returns-clause-served g c = λ choose history run k chooser taken begins image seen.
+    let opened = c.in-Ok.ensures.opened choose history run k chooser taken begins image seen in
     let taken_now = begun_taken g.M.Memory.takes g.met.M.Memory.ticks_are_taken choose (take opened.count history) c.args.config (is_configured choose (take opened.count history) c.args.config) opened.configured
     c.requires.settings (front_has g.M.Memory.takes opened.count history taken) opened.configures in
     let all = c.serve_open.ensures.connections choose (given_all choose (take opened.count history) opened.configured) opened.count chooser taken_now opened.hold in
-    served_behind g.D.Disk g.M.Memory.takes g.M.Book.Replay.fits g.M.Memory.holds choose history k c.args.config c.in-Ok.store (g.C.Clock.ahead c.args.clock.now) (g.C.Clock.ahead c.open.new.clock) c.args.disk.now c.open.new.disk opened
+    served_behind g.D.Disk g.M.Memory.takes g.M.Book.Replay.fits g.M.Memory.holds choose history run k c.args.config c.in-Ok.store (g.C.Clock.ahead c.args.clock.now) (g.C.Clock.ahead c.open.new.clock) c.args.disk.now c.open.new.disk opened
     (Connections g.D.Disk g.M.Book.Replay.fits c.args.requests c.serve_open.result
     (listened (g.L.Listener.waiting c.args.listener.now) (g.L.Listener.handed c.args.listener.now)) (listened (g.L.Listener.waiting c.serve_open.new.listener) (g.L.Listener.handed c.serve_open.new.listener))
     (g.C.Clock.ahead c.serve_open.new.clock) c.serve_open.new.disk)
@@ -28,9 +28,9 @@ returns-clause-served g c = λ choose history k chooser taken begins image seen.
     (safe_visits g.D.Disk g.M.Book.Replay.fits _ all.1.1.visits _ _ all.1.1.are) all.1.1.behind
 
 pub returns-clause-unbroken : goal.returns-clause-unbroken
-returns-clause-unbroken g c = λ file at is choose history k chooser taken begins image seen.
+returns-clause-unbroken g c = λ file at is choose history run k chooser taken begins image seen.
     let mounted = seen_on _ (g.D.Disk.seen c.args.disk.now) (g.D.Disk.seen c.open.new.disk) image c.open.ensures.told seen in
-    let opened = c.in-Ok.ensures.opened choose history k chooser taken begins image seen in
+    let opened = c.in-Ok.ensures.opened choose history run k chooser taken begins image seen in
     let taken_now = begun_taken g.M.Memory.takes g.met.M.Memory.ticks_are_taken choose (take opened.count history) c.args.config (is_configured choose (take opened.count history) c.args.config) opened.configured
     c.requires.settings (front_has g.M.Memory.takes opened.count history taken) opened.configures in
     c.serve_open.ensures.unbroken file at (same_ok is) choose (given_all choose (take opened.count history) opened.configured) opened.count chooser taken_now opened.hold mounted.0 mounted.1
@@ -42,8 +42,8 @@ pub returns-clause-listener : goal.returns-clause-listener
 returns-clause-listener g c = λ is. c.serve_open.ensures.listener (same_ok is)
 
 pub returns-in-Err-clause-sound : goal.returns-in-Err-clause-sound
-returns-in-Err-clause-sound g c = λ unsound choose history k chooser taken begins image seen.
-    shut_sound c.in-Err.stop g.D.Disk g.M.Memory.takes _ choose history k c.args.config _ _ c.args.disk.now c.open.new.disk (cc (unsound)) (c.in-Err.ensures.stopped choose history k chooser taken begins image seen)
+returns-in-Err-clause-sound g c = λ unsound choose history run k chooser taken begins image seen.
+    shut_sound c.in-Err.stop g.D.Disk g.M.Memory.takes _ choose history run k c.args.config _ _ c.args.disk.now c.open.new.disk (cc (unsound)) (c.in-Err.ensures.stopped choose history run k chooser taken begins image seen)
 
 pub returns-in-Err-clause-undamaged : goal.returns-in-Err-clause-undamaged
 returns-in-Err-clause-undamaged g c = λ file at is.

@@ -1,6 +1,7 @@
-use Rattle.std.proofs.Common.{true, ◌≡◌, ◌∙◌, [], List, refl, sym}
+use Rattle.std.proofs.Common.{true, ◌≡◌, ◌∙◌, ℕ, [], List, refl, subst, sym}
 use Rattle.ix_machine.specs.declared.commands.Order.{Order}
 use Rattle.ix_run.proofs.Stored.{all_taken}
+use Rattle.indexd_store.specs.Ends.{Ends}
 use Rattle.indexd_store.specs.Stops.{loses, loses_in}
 use Rattle.indexd_store.proofs.Shortening.{ends_short, short_stood, ends_behind, gave_taken}
 use Rattle.indexd_store.proofs.Tasks.{none_given, on_ok_by, at_ok, if_err_by, at_err, at_stop}
@@ -8,10 +9,11 @@ use Rattle.indexd_store.proofs.export.export.Goals as goal
 
 pub returns-in-Ok-clause-ends : goal.returns-in-Ok-clause-ends
 returns-in-Ok-clause-ends g c = λ choose h base chooser taken hold.
-    ends_behind g.D.Disk _ g.M.Memory.holds choose h base c.write_lines.new.store c.args.disk.now c.make_short.new.disk c.write_lines.new.disk (loses_in c.write_lines.result)
-    (short_stood g.D.Disk _ g.M.Memory.holds g.M.Memory.takes choose h base c.args.store.now.run c.args.store.now c.make_short.new.store c.args.disk.now c.args.disk.now c.make_short.new.disk
-    (c.make_short.ensures.images choose h base chooser taken hold))
-    (c.write_lines.ensures.ends choose h base (c.in-Ok.ensures.held refl choose h base chooser taken hold))
+    ends_behind g.D.Disk _ c.args.store.now.run g.M.Memory.holds choose h base c.write_lines.new.store c.args.disk.now c.make_short.new.disk c.write_lines.new.disk (loses_in c.write_lines.result)
+    (short_stood g.D.Disk _ c.args.store.now.run g.M.Memory.holds g.M.Memory.takes choose h base c.args.store.now c.make_short.new.store c.args.disk.now c.args.disk.now c.make_short.new.disk
+    refl (c.make_short.ensures.images choose h base chooser taken hold))
+    (subst (λ (run : ℕ). Ends (loses_in c.write_lines.result) g.D.Disk g.M.Book.Replay.fits run g.M.Memory.holds choose h base (λ (orders : List Order). orders ≡ []) c.write_lines.new.store c.make_short.new.disk c.write_lines.new.disk)
+    c.make_short.ensures.run (c.write_lines.ensures.ends choose h base (c.in-Ok.ensures.held refl choose h base chooser taken hold)))
 
 pub returns-in-Ok-clause-fine : goal.returns-in-Ok-clause-fine
 returns-in-Ok-clause-fine g c = on_ok_by c.write_lines.result _ (λ done is. λ choose h base chooser taken hold.
@@ -38,8 +40,8 @@ returns-in-Ok-clause-short g c = λ ok image seen. c.in-Ok.ensures.short image (
 
 pub returns-in-Err-clause-ends : goal.returns-in-Err-clause-ends
 returns-in-Err-clause-ends g c = λ choose h base chooser taken hold.
-    ends_short g.D.Disk _ g.M.Memory.holds g.M.Memory.takes choose h base c.args.store.now.run c.args.store.now c.make_short.new.store c.args.disk.now c.args.disk.now c.make_short.new.disk
-    (λ now all held. c.make_short.ensures.images choose now base chooser all held) (loses c.in-Err.stop) (λ (orders : List Order). orders ≡ []) (λ (orders : List Order). orders ≡ []) (λ orders is. is)
+    ends_short g.D.Disk _ c.args.store.now.run g.M.Memory.holds g.M.Memory.takes choose h base c.args.store.now c.make_short.new.store c.args.disk.now c.args.disk.now c.make_short.new.disk
+    c.make_short.ensures.run (λ now all held. c.make_short.ensures.images choose now base chooser all held) (loses c.in-Err.stop) (λ (orders : List Order). orders ≡ []) (λ (orders : List Order). orders ≡ []) (λ orders is. is)
     (λ orders is. all_taken g.M.Memory.takes g.met.M.Memory.ticks_are_taken choose h orders taken (gave_taken g.M.Memory.takes true [] orders tt is))
     (λ kept now all held. c.in-Err.ensures.held kept choose now base chooser all held)
     (none_given g.D.Disk _ g.M.Memory.holds choose h base c.args.store.now c.args.disk.now (λ (orders : List Order). orders ≡ []) refl hold)

@@ -13,7 +13,7 @@ use Rattle.indexd_store.proofs.export.write_lines.Goals as goal
 
 pub returns-in-Ok-clause-ends : goal.returns-in-Ok-clause-ends
 returns-in-Ok-clause-ends g c = λ choose h base hold.
-    left_as_was g.D.Disk _ g.M.Memory.holds choose h base c.args.store.now c.export.new.self c.args.disk.now c.export.new.disk hold c.in-Ok.ensures.images (c.in-Ok.ensures.held refl choose h base (length h) hold)
+    left_as_was g.D.Disk _ g.M.Memory.holds choose h base c.args.store.now c.export.new.self c.args.disk.now c.export.new.disk c.export.ensures.run hold c.in-Ok.ensures.images (c.in-Ok.ensures.held refl choose h base (length h) hold)
 
 pub returns-in-Ok-clause-lines : goal.returns-in-Ok-clause-lines
 returns-in-Ok-clause-lines g c = λ choose h base chooser taken hold image seen.
@@ -37,7 +37,7 @@ returns-in-Err-clause-why g c = λ choose h base hold.
 
 pub returns-in-Err-clause-ends : goal.returns-in-Err-clause-ends
 returns-in-Err-clause-ends g c = λ choose h base hold.
-    stopped_as g.D.Disk _ g.M.Memory.holds choose h base c.args.store.now c.export.new.self c.args.disk.now c.export.new.disk c.of_export.result c.in-Err.fault c.of_export.ensures
+    stopped_as g.D.Disk _ g.M.Memory.holds choose h base c.args.store.now c.export.new.self c.args.disk.now c.export.new.disk c.of_export.result c.in-Err.fault c.export.ensures.run c.of_export.ensures
     hold c.in-Err.ensures.images (λ safe. c.in-Err.ensures.held safe choose h base (length h) hold)
 
 pub returns-in-Err-clause-undamaged : goal.returns-in-Err-clause-undamaged

@@ -25,7 +25,7 @@ returns-then-is_missing-clause-ends g c = λ choose h base chooser taken hold.
 pub returns-in-Ok-clause-ends : goal.returns-in-Ok-clause-ends
 returns-in-Ok-clause-ends g c = λ choose h base chooser taken hold.
     let read = c.in-Ok.ensures.stored in
-    feeds g.D.Disk _ g.M.Memory.holds choose h base c.store_input.new.store c.args.disk.now c.store_input.new.disk c.args.arrival.origin c.args.arrival.moment
+    feeds g.D.Disk _ c.args.store.now.run g.M.Memory.holds choose h base c.store_input.new.store c.args.disk.now c.store_input.new.disk c.args.arrival.origin c.args.arrival.moment
     (g.S.Source.left c.args.input.now) (g.S.Source.left c.store_input.new.input) read.pieces (g.S.Source.faults c.args.input.now) (g.S.Source.faults c.store_input.new.input) read.sizes read.took read.read
     (record { limits = c.limits.result.now; in_force = c.limits.ensures choose h base (length h) hold.old hold.staged; answers = cc (c.is_missing.ensures, c.if-is_missing.false) })
     (read.done choose h base (length h) chooser taken hold)
@@ -33,7 +33,7 @@ returns-in-Ok-clause-ends g c = λ choose h base chooser taken hold.
 pub returns-in-Err-clause-ends : goal.returns-in-Err-clause-ends
 returns-in-Err-clause-ends g c = λ choose h base chooser taken hold.
     let read = c.in-Err.ensures.stored in
-    unfed_as g.D.Disk _ g.M.Memory.holds choose h base c.store_input.new.store c.args.disk.now c.store_input.new.disk c.args.arrival.origin c.args.arrival.moment
+    unfed_as g.D.Disk _ c.args.store.now.run g.M.Memory.holds choose h base c.store_input.new.store c.args.disk.now c.store_input.new.disk c.args.arrival.origin c.args.arrival.moment
     (g.S.Source.left c.args.input.now) (g.S.Source.left c.store_input.new.input) read.pieces (g.S.Source.faults c.args.input.now) (g.S.Source.faults c.store_input.new.input) read.sizes read.took c.in-Err.fault c.of_run.result c.of_run.ensures read.read
     (read.done choose h base (length h) chooser taken hold)
 

@@ -12,7 +12,7 @@ use Rattle.indexd_store.proofs.run.carry_out.Goals as goal
 
 pub returns-in-Export-clause-ends : goal.returns-in-Export-clause-ends
 returns-in-Export-clause-ends g c = λ choose h base chooser taken hold.
-    ends_weaker g.D.Disk _ g.M.Memory.holds choose h base c.export.new.store c.args.disk.now c.export.new.disk (loses_in c.export.result) (λ (orders : List Order). orders ≡ []) (Gave c.export.result (orders_in c.args.task c.args.moment))
+    ends_weaker g.D.Disk _ c.args.store.now.run g.M.Memory.holds choose h base c.export.new.store c.args.disk.now c.export.new.disk (loses_in c.export.result) (λ (orders : List Order). orders ≡ []) (Gave c.export.result (orders_in c.args.task c.args.moment))
     (λ orders. gave_none c.export.result (orders_in c.args.task c.args.moment) orders (ap (λ (task : Task). orders_in task c.args.moment) c.in-Export.is))
     (c.export.ensures.ends choose h base chooser taken hold)
 

@@ -24,7 +24,7 @@ pub returns-in-Ok-clause-ends : goal.returns-in-Ok-clause-ends
 returns-in-Ok-clause-ends g c = λ choose h base chooser taken hold.
     let fits : SFits w64 c.args.moment = search rules in
     let left = simp to_z-of_z at (c.in-Ok.ensures.ends choose h base chooser taken hold) in
-    said g.D.Disk _ g.M.Memory.holds choose h base c.give_task.new.store c.args.disk.now c.give_task.new.disk c.in-Ok.count c.say.result (orders_in c.args.task c.args.moment)
+    said g.D.Disk _ c.args.store.now.run g.M.Memory.holds choose h base c.give_task.new.store c.args.disk.now c.give_task.new.disk c.in-Ok.count c.say.result (orders_in c.args.task c.args.moment)
     c.args.task c.view.result.now c.say.ensures.stopped left
 
 pub returns-in-Ok-clause-printed : goal.returns-in-Ok-clause-printed

@@ -29,7 +29,7 @@ returns-in-Ok-clause-ends g c = λ choose h base chooser taken hold.
     let fits : SFits w64 c.args.moment = search rules in
     let is : ◌≡◌ {A = Option Command} (Some c.in-Ok-Some.command) (command_in c.args.task) = cc (c.in-Ok-Some.ensures, c.in-Ok-Some.field-0-is) in
     let left = simp to_z-of_z at (c.in-Ok.ensures.left choose h base chooser taken hold) in
-    left_weaker g.D.Disk _ g.M.Memory.holds choose h base c.run_last.new.store c.args.disk.now c.run_last.new.disk
+    left_weaker g.D.Disk _ c.args.store.now.run g.M.Memory.holds choose h base c.run_last.new.store c.args.disk.now c.run_last.new.disk
     (Only (record { command = c.in-Ok-Some.command; moment = c.args.moment })) (Gave {T = ℕ} (Ok c.in-Ok.answer.moved) (orders_in c.args.task c.args.moment))
     (λ orders one. one ∙ ap (λ (o : Option Command). orders_by o c.args.moment) is) left
 
@@ -45,7 +45,7 @@ returns-in-Err-run_last-clause-ends g c = λ choose h base chooser taken hold.
     let fits : SFits w64 c.args.moment = search rules in
     let is : ◌≡◌ {A = Option Command} (Some c.in-Ok-Some.command) (command_in c.args.task) = cc (c.in-Ok-Some.ensures, c.in-Ok-Some.field-0-is) in
     let ends = simp to_z-of_z at (c.in-Err-run_last.ensures.stopped choose h base chooser taken hold) in
-    ends_weaker g.D.Disk _ g.M.Memory.holds choose h base c.run_last.new.store c.args.disk.now c.run_last.new.disk (loses c.in-Err-run_last.stop)
+    ends_weaker g.D.Disk _ c.args.store.now.run g.M.Memory.holds choose h base c.run_last.new.store c.args.disk.now c.run_last.new.disk (loses c.in-Err-run_last.stop)
     (AtMost (record { command = c.in-Ok-Some.command; moment = c.args.moment })) (Gave {T = ℕ} (Err c.in-Err-run_last.stop) (orders_in c.args.task c.args.moment))
     (λ orders. partly c.in-Err-run_last.stop (record { command = c.in-Ok-Some.command; moment = c.args.moment }) (orders_in c.args.task c.args.moment) orders c.in-Err-run_last.ensures.quiet (ap (λ (o : Option Command). orders_by o c.args.moment) is)) ends
 

@@ -27,8 +27,8 @@ returns-in-Ok-make_short g c = record {
   ends = λ choose h base chooser taken hold.
       let fits : SFits w64 c.args.moment = search rules in
       let left = simp to_z-of_z at (c.in-Ok.ensures.ends choose h base chooser taken hold) in
-      ends_short g.D.Disk _ g.M.Memory.holds g.M.Memory.takes choose h base c.give_command.new.store.run c.give_command.new.store c.make_short.new.store c.args.disk.now c.give_command.new.disk c.make_short.new.disk
-      (λ now all held. c.make_short.ensures.images choose now base chooser all held) false
+      ends_short g.D.Disk _ c.args.store.now.run g.M.Memory.holds g.M.Memory.takes choose h base c.give_command.new.store c.make_short.new.store c.args.disk.now c.give_command.new.disk c.make_short.new.disk
+      c.make_short.ensures.run (λ now all held. c.make_short.ensures.images choose now base chooser all held) false
       (Gave {T = ℕ} (Ok c.in-Ok.count) (orders_in c.args.task c.args.moment)) (Gave {T = ℕ} (Ok c.in-Ok.count) (orders_in c.args.task c.args.moment)) (λ orders is. is)
       (λ orders is. all_taken g.M.Memory.takes g.met.M.Memory.ticks_are_taken choose h orders taken (gave_taken g.M.Memory.takes true (orders_in c.args.task c.args.moment) orders c.requires.takes is))
       (λ kept now all held. c.in-Ok-make_short.ensures.held kept choose now base chooser all held) left;
@@ -53,8 +53,8 @@ returns-in-Err-make_short g c = record {
   ends = λ choose h base chooser taken hold.
       let fits : SFits w64 c.args.moment = search rules in
       let left = simp to_z-of_z at (c.in-Ok.ensures.ends choose h base chooser taken hold) in
-      ends_short g.D.Disk _ g.M.Memory.holds g.M.Memory.takes choose h base c.give_command.new.store.run c.give_command.new.store c.make_short.new.store c.args.disk.now c.give_command.new.disk c.make_short.new.disk
-      (λ now all held. c.make_short.ensures.images choose now base chooser all held) (loses c.in-Err-make_short.stop)
+      ends_short g.D.Disk _ c.args.store.now.run g.M.Memory.holds g.M.Memory.takes choose h base c.give_command.new.store c.make_short.new.store c.args.disk.now c.give_command.new.disk c.make_short.new.disk
+      c.make_short.ensures.run (λ now all held. c.make_short.ensures.images choose now base chooser all held) (loses c.in-Err-make_short.stop)
       (Gave {T = ℕ} (Ok c.in-Ok.count) (orders_in c.args.task c.args.moment)) (Gave {T = ℕ} (Err c.in-Err-make_short.stop) (orders_in c.args.task c.args.moment))
       (λ orders is. gave_whole (is_output c.in-Err-make_short.stop) (orders_in c.args.task c.args.moment) orders is)
       (λ orders is. all_taken g.M.Memory.takes g.met.M.Memory.ticks_are_taken choose h orders taken (gave_taken g.M.Memory.takes true (orders_in c.args.task c.args.moment) orders c.requires.takes is))
@@ -79,12 +79,12 @@ returns-in-Err g c = record {
   ends = λ choose h base chooser taken hold.
       let fits : SFits w64 c.args.moment = search rules in
       let ends = simp to_z-of_z at (c.in-Err.ensures.ends choose h base chooser taken hold) in
-      stopped_short g.D.Disk _ g.M.Memory.holds g.M.Memory.takes choose h base c.give_command.new.store.run c.give_command.new.store c.stop_run.new.store c.args.disk.now c.give_command.new.disk c.stop_run.new.disk
+      stopped_short g.D.Disk _ c.args.store.now.run g.M.Memory.holds g.M.Memory.takes choose h base c.give_command.new.store c.stop_run.new.store c.args.disk.now c.give_command.new.disk c.stop_run.new.disk
       c.in-Err.stop c.stop_run.result (Gave {T = ℕ} (Err c.in-Err.stop) (orders_in c.args.task c.args.moment)) (Gave {T = ℕ} (Err c.stop_run.result) (orders_in c.args.task c.args.moment))
       (λ orders is. gave_other c.in-Err.stop c.stop_run.result (orders_in c.args.task c.args.moment) orders c.stop_run.ensures.why is)
       (λ orders is. all_taken g.M.Memory.takes g.met.M.Memory.ticks_are_taken choose h orders taken
       (gave_taken g.M.Memory.takes (is_output c.in-Err.stop) (orders_in c.args.task c.args.moment) orders c.requires.takes is))
-      c.stop_run.ensures.closed (λ kept now all held. c.stop_run.ensures.images kept choose now base chooser all held) (λ kept also now all held. c.stop_run.ensures.held kept also choose now base chooser all held) ends;
+      c.stop_run.ensures.run c.stop_run.ensures.closed (λ kept now all held. c.stop_run.ensures.images kept choose now base chooser all held) (λ kept also now all held. c.stop_run.ensures.held kept also choose now base chooser all held) ends;
   moved = tt;
   fine = tt;
   why = λ choose h base chooser taken hold.

@@ -1,4 +1,4 @@
-use Rattle.std.proofs.Common.{rules, ◌≡◌, ◌∙◌, length, ap, sym}
+use Rattle.std.proofs.Common.{rules, ◌≡◌, ◌∙◌, length, refl, ap, sym}
 use Rattle.std.specs.Prelude.{Err}
 use Rattle.std.proofs.lemmas.Int.{to_z-of_z}
 use mir.Val.{SFits}
@@ -17,7 +17,7 @@ returns-in-Ok g c = record {
   left = λ choose h base chooser taken hold.
       let fits : SFits w64 c.args.moment = search rules in
       let kept = simp to_z-of_z at (c.in-Ok.ensures.kept choose h base (length h) chooser taken hold) in
-      left_by g.D.Disk _ g.M.Memory.holds choose h base _ c.give_last.new.store c.args.disk.now c.give_last.new.disk c.args.store.now c.in-Ok.answer kept;
+      left_by g.D.Disk _ c.args.store.now.run g.M.Memory.holds choose h base _ c.give_last.new.store c.args.disk.now c.give_last.new.disk c.args.store.now c.in-Ok.answer refl kept;
   answers = λ choose h base chooser taken hold.
       let fits : SFits w64 c.args.moment = search rules in
       let kept = simp to_z-of_z at (c.in-Ok.ensures.kept choose h base (length h) chooser taken hold) in
@@ -42,11 +42,11 @@ returns-in-Err g c = record {
   stopped = λ choose h base chooser taken hold.
       let fits : SFits w64 c.args.moment = search rules in
       let not = simp to_z-of_z at (c.in-Err.ensures.fault choose h base (length h) chooser taken hold) in
-      stopped g.D.Disk _ g.M.Memory.holds choose h base _ c.give_last.new.store c.args.disk.now c.give_last.new.disk c.args.store.now c.in-Err.fault _ c.of_give.ensures not;
+      stopped g.D.Disk _ c.args.store.now.run g.M.Memory.holds choose h base _ c.give_last.new.store c.args.disk.now c.give_last.new.disk c.args.store.now c.in-Err.fault _ refl c.of_give.ensures not;
   caused = λ choose h base chooser taken hold.
       let fits : SFits w64 c.args.moment = search rules in
       let not = simp to_z-of_z at (c.in-Err.ensures.fault choose h base (length h) chooser taken hold) in
-      caused g.D.Disk g.M.Book.Replay.fits g.M.Memory.holds choose h base (record { command = c.args.command; moment = c.args.moment }) c.give_last.new.store c.args.disk.now c.give_last.new.disk c.args.store.now c.in-Err.fault c.of_give.result c.of_give.ensures not;
+      caused g.D.Disk g.M.Book.Replay.fits c.args.store.now.run g.M.Memory.holds choose h base (record { command = c.args.command; moment = c.args.moment }) c.give_last.new.store c.args.disk.now c.give_last.new.disk c.args.store.now c.in-Err.fault c.of_give.result c.of_give.ensures not;
   over = tt;
   run = c.give_last.ensures.run;
   rest = λ kept rest.

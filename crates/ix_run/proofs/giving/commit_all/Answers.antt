@@ -1,4 +1,4 @@
-use Rattle.std.proofs.Common.{◌≡◌, refl, ap}
+use Rattle.std.proofs.Common.{◌≡◌, refl, ap, arith}
 use Rattle.std.specs.Prelude.{Result, Ok, Err, IfErr, OnOk}
 use Rattle.ix_disk.specs.declared.disk.Disk.{Ghosts}
 use Rattle.ix_keep.specs.Snapshot.{IsIdle, IsMeasured, IsOver}
@@ -30,7 +30,7 @@ pub returns : goal.returns
 returns g c = record {
   done = on_ok_by c.commit.result _ (λ done is. λ choose h base k hold. at_ok c.commit.result done _ is (c.commit.ensures.done choose h base k hold));
   stood = λ choose h base k hold.
-      stood_either g.D.Disk _ g.M.Memory.holds choose h c.args.store.now.run k c.args.disk.now c.commit.new.disk hold.staged.within (c.commit.ensures.images choose h base k hold);
+      stood_either g.D.Disk _ c.args.store.now.run g.M.Memory.holds choose h c.args.store.now.run k c.args.disk.now c.commit.new.disk (omega arith) hold.staged.within (c.commit.ensures.images choose h base k hold);
   over = c.commit.ensures.over;
   run = c.commit.ensures.run;
   rest = λ measured.

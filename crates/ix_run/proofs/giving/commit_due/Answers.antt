@@ -20,8 +20,8 @@ not_damaged file at is = cc
 pub returns-then-not-due : goal.returns-then-not-due
 returns-then-not-due g c = record {
   gone = λ choose h base k chooser taken hold.
-      settled_none g.D.Disk _ g.M.Memory.holds choose h base k c.args.store.now c.args.disk.now hold (sym (c.due-due.ensures choose h base k hold.old hold.staged) ∙ c.if-not-due.true);
-  stood = λ choose h base k chooser taken hold. stood_here g.D.Disk _ g.M.Memory.holds choose h base k k c.args.store.now c.args.disk.now (omega arith) hold;
+      settled_none g.D.Disk _ c.args.store.now.run g.M.Memory.holds choose h base k c.args.store.now c.args.disk.now refl hold (sym (c.due-due.ensures choose h base k hold.old hold.staged) ∙ c.if-not-due.true);
+  stood = λ choose h base k chooser taken hold. stood_here g.D.Disk _ c.args.store.now.run g.M.Memory.holds choose h base k k c.args.store.now c.args.disk.now refl (omega arith) hold;
   over = c.requires;
   measured = λ measured. measured;
   closed = tt;
@@ -38,7 +38,7 @@ returns-in_err-commit g c =
     rw (p.1, p.2) (record {
       gone = tt;
       stood = λ choose h base k chooser taken hold.
-          stood_either g.D.Disk _ g.M.Memory.holds choose h c.args.store.now.run k c.args.disk.now c.commit.new.disk hold.staged.within (c.commit.ensures.images choose h base k hold);
+          stood_either g.D.Disk _ c.args.store.now.run g.M.Memory.holds choose h c.args.store.now.run k c.args.disk.now c.commit.new.disk (omega arith) hold.staged.within (c.commit.ensures.images choose h base k hold);
       over = tt;
       measured = λ measured. tt;
       closed = c.in_err-commit.ensures.closed;
@@ -53,10 +53,10 @@ pub returns-in-Ok : goal.returns-in-Ok
 returns-in-Ok g c = record {
   gone = λ choose h base k chooser taken hold.
       let all = c.in_ok-commit.ensures.done choose h base k hold in
-      settled_short g.D.Disk _ g.M.Memory.holds choose h c.args.store.now.run _ base k _ c.args.disk.now c.commit.new.disk c.shorten.new.disk hold.staged.within
+      settled_short g.D.Disk _ c.args.store.now.run g.M.Memory.holds choose h c.args.store.now.run c.commit.new.self.run base k c.shorten.new.store c.args.disk.now c.commit.new.disk c.shorten.new.disk (c.shorten.ensures.run ∙ c.commit.ensures.run) (omega arith) (omega (arith, c.commit.ensures.run)) hold.staged.within
       (c.in-Ok.ensures.held refl choose h base chooser taken all) (c.commit.ensures.images choose h base k hold) (c.shorten.ensures.images choose h base chooser taken all);
   stood = λ choose h base k chooser taken hold.
-      stood_short g.D.Disk _ g.M.Memory.holds choose h c.args.store.now.run _ k c.args.disk.now c.commit.new.disk c.shorten.new.disk hold.staged.within
+      stood_short g.D.Disk _ c.args.store.now.run g.M.Memory.holds choose h c.args.store.now.run c.commit.new.self.run k c.args.disk.now c.commit.new.disk c.shorten.new.disk (omega arith) (omega (arith, c.commit.ensures.run)) hold.staged.within
       (c.commit.ensures.images choose h base k hold) (c.shorten.ensures.images choose h base chooser taken (c.in_ok-commit.ensures.done choose h base k hold));
   over = c.in-Ok.ensures.over refl;
   measured = λ measured. (c.in-Ok.ensures.rest refl (record { over = c.in_ok-commit.ensures.over; idle = c.in_ok-commit.ensures.idle; measured = c.in_ok-commit.ensures.measured (λ idle. measured) })).measured;
@@ -72,11 +72,11 @@ pub returns-in-Err-NoMemory : goal.returns-in-Err-NoMemory
 returns-in-Err-NoMemory g c = record {
   gone = λ choose h base k chooser taken hold.
       let all = c.in_ok-commit.ensures.done choose h base k hold in
-      settled_short g.D.Disk _ g.M.Memory.holds choose h c.args.store.now.run _ base k _ c.args.disk.now c.commit.new.disk c.shorten.new.disk hold.staged.within
+      settled_short g.D.Disk _ c.args.store.now.run g.M.Memory.holds choose h c.args.store.now.run c.commit.new.self.run base k c.shorten.new.store c.args.disk.now c.commit.new.disk c.shorten.new.disk (c.shorten.ensures.run ∙ c.commit.ensures.run) (omega arith) (omega (arith, c.commit.ensures.run)) hold.staged.within
       (c.in-Err-NoMemory.ensures.held (ap (λ (f : CheckpointFault). is_failed (Err f)) c.in-Err-NoMemory.field-0-is) choose h base chooser taken all) (c.commit.ensures.images choose h base k hold)
       (c.shorten.ensures.images choose h base chooser taken all);
   stood = λ choose h base k chooser taken hold.
-      stood_short g.D.Disk _ g.M.Memory.holds choose h c.args.store.now.run _ k c.args.disk.now c.commit.new.disk c.shorten.new.disk hold.staged.within
+      stood_short g.D.Disk _ c.args.store.now.run g.M.Memory.holds choose h c.args.store.now.run c.commit.new.self.run k c.args.disk.now c.commit.new.disk c.shorten.new.disk (omega arith) (omega (arith, c.commit.ensures.run)) hold.staged.within
       (c.commit.ensures.images choose h base k hold) (c.shorten.ensures.images choose h base chooser taken (c.in_ok-commit.ensures.done choose h base k hold));
   over = c.in-Err-NoMemory.ensures.over (ap (λ (f : CheckpointFault). is_failed (Err f)) c.in-Err-NoMemory.field-0-is);
   measured = λ measured.
@@ -93,7 +93,7 @@ pub returns-in-Err-Disk : goal.returns-in-Err-Disk
 returns-in-Err-Disk g c = record {
   gone = tt;
   stood = λ choose h base k chooser taken hold.
-      stood_short g.D.Disk _ g.M.Memory.holds choose h c.args.store.now.run _ k c.args.disk.now c.commit.new.disk c.shorten.new.disk hold.staged.within
+      stood_short g.D.Disk _ c.args.store.now.run g.M.Memory.holds choose h c.args.store.now.run c.commit.new.self.run k c.args.disk.now c.commit.new.disk c.shorten.new.disk (omega arith) (omega (arith, c.commit.ensures.run)) hold.staged.within
       (c.commit.ensures.images choose h base k hold) (c.shorten.ensures.images choose h base chooser taken (c.in_ok-commit.ensures.done choose h base k hold));
   over = tt;
   measured = λ measured. tt;

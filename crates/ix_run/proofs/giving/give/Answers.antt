@@ -22,7 +22,7 @@ returns-in-Err g c = record {
       let staged = staged_same _ g.M.Memory.holds choose h base k c.args.store.now c.accept.new.self hold.old c.in-Err.ensures.err hold.staged in
       let now = held_then g.D.Disk _ g.M.Memory.holds choose h h base k c.args.store.now c.accept.new.self c.args.disk.now hold c.accept.ensures.logs staged in
       let refused = simp to_z-of_z at (c.in-Err.ensures.refused choose h base k hold.old chooser taken hold.staged) in
-      (refused, gone_none g.D.Disk _ g.M.Memory.holds choose h base k c.accept.new.self c.args.disk.now now);
+      (refused, gone_none g.D.Disk _ c.args.store.now.run g.M.Memory.holds choose h base k c.accept.new.self c.args.disk.now c.in-Err.ensures.err.run now);
   over = tt;
   still = λ refusal is. over_same g.D.Disk g.M.Book.Replay.fits c.args.store.now.keeper c.accept.new.self.keeper c.args.disk.now c.accept.ensures.logs c.requires.over;
   unchanged = λ refusal is. (c.in-Err.ensures.err, refl);
@@ -39,7 +39,7 @@ returns-in-Ok-commit_due g c = record {
   given = λ choose h base k chooser taken hold.
       let fits : SFits w64 c.args.moment = search rules in
       let is = simp to_z-of_z at (c.in-Ok.ensures.accepted choose h base k hold.old chooser taken hold.staged) in
-      given g.D.Disk _ g.M.Memory.holds choose h base k (record { command = c.args.command; moment = c.args.moment }) c.args.store.now c.accept.new.self c.commit_due.new.store c.args.disk.now c.commit_due.new.disk c.in-Ok.answer hold c.accept.ensures.logs is
+      given g.D.Disk _ g.M.Memory.holds choose h base k (record { command = c.args.command; moment = c.args.moment }) c.args.store.now c.accept.new.self c.commit_due.new.store c.args.disk.now c.commit_due.new.disk c.in-Ok.answer c.accept.ensures.run hold c.accept.ensures.logs is
       (c.in-Ok-commit_due.ensures.gone choose _ base k chooser (more_taken g.M.Memory.takes g.met.M.Memory.ticks_are_taken choose h (record { command = c.args.command; moment = c.args.moment }) taken c.requires.takes));
   fault = tt;
   over = c.in-Ok-commit_due.ensures.over;
@@ -60,7 +60,7 @@ returns-in-Err-commit_due g c = record {
   fault = λ choose h base k chooser taken hold.
       let fits : SFits w64 c.args.moment = search rules in
       let is = simp to_z-of_z at (c.in-Ok.ensures.accepted choose h base k hold.old chooser taken hold.staged) in
-      given_stood g.D.Disk _ g.M.Memory.holds choose h base k (record { command = c.args.command; moment = c.args.moment }) c.args.store.now c.accept.new.self c.args.disk.now c.commit_due.new.disk c.in-Ok.answer hold c.accept.ensures.logs is
+      given_stood g.D.Disk _ g.M.Memory.holds choose h base k (record { command = c.args.command; moment = c.args.moment }) c.args.store.now c.accept.new.self c.args.disk.now c.commit_due.new.disk c.in-Ok.answer c.accept.ensures.run hold c.accept.ensures.logs is
       (c.commit_due.ensures.stood choose _ base k chooser (more_taken g.M.Memory.takes g.met.M.Memory.ticks_are_taken choose h (record { command = c.args.command; moment = c.args.moment }) taken c.requires.takes));
   over = tt;
   still = λ refusal is. absurd (commit_or_refused is);

@@ -29,7 +29,7 @@ returns-then-is_run_cut g c = record {
     read = read.read;
     done = λ choose h base k chooser taken hold.
         let fits : SFits w64 c.args.arrival.moment = search rules in
-        cut g.D.Disk g.M.Book.Replay.fits g.M.Memory.holds choose h base k c.run-stored.new.store c.args.disk.now c.run-stored.new.disk c.run-stored.result
+        cut g.D.Disk g.M.Book.Replay.fits c.args.store.now.run g.M.Memory.holds choose h base k c.run-stored.new.store c.args.disk.now c.run-stored.new.disk c.run-stored.result
         (filling (is_begun (after choose h) tilde) c.args.arrival.origin c.args.arrival.moment read.pieces) (end_order c.args.arrival.moment ∷ []) (sym c.is_run_cut.ensures ∙ c.if-is_run_cut.true)
         (simp to_z-of_z at (read.done choose h base k chooser taken hold));
   };
@@ -51,8 +51,8 @@ returns-in-Ok g c = record {
     read = read.read;
     done = λ choose h base k chooser taken hold.
         let fits : SFits w64 c.args.arrival.moment = search rules in
-        settled g.D.Disk g.M.Book.Replay.fits g.M.Memory.holds choose h base k c.run-stored.new.store c.commit_all.new.store c.args.disk.now c.run-stored.new.disk c.commit_all.new.disk
-        (c.commit_all.ensures.stood choose) (c.in-Ok.ensures.done choose) c.run-stored.result
+        settled g.D.Disk g.M.Book.Replay.fits c.args.store.now.run g.M.Memory.holds choose h base k c.run-stored.new.store c.commit_all.new.store c.args.disk.now c.run-stored.new.disk c.commit_all.new.disk
+        (c.commit_all.ensures.stood choose) c.commit_all.ensures.run (c.in-Ok.ensures.done choose) c.run-stored.result
         (filling (is_begun (after choose h) tilde) c.args.arrival.origin c.args.arrival.moment read.pieces) (end_order c.args.arrival.moment ∷ []) (sym c.is_run_cut.ensures ∙ c.if-is_run_cut.false)
         (simp to_z-of_z at (read.done choose h base k chooser taken hold));
   };
@@ -75,7 +75,7 @@ returns-in-Err g c = record {
     read = read_failed c.run-stored.result c.in-Err.fault _ _ _ _ read.read;
     done = λ choose h base k chooser taken hold.
         let fits : SFits w64 c.args.arrival.moment = search rules in
-        failed g.D.Disk g.M.Book.Replay.fits g.M.Memory.holds choose h base k c.run-stored.new.store c.commit_all.new.store c.args.disk.now c.run-stored.new.disk c.commit_all.new.disk
+        failed g.D.Disk g.M.Book.Replay.fits c.args.store.now.run g.M.Memory.holds choose h base k c.run-stored.new.store c.commit_all.new.store c.args.disk.now c.run-stored.new.disk c.commit_all.new.disk
         (c.commit_all.ensures.stood choose) c.run-stored.result c.in-Err.fault
         (filling (is_begun (after choose h) tilde) c.args.arrival.origin c.args.arrival.moment read.pieces) (end_order c.args.arrival.moment ∷ []) (sym c.is_run_cut.ensures ∙ c.if-is_run_cut.false)
         (simp to_z-of_z at (read.done choose h base k chooser taken hold));
@@ -85,7 +85,7 @@ returns-in-Err g c = record {
   undamaged = λ file at is choose h base k chooser taken hold.
       let read = c.run-stored.ensures.read in
       let fits : SFits w64 c.args.arrival.moment = search rules in
-      let fed = fed_holds g.D.Disk g.M.Book.Replay.fits g.M.Memory.holds choose h base k c.run-stored.new.store c.args.disk.now c.run-stored.new.disk c.run-stored.result
+      let fed = fed_holds g.D.Disk g.M.Book.Replay.fits c.args.store.now.run g.M.Memory.holds choose h base k c.run-stored.new.store c.args.disk.now c.run-stored.new.disk c.run-stored.result
       (filling (is_begun (after choose h) tilde) c.args.arrival.origin c.args.arrival.moment read.pieces) (end_order c.args.arrival.moment ∷ []) (sym c.is_run_cut.ensures ∙ c.if-is_run_cut.false)
       (simp to_z-of_z at (read.done choose h base k chooser taken hold)) in
       let was = cause_back c.in-Err.fault (commits.Damaged file at) is in

@@ -18,7 +18,7 @@ returns-in-Ok g c = record {
       let fits : SFits w64 c.args.moment = search rules in
       let one = simp to_z-of_z at (c.in_ok-answer.ensures.given choose h base k chooser taken hold) in
       kept_last g.D.Disk _ g.M.Memory.holds choose h base k _ c.args.store.now c.give.new.store c.commit_all.new.store c.args.disk.now c.give.new.disk c.commit_all.new.disk c.in_ok-answer.answer hold one
-      (c.in-Ok.ensures.done choose _ base one.gone.count one.gone.hold) (c.commit_all.ensures.stood choose _ base one.gone.count one.gone.hold);
+      (c.in-Ok.ensures.done choose _ base one.gone.count one.gone.hold) c.commit_all.ensures.run (c.commit_all.ensures.stood choose _ base one.gone.count one.gone.hold);
   fault = tt;
   over = c.in-Ok.ensures.over;
   run = c.commit_all.ensures.run ∙ c.give.ensures.run;

@@ -11,7 +11,7 @@ use Rattle.ix_run.proofs.input.Stream.add.Goals as goal
 pub returns-in-Err : goal.returns-in-Err
 returns-in-Err g c = record {
   given = λ choose h base k chooser taken hold.
-      rw c.in-Err.ensures.refused (halted_none g.D.Disk g.M.Book.Replay.fits g.M.Memory.holds choose h base k c.args.store.now c.args.disk.now (block_order c.args.self.moment c.args.bytes.now) [] hold);
+      rw c.in-Err.ensures.refused (halted_none g.D.Disk g.M.Book.Replay.fits c.args.store.now.run g.M.Memory.holds choose h base k c.args.store.now c.args.disk.now (block_order c.args.self.moment c.args.bytes.now) [] refl hold);
   over = λ uncut. c.requires.over;
   measured = λ uncut measured. measured;
   undamaged = λ file at is. absurd (refused_uncut c.in-Err.fault refusals.NoMemory (commits.Damaged file at) c.in-Err.ensures.refused is);
@@ -23,7 +23,7 @@ returns-in-Err g c = record {
 pub returns-in-Err-copy_of : goal.returns-in-Err-copy_of
 returns-in-Err-copy_of g c = record {
   given = λ choose h base k chooser taken hold.
-      halted_none g.D.Disk g.M.Book.Replay.fits g.M.Memory.holds choose h base k c.args.store.now c.args.disk.now (block_order c.args.self.moment c.args.bytes.now) [] hold;
+      halted_none g.D.Disk g.M.Book.Replay.fits c.args.store.now.run g.M.Memory.holds choose h base k c.args.store.now c.args.disk.now (block_order c.args.self.moment c.args.bytes.now) [] refl hold;
   over = λ uncut. c.requires.over;
   measured = λ uncut measured. measured;
   undamaged = λ file at is. absurd (refused_uncut (faults.Refused refusals.NoMemory) refusals.NoMemory (commits.Damaged file at) refl is);

@@ -10,7 +10,7 @@ use Rattle.ix_run.proofs.input.Stream.end.Goals as goal
 pub returns-in-Err : goal.returns-in-Err
 returns-in-Err g c = record {
   given = λ choose h base k chooser taken hold.
-      rw c.in-Err.ensures.refused (halted_none g.D.Disk g.M.Book.Replay.fits g.M.Memory.holds choose h base k c.args.store.now c.args.disk.now (end_order c.args.self.moment) [] hold);
+      rw c.in-Err.ensures.refused (halted_none g.D.Disk g.M.Book.Replay.fits c.args.store.now.run g.M.Memory.holds choose h base k c.args.store.now c.args.disk.now (end_order c.args.self.moment) [] refl hold);
   over = λ uncut. c.requires.over;
   measured = λ uncut measured. measured;
   undamaged = λ file at is. absurd (refused_uncut c.in-Err.fault refusals.NoMemory (commits.Damaged file at) c.in-Err.ensures.refused is);

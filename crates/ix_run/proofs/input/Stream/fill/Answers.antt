@@ -35,7 +35,7 @@ loop-taken-init g c = record {
   count = refl;
   sizes = tt;
   took = took_none (g.S.Source.left c.args.input.now);
-  given = λ choose h base k chooser taken hold. given_none g.D.Disk g.M.Book.Replay.fits g.M.Memory.holds choose h base k c.args.store.now c.args.disk.now hold;
+  given = λ choose h base k chooser taken hold. given_none g.D.Disk g.M.Book.Replay.fits c.args.store.now.run g.M.Memory.holds choose h base k c.args.store.now c.args.disk.now refl hold;
   over = c.requires.over;
   measured = λ measured. measured;
   told = anyhow_same (g.D.Disk.seen c.args.disk.now) (g.D.Disk.seen c.args.disk.now) refl;
@@ -74,7 +74,7 @@ returns-then-n-eq0 g c = record {
           (c.in-Ok.ensures.end c.if-n-eq0.true (omega (arith, c.min-most.ensures, length-take-le c.min-most.result c.loop-taken.room (omega (arith, c.min-most.ensures))))) c.in-Ok.ensures.bytes,
     );
     done = λ choose h base k chooser taken hold.
-        feeds_all g.D.Disk g.M.Book.Replay.fits g.M.Memory.holds choose h (map (block_order c.args.self.moment) c.loop-taken.invariant.pieces) base k c.loop-taken.store c.args.disk.now c.loop-taken.disk
+        feeds_all g.D.Disk g.M.Book.Replay.fits c.args.store.now.run g.M.Memory.holds choose h (map (block_order c.args.self.moment) c.loop-taken.invariant.pieces) base k c.loop-taken.store c.args.disk.now c.loop-taken.disk
         (c.loop-taken.invariant.given choose h base k chooser taken hold);
   };
   over = λ uncut. c.loop-taken.invariant.over;
@@ -101,8 +101,8 @@ returns-in-Err-add g c = record {
         read = omega (arith, joined_length c.loop-taken.invariant.pieces bytes, c.loop-taken.invariant.count, part);
         done = λ choose h base k chooser taken hold.
             let one = c.loop-taken.invariant.given choose h base k chooser taken hold in
-            feeds_halt g.D.Disk g.M.Book.Replay.fits g.M.Memory.holds choose h (map (block_order c.args.self.moment) (c.loop-taken.invariant.pieces ++ bytes ∷ [])) base k c.add.new.store c.args.disk.now c.add.new.disk c.in-Err-add.fault
-            (given_block g.D.Disk g.M.Book.Replay.fits g.M.Memory.holds choose h base k c.loop-taken.store c.add.new.store c.args.disk.now c.loop-taken.disk c.add.new.disk c.args.self.moment c.loop-taken.invariant.pieces bytes (Err c.in-Err-add.fault) one
+            feeds_halt g.D.Disk g.M.Book.Replay.fits c.args.store.now.run g.M.Memory.holds choose h (map (block_order c.args.self.moment) (c.loop-taken.invariant.pieces ++ bytes ∷ [])) base k c.add.new.store c.args.disk.now c.add.new.disk c.in-Err-add.fault
+            (given_block g.D.Disk g.M.Book.Replay.fits c.args.store.now.run g.M.Memory.holds choose h base k c.loop-taken.store c.add.new.store c.args.disk.now c.loop-taken.disk c.add.new.disk c.args.self.moment c.loop-taken.invariant.pieces bytes (Err c.in-Err-add.fault) one
             (c.in-Err-add.ensures.given choose (given_all choose h (map (block_order c.args.self.moment) c.loop-taken.invariant.pieces)) base one.count chooser
             (all_taken g.M.Memory.takes g.met.M.Memory.ticks_are_taken choose h (map (block_order c.args.self.moment) c.loop-taken.invariant.pieces) taken
             (blocks_taken g.M.Memory.takes c.args.self.moment c.requires.takes c.loop-taken.invariant.pieces c.loop-taken.invariant.sizes)) one.hold));
@@ -134,7 +134,7 @@ loop-taken-preserved g c = let bytes : List ℕ = take c.in-Ok.n c.read.new.buf 
       took = took_more c.loop-taken.invariant.pieces bytes (g.S.Source.left c.args.input.now) (g.S.Source.left c.loop-taken.input) (g.S.Source.left c.read.new.self) c.loop-taken.invariant.took c.in-Ok.ensures.bytes;
       given = λ choose h base k chooser taken hold.
           let one = c.loop-taken.invariant.given choose h base k chooser taken hold in
-          given_block g.D.Disk g.M.Book.Replay.fits g.M.Memory.holds choose h base k c.loop-taken.store c.add.new.store c.args.disk.now c.loop-taken.disk c.add.new.disk c.args.self.moment c.loop-taken.invariant.pieces bytes (Ok tt) one
+          given_block g.D.Disk g.M.Book.Replay.fits c.args.store.now.run g.M.Memory.holds choose h base k c.loop-taken.store c.add.new.store c.args.disk.now c.loop-taken.disk c.add.new.disk c.args.self.moment c.loop-taken.invariant.pieces bytes (Ok tt) one
           (c.in-Ok-add.ensures.given choose (given_all choose h (map (block_order c.args.self.moment) c.loop-taken.invariant.pieces)) base one.count chooser
           (all_taken g.M.Memory.takes g.met.M.Memory.ticks_are_taken choose h (map (block_order c.args.self.moment) c.loop-taken.invariant.pieces) taken
           (blocks_taken g.M.Memory.takes c.args.self.moment c.requires.takes c.loop-taken.invariant.pieces c.loop-taken.invariant.sizes)) one.hold);

@@ -19,7 +19,7 @@ invariant-loop-taken g l = record {
   took : Told (Took (joined pieces)) (g.S.Source.left l.initial.input) (g.S.Source.left l.input);
   given : (choose : Chooser) (history : List Order) (base k : ℕ) → g.M.Memory.is_chooser choose → AllByRecursion g.M.Memory.takes history →
       Holds g.D.Disk g.M.Book.Replay.fits g.M.Memory.holds choose history base k l.initial.store l.initial.disk →
-      HasGivenAll g.D.Disk g.M.Book.Replay.fits g.M.Memory.holds choose history (map (block_order l.self.moment) pieces) base k l.store l.initial.disk l.disk;
+      HasGivenAll g.D.Disk g.M.Book.Replay.fits l.initial.store.run g.M.Memory.holds choose history (map (block_order l.self.moment) pieces) base k l.store l.initial.disk l.disk;
   over : IsOver g.D.Disk l.store.keeper l.disk;
   measured : IsMeasured g.D.Disk l.initial.store.keeper l.initial.disk → IsMeasured g.D.Disk l.store.keeper l.disk;
   told : Told Anyhow (g.D.Disk.seen l.initial.disk) (g.D.Disk.seen l.disk);

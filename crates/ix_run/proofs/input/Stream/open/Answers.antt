@@ -12,7 +12,7 @@ use Rattle.ix_run.proofs.input.Stream.open.Goals as goal
 pub returns-then-not-has_channel : goal.returns-then-not-has_channel
 returns-then-not-has_channel g c = record {
   given = λ choose h base k chooser taken hold.
-      began g.D.Disk g.M.Book.Replay.fits g.M.Memory.holds choose h base k c.begin.new.store c.args.disk.now c.begin.new.disk c.begin.result (is_begun (after choose h) tilde) c.args.origin c.args.self.moment
+      began g.D.Disk g.M.Book.Replay.fits c.args.store.now.run g.M.Memory.holds choose h base k c.begin.new.store c.args.disk.now c.begin.new.disk c.begin.result (is_begun (after choose h) tilde) c.args.origin c.args.self.moment
       (sym (c.has_channel.ensures choose h base k hold.old hold.staged) ∙ c.if-not-has_channel.true) (c.begin.ensures.given choose h base k chooser taken hold);
   over = c.begin.ensures.over;
   measured = c.begin.ensures.measured;
@@ -26,7 +26,7 @@ pub returns-in-Ok : goal.returns-in-Ok
 returns-in-Ok g c = record {
   given = λ choose h base k chooser taken hold.
       let one = c.in-Ok.ensures.given choose h base k chooser taken hold in
-      begun_again g.D.Disk g.M.Book.Replay.fits g.M.Memory.holds choose h base k c.end.new.store c.begin-in-Ok.new.store c.args.disk.now c.end.new.disk c.begin-in-Ok.new.disk c.begin-in-Ok.result
+      begun_again g.D.Disk g.M.Book.Replay.fits c.args.store.now.run g.M.Memory.holds choose h base k c.end.new.store c.begin-in-Ok.new.store c.args.disk.now c.end.new.disk c.begin-in-Ok.new.disk c.begin-in-Ok.result
       (is_begun (after choose h) tilde) c.args.origin c.args.self.moment
       (sym (c.has_channel.ensures choose h base k hold.old hold.staged) ∙ c.if-not-has_channel.false) one
       (c.begin-in-Ok.ensures.given choose (given_all choose h (end_order c.args.self.moment ∷ [])) base one.count chooser
@@ -46,7 +46,7 @@ returns-in-Ok g c = record {
 pub returns-in-Err : goal.returns-in-Err
 returns-in-Err g c = record {
   given = λ choose h base k chooser taken hold.
-      not_ended g.D.Disk g.M.Book.Replay.fits g.M.Memory.holds choose h base k c.end.new.store c.args.disk.now c.end.new.disk c.in-Err.fault (is_begun (after choose h) tilde) c.args.origin c.args.self.moment
+      not_ended g.D.Disk g.M.Book.Replay.fits c.args.store.now.run g.M.Memory.holds choose h base k c.end.new.store c.args.disk.now c.end.new.disk c.in-Err.fault (is_begun (after choose h) tilde) c.args.origin c.args.self.moment
       (sym (c.has_channel.ensures choose h base k hold.old hold.staged) ∙ c.if-not-has_channel.false) (c.in-Err.ensures.given choose h base k chooser taken hold);
   over = c.in-Err.ensures.over;
   measured = c.in-Err.ensures.measured;

@@ -41,7 +41,7 @@ returns-in-Err g c = record {
     took = took_none (g.S.Source.left c.args.input.now);
     read = omega arith;
     done = λ choose h base k chooser taken hold.
-        halted_first g.D.Disk g.M.Book.Replay.fits g.M.Memory.holds choose h base k c.args.store.now c.args.disk.now (is_begun (after choose h) tilde) c.args.origin c.args.self.moment hold;
+        halted_first g.D.Disk g.M.Book.Replay.fits c.args.store.now.run g.M.Memory.holds choose h base k c.args.store.now c.args.disk.now (is_begun (after choose h) tilde) c.args.origin c.args.self.moment refl hold;
   };
   over = λ uncut. c.requires.over;
   measured = λ uncut measured. measured;
@@ -60,7 +60,7 @@ returns-in-Err-open g c = record {
     took = took_none (g.S.Source.left c.args.input.now);
     read = omega arith;
     done = λ choose h base k chooser taken hold.
-        opened g.D.Disk g.M.Book.Replay.fits g.M.Memory.holds choose h (opening (is_begun (after choose h) tilde) c.args.origin c.args.self.moment) base k c.open.new.store c.args.disk.now c.open.new.disk c.in-Err-open.fault
+        opened g.D.Disk g.M.Book.Replay.fits c.args.store.now.run g.M.Memory.holds choose h (opening (is_begun (after choose h) tilde) c.args.origin c.args.self.moment) base k c.open.new.store c.args.disk.now c.open.new.disk c.in-Err-open.fault
         [] (end_order c.args.self.moment ∷ []) (c.in-Err-open.ensures.given choose h base k chooser taken hold);
   };
   over = c.in-Err-open.ensures.over;
@@ -85,8 +85,8 @@ returns-in-Err-fill g c = record {
         let a = opening (is_begun (after choose h) tilde) c.args.origin c.args.self.moment in
         let one = c.in-Ok-open.ensures.given choose h base k chooser taken hold in
         let all = all_taken g.M.Memory.takes g.met.M.Memory.ticks_are_taken choose h a taken (opening_taken g.M.Memory.takes c.args.origin c.args.self.moment c.requires.ends c.requires.begins (is_begun (after choose h) tilde)) in
-        feeds_more g.D.Disk g.M.Book.Replay.fits g.M.Memory.holds choose h (a ++ map (block_order c.args.self.moment) read.pieces) (end_order c.args.self.moment ∷ []) base k c.fill.new.store c.args.disk.now c.fill.new.disk c.in-Err-fill.fault
-        (feeds_on g.D.Disk g.M.Book.Replay.fits g.M.Memory.holds choose h a (map (block_order c.args.self.moment) read.pieces) [] base k c.open.new.store c.fill.new.store c.args.disk.now c.open.new.disk c.fill.new.disk one (Err c.in-Err-fill.fault)
+        feeds_more g.D.Disk g.M.Book.Replay.fits c.args.store.now.run g.M.Memory.holds choose h (a ++ map (block_order c.args.self.moment) read.pieces) (end_order c.args.self.moment ∷ []) base k c.fill.new.store c.args.disk.now c.fill.new.disk c.in-Err-fill.fault
+        (feeds_on g.D.Disk g.M.Book.Replay.fits c.args.store.now.run g.M.Memory.holds choose h a (map (block_order c.args.self.moment) read.pieces) [] base k c.open.new.store c.fill.new.store c.args.disk.now c.open.new.disk c.fill.new.disk one (Err c.in-Err-fill.fault)
         (read.done choose (given_all choose h a) base one.count chooser all one.hold));
   };
   over = c.in-Err-fill.ensures.over;
@@ -116,11 +116,11 @@ returns-in-Ok-end g c = record {
         let open_taken = opening_taken g.M.Memory.takes c.args.origin c.args.self.moment c.requires.ends c.requires.begins (is_begun (after choose h) tilde) in
         let one = c.in-Ok-open.ensures.given choose h base k chooser taken hold in
         let all = all_taken g.M.Memory.takes g.met.M.Memory.ticks_are_taken choose h a taken open_taken in
-        let both = filled_on g.D.Disk g.M.Book.Replay.fits g.M.Memory.holds choose h a b base k c.open.new.store c.fill.new.store c.args.disk.now c.open.new.disk c.fill.new.disk one
+        let both = filled_on g.D.Disk g.M.Book.Replay.fits c.args.store.now.run g.M.Memory.holds choose h a b base k c.open.new.store c.fill.new.store c.args.disk.now c.open.new.disk c.fill.new.disk one
         (read.done choose (given_all choose h a) base one.count chooser all one.hold) in
         let more = all_taken g.M.Memory.takes g.met.M.Memory.ticks_are_taken choose h (a ++ b) taken
         (all_more g.M.Memory.takes a b open_taken (blocks_taken g.M.Memory.takes c.args.self.moment c.requires.adds read.pieces read.sizes)) in
-        gives_on g.D.Disk g.M.Book.Replay.fits g.M.Memory.holds choose h (a ++ b) (end_order c.args.self.moment ∷ []) base k c.fill.new.store c.end.new.store c.args.disk.now c.fill.new.disk c.end.new.disk both (Ok tt)
+        gives_on g.D.Disk g.M.Book.Replay.fits c.args.store.now.run g.M.Memory.holds choose h (a ++ b) (end_order c.args.self.moment ∷ []) base k c.fill.new.store c.end.new.store c.args.disk.now c.fill.new.disk c.end.new.disk both (Ok tt)
         (c.in-Ok-end.ensures.given choose (given_all choose h (a ++ b)) base both.count chooser more both.hold);
   };
   over = λ uncut. c.in-Ok-end.ensures.over refl;
@@ -145,11 +145,11 @@ returns g c = record {
         let open_taken = opening_taken g.M.Memory.takes c.args.origin c.args.self.moment c.requires.ends c.requires.begins (is_begun (after choose h) tilde) in
         let one = c.in-Ok-open.ensures.given choose h base k chooser taken hold in
         let all = all_taken g.M.Memory.takes g.met.M.Memory.ticks_are_taken choose h a taken open_taken in
-        let both = filled_on g.D.Disk g.M.Book.Replay.fits g.M.Memory.holds choose h a b base k c.open.new.store c.fill.new.store c.args.disk.now c.open.new.disk c.fill.new.disk one
+        let both = filled_on g.D.Disk g.M.Book.Replay.fits c.args.store.now.run g.M.Memory.holds choose h a b base k c.open.new.store c.fill.new.store c.args.disk.now c.open.new.disk c.fill.new.disk one
         (read.done choose (given_all choose h a) base one.count chooser all one.hold) in
         let more = all_taken g.M.Memory.takes g.met.M.Memory.ticks_are_taken choose h (a ++ b) taken
         (all_more g.M.Memory.takes a b open_taken (blocks_taken g.M.Memory.takes c.args.self.moment c.requires.adds read.pieces read.sizes)) in
-        gives_on g.D.Disk g.M.Book.Replay.fits g.M.Memory.holds choose h (a ++ b) (end_order c.args.self.moment ∷ []) base k c.fill.new.store c.end.new.store c.args.disk.now c.fill.new.disk c.end.new.disk both (Err c.in-Err-end.fault)
+        gives_on g.D.Disk g.M.Book.Replay.fits c.args.store.now.run g.M.Memory.holds choose h (a ++ b) (end_order c.args.self.moment ∷ []) base k c.fill.new.store c.end.new.store c.args.disk.now c.fill.new.disk c.end.new.disk both (Err c.in-Err-end.fault)
         (c.in-Err-end.ensures.given choose (given_all choose h (a ++ b)) base both.count chooser more both.hold);
   };
   over = c.in-Err-end.ensures.over;
@@ -161,7 +161,7 @@ returns g c = record {
       let open_taken = opening_taken g.M.Memory.takes c.args.origin c.args.self.moment c.requires.ends c.requires.begins (is_begun (after choose h) tilde) in
       let one = c.in-Ok-open.ensures.given choose h base k chooser taken hold in
       let all = all_taken g.M.Memory.takes g.met.M.Memory.ticks_are_taken choose h a taken open_taken in
-      let both = filled_on g.D.Disk g.M.Book.Replay.fits g.M.Memory.holds choose h a b base k c.open.new.store c.fill.new.store c.args.disk.now c.open.new.disk c.fill.new.disk one
+      let both = filled_on g.D.Disk g.M.Book.Replay.fits c.args.store.now.run g.M.Memory.holds choose h a b base k c.open.new.store c.fill.new.store c.args.disk.now c.open.new.disk c.fill.new.disk one
       (read.done choose (given_all choose h a) base one.count chooser all one.hold) in
       let more = all_taken g.M.Memory.takes g.met.M.Memory.ticks_are_taken choose h (a ++ b) taken
       (all_more g.M.Memory.takes a b open_taken (blocks_taken g.M.Memory.takes c.args.self.moment c.requires.adds read.pieces read.sizes)) in
