@@ -21,6 +21,10 @@ mod machine;
 #[cfg(test)]
 mod made;
 #[cfg(test)]
+mod order;
+#[cfg(test)]
 mod said;
 #[cfg(test)]
 mod told;
+#[cfg(test)]
+mod watched;

@@ -9,7 +9,7 @@ use std::io::{self, Read, Seek, SeekFrom, Write};
 use std::rt::Files;
 
 /// The paths that are watched. A path comes behind the folder that it stands in.
-const PATHS: [&str; 10] = [
+const PATHS: [&str; 9] = [
     ".",
     "var",
     "var/lock",
@@ -19,11 +19,10 @@ const PATHS: [&str; 10] = [
     "var/meta/1",
     "var/meta/2",
     "var/home/7",
-    "var/home/1",
 ];
 
 /// The place of the folder that each of them stands in. The current folder stands for its own.
-const FOLDERS: [usize; 10] = [0, 0, 1, 1, 1, 3, 3, 3, 4, 4];
+const FOLDERS: [usize; 9] = [0, 0, 1, 1, 1, 3, 3, 3, 4];
 
 /// The place of a path.
 fn place_of(path: &str) -> usize {
@@ -56,11 +55,9 @@ pub struct Watch {
     /// The number of the call that fails.
     due: u64,
     how: How,
-    states: Cell<[State; 10]>,
+    states: Cell<[State; 9]>,
     /// How many files were closed with bytes that no sync of the same handle had been tried for.
     forgotten: Cell<u64>,
-    /// How often bytes that stood were written over, or a file was removed, while something was not on the disk.
-    disorders: Cell<u64>,
 }
 
 impl Watch {
@@ -73,9 +70,8 @@ impl Watch {
             calls: Cell::new(0),
             due,
             how,
-            states: Cell::new([kept; 10]),
+            states: Cell::new([kept; 9]),
             forgotten: Cell::new(0),
-            disorders: Cell::new(0),
         }
     }
 
@@ -92,24 +88,6 @@ impl Watch {
     /// How many files were closed with bytes that no sync had been tried for.
     pub fn forgotten(&self) -> u64 {
         self.forgotten.get()
-    }
-
-    /// How often bytes that stood were written over, or a file was removed, while something was not on the disk.
-    pub fn disorders(&self) -> u64 {
-        self.disorders.get()
-    }
-
-    /// Whether a machine that stops now leaves all as it is.
-    pub fn is_all_settled(&self) -> bool {
-        let states = self.states.get();
-        !states.iter().any(|state| state.changed || state.lost)
-    }
-
-    /// Bytes that stood are written over, or a file is removed.
-    fn alter(&self) {
-        if !self.is_all_settled() {
-            self.disorders.set(self.disorders.get().saturating_add(1));
-        }
     }
 
     /// Whether a machine that stops now leaves the file of this path as it is, or as missing as it is.
@@ -196,8 +174,6 @@ pub struct Watched<'a, F: Drop> {
     place: usize,
     /// Something was written by this handle since a sync of it was tried last.
     wrote: Cell<bool>,
-    /// Where the next write comes.
-    at: Cell<u64>,
 }
 
 impl<'a, F: Drop> Drop for Watched<'a, F> {
@@ -207,7 +183,6 @@ impl<'a, F: Drop> Drop for Watched<'a, F> {
             watch,
             place,
             wrote,
-            at: _,
         } = self;
         let changed = watch
             .states
@@ -227,20 +202,8 @@ impl<'a, F: Read + Drop> Read for Watched<'a, F> {
     }
 }
 
-impl<'a, F: OpenFile + Drop> Watched<'a, F> {
-    /// Whether bytes stand where the next write comes.
-    fn is_over(&self) -> bool {
-        self.inner
-            .metadata()
-            .map_or(true, |found| self.at.get() < found.len())
-    }
-}
-
-impl<'a, F: Write + OpenFile + Drop> Write for Watched<'a, F> {
+impl<'a, F: Write + Drop> Write for Watched<'a, F> {
     fn write(&mut self, buf: &[u8]) -> io::Result<usize> {
-        if self.is_over() {
-            self.watch.alter();
-        }
         let due = self.watch.is_due();
         self.watch.change(self.place);
         self.wrote.set(true);
@@ -263,9 +226,7 @@ impl<'a, F: Write + OpenFile + Drop> Write for Watched<'a, F> {
 impl<'a, F: Seek + Drop> Seek for Watched<'a, F> {
     fn seek(&mut self, to: SeekFrom) -> io::Result<u64> {
         self.watch.begin()?;
-        let at = self.inner.seek(to)?;
-        self.at.set(at);
-        Ok(at)
+        self.inner.seek(to)
     }
 }
 
@@ -343,7 +304,6 @@ impl<'a, R: LockFiles + Drop> Files for Watching<'a, R> {
             watch: self.watch,
             place: place_of(path),
             wrote: Cell::new(false),
-            at: Cell::new(0),
         })
     }
 
@@ -370,7 +330,6 @@ impl<'a, R: LockFiles + Drop> Files for Watching<'a, R> {
 
     fn remove_file(&self, path: &str) -> io::Result<()> {
         self.watch.begin()?;
-        self.watch.alter();
         self.rt.remove_file(self.whole(path)?.as_str())?;
         let place = place_of(path);
         let lost = false;
