@@ -111,7 +111,7 @@ module _ {D E : Type 0} (d : Ghosts D) (e : Ghosts E) (only_now : (disk : D) (im
   each old new P at always later left image may = ⊎_elim (λ was. at image (only_now old image was)) (λ is. is) (always.since (d.moment old) image (omega arith) (left image may))
 
   -- what was there at the start is there still
-  as_before : MayRun d choose history run k before → (later : E) (image : Image) → e.seen later ≡ Some image → ((other : Image) → e.may_leave later other → StandsFrom fits run choose history run k other) → MayGoOn e choose history run k later
+  as_before : MayRun d choose history run k before → (later : E) (image : Image) → e.seen later ≡ Some image → ((other : Image) → e.may_leave later other → StandsFrom fits run choose history k other) → MayGoOn e choose history run k later
   as_before may later image tells begins = record {
     next = history;
     n = k;
@@ -134,9 +134,9 @@ module _ {D E : Type 0} (d : Ghosts D) (e : Ghosts E) (only_now : (disk : D) (im
   }
 
   pub goes_on : MayRun d choose history run k before → (leaves : Leaves d choose history run k before disk) → (later : E) (image : Image) → e.seen later ≡ Some image → IsStopOf d choose history run k before disk leaves e later → MayGoOn e choose history run k later
-  goes_on may (unmounted stood) later image tells stop = as_before may later image tells (each before disk (StandsFrom fits run choose history run k) may.begins stood later stop)
+  goes_on may (unmounted stood) later image tells stop = as_before may later image tells (each before disk (StandsFrom fits run choose history k) may.begins stood later stop)
   goes_on may (mounted new_run count now least given passes) later image tells (inl stop) =
-      as_before may later image tells (each before passes.mounted (StandsFrom fits run choose history run k) may.begins passes.up_to later stop)
+      as_before may later image tells (each before passes.mounted (StandsFrom fits run choose history k) may.begins passes.up_to later stop)
   goes_on may (mounted new_run count now least given passes) later image tells (inr stop) = record {
     next = now;
     n = count;

@@ -80,10 +80,10 @@ returns-in-Ok g c = record {
       (same_listened _ _ _ _ c.bind.ensures.waiting c.bind.ensures.handed) c.in-Ok.ensures.reads)
       (served_from c.lock_out.ensures.alone c.args.config (g.C.Clock.ahead c.args.clock.now) (Connections g.D.Disk fits c.args.serving.requests c.in-Ok.end
       (listened (g.L.Listener.waiting c.args.listener.now) (g.L.Listener.handed c.args.listener.now)) (listened (g.L.Listener.waiting run.listener) (g.L.Listener.handed run.listener)) (g.C.Clock.ahead run.clock) run.disk) run.disk
-      (subst (λ w. FromStart g.D.Disk c.lock_out.new.disk (λ choose history run k. HasServed g.D.Disk IsTaken fits choose history run k c.args.config (g.C.Clock.ahead c.args.clock.now)
+      (subst (λ w. FromStart g.D.Disk c.lock_out.new.disk (λ choose history least k. HasServed g.D.Disk IsTaken fits choose history least k c.args.config (g.C.Clock.ahead c.args.clock.now)
       (Connections g.D.Disk fits c.args.serving.requests c.in-Ok.end (listened w (g.L.Listener.handed c.args.listener.now)) (listened (g.L.Listener.waiting run.listener) (g.L.Listener.handed run.listener)) (g.C.Clock.ahead run.clock) run.disk) c.lock_out.new.disk run.disk))
       c.bind.ensures.waiting
-      (subst (λ b. FromStart g.D.Disk c.lock_out.new.disk (λ choose history run k. HasServed g.D.Disk IsTaken fits choose history run k c.args.config (g.C.Clock.ahead c.args.clock.now)
+      (subst (λ b. FromStart g.D.Disk c.lock_out.new.disk (λ choose history least k. HasServed g.D.Disk IsTaken fits choose history least k c.args.config (g.C.Clock.ahead c.args.clock.now)
       (Connections g.D.Disk fits c.args.serving.requests c.in-Ok.end (listened (g.L.Listener.waiting c.bind.new.self) b) (listened (g.L.Listener.waiting run.listener) (g.L.Listener.handed run.listener)) (g.C.Clock.ahead run.clock) run.disk) c.lock_out.new.disk run.disk))
       c.bind.ensures.handed (from_start _ _ _ c.in-Ok.ensures.served)))) c.say_end.ensures.said;
   short = λ ok. inl (c.in-Ok.ensures.short (serve_short c.say_end.result _ c.in-Ok.end _ _ c.say_end.ensures.said ok));
