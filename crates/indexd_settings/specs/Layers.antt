@@ -1,5 +1,5 @@
 -- The files of settings, and the layers in which they stand over one another.
-use Rattle.std.specs.Prelude.{if◌then◌else◌, bytes_eq, ◌≡◌, ◌<◌, ℕ, List, [], ◌∷◌, ◌++◌, length, drop, map, codes, decimal, Option, Some, None, IfSome, Result, Ok, Err}
+use Rattle.std.specs.Prelude.{if◌then◌else◌, bytes_eq, ◌≡◌, ◌<◌, ℕ, List, [], ◌∷◌, ◌++◌, length, drop, map, codes, Option, Some, None, IfSome, Result, Ok, Err}
 use Rattle.ix_base.specs.Faults.{Rose}
 use Rattle.ix_tree.specs.Trees.{bytes_at, names_in}
 use Rattle.ix_tree.specs.declared.trees.TreeFile.{TreeFile}
@@ -8,8 +8,8 @@ use Rattle.ix_tree.specs.declared.trees.TreeFault.TheVariants.{Failed, Missing, 
 use Rattle.ix_conf.specs.Grammar.{pairs}
 use Rattle.ix_conf.specs.Zones.{zone_entries, zones}
 use Rattle.ix_conf.specs.declared.entries.Entry.{Entry}
+use Rattle.ix_conf.specs.FaultText.{fault_text}
 use Rattle.ix_conf.specs.declared.entries.ConfFault.{ConfFault}
-use Rattle.ix_conf.specs.declared.entries.ConfFault.TheVariants.{NotUtf8, NoEquals, BadStanza, TooLong, NoMemory}
 use Rattle.ix_conf.specs.declared.layers.Layer.{Layer}
 use Rattle.indexd_settings.specs.declared.layers.SettingsFile.{SettingsFile}
 use Rattle.indexd_settings.specs.declared.layers.SettingsFile.TheVariants.{Props, Transforms, Indexes, Inputs, Zones}
@@ -107,17 +107,9 @@ led_by first (Ok layers) = Ok (first ++ layers)
 abbrev pub settings : List TreeFile → SettingsFile → Result (List Layer) Refusal
 settings files file = followed_by (built_in file) (of_files files file)
 
--- the text of a fault behind the path of its file
-abbrev pub fault_text : ConfFault → List ℕ
-fault_text (NotUtf8 at) = codes " at " ++ decimal at ++ codes ": NotUtf8\n"
-fault_text (NoEquals line) = codes " line " ++ decimal line ++ codes ": NoEquals\n"
-fault_text (BadStanza line) = codes " line " ++ decimal line ++ codes ": BadStanza\n"
-fault_text TooLong = codes ": TooLong\n"
-fault_text NoMemory = codes ": NoMemory\n"
-
 -- the line of a fault
 abbrev pub refusal_text : SettingsFile → Refusal → List ℕ
-refusal_text file refusal = codes "indexd: configuration: " ++ path_in refusal.layer file ++ fault_text refusal.fault
+refusal_text file refusal = codes "indexd: configuration: " ++ path_in refusal.layer file ++ fault_text refusal.fault ++ codes "\n"
 
 -- Where the tree tells its files, what was read is what they say.
 abbrev pub ReadAs : {X : Type 0} → Option (List TreeFile) → (List TreeFile → Result X Refusal) → Result X Refusal → Type 0

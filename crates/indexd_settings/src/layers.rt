@@ -1,17 +1,17 @@
 //! Files of settings, read from the layers of a tree. `btool` reads one, the other commands read all five.
 
-ghost use Rattle.std.specs.Prelude.{◌≡◌, ◌≢◌, ◌≤◌, ◌<◌, ◌+◌, ◌++◌, ◌∷◌, [], ℕ, List, length, take, drop, map, codes, decimal, OnOk, OnErr, IfOk, IfErr, IfSome, IfNone, Some, None, Ok, Err, IsErrOf, vec_len};
+ghost use Rattle.std.specs.Prelude.{◌≡◌, ◌≢◌, ◌≤◌, ◌<◌, ◌+◌, ◌++◌, ◌∷◌, [], ℕ, List, length, take, drop, map, codes, OnOk, OnErr, IfOk, IfErr, IfSome, IfNone, Some, None, Ok, Err, IsErrOf, vec_len};
 ghost use Rattle.std.specs.List.{AllByRecursion};
 ghost use Rattle.ix_base.specs.Faults.{Rose};
 ghost use Rattle.ix_tree.specs.Trees.{bytes_at, names_in, HasSize};
 ghost use Rattle.ix_conf.specs.Grammar.{pairs, Gives};
-ghost use Rattle.indexd_settings.specs.Layers.{file_name, file_named, path_in, app_layer, layer_names, folders_of, text_at, in_layer, layer_read, layers_read, built_in, settings, fault_text, refusal_text, ReadAs, IsOfText, LayerStops, Reads, IsBegun, IsTextOr, LayerRefused};
+ghost use Rattle.indexd_settings.specs.Layers.{file_name, file_named, path_in, app_layer, layer_names, folders_of, text_at, in_layer, layer_read, layers_read, built_in, settings, refusal_text, ReadAs, IsOfText, LayerStops, Reads, IsBegun, IsTextOr, LayerRefused};
 
-use itoa::Buffer;
 use ix_base::{Bytes, Names, NoMemory};
 use ix_conf::{ConfFault, ConfFile, Layer, Layers, built_in_zones, parse};
 use ix_tree::{Tree, TreeFault};
 use std::alloc::Global;
+use std::string::ToString;
 use thiserror::Error;
 
 /// A file of settings, which stands in each layer under its name and `.conf`.
@@ -112,24 +112,6 @@ impl SettingsFile {
     }
 }
 
-/// The text of a fault behind the path of its file.
-fn fault_text(alloc: Global, fault: ConfFault) -> Result<Bytes, NoMemory>
-    ensures { IfOk result (λ text. text ≡ fault_text fault) }
-{
-    let mut buffer = Buffer::new();
-    let (front, number, name) = match fault {
-        ConfFault::NotUtf8 { at } => (" at ", buffer.format(at), ": NotUtf8\n"),
-        ConfFault::NoEquals { line } => (" line ", buffer.format(line), ": NoEquals\n"),
-        ConfFault::BadStanza { line } => (" line ", buffer.format(line), ": BadStanza\n"),
-        ConfFault::TooLong => ("", "", ": TooLong\n"),
-        ConfFault::NoMemory => ("", "", ": NoMemory\n"),
-    };
-    let mut text = Bytes::copy_of(alloc, front.as_bytes())?;
-    text.extend(number.as_bytes())?;
-    text.extend(name.as_bytes())?;
-    Ok(text)
-}
-
 impl Refusal {
     /// The line that tells of the fault in a file.
     pub fn text(&self, alloc: Global, file: SettingsFile) -> Result<Bytes, NoMemory>
@@ -138,8 +120,9 @@ impl Refusal {
         let mut text = Bytes::copy_of(alloc, b"indexd: configuration: ")?;
         let path = file.path_in(alloc, self.layer.as_slice())?;
         text.extend(path.as_slice())?;
-        let fault = fault_text(alloc, self.fault)?;
-        text.extend(fault.as_slice())?;
+        let fault = self.fault.to_string(alloc)?;
+        text.extend(fault.as_bytes())?;
+        text.extend(b"\n")?;
         Ok(text)
     }
 }
