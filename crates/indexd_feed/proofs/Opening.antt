@@ -1,10 +1,10 @@
 -- Requests served behind the opening of a store.
-use Rattle.std.proofs.Common.{◌≡◌, ◌≤◌, ℕ, List, [], ◌∷◌, length, length-append, take, arith, refl, sym, subst, ◌∙◌, Option}
+use Rattle.std.proofs.Common.{◌≡◌, ◌≤◌, ℕ, List, [], ◌∷◌, length, length-append, take, arith, refl, sym, subst, ◌∙◌, Option, inl}
 use Rattle.std.proofs.lemmas.List.{take-append-le}
 use Rattle.std.specs.List.{AllByRecursion}
 use Rattle.ix_base.specs.Clocks.{Moments}
 use Rattle.ix_book.specs.Book.{Book}
-use Rattle.ix_disk.proofs.Runs.{always_on, always_weaker}
+use Rattle.ix_disk.proofs.Runs.{always_begins, always_on, always_weaker}
 use Rattle.ix_disk.specs.Image.{Image}
 use Rattle.ix_disk.specs.Moments.{Always}
 use Rattle.ix_disk.specs.declared.disk.Disk.{Ghosts}
@@ -17,10 +17,24 @@ use Rattle.ix_machine.specs.declared.commands.Order.{Order}
 use Rattle.ix_run.proofs.Gone.{longer, stands_from}
 use Rattle.ix_run.specs.Giving.{given_all}
 use Rattle.ix_store.specs.Written.{StandsFrom}
+use Rattle.ix_store.specs.declared.fault.MountFault.TheVariants as mounts
 use Rattle.ix_store.specs.declared.store.Store.{Store}
 use Rattle.ix_serve.specs.Serving.{IsTold}
-use Rattle.indexd_store.specs.Opened.{HasOpened, Passes}
+use Rattle.indexd_store.specs.Opened.{Begins, HasOpened, HasShut, Passes}
+use Rattle.indexd_store.specs.declared.stop.Stop.TheVariants as stops
 use Rattle.indexd_feed.specs.Serving.{Serving, Requests, HasServed, begun_with}
+
+-- where nothing was mounted for want of memory, all stands as it did
+pub unmounted : {D : Type 0} (g : Ghosts D) (takes : Order → Type 0) (fits : Book → Type 0) (choose : Chooser) (h : List Order) (run k : ℕ) (config : Config) (ahead : Option Moments) (disk : D) →
+    Begins g fits choose h run k disk → HasShut stops.Memory g takes fits choose h run k config ahead ahead disk disk
+unmounted g takes fits choose h run k config ahead disk begins = inl (record {
+  fault = mounts.NoMemory;
+  stop_is = refl;
+  sound = λ e. cc;
+  spent = λ e. cc;
+  not_asked = refl;
+  stood = always_begins g disk (StandsFrom fits run choose h k) begins;
+})
 
 module _ {D : Type 0} (g : Ghosts D) {M : Type 0} (takes : Order → Type 0) (fits : Book → Type 0) (holds : Chooser → List Order → M → Type 0) (choose : Chooser) (h : List Order) (run k : ℕ) (config : Config) (store : Store M)
     (ahead told : Option Moments) (first mid : D) (opened : HasOpened g fits holds choose h run k config store ahead told first mid) where

@@ -26,6 +26,7 @@ use indexd_store::{Stop, open};
 use ix_base::Clock;
 use ix_disk::Disk;
 use ix_feed::{Fed, run_feed as feed_store};
+use ix_http::Routes;
 use ix_keep::CommitFault;
 use ix_link::Link;
 use ix_machine::Config;
@@ -36,6 +37,7 @@ use std::alloc::Global;
 /// Serves the requests of a link over an open store, and makes the log short behind them where it is long, unless the store is closed.
 fn feed_open<M: Listing + Drop, D: Disk, C: Clock, K: Link>(
     alloc: Global,
+    routes: &Routes,
     store: &mut Store<M>,
     link: &mut K,
     clock: &mut C,
@@ -55,7 +57,7 @@ fn feed_open<M: Listing + Drop, D: Disk, C: Clock, K: Link>(
     ensures told { IsTold D.Disk disk.old → IsTold D.Disk disk.new }
     ensures comes { Comes (K.faults link.old) (K.faults link.new) (D.Disk.faults disk.old) (D.Disk.faults disk.new) result }
 {
-    let end = feed_store(alloc, store, link, clock, disk);
+    let end = feed_store(alloc, routes, store, link, clock, disk);
     if !end.is_open() {
         return end;
     }
@@ -113,9 +115,10 @@ pub fn run_feed<M: Listing + Drop, D: Disk, C: Clock, K: Link>(
     ensures disk { result ≡ Ok (Fed.Broken CommitFault.Disk) → Rose (D.Disk.faults disk.old) (D.Disk.faults disk.new) }
     ensures link { result ≡ Ok (Fed.Link) → Rose (K.faults link.old) (K.faults link.new) }
 {
+    let routes = Routes::new(alloc)?;
     let mut store = match open::<M, D, C>(alloc, disk, clock, config) {
         Ok(store) => store,
         Err(stop) => return Err(stop),
     };
-    Ok(feed_open(alloc, &mut store, link, clock, disk))
+    Ok(feed_open(alloc, &routes, &mut store, link, clock, disk))
 }

@@ -26,6 +26,7 @@ use indexd_store::{Stop, open};
 use ix_base::Clock;
 use ix_disk::Disk;
 use ix_feed::run_serve as serve_store;
+use ix_http::Routes;
 use ix_link::Listener;
 use ix_machine::Config;
 use ix_run::shorten;
@@ -35,6 +36,7 @@ use std::alloc::Global;
 /// Serves so many connections over an open store, and makes the log short behind them where it is long, unless the store is closed.
 fn serve_open<M: Listing + Drop, D: Disk, C: Clock, L: Listener>(
     alloc: Global,
+    routes: &Routes,
     store: &mut Store<M>,
     listener: &mut L,
     requests: u32,
@@ -59,7 +61,7 @@ fn serve_open<M: Listing + Drop, D: Disk, C: Clock, L: Listener>(
     ensures listener { result ≡ ServeEnd.Listener → Rose (L.faults listener.old) (L.faults listener.new) }
     ensures disk { result ≡ ServeEnd.Disk → Rose (D.Disk.faults disk.old) (D.Disk.faults disk.new) }
 {
-    let end = serve_store(alloc, store, listener, requests, clock, disk);
+    let end = serve_store(alloc, routes, store, listener, requests, clock, disk);
     if !end.is_open() {
         return heard_end(end);
     }
@@ -118,9 +120,10 @@ pub fn run_serve<M: Listing + Drop, D: Disk, C: Clock, L: Listener>(
     ensures disk { result ≡ Ok ServeEnd.Disk → Rose (D.Disk.faults disk.old) (D.Disk.faults disk.new) }
     ensures listener { result ≡ Ok ServeEnd.Listener → Rose (L.faults listener.old) (L.faults listener.new) }
 {
+    let routes = Routes::new(alloc)?;
     let mut store = match open::<M, D, C>(alloc, disk, clock, config) {
         Ok(store) => store,
         Err(stop) => return Err(stop),
     };
-    Ok(serve_open(alloc, &mut store, listener, requests, clock, disk))
+    Ok(serve_open(alloc, &routes, &mut store, listener, requests, clock, disk))
 }

@@ -15,6 +15,7 @@ ghost use Rattle.ix_store.specs.Holding.{Holds};
 
 use ix_base::Clock;
 use ix_disk::Disk;
+use ix_http::Routes;
 use ix_keep::CommitFault;
 use ix_link::Link;
 use ix_serve::{ServeFault, Served, serve_one};
@@ -103,6 +104,7 @@ fn end_of(request: u64, came: Result<Served, ServeFault>) -> Option<Fed>
 /// Serves requests until the link ends, or one is not read whole, or the link or the disk fails.
 fn feed_all<K: Link, M: Listing + Drop, C: Clock, D: Disk>(
     alloc: Global,
+    routes: &Routes,
     store: &mut Store<M>,
     link: &mut K,
     clock: &mut C,
@@ -125,7 +127,7 @@ fn feed_all<K: Link, M: Listing + Drop, C: Clock, D: Disk>(
 {
     for served in 0..MOST {
         let moment = clock.now();
-        let came = serve_one(alloc, store, link, moment, disk);
+        let came = serve_one(alloc, routes, store, link, moment, disk);
         if let Some(end) = end_of(served + 1, came) {
             return end;
         }
@@ -137,6 +139,7 @@ fn feed_all<K: Link, M: Listing + Drop, C: Clock, D: Disk>(
 /// before each. Behind a reply the log is made short where it is long and nothing is staged; where there is no room for that the run goes on.
 pub fn run_feed<K: Link, M: Listing + Drop, C: Clock, D: Disk>(
     alloc: Global,
+    routes: &Routes,
     store: &mut Store<M>,
     link: &mut K,
     clock: &mut C,
@@ -164,7 +167,7 @@ pub fn run_feed<K: Link, M: Listing + Drop, C: Clock, D: Disk>(
     // No count falls, and a fault of the link or the disk comes only where its count rose.
     ensures comes { defs.Comes (K.faults link.old) (K.faults link.new) (D.Disk.faults disk.old) (D.Disk.faults disk.new) result }
 {
-    let end = feed_all(alloc, store, link, clock, disk);
+    let end = feed_all(alloc, routes, store, link, clock, disk);
     let open = end.is_open();
     if !open {
         return end;

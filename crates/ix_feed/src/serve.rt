@@ -17,6 +17,7 @@ ghost use Rattle.ix_store.specs.Holding.{Holds};
 
 use ix_base::{Clock, Failed};
 use ix_disk::Disk;
+use ix_http::Routes;
 use ix_keep::CommitFault;
 use ix_link::Listener;
 use ix_serve::{ServeFault, Served, serve_one};
@@ -61,6 +62,7 @@ fn break_of(came: Result<Served, ServeFault>) -> Option<CommitFault>
 /// Accepts a connection, serves the one request on it, and hands it back.
 fn serve_next<L: Listener, M: Listing + Drop, C: Clock, D: Disk>(
     alloc: Global,
+    routes: &Routes,
     store: &mut Store<M>,
     listener: &mut L,
     clock: &mut C,
@@ -89,7 +91,7 @@ fn serve_next<L: Listener, M: Listing + Drop, C: Clock, D: Disk>(
 {
     let mut conn = listener.accept()?;
     let moment = clock.now();
-    let came = serve_one(alloc, store, &mut conn, moment, disk);
+    let came = serve_one(alloc, routes, store, &mut conn, moment, disk);
     listener.done(conn);
     Ok(came)
 }
@@ -97,6 +99,7 @@ fn serve_next<L: Listener, M: Listing + Drop, C: Clock, D: Disk>(
 /// Serves so many connections, or until the listener or the disk fails.
 fn serve_all<L: Listener, M: Listing + Drop, C: Clock, D: Disk>(
     alloc: Global,
+    routes: &Routes,
     store: &mut Store<M>,
     listener: &mut L,
     requests: u32,
@@ -118,7 +121,7 @@ fn serve_all<L: Listener, M: Listing + Drop, C: Clock, D: Disk>(
     ensures comes { defs.Comes (L.faults listener.old) (L.faults listener.new) (D.Disk.faults disk.old) (D.Disk.faults disk.new) result }
 {
     for _served in 0..requests {
-        match serve_next(alloc, store, listener, clock, disk) {
+        match serve_next(alloc, routes, store, listener, clock, disk) {
             Ok(came) => {
                 if let Some(cause) = break_of(came) {
                     return Heard::Broken { cause };
@@ -136,6 +139,7 @@ fn serve_all<L: Listener, M: Listing + Drop, C: Clock, D: Disk>(
 /// that the run goes on.
 pub fn run_serve<L: Listener, M: Listing + Drop, C: Clock, D: Disk>(
     alloc: Global,
+    routes: &Routes,
     store: &mut Store<M>,
     listener: &mut L,
     requests: u32,
@@ -163,7 +167,7 @@ pub fn run_serve<L: Listener, M: Listing + Drop, C: Clock, D: Disk>(
     // No count falls, and a fault of the listener or the disk comes only where its count rose.
     ensures comes { defs.Comes (L.faults listener.old) (L.faults listener.new) (D.Disk.faults disk.old) (D.Disk.faults disk.new) result }
 {
-    let end = serve_all(alloc, store, listener, requests, clock, disk);
+    let end = serve_all(alloc, routes, store, listener, requests, clock, disk);
     if !end.is_open() {
         return end;
     }

@@ -1,9 +1,9 @@
 -- Laws on heads at the front of bytes that come one by one.
 use Rattle.std.proofs.Common.{◌≡◌, ◌≢◌, ℕ, ◌+◌, ◌-◌, ◌*◌, ◌<◌, ◌≤◌, ◌⊎◌, List, [], ◌∷◌, ◌++◌, length, take, get_or, refl, sym, ap, ◌∙◌, subst, inl, inr, arith, append_assoc, length-append}
 use Rattle.std.proofs.lemmas.List.{same_from_push, take_more, length_push, append-nil, take_all}
-use Rattle.std.proofs.lemmas.List.Elements.{All-nil, All-cons, All-head, All-tail, All-same, All-push}
+use Rattle.std.proofs.lemmas.List.Elements.{All-nil, All-cons, All-head, All-tail, All-same}
 use Rattle.std.proofs.lemmas.Bool.{cases_lt}
-use Rattle.std.specs.Prelude.{All, Bool, true, false, IsTrue, Result, Ok, Err}
+use Rattle.std.specs.Prelude.{All, Bool, false, IsTrue, Result, Ok, Err}
 use Rattle.std.specs.List.{flat_map}
 use Rattle.httparse.specs.declared.Error.{Error}
 use Rattle.httparse.specs.declared.Error.TheVariants as error
@@ -170,11 +170,11 @@ open_without_lf bytes some none other =
 
 -- ---- bytes of line ends alone
 
-all-right : {X : Type 0} (P : X → Type 0) (xs ys : List X) → All P (xs ++ ys) → All P ys
+pub all-right : {X : Type 0} (P : X → Type 0) (xs ys : List X) → All P (xs ++ ys) → All P ys
 all-right P [] ys all = all
 all-right P (x ∷ xs) ys all = all-right P xs ys (All-tail P x (xs ++ ys) all)
 
-all-left : {X : Type 0} (P : X → Type 0) (xs ys : List X) → All P (xs ++ ys) → All P xs
+pub all-left : {X : Type 0} (P : X → Type 0) (xs ys : List X) → All P (xs ++ ys) → All P xs
 all-left P [] ys all = All-nil P
 all-left P (x ∷ xs) ys all = All-cons P x xs (All-head P x (xs ++ ys) all) (all-left P xs ys (All-tail P x (xs ++ ys) all))
 
@@ -204,13 +204,6 @@ pub blank_no_head : (bytes : List ℕ) → All IsLineByte bytes → HasNoRequest
 unfolding print_request
 blank_no_head bytes all h rest reads =
     no-line bytes (print_blank h.blank) h.method (32 ∷ h.target) (32 ∷ print_version h.minor) (print_end h.line_end) (print_section h.fields h.last) rest reads.1 reads.0.method all
-
--- one more of them
-pub blank_more : (old new : Bool) (bytes more : List ℕ) (b : ℕ) → more ≡ bytes ++ b ∷ [] → (old ≡ true → All IsLineByte bytes)
-    → (new ≡ true → (old ≡ true) × IsLineByte b) → new ≡ true → All IsLineByte more
-blank_more old new bytes more b is before step holds =
-    let both = step holds in
-    All-same IsLineByte more (bytes ++ b ∷ []) is (All-push IsLineByte bytes b (before both.0) both.1)
 
 -- the spans of a head of them end with them
 pub len_is_all : (bytes : List ℕ) (headers : List HeaderSpan) (spans : RequestSpans) → 0 < length bytes → HasNoRequest (take (length bytes - 1) bytes)

@@ -13,7 +13,7 @@ use Rattle.ix_heads.specs.declared.faults.LinkFault.TheVariants.{Failed, Cut, No
 use Rattle.ix_heads.specs.declared.reading.HeadRead.{HeadRead}
 use Rattle.ix_heads.specs.declared.reading.HeadRead.TheVariants.{Ended, Bad, Whole}
 use Rattle.ix_heads.specs.Limits.{max_head, max_lines}
-use Rattle.ix_heads.specs.Heads.{IsHeadless, IsCut, IsCrowded, IsWhole, FitsEnd, FitsHead}
+use Rattle.ix_heads.specs.Heads.{IsSoon, IsHeadless, IsCut, IsCrowded, IsWhole, FitsEnd, FitsHead}
 use Rattle.ix_heads.specs.Judging.{OnlyCrowded, IsHeadAt}
 use Rattle.ix_heads.proofs.FrontLemmas.{longer_than_front}
 
@@ -34,50 +34,52 @@ longer_head part old new none took h rest reads =
     longer_than_front old (length part) (subst P (sym (ap (take (length part)) took ∙ take-append_seam part new)) none) h rest reads
 
 -- what was refused, where nothing makes it a head
-pub never_headless : (part old new : List ℕ) → length part ≤ max_head → NeverHasRequest part → Took part old new → IsHeadless old new
-never_headless part old new size never took = record {
+pub never_headless : (part old new : List ℕ) → length part ≤ max_head → NeverHasRequest part → IsSoon part → Took part old new → IsHeadless old new
+never_headless part old new size never soon took = record {
   refused = part;
   before = took;
   size = size;
   none = λ h rest has. never new h rest (has.reads.0, sym took ∙ has.reads.1);
   settled = inr never;
+  soon = soon;
 }
 
 -- what was refused, where it is as long as a head may be
-pub full_headless : (part old new : List ℕ) → length part ≡ max_head → HasNoRequest part → Took part old new → IsHeadless old new
-full_headless part old new size none took = record {
+pub full_headless : (part old new : List ℕ) → length part ≡ max_head → HasNoRequest part → IsSoon part → Took part old new → IsHeadless old new
+full_headless part old new size none soon took = record {
   refused = part;
   before = took;
   size = omega (arith, size);
   none = λ h rest has. let longer = longer_head part old new none took h rest has.reads in let fits = has.size in omega (arith, longer, fits, size);
   settled = inl size;
+  soon = soon;
 }
 
-pub end_fits : (bytes : List ℕ) (headers : List HeaderSpan) (result : Result HeadRead LinkFault) (part old mid new : List ℕ) → length part ≤ max_head → HasNoRequest part
+pub end_fits : (bytes : List ℕ) (headers : List HeaderSpan) (result : Result HeadRead LinkFault) (part old mid new : List ℕ) → length part ≤ max_head → HasNoRequest part → IsSoon part
     → FitsEnd part result → Took part old mid → (mid ≡ []) × (new ≡ []) → FitsHead bytes headers result old new
-end_fits bytes headers (Ok Ended) part old mid new size none fits took end = (took ∙ ap (λ t. t ++ mid) fits ∙ end.0, end.1)
-end_fits bytes headers (Ok Bad) part old mid new size none fits took end = inl (by fits)
+end_fits bytes headers (Ok Ended) part old mid new size none soon fits took end = (took ∙ ap (λ t. t ++ mid) fits ∙ end.0, end.1)
+end_fits bytes headers (Ok Bad) part old mid new size none soon fits took end = inl (by fits)
   where
     all : Took part old new
     all = took ∙ ap (λ t. part ++ t) (end.0 ∙ sym end.1)
 
     by : (length part ≡ max_head) ⊎ NeverHasRequest part → IsHeadless old new
-    by (inl full) = full_headless part old new full none all
-    by (inr never) = never_headless part old new size never all
-end_fits bytes headers (Ok (Whole spans)) part old mid new size none fits took end = absurd fits
-end_fits bytes headers (Err Cut) part old mid new size none fits took end =
+    by (inl full) = full_headless part old new full none soon all
+    by (inr never) = never_headless part old new size never soon all
+end_fits bytes headers (Ok (Whole spans)) part old mid new size none soon fits took end = absurd fits
+end_fits bytes headers (Err Cut) part old mid new size none soon fits took end =
     let whole : part ≡ old = sym (took ∙ ap (λ t. part ++ t) end.0 ∙ append-nil part) in
     let P : List ℕ → Type 0 = λ t. IsCut t in
     (subst P whole fits, end.1)
-end_fits bytes headers (Err Failed) part old mid new size none fits took end = absurd fits
-end_fits bytes headers (Err (NoMemory whole)) part old mid new size none fits took end =
+end_fits bytes headers (Err Failed) part old mid new size none soon fits took end = absurd fits
+end_fits bytes headers (Err (NoMemory whole)) part old mid new size none soon fits took end =
     (fits, (part, took ∙ ap (λ t. part ++ t) (end.0 ∙ sym end.1), λ h rest reads. absurd (none h rest reads)))
 
-pub bad_fits : (part old new : List ℕ) → length part ≤ max_head
+pub bad_fits : (part old new : List ℕ) → length part ≤ max_head → IsSoon part
     → NeverHasRequest part ⊎ ((h : RequestHead) × ReadsRequest part h [] × (max_lines < length h.fields))
     → Took part old new → IsHeadless old new ⊎ IsCrowded old new
-bad_fits part old new size (inl never) took = inl (never_headless part old new size never took)
-bad_fits part old new size (inr found) took =
+bad_fits part old new size soon (inl never) took = inl (never_headless part old new size never soon took)
+bad_fits part old new size soon (inr found) took =
     let is : part ≡ print_request found.0 = found.1.1 ∙ append-nil (print_request found.0) in
     let len = ap length is in
     inr (found.0, record { reads = (found.1.0, took ∙ ap (λ t. t ++ new) is); size = omega (arith, len, size) }, found.2)

@@ -1,7 +1,7 @@
 -- What stands at the front of a link's bytes, by the grammar of `httparse`: a head, or none.
-use Rattle.std.specs.Prelude.{◌≡◌, ℕ, ◌<◌, ◌≤◌, ◌⊎◌, List, [], ◌++◌, length, take, map, false, Result, Ok, Err}
+use Rattle.std.specs.Prelude.{◌≡◌, ℕ, ◌<◌, ◌≤◌, ◌⊎◌, List, [], ◌∷◌, ◌++◌, length, take, map, false, Result, Ok, Err, IsUtf8}
 use Rattle.httparse.specs.Grammar.{RequestHead, ReadsRequest, print_request, HasNoRequest, NeverHasRequest, MayBecomeRequest}
-use Rattle.httparse.specs.Spans.{IsRequestAt, IsRequestWithin, name_and_value}
+use Rattle.httparse.specs.Spans.{IsRequestAt, IsRequestWithin, name_and_value, span_bytes}
 use Rattle.httparse.specs.declared.spans.HeaderSpan.{HeaderSpan}
 use Rattle.httparse.specs.declared.spans.RequestSpans.{RequestSpans}
 use Rattle.ix_heads.specs.Limits.{max_head, max_lines}
@@ -28,14 +28,19 @@ pub record HasHead (bytes : List ℕ) (h : RequestHead) (rest : List ℕ) : Type
 abbrev pub LacksHead : List ℕ → Type 0
 LacksHead bytes = (h : RequestHead) (rest : List ℕ) → ¬ (HasHead bytes h rest)
 
+-- up to their last one, these bytes may have become a head
+abbrev pub IsSoon : List ℕ → Type 0
+IsSoon bytes = (front : List ℕ) (last : ℕ) → bytes ≡ front ++ last ∷ [] → MayBecomeRequest front
+
 -- No head stands there, and some bytes are refused: all that a head may have, or so many that no continuation makes
--- a head.
+-- a head. Before the last of them one still might.
 pub record IsHeadless (bytes rest : List ℕ) : Type 0 where
   pub refused : List ℕ
   pub before : bytes ≡ refused ++ rest
   pub size : length refused ≤ max_head
   pub none : LacksHead bytes
   pub settled : (length refused ≡ max_head) ⊎ NeverHasRequest refused
+  pub soon : IsSoon refused
 
 -- The bytes ended inside a head.
 pub record IsCut (bytes : List ℕ) : Type 0 where
@@ -86,5 +91,6 @@ FitsHead bytes headers (Err (NoMemory whole)) old new = (whole ≡ false) × Tak
 abbrev pub KeepsWithin : List ℕ → List HeaderSpan → Result HeadRead LinkFault → Type 0
 KeepsWithin bytes headers (Ok Ended) = Unit {0}
 KeepsWithin bytes headers (Ok Bad) = Unit {0}
-KeepsWithin bytes headers (Ok (Whole spans)) = (spans.len ≤ length bytes) × IsRequestWithin (take spans.len bytes) headers spans
+KeepsWithin bytes headers (Ok (Whole spans)) =
+    (spans.len ≤ length bytes) × IsRequestWithin (take spans.len bytes) headers spans × IsUtf8 (span_bytes (take spans.len bytes) spans.path)
 KeepsWithin bytes headers (Err fault) = Unit {0}

@@ -1,7 +1,7 @@
 -- What is known of bytes of which all but the last one are no head.
-use Rattle.std.specs.Prelude.{◌≡◌, ℕ, ◌<◌, ◌⊎◌, List, [], ◌∷◌, ◌++◌, length, Bool, true, false, Result, Ok, Err}
+use Rattle.std.specs.Prelude.{◌≡◌, ℕ, ◌<◌, ◌⊎◌, List, [], ◌∷◌, ◌++◌, length, Bool, true, false, Result, Ok, Err, IsUtf8}
 use Rattle.httparse.specs.Grammar.{LineEnd, print_end, RequestHead, ReadsRequest, HasNoRequest, NeverHasRequest, MayBecomeRequest}
-use Rattle.httparse.specs.Spans.{IsRequestAt, IsRequestWithin}
+use Rattle.httparse.specs.Spans.{IsRequestAt, IsRequestWithin, span_bytes}
 use Rattle.httparse.specs.declared.spans.HeaderSpan.{HeaderSpan}
 use Rattle.httparse.specs.declared.spans.RequestSpans.{RequestSpans}
 use Rattle.ix_base.specs.declared.faults.NoMemory.{NoMemory}
@@ -32,12 +32,12 @@ pub record IsHeadAt (bytes : List ℕ) (headers : List HeaderSpan) (spans : Requ
 -- bytes with too many header lines: refused, or no head yet
 abbrev pub IsRefused : List ℕ → Result Bool NoMemory → Type 0
 IsRefused bytes (Ok true) = NeverHasRequest bytes ⊎ ((h : RequestHead) × ReadsRequest bytes h [] × (max_lines < length h.fields))
-IsRefused bytes (Ok false) = HasNoRequest bytes
+IsRefused bytes (Ok false) = HasNoRequest bytes × MayBecomeRequest bytes
 IsRefused bytes (Err fault) = OnlyCrowded bytes
 
 -- what was found of the bytes
 abbrev pub IsJudged : List ℕ → List HeaderSpan → Result Judged NoMemory → Type 0
-IsJudged bytes headers (Ok Open) = HasNoRequest bytes
+IsJudged bytes headers (Ok Open) = HasNoRequest bytes × MayBecomeRequest bytes
 IsJudged bytes headers (Ok Bad) = NeverHasRequest bytes ⊎ ((h : RequestHead) × ReadsRequest bytes h [] × (max_lines < length h.fields))
 IsJudged bytes headers (Ok (Whole spans)) = IsHeadAt bytes headers spans
 IsJudged bytes headers (Err fault) = OnlyCrowded bytes
@@ -46,7 +46,7 @@ IsJudged bytes headers (Err fault) = OnlyCrowded bytes
 abbrev pub KeepsJudged : List ℕ → List HeaderSpan → Result Judged NoMemory → Type 0
 KeepsJudged bytes headers (Ok Open) = Unit {0}
 KeepsJudged bytes headers (Ok Bad) = Unit {0}
-KeepsJudged bytes headers (Ok (Whole spans)) = IsRequestWithin bytes headers spans
+KeepsJudged bytes headers (Ok (Whole spans)) = IsRequestWithin bytes headers spans × IsUtf8 (span_bytes bytes spans.path)
 KeepsJudged bytes headers (Err fault) = Unit {0}
 
 -- what a parse with room for all header lines finds

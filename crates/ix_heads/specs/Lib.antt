@@ -4,3 +4,4 @@ pub mod Lines
 pub mod Lengths
 pub mod Reads
 pub mod Judging
+pub mod Fronts

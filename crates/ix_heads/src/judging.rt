@@ -1,9 +1,10 @@
 //! Whether bytes that come one by one are a head. `read_head` asks it of each byte.
 
-ghost use Rattle.std.specs.Prelude.{◌≡◌, ◌≤◌, ◌<◌, ◌-◌, length, take, All, IfOk, true, []};
+ghost use Rattle.std.specs.Prelude.{◌≡◌, ◌≤◌, ◌<◌, ◌-◌, length, take, IfOk, true, false};
 ghost use Rattle.httparse.specs.Grammar.{HasNoRequest};
 ghost use Rattle.httparse.specs.Spans.{RequestOverflows};
-ghost use Rattle.ix_heads.specs.Judging.{EndsInEmptyLine, IsLineByte, IsJudged, KeepsJudged, IsRefused, IsLook, MayGoOn};
+ghost use Rattle.ix_heads.specs.Fronts.{Fronts};
+ghost use Rattle.ix_heads.specs.Judging.{EndsInEmptyLine, IsJudged, KeepsJudged, IsRefused, IsLook, MayGoOn};
 
 use crate::scan::Scan;
 use httparse::spans::{EMPTY_HEADER_SPAN, HeaderSpan, RequestSpans, parse_request};
@@ -14,7 +15,7 @@ use std::alloc::Global;
 /// What bytes are of which all but the last one are no head.
 #[derive(Clone, Copy, Debug)]
 pub(crate) enum Judged {
-    /// No head.
+    /// No head, which may become one.
     Open,
     /// A head with too many header lines, or bytes that never become a head.
     Bad,
@@ -113,7 +114,7 @@ pub(crate) fn judge(
     requires some { 0 < length bytes.now }
     requires size { length bytes.now ≤ 16384 }
     requires before { HasNoRequest (take (length bytes.now - 1) bytes.now) }
-    requires blank { scan.now.blank ≡ true → All IsLineByte bytes.now }
+    requires fronts { scan.now.due ≡ false → Fronts scan.now.part bytes.now }
     requires room { length headers.old ≡ 64 }
     ensures judged { IsJudged bytes.now headers.new result }
     ensures within { KeepsJudged bytes.now headers.new result }

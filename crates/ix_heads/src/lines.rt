@@ -1,6 +1,6 @@
 //! What the header lines of a head say.
 
-ghost use Rattle.std.specs.Prelude.{◌≡◌, ◌≤◌, ◌&&◌, length, take, All, map};
+ghost use Rattle.std.specs.Prelude.{◌≡◌, ◌≤◌, ◌&&◌, length, take, All, map, IsUtf8};
 ghost use Rattle.std.specs.List.{list_any};
 ghost use Rattle.std.specs.Str.{str_eq_ignore_ascii_case};
 ghost use Rattle.httparse.specs.Spans.{IsHeaderWithin, IsRequestWithin, header_bytes, span_bytes};
@@ -8,6 +8,7 @@ ghost use Rattle.ix_heads.specs.Lines.{line_of, one_more, seen, has_line, has_ot
 
 use httparse::spans::{HeaderSpan, RequestSpans};
 use std::marker::Model;
+use std::str;
 
 /// What a head says under one name.
 #[derive(Clone, Copy, Debug)]
@@ -26,7 +27,7 @@ pub struct Head<'b> {
     bytes: &'b [u8],
     headers: &'b [HeaderSpan],
     method: &'b [u8],
-    target: &'b [u8],
+    target: &'b str,
 }
 
 impl<'b> Model for Head<'b> {
@@ -98,7 +99,8 @@ fn has_other(bytes: &[u8], headers: &[HeaderSpan], name: &[u8], value: &[u8]) ->
 impl<'b> Head<'b> {
     /// The head whose parts these spans cover.
     pub fn new(bytes: &'b [u8], headers: &'b [HeaderSpan], spans: RequestSpans) -> Self
-        requires { IsRequestWithin bytes.now headers.now spans }
+        requires spans { IsRequestWithin bytes.now headers.now spans }
+        requires text { IsUtf8 (span_bytes bytes.now spans.path) }
         ensures method { result.method ≡ span_bytes bytes.entry.now spans.method }
         ensures target { result.target ≡ span_bytes bytes.entry.now spans.path }
         ensures lines { result.lines ≡ map (header_bytes bytes.entry.now) (take spans.headers headers.entry.now) }
@@ -107,7 +109,7 @@ impl<'b> Head<'b> {
             bytes,
             headers: &headers[..spans.headers],
             method: spans.method.of(bytes),
-            target: spans.path.of(bytes),
+            target: str::from_utf8(spans.path.of(bytes)).unwrap(),
         }
     }
 
@@ -119,7 +121,7 @@ impl<'b> Head<'b> {
     }
 
     /// The target: the path, and a query behind a `?`.
-    pub fn target(&self) -> &'b [u8]
+    pub fn target(&self) -> &'b str
         ensures { result.now ≡ self.now.target }
     {
         self.target

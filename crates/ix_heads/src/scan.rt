@@ -1,27 +1,40 @@
 //! Where in a head its last byte stands. `judge` asks it of each byte, so that the whole is parsed only where it may be decided.
 
-ghost use Rattle.std.specs.Prelude.{◌≡◌, true};
-ghost use Rattle.ix_heads.specs.Judging.{IsLineByte};
+ghost use Rattle.std.specs.Prelude.{◌≡◌, ◌==◌, true, []};
+ghost use Rattle.std.specs.List.{list_any};
+ghost use Rattle.httparse.specs.Grammar.{is_token_byte, is_uri_byte, is_value_byte};
+ghost use Rattle.ix_heads.specs.Fronts.{Fronts, Grows, IsBlank};
 
 /// The part of a head that its last byte belongs to.
 #[derive(Clone, Copy, Debug)]
-enum Part {
+pub(crate) enum Part {
     /// Empty lines before the request line.
     Blank,
+    /// A carriage return behind them.
+    BlankReturn,
     Method,
-    /// The beginning of a target.
+    /// The space before a target.
     TargetStart,
+    /// A target of ASCII.
     Target,
     /// A target with a byte above 127, which may be no UTF-8.
     WideTarget,
-    /// The version: so many of its bytes.
+    /// So many of the bytes of a version that stand before its last digit.
     Version(u8),
-    /// The beginning of a header line.
+    /// The last digit of a version.
+    VersionEnd,
+    /// A carriage return behind it.
+    VersionReturn,
+    /// The end of a line, behind which a header line or the last, empty one begins.
     LineStart,
+    /// The carriage return of the empty line.
+    LineReturn,
+    /// The name of a header line.
     Name,
+    /// Its value.
     Value,
-    /// A carriage return that ends a line.
-    Return,
+    /// A carriage return behind it.
+    ValueReturn,
     /// Something that no head has there.
     Stray,
 }
@@ -29,104 +42,290 @@ enum Part {
 /// What stands before the last digit of a version.
 const VERSION: [u8; 7] = *b"HTTP/1.";
 
-/// Whether a byte may stand in a method or in the name of a header line.
-fn is_token(byte: u8) -> bool {
-    byte.is_ascii_alphanumeric() || b"!#$%&'*+-.^_`|~".contains(&byte)
-}
-
-/// A version goes on behind so many of its bytes.
-fn version_after(count: u8, byte: u8) -> Part {
-    if count < 7 && byte == VERSION[usize::from(count)] {
-        Part::Version(count + 1)
-    } else if count == 7 && (byte == b'0' || byte == b'1') {
-        Part::Version(8)
-    } else {
-        Part::Stray
-    }
-}
-
-/// The part that goes on with a byte other than a line end.
-fn part_after(part: Part, byte: u8) -> Part {
-    match (part, byte) {
-        (Part::Blank | Part::Method, _) if is_token(byte) => Part::Method,
-        (Part::Method, b' ') => Part::TargetStart,
-        (Part::TargetStart | Part::Target | Part::WideTarget, 128..=255) => Part::WideTarget,
-        (Part::TargetStart | Part::Target, 33..=126) => Part::Target,
-        (Part::WideTarget, 33..=126) => Part::WideTarget,
-        (Part::Target | Part::WideTarget, b' ') => Part::Version(0),
-        (Part::Version(count), _) => version_after(count, byte),
-        (Part::LineStart | Part::Name, _) if is_token(byte) => Part::Name,
-        (Part::Name, b':') => Part::Value,
-        (Part::Value, b'\t' | 32..=126 | 128..=255) => Part::Value,
-        _ => Part::Stray,
-    }
-}
-
-/// The part that goes on with a byte of a line end. `blank` tells whether nothing but line ends came before.
-fn part_at_end(part: Part, byte: u8, blank: bool) -> Part {
-    match (part, byte) {
-        (Part::Blank, b'\n') => Part::Blank,
-        (Part::Return, b'\n') if blank => Part::Blank,
-        (Part::Return | Part::Version(8) | Part::LineStart | Part::Value, b'\n') => Part::LineStart,
-        (Part::Blank | Part::Version(8) | Part::LineStart | Part::Value, b'\r') => Part::Return,
-        _ => Part::Stray,
-    }
-}
-
-/// Whether a step from a part to the next one is one after which the bytes are to be parsed. Behind a stray byte that is asked
-/// once, and again at each line end.
-fn is_due(before: Part, part: Part, byte: u8) -> bool {
-    match (before, part) {
-        (Part::Stray, _) => byte == b'\n',
-        (_, Part::Stray) => true,
-        (Part::WideTarget, Part::Version(_)) => true,
-        _ => false,
-    }
-}
-
 /// Reads a head byte by byte.
 #[derive(Clone, Copy, Debug)]
 pub(crate) struct Scan {
     part: Part,
-    blank: bool,
     due: bool,
+}
+
+/// The scan goes on.
+fn at(part: Part) -> Scan
+    ensures { result.part ≡ part }
+{
+    Scan { part, due: false }
+}
+
+/// The bytes are to be parsed, and the scan goes on where they may become a head.
+fn asked(part: Part) -> Scan
+    ensures part { result.part ≡ part }
+    ensures due { result.due ≡ true }
+{
+    Scan { part, due: true }
+}
+
+/// The bytes are to be parsed: no head has this byte here.
+fn stray() -> Scan
+    ensures part { result.part ≡ Part.Stray }
+    ensures due { result.due ≡ true }
+{
+    asked(Part::Stray)
+}
+
+fn holds(bytes: &[u8], byte: u8) -> bool
+    ensures { result ≡ list_any (λ b. b == byte) bytes.now }
+{
+    bytes.iter().any(|it| *it == byte)
+}
+
+/// Whether a byte may stand in a method or in the name of a header line.
+#[tactic(auto, unfolding(httparse::specs::Grammar::is_token_byte))]
+fn is_token(byte: u8) -> bool
+    ensures { result ≡ is_token_byte byte }
+{
+    byte.is_ascii_alphanumeric() || holds(b"!#$%&'*+-.^_`|~", byte)
+}
+
+/// Whether a byte may stand in a target.
+fn is_target(byte: u8) -> bool
+    ensures { result ≡ is_uri_byte byte }
+{
+    byte > b' ' && byte != 127
+}
+
+/// Whether a byte may stand in the value of a header line.
+fn is_value(byte: u8) -> bool
+    ensures { result ≡ is_value_byte byte }
+{
+    byte == b'\t' || byte >= b' ' && byte != 127
+}
+
+#[tactic(auto, using(crate::proofs::ScanLemmas::blank_line, crate::proofs::ScanLemmas::blank_return, crate::proofs::ScanLemmas::method_begun, crate::proofs::ScanLemmas::strays))]
+fn after_blank(byte: u8) -> Scan
+    ensures { Grows Part.Blank byte result }
+{
+    if byte == b'\n' {
+        at(Part::Blank)
+    } else if byte == b'\r' {
+        at(Part::BlankReturn)
+    } else if is_token(byte) {
+        at(Part::Method)
+    } else {
+        stray()
+    }
+}
+
+#[tactic(auto, using(crate::proofs::ScanLemmas::blank_returned, crate::proofs::ScanLemmas::strays))]
+fn after_blank_return(byte: u8) -> Scan
+    ensures { Grows Part.BlankReturn byte result }
+{
+    if byte == b'\n' {
+        at(Part::Blank)
+    } else {
+        stray()
+    }
+}
+
+#[tactic(auto, using(crate::proofs::ScanLemmas::method_more, crate::proofs::ScanLemmas::method_ended, crate::proofs::ScanLemmas::strays))]
+fn after_method(byte: u8) -> Scan
+    ensures { Grows Part.Method byte result }
+{
+    if is_token(byte) {
+        at(Part::Method)
+    } else if byte == b' ' {
+        at(Part::TargetStart)
+    } else {
+        stray()
+    }
+}
+
+#[tactic(auto, using(crate::proofs::ScanLemmas::target_begun, crate::proofs::ScanLemmas::wide_begun, crate::proofs::ScanLemmas::strays))]
+fn after_target_start(byte: u8) -> Scan
+    ensures { Grows Part.TargetStart byte result }
+{
+    if !is_target(byte) {
+        stray()
+    } else if byte < 128 {
+        at(Part::Target)
+    } else {
+        at(Part::WideTarget)
+    }
+}
+
+#[tactic(auto, using(crate::proofs::ScanLemmas::target_ended, crate::proofs::ScanLemmas::target_on, crate::proofs::ScanLemmas::target_widened, crate::proofs::ScanLemmas::strays))]
+fn after_target(byte: u8) -> Scan
+    ensures { Grows Part.Target byte result }
+{
+    if byte == b' ' {
+        at(Part::Version(0))
+    } else if !is_target(byte) {
+        stray()
+    } else if byte < 128 {
+        at(Part::Target)
+    } else {
+        at(Part::WideTarget)
+    }
+}
+
+#[tactic(auto, using(crate::proofs::ScanLemmas::wide_ended, crate::proofs::ScanLemmas::wide_on, crate::proofs::ScanLemmas::strays))]
+fn after_wide_target(byte: u8) -> Scan
+    ensures { Grows Part.WideTarget byte result }
+{
+    if byte == b' ' {
+        asked(Part::Version(0))
+    } else if is_target(byte) {
+        at(Part::WideTarget)
+    } else {
+        stray()
+    }
+}
+
+#[tactic(auto, using(crate::proofs::ScanLemmas::version_on, crate::proofs::ScanLemmas::version_done, crate::proofs::ScanLemmas::strays))]
+fn after_version(count: u8, byte: u8) -> Scan
+    ensures { Grows (Part.Version count) byte result }
+{
+    if count < 7 && byte == VERSION[usize::from(count)] {
+        at(Part::Version(count + 1))
+    } else if count == 7 && (byte == b'0' || byte == b'1') {
+        at(Part::VersionEnd)
+    } else {
+        stray()
+    }
+}
+
+#[tactic(auto, using(crate::proofs::ScanLemmas::version_ended, crate::proofs::ScanLemmas::version_return, crate::proofs::ScanLemmas::strays))]
+fn after_version_end(byte: u8) -> Scan
+    ensures { Grows Part.VersionEnd byte result }
+{
+    if byte == b'\n' {
+        at(Part::LineStart)
+    } else if byte == b'\r' {
+        at(Part::VersionReturn)
+    } else {
+        stray()
+    }
+}
+
+#[tactic(auto, using(crate::proofs::ScanLemmas::version_returned, crate::proofs::ScanLemmas::strays))]
+fn after_version_return(byte: u8) -> Scan
+    ensures { Grows Part.VersionReturn byte result }
+{
+    if byte == b'\n' {
+        at(Part::LineStart)
+    } else {
+        stray()
+    }
+}
+
+/// Behind the end of a line. Where another one follows, the head is whole.
+#[tactic(auto, using(crate::proofs::ScanLemmas::line_done, crate::proofs::ScanLemmas::line_return, crate::proofs::ScanLemmas::name_begun, crate::proofs::ScanLemmas::strays))]
+fn after_line_start(byte: u8) -> Scan
+    ensures { Grows Part.LineStart byte result }
+{
+    if byte == b'\n' {
+        at(Part::LineStart)
+    } else if byte == b'\r' {
+        at(Part::LineReturn)
+    } else if is_token(byte) {
+        at(Part::Name)
+    } else {
+        stray()
+    }
+}
+
+/// Behind the carriage return of the empty line. With the line feed the head is whole.
+#[tactic(auto, using(crate::proofs::ScanLemmas::line_returned, crate::proofs::ScanLemmas::strays))]
+fn after_line_return(byte: u8) -> Scan
+    ensures { Grows Part.LineReturn byte result }
+{
+    if byte == b'\n' {
+        at(Part::LineStart)
+    } else {
+        stray()
+    }
+}
+
+#[tactic(auto, using(crate::proofs::ScanLemmas::name_on, crate::proofs::ScanLemmas::name_ended, crate::proofs::ScanLemmas::strays))]
+fn after_name(byte: u8) -> Scan
+    ensures { Grows Part.Name byte result }
+{
+    if is_token(byte) {
+        at(Part::Name)
+    } else if byte == b':' {
+        at(Part::Value)
+    } else {
+        stray()
+    }
+}
+
+#[tactic(auto, using(crate::proofs::ScanLemmas::value_on, crate::proofs::ScanLemmas::value_ended, crate::proofs::ScanLemmas::value_return, crate::proofs::ScanLemmas::strays))]
+fn after_value(byte: u8) -> Scan
+    ensures { Grows Part.Value byte result }
+{
+    if is_value(byte) {
+        at(Part::Value)
+    } else if byte == b'\n' {
+        at(Part::LineStart)
+    } else if byte == b'\r' {
+        at(Part::ValueReturn)
+    } else {
+        stray()
+    }
+}
+
+#[tactic(auto, using(crate::proofs::ScanLemmas::value_returned, crate::proofs::ScanLemmas::strays))]
+fn after_value_return(byte: u8) -> Scan
+    ensures { Grows Part.ValueReturn byte result }
+{
+    if byte == b'\n' {
+        at(Part::LineStart)
+    } else {
+        stray()
+    }
 }
 
 impl Scan {
     /// Before the first byte.
-    pub(crate) fn new() -> Self {
-        Scan {
-            part: Part::Blank,
-            blank: true,
-            due: false,
-        }
+    pub(crate) fn new() -> Self
+        ensures { Fronts result.part [] }
+    {
+        at(Part::Blank)
     }
 
     /// Whether each byte so far is one of a line end.
     pub(crate) fn is_blank(&self) -> bool
-        ensures { result ≡ self.now.blank }
+        ensures { result ≡ true → IsBlank self.now.part }
     {
-        self.blank
+        matches!(self.part, Part::Blank | Part::BlankReturn)
     }
 
-    /// Whether the bytes so far are to be parsed: the last one may be one too many, or the end of a target that may be no
-    /// UTF-8.
-    pub(crate) fn is_due(&self) -> bool {
+    /// Whether the bytes so far are to be parsed: the last one is one too many, or the end of a target that may be no UTF-8.
+    pub(crate) fn is_due(&self) -> bool
+        ensures { result ≡ self.now.due }
+    {
         self.due
     }
 
     /// Goes on by one byte.
     pub(crate) fn take(&mut self, byte: u8)
-        ensures { self.new.blank ≡ true → (self.old.blank ≡ true) × IsLineByte byte }
+        ensures { Grows self.old.part byte self.new }
     {
-        let is_end = byte == b'\n' || byte == b'\r';
-        let part = if is_end {
-            part_at_end(self.part, byte, self.blank)
-        } else {
-            part_after(self.part, byte)
+        *self = match self.part {
+            Part::Blank => after_blank(byte),
+            Part::BlankReturn => after_blank_return(byte),
+            Part::Method => after_method(byte),
+            Part::TargetStart => after_target_start(byte),
+            Part::Target => after_target(byte),
+            Part::WideTarget => after_wide_target(byte),
+            Part::Version(count) => after_version(count, byte),
+            Part::VersionEnd => after_version_end(byte),
+            Part::VersionReturn => after_version_return(byte),
+            Part::LineStart => after_line_start(byte),
+            Part::LineReturn => after_line_return(byte),
+            Part::Name => after_name(byte),
+            Part::Value => after_value(byte),
+            Part::ValueReturn => after_value_return(byte),
+            Part::Stray => stray(),
         };
-        self.due = is_due(self.part, part, byte);
-        self.part = part;
-        self.blank = self.blank && is_end;
     }
 }

@@ -5,5 +5,10 @@ pub mod VerdictLemmas
 pub mod TakingLemmas
 pub mod AskLemmas
 pub mod RouteLemmas
+pub mod SearchLemmas
+pub mod TableLemmas
+pub mod ParamLemmas
+pub mod PlaceLemmas
+pub mod MethodLemmas
 pub mod LimitLemmas
 pub mod PutLemmas

@@ -28,7 +28,7 @@ some-if false x y e = cc
 named-to : (test : List ℕ → Bool) (f : List ℕ → Route) (name : List ℕ) (r : Route) → named test f name ≡ Some r → (test name ≡ true) × (f name ≡ r)
 named-to test f name r e = some-if (test name) (f name) r e
 
-named-from : (test : List ℕ → Bool) (f : List ℕ → Route) (name : List ℕ) → test name ≡ true → named test f name ≡ Some (f name)
+pub named-from : (test : List ℕ → Bool) (f : List ℕ → Route) (name : List ℕ) → test name ≡ true → named test f name ≡ Some (f name)
 named-from test f name e = if-true (test name) (Some (f name)) None e
 
 -- ---- fronts and ends
@@ -46,7 +46,7 @@ behind-from front text rest e =
     if-true (bytes_eq (take (length front) text) front) (Some (drop (length front) text)) None same
     ∙ ap Some (ap (drop (length front)) e ∙ drop-append_seam front rest)
 
-before-to : (tail text rest : List ℕ) → before tail text ≡ Some rest → text ≡ rest ++ tail
+pub before-to : (tail text rest : List ℕ) → before tail text ≡ Some rest → text ≡ rest ++ tail
 before-to tail text rest e =
     let n : ℕ = length text - length tail in
     let p = some-if (bytes_eq (drop n text) tail) (take n text) rest e in
@@ -54,7 +54,7 @@ before-to tail text rest e =
     ∙ ap (λ t. take n text ++ t) ((bytes_eq-Decides (drop n text) tail).0 p.0)
     ∙ ap (λ t. t ++ tail) p.1
 
-before-from : (tail text rest : List ℕ) → text ≡ rest ++ tail → before tail text ≡ Some rest
+pub before-from : (tail text rest : List ℕ) → text ≡ rest ++ tail → before tail text ≡ Some rest
 before-from tail text rest e =
     let n : ℕ = length text - length tail in
     let size = ap length e ∙ length-append rest tail in
@@ -64,20 +64,20 @@ before-from tail text rest e =
     let same = (bytes_eq-Decides (drop n text) tail).1 cut in
     if-true (bytes_eq (drop n text) tail) (Some (take n text)) None same ∙ ap Some kept
 
-none-where : {A : Type 0} (o : Option A) → ((x : A) → o ≡ Some x → ⊥) → o ≡ None
+pub none-where : {A : Type 0} (o : Option A) → ((x : A) → o ≡ Some x → ⊥) → o ≡ None
 none-where None f = refl
 none-where (Some x) f = absurd (f x refl)
 
 -- ---- names
 
-true_false : {b : Bool} → b ≡ true → b ≡ false → ⊥
+pub true_false : {b : Bool} → b ≡ true → b ≡ false → ⊥
 true_false p q = cc
 
-both : (a b : Bool) → (a && b) ≡ true → (a ≡ true) × (b ≡ true)
+pub both : (a b : Bool) → (a && b) ≡ true → (a ≡ true) × (b ≡ true)
 both true b e = (refl, e)
 both false b e = cc
 
-name_bytes : (name : List ℕ) → is_channel_name name ≡ true → list_all is_name_byte name ≡ true
+pub name_bytes : (name : List ℕ) → is_channel_name name ≡ true → list_all is_name_byte name ≡ true
 name_bytes name e = (both _ (list_all is_name_byte name) (both _ _ e).1).1
 
 -- no name ends in a text with a slash
@@ -90,7 +90,7 @@ no_slash_end name x tail is slash e =
 differ : (a b : ℕ) → (a == b) ≡ false → a ≡ b → ⊥
 differ a b other e = true_false ((unsigned_Decides a b).1 e) other
 
-other_end : (x y : List ℕ) → y ++ codes "/end" ≡ x ++ codes "/blocks" → ⊥
+pub other_end : (x y : List ℕ) → y ++ codes "/end" ≡ x ++ codes "/blocks" → ⊥
 other_end x y e =
     let whole : (y ++ codes "/en") ++ 100 ∷ [] ≡ (x ++ codes "/block") ++ 115 ∷ [] =
     append_assoc y (codes "/en") (100 ∷ []) ∙ e ∙ sym (append_assoc x (codes "/block") (115 ∷ [])) in
@@ -116,7 +116,7 @@ channel-to rest r e = by (before (codes "/blocks") rest) refl (before (codes "/e
         let n = named-to is_channel_name channel rest r g in
         subst (λ r. IsNamed r × (codes "/channels/" ++ rest ≡ path_text r)) n.1 (n.0, refl)
 
-under : (rest : List ℕ) (b c : Option (List ℕ)) → before (codes "/blocks") rest ≡ b → before (codes "/end") rest ≡ c → channel_route rest ≡ under_channels b c rest
+pub under : (rest : List ℕ) (b c : Option (List ℕ)) → before (codes "/blocks") rest ≡ b → before (codes "/end") rest ≡ c → channel_route rest ≡ under_channels b c rest
 unfolding channel_route
 under rest b c eb ec = ap (λ b. under_channels b (before (codes "/end") rest) rest) eb ∙ ap (λ c. under_channels b c rest) ec
 
@@ -137,7 +137,7 @@ channel-from name is =
 
 -- ---- indexes
 
-index-to : (rest : List ℕ) (r : Route) → index_route rest ≡ Some r → IsNamed r × (codes "/indexes/" ++ rest ≡ path_text r)
+pub index-to : (rest : List ℕ) (r : Route) → index_route rest ≡ Some r → IsNamed r × (codes "/indexes/" ++ rest ≡ path_text r)
 unfolding index_route
 index-to rest r e = by (before (codes "/events") rest) refl e
   where
@@ -173,12 +173,12 @@ route-to path r e = by (bytes_eq path (codes "/acks")) refl (bytes_eq path (code
     by false ea false eb g = front _ _ refl refl g
 
 -- the route of a path that begins so
-channels : (rest : List ℕ) → route_of (codes "/channels/" ++ rest) ≡ channel_route rest
+pub channels : (rest : List ℕ) → route_of (codes "/channels/" ++ rest) ≡ channel_route rest
 unfolding route_of
 channels rest =
     ap (λ b. by_front b (behind (codes "/indexes/") (codes "/channels/" ++ rest))) (behind-from (codes "/channels/") (codes "/channels/" ++ rest) rest refl)
 
-indexes : (rest : List ℕ) → route_of (codes "/indexes/" ++ rest) ≡ index_route rest
+pub indexes : (rest : List ℕ) → route_of (codes "/indexes/" ++ rest) ≡ index_route rest
 unfolding route_of
 indexes rest =
     let none = none-where (behind (codes "/channels/") (codes "/indexes/" ++ rest)) (λ x e. other rest x (behind-to (codes "/channels/") (codes "/indexes/" ++ rest) x e)) in

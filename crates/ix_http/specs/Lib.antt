@@ -1,4 +1,5 @@
 pub mod Routes
+pub mod Table
 pub mod Ranges
 pub mod Bodies
 pub mod Texts
@@ -7,3 +8,4 @@ pub mod Asked
 pub mod Limits
 pub mod Behind
 pub mod Replies
+pub mod Names

@@ -1,6 +1,10 @@
 //! What a request asks, and why one is refused.
 
+ghost use Rattle.std.specs.Prelude.{◌≡◌, ◌≤◌, length};
+ghost use Rattle.ix_http.specs.Names.{name_of};
+
 use ix_base::{Bytes, ChannelMeta, NumberList, Range};
+use std::fmt;
 use thiserror::Error;
 
 /// Why a request is refused. Where several causes stand together, the first one in this order is answered.
@@ -8,29 +12,52 @@ use thiserror::Error;
 pub enum HttpFault {
     /// No head of HTTP/1.0 or 1.1, more than 64 header lines, two `Content-Length` lines, or one that is not 1 to 10
     /// digits.
-    #[error("the head is none that is taken")]
     BadHead,
     /// The path names nothing.
-    #[error("the path names nothing")]
     NoRoute,
     /// The path has another method.
-    #[error("the path has another method")]
     WrongMethod,
     /// No `Content-Length` where one is required, or a `Transfer-Encoding`.
-    #[error("the length of the body is not given")]
     NoLength,
     /// A `Content-Encoding` other than `identity`.
-    #[error("the body is encoded")]
     Encoded,
     /// The body is longer than the path allows.
-    #[error("the body is longer than the path allows")]
     TooLong,
     /// The query has a name other than `earliest` and `latest`, one of them twice, or a value that is no time.
-    #[error("the query is none of the path")]
     BadQuery,
     /// The body is no JSON, or not of the form.
-    #[error("the body is not of the form")]
     BadBody,
+}
+
+impl HttpFault {
+    /// Its name, as replies tell it.
+    pub fn name(self) -> &'static str
+        ensures name { result.now ≡ name_of self }
+        ensures short { length result.now ≤ 20 }
+    {
+        match self {
+            HttpFault::BadHead => "BadHead",
+            HttpFault::NoRoute => "NoRoute",
+            HttpFault::WrongMethod => "WrongMethod",
+            HttpFault::NoLength => "NoLength",
+            HttpFault::Encoded => "Encoded",
+            HttpFault::TooLong => "TooLong",
+            HttpFault::BadQuery => "BadQuery",
+            HttpFault::BadBody => "BadBody",
+        }
+    }
+}
+
+/// Its name.
+impl fmt::Display for HttpFault {
+    ghost use Rattle.std.specs.Prelude.{Some};
+    ghost use Rattle.ix_http.specs.Names.{name_of};
+
+    ghost output = { λ fault. Some (name_of fault) };
+
+    fn fmt<W: fmt::Write>(&self, f: &mut fmt::Formatter<W>) -> fmt::Result {
+        f.write_str(self.name())
+    }
 }
 
 /// What a request asks.

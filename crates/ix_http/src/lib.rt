@@ -11,6 +11,7 @@ mod ranges;
 #[tactic(auto, using(ix_link::proofs::GoesLemmas::goings))]
 mod replies;
 mod requests;
+mod router;
 mod taking;
 mod verdicts;
 
@@ -19,3 +20,4 @@ pub use kinds::{Ask, HttpFault, Incoming, Kind};
 pub use places::routes_are_exact;
 pub use replies::write_reply;
 pub use requests::read_request;
+pub use router::Routes;

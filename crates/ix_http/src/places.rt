@@ -1,9 +1,11 @@
 //! The routes: what the path of a target names.
 
 ghost use Rattle.std.specs.Prelude.{◌≡◌, ◌≤◌, ◌==◌, ◌&&◌, length, option_map};
-ghost use Rattle.std.specs.List.{list_all, list_any, position_or_len};
-ghost use Rattle.std.specs.Option.{option_copied};
-ghost use Rattle.ix_http.specs.Routes.{seen, path_of, query_of, is_name_byte, is_channel_name, is_segment, behind, before, channel_route, index_route, route_of, RoutesAreExact};
+ghost use Rattle.std.specs.List.{list_all, position_or_len};
+ghost use Rattle.ix_http.specs.Routes.{seen, path_of, query_of, is_name_byte, is_channel_name, route_of, RoutesAreExact};
+ghost use Rattle.ix_http.specs.Table.{named_route};
+
+use crate::router::{Form, Routes};
 
 /// What a path names.
 #[derive(Clone, Copy, Debug)]
@@ -31,17 +33,18 @@ fn path_len(target: &[u8]) -> usize
 }
 
 /// The path of a target: what stands before its first `?`.
-pub(crate) fn path_of(target: &[u8]) -> &[u8]
+pub(crate) fn path_of(target: &str) -> &str
     ensures { result.now ≡ path_of target.now }
 {
-    let end = path_len(target);
+    let end = path_len(target.as_bytes());
     &target[..end]
 }
 
 /// The query of a target: what stands behind its first `?`.
-pub(crate) fn query_of(target: &[u8]) -> &[u8]
+pub(crate) fn query_of(target: &str) -> &[u8]
     ensures { result.now ≡ query_of target.now }
 {
+    let target = target.as_bytes();
     let end = path_len(target);
     if end < target.len() {
         &target[end + 1..]
@@ -70,90 +73,29 @@ fn is_channel_name(name: &[u8]) -> bool
     1 <= name.len() && name.len() <= 64 && are_name_bytes(name)
 }
 
-fn has_slash(name: &[u8]) -> bool
-    ensures { result ≡ list_any (λ b. b == 47) name.now }
+/// What a form and a name say.
+fn named_place(form: Form, name: &[u8]) -> Option<Place<'_>>
+    ensures { option_map seen result ≡ named_route form name.now }
 {
-    name.iter().any(|b| *b == b'/')
-}
-
-/// Whether the name is one byte or more, none of them a slash.
-#[tactic(auto, using(std::proofs::lemmas::Bool::Decides::nat_tests))]
-fn is_segment(name: &[u8]) -> bool
-    ensures { result ≡ is_segment name.now }
-{
-    1 <= name.len() && !has_slash(name)
-}
-
-/// What stands in a text behind its first bytes.
-fn behind<'b>(front: &[u8], text: &'b [u8]) -> Option<&'b [u8]>
-    ensures { option_copied result ≡ behind front.now text.now }
-{
-    if text.len() >= front.len() && text[..front.len()] == front[..] {
-        Some(&text[front.len()..])
-    } else {
-        None
-    }
-}
-
-/// What stands in a text before its last bytes.
-fn before<'b>(end: &[u8], text: &'b [u8]) -> Option<&'b [u8]>
-    ensures { option_copied result ≡ before end.now text.now }
-{
-    text.strip_suffix(end)
-}
-
-#[tactic(auto, unfolding(crate::specs::Routes::channel_route))]
-fn channel_place(rest: &[u8]) -> Option<Place<'_>>
-    ensures { option_map seen result ≡ channel_route rest.now }
-{
-    if let Some(name) = before(b"/blocks", rest) {
-        return if is_channel_name(name) {
-            Some(Place::Blocks(name))
-        } else {
-            None
-        };
-    }
-    if let Some(name) = before(b"/end", rest) {
-        return if is_channel_name(name) {
-            Some(Place::End(name))
-        } else {
-            None
-        };
-    }
-    if is_channel_name(rest) {
-        Some(Place::Channel(rest))
-    } else {
-        None
-    }
-}
-
-#[tactic(auto, unfolding(crate::specs::Routes::index_route))]
-fn index_place(rest: &[u8]) -> Option<Place<'_>>
-    ensures { option_map seen result ≡ index_route rest.now }
-{
-    let name = before(b"/events", rest)?;
-    if is_segment(name) {
-        Some(Place::Events(name))
-    } else {
-        None
+    match form {
+        Form::Channel if is_channel_name(name) => Some(Place::Channel(name)),
+        Form::Blocks if is_channel_name(name) => Some(Place::Blocks(name)),
+        Form::End if is_channel_name(name) => Some(Place::End(name)),
+        Form::Channel | Form::Blocks | Form::End => None,
+        Form::Acks => Some(Place::Acks),
+        Form::Buckets => Some(Place::Buckets),
+        Form::Events => Some(Place::Events(name)),
     }
 }
 
 /// What a path names.
-#[tactic(auto, unfolding(crate::specs::Routes::route_of))]
-pub(crate) fn place_of(path: &[u8]) -> Option<Place<'_>>
-    ensures { option_map seen result ≡ route_of path.now }
+pub(crate) fn place_of<'b>(routes: &Routes, path: &'b str) -> Option<Place<'b>>
+    ensures { option_map seen result ≡ route_of path.entry.now }
 {
-    if path == b"/acks".as_slice() {
-        return Some(Place::Acks);
+    match routes.find(path) {
+        Some((form, name)) => named_place(form, name.as_bytes()),
+        None => None,
     }
-    if path == b"/buckets".as_slice() {
-        return Some(Place::Buckets);
-    }
-    if let Some(rest) = behind(b"/channels/", path) {
-        return channel_place(rest);
-    }
-    index_place(behind(b"/indexes/", path)?)
 }
 
 /// A law of the routes: a path names a channel, its blocks or its end, the acknowledgements, the buckets or the events of an

@@ -12,6 +12,7 @@ ghost use Rattle.ix_http.specs.Verdicts.{delimited_length, head_fault};
 use crate::asks::asked_of;
 use crate::kinds::{HttpFault, Incoming};
 use crate::places::{path_of, place_of, query_of};
+use crate::router::Routes;
 use crate::taking::{read_body, skip};
 use crate::verdicts::{delimited_length, head_fault, unread_fault};
 use ix_base::NoMemory;
@@ -22,6 +23,7 @@ use std::alloc::Global;
 /// Reads the body of a request whose head has no fault, and what it asks.
 fn read_asked<K: Link>(
     alloc: Global,
+    routes: &Routes,
     link: &mut K,
     head: &Head<'_>,
     count: usize,
@@ -35,7 +37,7 @@ fn read_asked<K: Link>(
 {
     let body = read_body(alloc, link, count)?;
     let target = head.target();
-    let Some(place) = place_of(path_of(target)) else {
+    let Some(place) = place_of(routes, path_of(target)) else {
         return Ok(Incoming::Refused {
             fault: HttpFault::NoRoute,
             delimited: true,
@@ -68,7 +70,12 @@ fn read_refused<K: Link>(
 }
 
 /// Reads what stands behind a head, and judges the request.
-fn read_behind<K: Link>(alloc: Global, link: &mut K, head: &Head<'_>) -> Result<Incoming, LinkFault>
+fn read_behind<K: Link>(
+    alloc: Global,
+    routes: &Routes,
+    link: &mut K,
+    head: &Head<'_>,
+) -> Result<Incoming, LinkFault>
     requires { length head.now.lines ≤ 64 }
     ensures read { Told (FitsBehind head.now result) (K.left link.old) (K.left link.new) }
     ensures within { IfOk result IsWithin }
@@ -77,20 +84,24 @@ fn read_behind<K: Link>(alloc: Global, link: &mut K, head: &Head<'_>) -> Result<
 {
     let Some(count) = delimited_length(head) else {
         return Ok(Incoming::Refused {
-            fault: unread_fault(head),
+            fault: unread_fault(alloc, routes, head),
             delimited: false,
         });
     };
-    match head_fault(head) {
+    match head_fault(alloc, routes, head) {
         Some(fault) => read_refused(link, head, count as usize, fault),
-        None => read_asked(alloc, link, head, count as usize),
+        None => read_asked(alloc, routes, link, head, count as usize),
     }
 }
 
 /// Reads one request from a link, and takes just its bytes: the rest is left unread. Where it is known where a request
 /// ends, its body is read before it is judged. The faults are judged in the order of `HttpFault`. `Failed` comes only where
 /// the link failed, `Cut` exactly where it ended inside a request. What is asked keeps its limits, whatever the link tells.
-pub fn read_request<K: Link>(alloc: Global, link: &mut K) -> Result<Incoming, LinkFault>
+pub fn read_request<K: Link>(
+    alloc: Global,
+    routes: &Routes,
+    link: &mut K,
+) -> Result<Incoming, LinkFault>
     ensures read { Told (Fits result) (K.left link.old) (K.left link.new) }
     ensures within { IfOk result IsWithin }
     ensures reads { OnlyReads (K.given link.old) (K.given link.new) (K.standing link.old) (K.standing link.new) (K.faults link.old) (K.faults link.new) }
@@ -107,7 +118,7 @@ pub fn read_request<K: Link>(alloc: Global, link: &mut K) -> Result<Incoming, Li
         Err(fault) => Err(fault),
         Ok(HeadRead::Whole(spans)) => {
             let head = Head::new(&bytes[..spans.len], &headers, spans);
-            read_behind(alloc, link, &head)
+            read_behind(alloc, routes, link, &head)
         }
     }
 }

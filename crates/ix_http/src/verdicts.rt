@@ -1,26 +1,29 @@
 //! What is judged of a request by its head alone.
 
-ghost use Rattle.std.specs.Prelude.{◌≡◌, ◌≤◌, ◌&&◌, length, Some, None, IfSome};
+ghost use Rattle.std.specs.Prelude.{◌≡◌, ◌≤◌, ◌&&◌, length, Some, None, IfSome, bytes_eq};
 ghost use Rattle.ix_http.specs.Routes.{seen};
 ghost use Rattle.ix_heads.specs.Lengths.{declared_length};
 ghost use Rattle.ix_http.specs.Verdicts.{method_of, limit_of, needs_length, length_of, is_missing, is_wrong, is_good, is_chunked, delimited_length, route_fault, head_fault};
 
 use crate::kinds::HttpFault;
 use crate::places::{Place, path_of, place_of};
+use crate::router::Routes;
+use http::Method;
 use ix_heads::{Declared, Head, declared_length};
+use std::alloc::Global;
 
 /// The longest body of a request whose end is known.
 const MAX_BODY: u64 = 1_048_576;
 
 impl Place<'_> {
     /// Its method.
-    fn method(&self) -> &'static [u8]
-        ensures { result.now ≡ method_of (seen self.now) }
+    fn method(&self) -> Method
+        ensures { result ≡ method_of (seen self.now) }
     {
         match self {
-            Place::Channel(_) => b"PUT",
-            Place::Blocks(_) | Place::End(_) | Place::Acks => b"POST",
-            Place::Buckets | Place::Events(_) => b"GET",
+            Place::Channel(_) => Method::PUT,
+            Place::Blocks(_) | Place::End(_) | Place::Acks => Method::POST,
+            Place::Buckets | Place::Events(_) => Method::GET,
         }
     }
 
@@ -81,12 +84,27 @@ pub(crate) fn delimited_length(head: &Head<'_>) -> Option<u64>
     Some(length)
 }
 
+/// Whether a head asks for the method of a place.
+fn has_method(alloc: Global, head: &Head<'_>, place: Place<'_>) -> bool
+    ensures { result ≡ bytes_eq head.now.method (method_of (seen place.entry)) }
+{
+    match Method::from_bytes(alloc, head.method()) {
+        Ok(method) => method == place.method(),
+        Err(_) => false,
+    }
+}
+
 /// What is wrong with a request to a place.
-fn place_fault(head: &Head<'_>, place: Place<'_>, declared: Declared) -> Option<HttpFault>
+fn place_fault(
+    alloc: Global,
+    head: &Head<'_>,
+    place: Place<'_>,
+    declared: Declared,
+) -> Option<HttpFault>
     requires { declared ≡ declared_length head.now.lines }
     ensures { result ≡ route_fault head.now (Some (seen place.entry)) }
 {
-    if head.method() != place.method() {
+    if !has_method(alloc, head, place) {
         return Some(HttpFault::WrongMethod);
     }
     if is_chunked(head) || place.needs_length() && declared == Declared::Missing {
@@ -103,7 +121,7 @@ fn place_fault(head: &Head<'_>, place: Place<'_>, declared: Declared) -> Option<
 
 /// The first fault of a head.
 #[tactic(auto, unfolding(crate::specs::Verdicts::head_fault))]
-pub(crate) fn head_fault(head: &Head<'_>) -> Option<HttpFault>
+pub(crate) fn head_fault(alloc: Global, routes: &Routes, head: &Head<'_>) -> Option<HttpFault>
     requires { length head.now.lines ≤ 64 }
     ensures { result ≡ head_fault head.now }
 {
@@ -111,19 +129,19 @@ pub(crate) fn head_fault(head: &Head<'_>) -> Option<HttpFault>
     if declared == Declared::Wrong {
         return Some(HttpFault::BadHead);
     }
-    match place_of(path_of(head.target())) {
-        Some(place) => place_fault(head, place, declared),
+    match place_of(routes, path_of(head.target())) {
+        Some(place) => place_fault(alloc, head, place, declared),
         None => Some(HttpFault::NoRoute),
     }
 }
 
 /// The fault of a head that does not say where its request ends.
-pub(crate) fn unread_fault(head: &Head<'_>) -> HttpFault
+pub(crate) fn unread_fault(alloc: Global, routes: &Routes, head: &Head<'_>) -> HttpFault
     requires few { length head.now.lines ≤ 64 }
     requires endless { delimited_length head.now ≡ None }
     ensures { head_fault head.now ≡ Some result }
 {
-    match head_fault(head) {
+    match head_fault(alloc, routes, head) {
         Some(fault) => fault,
         None => HttpFault::BadHead,
     }

@@ -2,8 +2,8 @@
 
 ghost use Rattle.std.specs.Prelude.{◌≤◌, length};
 
-use crate::said::{compare, note};
-use ix_http::{Kind, read_request, write_reply};
+use crate::said::{compare, note, read};
+use ix_http::{Kind, write_reply};
 use ix_link::{Link, Listener, TcpListen};
 use std::alloc::Global;
 use std::cell::Cell;
@@ -189,7 +189,7 @@ impl Write for Stage<'_> {
 /// the end of the connection.
 fn note_served<L: Listener>(text: &mut String, alloc: Global, listener: &mut L, scene: &Scene) {
     if let Ok(mut link) = listener.accept() {
-        let is_read = read_request(alloc, &mut link).is_ok();
+        let is_read = read(alloc, &mut link).is_ok();
         note(text, is_read);
         note(
             text,

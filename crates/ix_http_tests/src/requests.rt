@@ -1,8 +1,8 @@
 //! Requests in memory, with answers worked by hand.
 
-use crate::said::{bytes_of, compare, failing, note, say, shown};
-use ix_base::{Bytes, ChannelMeta, FailPlan};
-use ix_http::{Ask, Incoming, Kind, LinkFault, read_request, write_reply};
+use crate::said::{bytes_of, compare, failing, note, read, say, shown};
+use ix_base::{Bytes, ChannelMeta, FailPlan, NoMemory};
+use ix_http::{Ask, Incoming, Kind, LinkFault, Routes, read_request, write_reply};
 use ix_link::MemLink;
 use std::alloc::Global;
 
@@ -100,7 +100,7 @@ fn note_incoming(text: &mut String, incoming: &Incoming) {
 /// What a link sends, and how many bytes it has left behind that.
 fn outcome(alloc: Global, mut link: MemLink) -> String {
     let mut text = String::new(alloc);
-    match read_request(alloc, &mut link) {
+    match read(alloc, &mut link) {
         Ok(incoming) => {
             note_incoming(&mut text, &incoming);
             drop(incoming);
@@ -206,6 +206,42 @@ const HEADS_SAID: &str = "\
 #[test]
 fn heads_and_routes_are_read(rt: HostRuntime) {
     compare(&rt, outcomes(rt.alloc(), HEADS), HEADS_SAID);
+}
+
+/// Four requests of one link, of which the last is none, by the same routes.
+const SHARED: &[u8] =
+    b"GET /buckets HTTP/1.1\r\n\r\nPOST /channels/c/end HTTP/1.1\r\n\r\nGET /x HTTP/1.1\r\n\r\n";
+
+fn note_shared(text: &mut String, alloc: Global, routes: &Routes, link: &mut MemLink) {
+    for _ in 0..4 {
+        match read_request(alloc, routes, link) {
+            Ok(incoming) => {
+                note_incoming(text, &incoming);
+                drop(incoming);
+            }
+            Err(fault) => note(text, fault),
+        }
+    }
+}
+
+fn shared_said(alloc: Global) -> String {
+    let mut text = String::new(alloc);
+    let mut link = MemLink::new(alloc, bytes_of(alloc, SHARED), FailPlan::none(alloc));
+    match Routes::new(alloc) {
+        Ok(routes) => {
+            note_shared(&mut text, alloc, &routes, &mut link);
+            drop(routes);
+        }
+        Err(NoMemory) => say(&mut text, "NoMemory"),
+    }
+    drop(link);
+    text
+}
+
+#[test]
+fn routes_are_made_once(rt: HostRuntime) {
+    let wanted = "Buckets End c NoRoute true Ended ";
+    compare(&rt, shared_said(rt.alloc()), wanted);
 }
 
 /// Requests with bodies.

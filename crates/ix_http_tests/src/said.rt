@@ -1,7 +1,9 @@
 //! What calls answer, as a text that is compared once. Where memory is lacking the text stays too short, and is not what is
 //! wanted.
 
-use ix_base::{Bytes, FailPlan};
+use ix_base::{Bytes, FailPlan, NoMemory};
+use ix_http::{Incoming, LinkFault, Routes, read_request};
+use ix_link::Link;
 use std::alloc::Global;
 use std::fmt::Debug;
 use std::process::Abort;
@@ -33,4 +35,12 @@ pub fn failing(alloc: Global, number: u64) -> FailPlan {
 
 pub fn shown(bytes: &[u8]) -> &str {
     str::from_utf8(bytes).unwrap_or("?")
+}
+
+/// Reads a request, by routes that are made for it alone.
+pub fn read<K: Link>(alloc: Global, link: &mut K) -> Result<Incoming, LinkFault> {
+    match Routes::new(alloc) {
+        Ok(routes) => read_request(alloc, &routes, link),
+        Err(NoMemory) => Err(LinkFault::NoMemory { whole: false }),
+    }
 }

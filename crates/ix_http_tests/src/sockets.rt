@@ -1,8 +1,8 @@
 //! Listeners: one over the system's sockets, and one in memory.
 
-use crate::said::{bytes_of, compare, failing, note, say, shown};
+use crate::said::{bytes_of, compare, failing, note, read};
 use ix_base::{FailPlan, Failed, MemSink, MemSource};
-use ix_http::{Incoming, Kind, read_request, write_reply};
+use ix_http::{Incoming, Kind, write_reply};
 use ix_link::{Link, Listener, MemLink, MemLinkList, MemListener, Pair, TcpListen};
 use std::alloc::Global;
 use std::io::{Read, Write};
@@ -15,10 +15,10 @@ const ANSWERED: &[u8] =
 
 /// Answers 404 where a request is refused, and nothing else.
 fn answer<K: Link>(alloc: Global, link: &mut K) -> Result<(), Failed> {
-    let read = read_request(alloc, link);
-    let is_refused = matches!(read, Ok(Incoming::Refused { .. }));
-    let is_fault = read.is_err();
-    drop(read);
+    let came = read(alloc, link);
+    let is_refused = matches!(came, Ok(Incoming::Refused { .. }));
+    let is_fault = came.is_err();
+    drop(came);
     if is_refused {
         write_reply(link, 404, Kind::Json, b"{\"error\":\"NoRoute\"}")
     } else if is_fault {

@@ -1,8 +1,6 @@
 -- The bodies of replies.
 use Rattle.std.specs.Prelude.{ℕ, Bool, true, false, List, [], ◌∷◌, ◌++◌, codes, decimal}
 use Rattle.std.specs.List.{flat_map}
-use Rattle.ix_http.specs.declared.kinds.HttpFault.{HttpFault}
-use Rattle.ix_http.specs.declared.kinds.HttpFault.TheVariants as http
 use Rattle.ix_keep.specs.declared.fault.CommitFault.{CommitFault}
 use Rattle.ix_keep.specs.declared.fault.CommitFault.TheVariants as commits
 use Rattle.ix_machine.specs.declared.answers.Refusal.{Refusal}
@@ -32,16 +30,6 @@ acks_body values = codes "{\"acks\":[" ++ values_text values ++ codes "]}"
 
 abbrev pub error_body : List ℕ → List ℕ
 error_body name = codes "{\"error\":\"" ++ name ++ codes "\"}"
-
-abbrev pub http_name : HttpFault → List ℕ
-http_name http.BadHead = codes "BadHead"
-http_name http.NoRoute = codes "NoRoute"
-http_name http.WrongMethod = codes "WrongMethod"
-http_name http.NoLength = codes "NoLength"
-http_name http.Encoded = codes "Encoded"
-http_name http.TooLong = codes "TooLong"
-http_name http.BadQuery = codes "BadQuery"
-http_name http.BadBody = codes "BadBody"
 
 -- A store is closed by a fault of its disk. No request gives a command that is refused for a bucket.
 abbrev pub refusal_name : Refusal → List ℕ

@@ -1,5 +1,6 @@
 -- Replies.
 use Rattle.std.specs.Prelude.{ℕ, Bool, List, length, nat_le, if◌then◌else◌}
+use Rattle.ix_http.specs.Names.{name_of}
 use Rattle.ix_http.specs.Replies.{reply_text}
 use Rattle.ix_http.specs.declared.kinds.HttpFault.{HttpFault}
 use Rattle.ix_http.specs.declared.kinds.HttpFault.TheVariants as http
@@ -8,7 +9,7 @@ use Rattle.ix_http.specs.declared.kinds.Kind.TheVariants.{Json, Plain}
 use Rattle.ix_keep.specs.declared.fault.CommitFault.{CommitFault}
 use Rattle.ix_machine.specs.declared.answers.Refusal.{Refusal}
 use Rattle.ix_machine.specs.declared.answers.Refusal.TheVariants as refusals
-use Rattle.ix_serve.specs.Bodies.{begun_body, acked_body, acks_body, error_body, http_name, refusal_name, commit_name}
+use Rattle.ix_serve.specs.Bodies.{begun_body, acked_body, acks_body, error_body, refusal_name, commit_name}
 
 pub record Reply : Type 0 where
   pub status : ℕ
@@ -62,7 +63,7 @@ refusal_status refusals.Full = 507
 refusal_status refusals.NoMemory = 503
 
 abbrev pub unread : HttpFault → Reply
-unread fault = reply (http_status fault) Json (error_body (http_name fault))
+unread fault = reply (http_status fault) Json (error_body (name_of fault))
 
 abbrev pub refused : Refusal → Reply
 refused refusal = reply (refusal_status refusal) Json (error_body (refusal_name refusal))

@@ -1,9 +1,10 @@
-//! The statuses and bodies of faults.
+//! The statuses and names of faults, and the body that names one.
 
-ghost use Rattle.std.specs.Prelude.{◌≡◌};
-ghost use Rattle.ix_serve.specs.Bodies.{error_body, http_name, refusal_name, commit_name};
+ghost use Rattle.std.specs.Prelude.{◌≡◌, ◌≤◌, length};
+ghost use Rattle.ix_serve.specs.Bodies.{error_body, refusal_name, commit_name};
 ghost use Rattle.ix_serve.specs.Replies as defs;
 
+use arrayvec::ArrayString;
 use ix_http::HttpFault;
 use ix_keep::CommitFault;
 use ix_machine::Refusal;
@@ -22,21 +23,6 @@ pub(crate) fn http_status(fault: HttpFault) -> u16
     }
 }
 
-pub(crate) fn http_body(fault: HttpFault) -> &'static [u8]
-    ensures { result.now ≡ error_body (http_name fault) }
-{
-    match fault {
-        HttpFault::BadHead => b"{\"error\":\"BadHead\"}",
-        HttpFault::NoRoute => b"{\"error\":\"NoRoute\"}",
-        HttpFault::WrongMethod => b"{\"error\":\"WrongMethod\"}",
-        HttpFault::NoLength => b"{\"error\":\"NoLength\"}",
-        HttpFault::Encoded => b"{\"error\":\"Encoded\"}",
-        HttpFault::TooLong => b"{\"error\":\"TooLong\"}",
-        HttpFault::BadQuery => b"{\"error\":\"BadQuery\"}",
-        HttpFault::BadBody => b"{\"error\":\"BadBody\"}",
-    }
-}
-
 /// The status of a command that the store refuses.
 pub(crate) fn refusal_status(refusal: Refusal) -> u16
     ensures { result ≡ defs.refusal_status refusal }
@@ -52,30 +38,44 @@ pub(crate) fn refusal_status(refusal: Refusal) -> u16
     }
 }
 
-/// Its body. A store is closed by a fault of its disk, and no request gives a command that is refused for a bucket.
-pub(crate) fn refusal_body(refusal: Refusal) -> &'static [u8]
-    ensures { result.now ≡ error_body (refusal_name refusal) }
+/// The name that its reply has. A store is closed by a fault of its disk, and no request gives a command that is refused for a bucket.
+pub(crate) fn refusal_name(refusal: Refusal) -> &'static str
+    ensures name { result.now ≡ refusal_name refusal }
+    ensures short { length result.now ≤ 20 }
 {
     match refusal {
-        Refusal::Closed => b"{\"error\":\"Disk\"}",
-        Refusal::NoChannel => b"{\"error\":\"NoChannel\"}",
-        Refusal::ChannelOpen => b"{\"error\":\"ChannelOpen\"}",
-        Refusal::UnknownIndex => b"{\"error\":\"UnknownIndex\"}",
-        Refusal::NoBucket => b"{\"error\":\"NoBucket\"}",
-        Refusal::NotArchived => b"{\"error\":\"NotArchived\"}",
-        Refusal::AlreadyThawed => b"{\"error\":\"AlreadyThawed\"}",
-        Refusal::TooManyChannels => b"{\"error\":\"TooManyChannels\"}",
-        Refusal::Full => b"{\"error\":\"Full\"}",
-        Refusal::NoMemory => b"{\"error\":\"NoMemory\"}",
+        Refusal::Closed => "Disk",
+        Refusal::NoChannel => "NoChannel",
+        Refusal::ChannelOpen => "ChannelOpen",
+        Refusal::UnknownIndex => "UnknownIndex",
+        Refusal::NoBucket => "NoBucket",
+        Refusal::NotArchived => "NotArchived",
+        Refusal::AlreadyThawed => "AlreadyThawed",
+        Refusal::TooManyChannels => "TooManyChannels",
+        Refusal::Full => "Full",
+        Refusal::NoMemory => "NoMemory",
     }
 }
 
-/// The body of a reply that is written where the disk failed or is damaged.
-pub(crate) fn commit_body(cause: CommitFault) -> &'static [u8]
-    ensures { result.now ≡ error_body (commit_name cause) }
+/// The name of why a disk failed or is damaged.
+pub(crate) fn commit_name(cause: CommitFault) -> &'static str
+    ensures name { result.now ≡ commit_name cause }
+    ensures short { length result.now ≤ 20 }
 {
     match cause {
-        CommitFault::Disk => b"{\"error\":\"Disk\"}",
-        CommitFault::Damaged { .. } => b"{\"error\":\"Damaged\"}",
+        CommitFault::Disk => "Disk",
+        CommitFault::Damaged { .. } => "Damaged",
     }
+}
+
+/// The body of a reply that names a fault.
+pub(crate) fn error_body(name: &str) -> ArrayString<40>
+    requires { length name.now ≤ 20 }
+    ensures { result.bytes ≡ error_body name.now }
+{
+    let mut body = ArrayString::<40>::new();
+    body.push_str("{\"error\":\"");
+    body.push_str(name);
+    body.push_str("\"}");
+    body
 }

@@ -1,13 +1,14 @@
 //! Replies are written to a link.
 
-ghost use Rattle.std.specs.Prelude.{◌≡◌, ◌≤◌, Some, Err, true};
+ghost use Rattle.std.specs.Prelude.{◌≡◌, ◌≤◌, length, Some, Err, true};
 ghost use Rattle.ix_base.specs.Faults.{Rose};
 ghost use Rattle.ix_link.specs.Links.{Goes};
 ghost use Rattle.ix_serve.specs.Answer.{answer_of_fault};
+ghost use Rattle.ix_serve.specs.Bodies.{error_body};
 ghost use Rattle.ix_serve.specs.Replies.{reply, unread, refused, broken, no_memory};
 ghost use Rattle.ix_serve.specs.Serving.{Gave, IsClean, IsOpen};
 
-use crate::faults::{commit_body, http_body, http_status, refusal_body, refusal_status};
+use crate::faults::{commit_name, error_body, http_status, refusal_name, refusal_status};
 use crate::served::{ServeFault, Served, answer_of_fault};
 use ix_http::{HttpFault, Kind, write_reply};
 use ix_keep::CommitFault;
@@ -39,6 +40,31 @@ pub(crate) fn give<K: Link>(
     }
 }
 
+/// Writes a reply that names a fault.
+fn give_error<K: Link>(
+    link: &mut K,
+    status: u16,
+    name: &str,
+    delimited: bool,
+) -> Result<Served, ServeFault>
+    requires { length name.now ≤ 20 }
+    ensures gave { Gave (Some (reply status Kind.Json (error_body name.now))) delimited (IsClean (K.faults link.old) (K.faults link.new) (K.standing link.old) (K.standing link.new)) result (K.given link.old) (K.given link.new) }
+    ensures left { K.left link.new ≡ K.left link.old }
+    ensures open { IsOpen result }
+    ensures goes { Goes (K.standing link.old) (K.standing link.new) }
+    ensures later { K.faults link.old ≤ K.faults link.new }
+    ensures failed { result ≡ Err ServeFault.Link → Rose (K.faults link.old) (K.faults link.new) }
+{
+    let body = error_body(name);
+    give(
+        link,
+        status,
+        Kind::Json,
+        body.as_str().as_bytes(),
+        delimited,
+    )
+}
+
 /// Writes why a request is refused before the store is asked.
 pub(crate) fn give_unread<K: Link>(
     link: &mut K,
@@ -52,13 +78,7 @@ pub(crate) fn give_unread<K: Link>(
     ensures later { K.faults link.old ≤ K.faults link.new }
     ensures failed { result ≡ Err ServeFault.Link → Rose (K.faults link.old) (K.faults link.new) }
 {
-    give(
-        link,
-        http_status(fault),
-        Kind::Json,
-        http_body(fault),
-        delimited,
-    )
+    give_error(link, http_status(fault), fault.name(), delimited)
 }
 
 /// Writes why the store refuses a command.
@@ -70,13 +90,7 @@ pub(crate) fn give_refusal<K: Link>(link: &mut K, refusal: Refusal) -> Result<Se
     ensures later { K.faults link.old ≤ K.faults link.new }
     ensures failed { result ≡ Err ServeFault.Link → Rose (K.faults link.old) (K.faults link.new) }
 {
-    give(
-        link,
-        refusal_status(refusal),
-        Kind::Json,
-        refusal_body(refusal),
-        true,
-    )
+    give_error(link, refusal_status(refusal), refusal_name(refusal), true)
 }
 
 /// Writes that there was no room in memory.
@@ -89,11 +103,10 @@ pub(crate) fn decline<K: Link>(link: &mut K, delimited: bool) -> Result<Served, 
     ensures failed { result ≡ Err ServeFault.Link → Rose (K.faults link.old) (K.faults link.new) }
 {
     let refusal = Refusal::NoMemory;
-    give(
+    give_error(
         link,
         refusal_status(refusal),
-        Kind::Json,
-        refusal_body(refusal),
+        refusal_name(refusal),
         delimited,
     )
 }
@@ -106,6 +119,6 @@ pub(crate) fn give_up<K: Link>(link: &mut K, cause: CommitFault) -> Result<Serve
     ensures goes { Goes (K.standing link.old) (K.standing link.new) }
     ensures later { K.faults link.old ≤ K.faults link.new }
 {
-    let _ = give(link, 500, Kind::Json, commit_body(cause), true);
+    let _ = give_error(link, 500, commit_name(cause), true);
     Err(answer_of_fault(cause))
 }

@@ -20,7 +20,7 @@ use crate::queries::{serve_acks, serve_buckets};
 use crate::replies::{decline, give_unread};
 use crate::served::{ServeFault, Served};
 use ix_disk::Disk;
-use ix_http::{Ask, Incoming, LinkFault, read_request};
+use ix_http::{Ask, Incoming, LinkFault, Routes, read_request};
 use ix_link::Link;
 use ix_store::{Listing, Memory, Store};
 use std::alloc::Global;
@@ -72,6 +72,7 @@ fn serve_ask<K: Link, M: Memory + Drop, D: Disk>(
 /// Reads a request from the link, serves what it asks, and commits where that is due. The log stays as long as it is.
 fn serve_request<K: Link, M: Memory + Drop, D: Disk>(
     alloc: Global,
+    routes: &Routes,
     store: &mut Store<M>,
     link: &mut K,
     moment: i64,
@@ -93,7 +94,7 @@ fn serve_request<K: Link, M: Memory + Drop, D: Disk>(
     ensures goes { Goes (K.standing link.old) (K.standing link.new) }
     ensures comes { Comes (K.faults link.old) (K.faults link.new) (D.Disk.faults disk.old) (D.Disk.faults disk.new) result }
 {
-    match read_request(alloc, link) {
+    match read_request(alloc, routes, link) {
         Ok(Incoming::Ended) => Ok(Served::Ended),
         Ok(Incoming::Asked { ask }) => serve_ask(alloc, store, link, ask, moment, disk),
         Ok(Incoming::Refused { fault, delimited }) => give_unread(link, fault, delimited),
@@ -109,6 +110,7 @@ fn serve_request<K: Link, M: Memory + Drop, D: Disk>(
 /// mounted again. Last, behind a reply, the log is made short by a checkpoint where it is long and nothing is staged.
 pub fn serve_one<K: Link, M: Listing + Drop, D: Disk>(
     alloc: Global,
+    routes: &Routes,
     store: &mut Store<M>,
     link: &mut K,
     moment: i64,
@@ -142,7 +144,7 @@ pub fn serve_one<K: Link, M: Listing + Drop, D: Disk>(
     // No count falls, and a fault of the link or the disk comes only where its count rose.
     ensures comes { Comes (K.faults link.old) (K.faults link.new) (D.Disk.faults disk.old) (D.Disk.faults disk.new) result }
 {
-    match serve_request(alloc, store, link, moment, disk) {
+    match serve_request(alloc, routes, store, link, moment, disk) {
         Ok(
             Served::Reply {
                 status,

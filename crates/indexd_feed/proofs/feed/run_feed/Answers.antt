@@ -59,3 +59,6 @@ returns-clause-told g c = λ is. c.feed_open.ensures.told (tells_on g.D.Disk _ c
 
 pub returns-in-Err-clause-told : goal.returns-in-Err-clause-told
 returns-in-Err-clause-told g c = tells_on g.D.Disk _ c.args.disk.now c.open.new.disk c.open.ensures.told
+
+pub returns-in_err-routes-clause-goes : goal.returns-in_err-routes-clause-goes
+returns-in_err-routes-clause-goes g c = goes_nowhere (g.K.Link.standing c.args.link.now)

@@ -1,4 +1,4 @@
-use Rattle.std.proofs.Common.{◌≡◌, inr}
+use Rattle.std.proofs.Common.{inr}
 use Rattle.ix_heads.proofs.FrontLemmas.{crowded_all}
 use Rattle.ix_heads.proofs.judging.is_bad.Goals as goal
 
