@@ -159,7 +159,8 @@ fn answer<S: Source, W: Sink, C: Clock, T: Tree, D: Disk, L: Listener>(
 /// machine itself, serves so many connections, one request each, whose replies go back on them, and writes `served COUNT`. The port is taken
 /// before the store is touched. Each of these commands takes the store for itself, once it has read the settings and before it reads or writes anything of the
 /// store: where another program has it, it does nothing and ends with `InUse`. Once it has mounted the store, it makes the log short where it is long, whatever it
-/// ends with: for want of memory, or where the disk fails at it, it ends with `Memory` or `DiskFault` in place of any other status.
+/// ends with, unless the disk has failed or a file is damaged: for want of memory, or where the disk fails at it, it ends with `Memory` or `DiskFault` in place of
+/// any other status.
 ///
 /// A run may be stopped at any moment, and the next one goes on from what the disk has then. What is promised of it speaks of every history of
 /// commands of which each image that a crash may leave at its start stands for a first part, with its first k commands at least, and for a run with
@@ -171,12 +172,13 @@ fn answer<S: Source, W: Sink, C: Clock, T: Tree, D: Disk, L: Listener>(
 /// a file is damaged. `runs_leave`, `an_exit_is_a_stop` and `the_next_run_may_begin` join one run to the next, `an_empty_disk_may_run` begins them,
 /// and `the_next_run_has_a_greater_number` is on their numbers.
 ///
-/// Any other words are `Usage`. `Configuration` comes exactly where the files that the command reads have a fault. `NotFound` comes where
-/// INDEX is not configured, or the bucket is not in the archive; `TooManyChannels` where 256 channels are open, `Full` where the store
-/// would pass its bounds or has had its last run, and `InUse` where another program has the store. `Input` comes only where the input of `preview` or the tree has failed, `Output` only where the output has,
-/// `DiskFault` only where the disk has, `ListenerFault` only where the listener has, also where it does not get its port, `Damaged` where the files of the disk hold what was not
-/// committed, `Unreadable` where a request of `feed` was cut or it is not known where it ends, `Endless` only where `preview` took 2^40 bytes or
-/// `feed` served 2^32 requests, and `Memory` where there was no room. The line of the status stands behind the output.
+/// Any other words are `Usage`. `Configuration` comes exactly where the files that the command reads have a fault, and `InUse` exactly where another
+/// program has the store. `Input` comes only where the input of `preview` or the tree has failed, `Output` only where the output has, `DiskFault` only
+/// where the disk has, `ListenerFault` only where the listener has, also where it does not get its port, `Unreadable` where a request of `feed` was cut
+/// or it is not known where it ends, `Endless` only where `preview` took 2^40 bytes or `feed` served 2^32 requests, and `Memory` where there was no room.
+/// Of a disk that stands for a history it is said too that `NotFound` comes where INDEX is not configured, or the bucket is not in the archive,
+/// `TooManyChannels` where 256 channels are open, and `Full` where the store would pass its bounds or has had its last run; and `Damaged` never comes where
+/// each image stands for such a history. The line of the status stands behind the output.
 pub fn top<S: Source, W: Sink, C: Clock, T: Tree, D: Disk, L: Listener>(
     alloc: Global,
     words: &[Text],
