@@ -1,4 +1,5 @@
-//! The program `indexd`: the real input, output, clock, files of settings, disk and listener, handed to the library that does all the work.
+//! The program `indexd`: the real input, output, clock, files of settings, disk and listener,
+//! handed to the library that does all the work.
 #![tactic(auto)]
 
 #[cfg(test)]
@@ -7,8 +8,8 @@ mod tests;
 use indexd_core::{Status, say, top};
 use ix_base::{HostClock, StdSink, StdSource, Text};
 use ix_disk::HostDisk;
-use ix_link::TcpListen;
-use ix_tree::HostTree;
+use ix_fs::HostTree;
+use ix_net::TcpListen;
 use std::fs::{File, OpenOptions};
 use std::io::ErrorKind;
 use std::os::fd::AsRawFd;
@@ -19,9 +20,9 @@ use std::{env, io};
 /// The number of the last of the three streams that every program is started with.
 const LAST_STREAM: i32 = 2;
 
-/// Opens the null device in place of each stream that the program was started without. The system gives a file that is
-/// opened the lowest free number, so without this a file of the store would take the number of a stream, and what is
-/// written to the stream would go into the file.
+/// Opens the null device in place of each stream that the program was started without. The system
+/// gives a file that is opened the lowest free number, so without this a file of the store would
+/// take the number of a stream, and what is written to the stream would go into the file.
 fn fill_streams(rt: &HostRuntime) -> io::Result<[Option<File>; 3]> {
     let mut kept = [None, None, None];
     for place in &mut kept {
@@ -64,7 +65,7 @@ fn main(rt: HostRuntime) -> ExitCode {
     let mut clock = HostClock::new(&rt);
     let mut tree = HostTree::new(&rt);
     let mut disk = HostDisk::new(&rt);
-    let mut listener = TcpListen::new(&rt);
+    let mut listener = TcpListen::new(rt.alloc(), &rt);
     let status = top(
         rt.alloc(),
         &words,

@@ -1,5 +1,6 @@
-//! Tests of the whole program, by `top`, over the forms in memory: the commands without a store, those over one, and the
-//! requests that it serves; of a checkpoint, which the store is asked for; and of the settings that a store keeps.
+//! Tests of the whole program, by `top`, over the forms in memory: the commands without a store,
+//! those over one, and the requests that it serves; of a checkpoint, which the store is asked for;
+//! and of the settings that a store keeps.
 
 mod btool;
 mod checkpointed;

@@ -1,15 +1,16 @@
--- What comes of whatever the words ask for: where nothing is done, where no store is worked over, and what follows of it for each command.
+-- What comes of whatever the words ask for: where nothing is done, where no store is worked over,
+-- and what follows of it for each command.
 use Rattle.std.proofs.Common.{◌≡◌, ◌≤◌, ◌⊎◌, ◌∙◌, ℕ, Bool, true, false, List, inl, inr, refl, sym, ap, subst, le_refl, true≢false}
 use Rattle.std.specs.Prelude.{Option, Some, None, is_some}
 use Rattle.ix_base.specs.Clocks.{Moments}
 use Rattle.ix_base.specs.Faults.{Rose}
-use Rattle.ix_tree.specs.declared.trees.TreeFile.{TreeFile}
+use Rattle.ix_fs.specs.declared.trees.TreeFile.{TreeFile}
 use Rattle.ix_disk.specs.declared.disk.Disk.{Ghosts}
 use Rattle.indexd_settings.specs.Layers.{file_named}
 use Rattle.indexd_settings.specs.declared.layers.SettingsFile.{SettingsFile}
-use Rattle.indexd_words.specs.Orders.{Asked, preview, btool, feed, serve, monitor, buckets, export, roll, thaw, tick, selftest}
-use Rattle.indexd_store.specs.declared.task.Task.{Task}
-use Rattle.indexd_store.specs.declared.task.Task.TheVariants as tasks
+use Rattle.indexd_cli.specs.Orders.{Asked, preview, btool, feed, serve, monitor, buckets, export, roll, thaw, tick, selftest}
+use Rattle.indexd_run.specs.declared.task.Task.{Task}
+use Rattle.indexd_run.specs.declared.task.Task.TheVariants as tasks
 use Rattle.indexd_core.specs.Btool.{Tells}
 use Rattle.indexd_core.specs.Carried.{Around, ComesOf, Keeps, HasCause, Carries}
 use Rattle.indexd_core.specs.Commands.{is_built, is_task, asked_for}
@@ -22,7 +23,9 @@ use Rattle.indexd_core.specs.Sides.{Side}
 use Rattle.indexd_core.specs.Stored.{Stored, Tasked, unread}
 use Rattle.indexd_core.specs.Texts.{Said, status_text}
 use Rattle.indexd_core.specs.declared.status.Status.{Status}
-use Rattle.indexd_core.specs.declared.status.Status.TheVariants.{Done, Memory, Usage, Configuration, Input, DiskFault, Damaged, Output, ListenerFault, NotFound, TooManyChannels, Unreadable, Endless, Full, InUse}
+use Rattle.indexd_core.specs.declared.status.Status.TheVariants.{Done, Memory, Usage, Configuration, Input, DiskFault, Damaged, Output}
+use Rattle.indexd_core.specs.declared.status.Status.TheVariants.{ListenerFault, NotFound, TooManyChannels, Unreadable, Endless, Full}
+use Rattle.indexd_core.specs.declared.status.Status.TheVariants.{InUse}
 use Rattle.indexd_core.proofs.LockedLemmas.{left_alone, same_alone}
 use Rattle.indexd_core.proofs.PreviewLemmas.{rose-until}
 use Rattle.indexd_core.proofs.StoredLemmas.{yes_no}
@@ -48,7 +51,7 @@ blames NotFound = false
 blames TooManyChannels = false
 blames Unreadable = false
 blames Endless = false
-blames Full = false
+blames Full = true
 blames InUse = true
 
 pub blameless : (status : Status) {D : Type 0} (d : Ghosts D) (old new : Around D) → blames status ≡ false → HasCause status d old new
@@ -58,10 +61,13 @@ blameless status d old new none = record {
   disk = λ is. absurd (yes_no (blames status) (ap blames is) none);
   listener = λ is. absurd (yes_no (blames status) (ap blames is) none);
   undamaged = λ is. absurd (yes_no (blames status) (ap blames is) none);
+  blamed = λ is. absurd (yes_no (blames status) (ap blames is) none);
+  full = λ is. absurd (yes_no (blames status) (ap blames is) none);
   in_use = λ is. absurd (yes_no (blames status) (ap blames is) none);
 }
 
-nothing_kept : {D : Type 0} (d : Ghosts D) (old : Around D) (output : Side) → old.output.faults ≤ output.faults → Keeps d old (wrote old output)
+nothing_kept : {D : Type 0} (d : Ghosts D) (old : Around D) (output : Side) → old.output.faults ≤ output.faults →
+    Keeps d old (wrote old output)
 nothing_kept d old output later = record {
   files = refl;
   out = refl;
@@ -74,7 +80,8 @@ nothing_kept d old output later = record {
   missing_later = le_refl old.missing;
 }
 
-comes_of_none : {D : Type 0} (d : Ghosts D) (o : Option Asked) (old : Around D) (output : Side) → Said (status_text Memory) old.output output →
+comes_of_none : {D : Type 0} (d : Ghosts D) (o : Option Asked) (old : Around D) (output : Side) →
+    Said (status_text Memory) old.output output →
     ComesOf o Memory d old (wrote old output)
 comes_of_none d None old output said = tt
 comes_of_none d (Some (preview host source sourcetype index false)) old output said = runs.unprepared refl refl said
@@ -86,8 +93,14 @@ comes_of_none d (Some (monitor close)) old output said = tt
 comes_of_none d (Some buckets) old output said = (tasks.Buckets, refl, unread (refl, refl) said, refl)
 comes_of_none d (Some (export index range)) old output said =
     (tasks.Export (record { ref_ptr = (0, 0); now = index }) range, refl, unread (refl, refl) said, refl)
-comes_of_none d (Some (roll index)) old output said = (tasks.Roll (record { ref_ptr = (0, 0); now = index }), refl, unread (refl, refl) said, refl)
-comes_of_none d (Some (thaw index id)) old output said = (tasks.Thaw (record { ref_ptr = (0, 0); now = index }) id, refl, unread (refl, refl) said, refl)
+comes_of_none d (Some (roll index)) old output said = (
+  tasks.Roll (record { ref_ptr = (0, 0); now = index }),
+  refl,
+  unread (refl, refl) said,
+  refl,
+)
+comes_of_none d (Some (thaw index id)) old output said =
+    (tasks.Thaw (record { ref_ptr = (0, 0); now = index }) id, refl, unread (refl, refl) said, refl)
 comes_of_none d (Some tick) old output said = (tasks.Tick, refl, unread (refl, refl) said, refl)
 comes_of_none d (Some (selftest seed count)) old output said = tt
 
@@ -125,7 +138,8 @@ comes_of_refused d (Some tick) status old output unbuilt = absurd (true≢false 
 comes_of_refused d (Some (selftest seed count)) status old output unbuilt = tt
 
 -- the words are no command
-pub refused : {D : Type 0} (d : Ghosts D) (o : Option Asked) (status : Status) (old : Around D) (output : Side) → is_built o ≡ false → status ≡ Usage →
+pub refused : {D : Type 0} (d : Ghosts D) (o : Option Asked) (status : Status) (old : Around D) (output : Side) → is_built o ≡ false →
+    status ≡ Usage →
     Said (status_text Usage) old.output output → old.output.faults ≤ output.faults → Carries o status d old (wrote old output)
 refused d o status old output unbuilt is said later = subst (λ (s : Status). Carries o s d old (wrote old output)) (sym is) (record {
   usage = λ e. unbuilt;
@@ -143,12 +157,14 @@ same_file file other is = cc
 
 -- ---- the commands that work over no store
 
-module _ {stated : Stated} {files : Option (List TreeFile)} {failed failed' : ℕ} {ahead ahead' : Option Moments} {input input' output output' : Side} where
+module _ {stated : Stated} {files : Option (List TreeFile)} {failed failed' : ℕ} {ahead ahead' : Option Moments}
+    {input input' output output' : Side} where
   of_usage : Previews Usage stated files failed failed' ahead ahead' input input' output output' → ⊥
   of_usage (runs.unprepared same left wrote) = wrote
   of_usage (runs.ran prepared is run) = run.lines.outcome
 
-  of_input : Previews Input stated files failed failed' ahead ahead' input input' output output' → Rose input.faults input'.faults ⊎ Rose failed failed'
+  of_input : Previews Input stated files failed failed' ahead ahead' input input' output output' → Rose input.faults input'.faults
+      ⊎ Rose failed failed'
   of_input (runs.unprepared same left wrote) = inr wrote.0
   of_input (runs.ran prepared is run) = inl run.lines.outcome.0
 
@@ -168,15 +184,21 @@ module _ {stated : Stated} {files : Option (List TreeFile)} {failed failed' : �
   of_damaged (runs.unprepared same left wrote) = wrote
   of_damaged (runs.ran prepared is run) = run.lines.outcome
 
+  of_full : Previews Full stated files failed failed' ahead ahead' input input' output output' → ⊥
+  of_full (runs.unprepared same left wrote) = wrote
+  of_full (runs.ran prepared is run) = run.lines.outcome
+
   of_in_use : Previews InUse stated files failed failed' ahead ahead' input input' output output' → ⊥
   of_in_use (runs.unprepared same left wrote) = wrote
   of_in_use (runs.ran prepared is run) = run.lines.outcome
 
 module _ {D : Type 0} (status : Status) (old new : Around D) where
-  preview_at : (stated : Stated) (s : Status) → Previews status stated old.files old.failed new.failed old.ahead new.ahead old.input new.input old.output new.output →
+  preview_at : (stated : Stated) (s : Status) → Previews status stated old.files old.failed new.failed old.ahead new.ahead old.input
+      new.input old.output new.output →
       status ≡ s → Previews s stated old.files old.failed new.failed old.ahead new.ahead old.input new.input old.output new.output
   preview_at stated s told is =
-      subst (λ (s : Status). Previews s stated old.files old.failed new.failed old.ahead new.ahead old.input new.input old.output new.output) is told
+      subst (λ (s : Status). Previews s stated old.files old.failed new.failed old.ahead new.ahead old.input new.input old.output
+      new.output) is told
 
   tells_at : (file : SettingsFile) (s : Status) → Tells status file old.files old.failed new.failed old.output new.output →
       status ≡ s → Tells s file old.files old.failed new.failed old.output new.output
@@ -184,8 +206,10 @@ module _ {D : Type 0} (status : Status) (old new : Around D) where
 
 module _ {D : Type 0} {d : Ghosts D} {status : Status} {old new : Around D} where
   -- events were shown, and the disk was left alone
-  pub previewed : (stated : Stated) → Previews status stated old.files old.failed new.failed old.ahead new.ahead old.input new.input old.output new.output →
-      new.disk ≡ old.disk → Keeps d old new → Carries (Some (preview stated.host stated.source stated.sourcetype stated.index false)) status d old new
+  pub previewed : (stated : Stated) → Previews status stated old.files old.failed new.failed old.ahead new.ahead old.input new.input
+      old.output new.output →
+      new.disk ≡ old.disk → Keeps d old new → Carries (Some (preview stated.host stated.source stated.sourcetype stated.index false)) status
+      d old new
   previewed stated told same kept = record {
     usage = λ is. absurd (of_usage (preview_at status old new stated Usage told is));
     refused = λ unbuilt. absurd (true≢false unbuilt);
@@ -200,18 +224,22 @@ module _ {D : Type 0} {d : Ghosts D} {status : Status} {old new : Around D} wher
       disk = λ is. absurd (of_disk (preview_at status old new stated DiskFault told is));
       listener = λ is. absurd (of_listener (preview_at status old new stated ListenerFault told is));
       undamaged = λ is. absurd (of_damaged (preview_at status old new stated Damaged told is));
+      blamed = λ is. absurd (of_damaged (preview_at status old new stated Damaged told is));
+      full = λ is. absurd (of_full (preview_at status old new stated Full told is));
       in_use = λ is. absurd (of_in_use (preview_at status old new stated InUse told is));
     };
   }
 
   -- the settings of a file were listed, and all but the tree and the output was left alone
-  pub listed : (name : List ℕ) (file : SettingsFile) → file_named name ≡ Some file → Tells status file old.files old.failed new.failed old.output new.output →
+  pub listed : (name : List ℕ) (file : SettingsFile) → file_named name ≡ Some file →
+      Tells status file old.files old.failed new.failed old.output new.output →
       new.disk ≡ old.disk → new.input ≡ old.input → new.ahead ≡ old.ahead → Keeps d old new → Carries (Some (btool name)) status d old new
   listed name file named told same read asked kept = record {
     usage = λ is. absurd (tells_at status old new file Usage told is);
     refused = λ unbuilt. absurd (yes_no (is_some (file_named name)) (ap is_some named) unbuilt);
     comes = (
-      λ other is. subst (λ (f : SettingsFile). Tells status f old.files old.failed new.failed old.output new.output) (same_file file other (sym named ∙ is)) told,
+      λ other is. subst (λ (f : SettingsFile). Tells status f old.files old.failed new.failed old.output new.output)
+          (same_file file other (sym named ∙ is)) told,
       read,
       asked,
     );
@@ -225,6 +253,8 @@ module _ {D : Type 0} {d : Ghosts D} {status : Status} {old new : Around D} wher
       disk = λ is. absurd (tells_at status old new file DiskFault told is);
       listener = λ is. absurd (tells_at status old new file ListenerFault told is);
       undamaged = λ is. absurd (tells_at status old new file Damaged told is);
+      blamed = λ is. absurd (tells_at status old new file Damaged told is);
+      full = λ is. absurd (tells_at status old new file Full told is);
       in_use = λ is. absurd (tells_at status old new file InUse told is);
     };
   }
@@ -232,7 +262,8 @@ module _ {D : Type 0} {d : Ghosts D} {status : Status} {old new : Around D} wher
 module _ {D : Type 0} (d : Ghosts D) (status : Status) (old new : Around D) where
   -- ---- tasks
 
-  pub task_comes : (task : Task) → Tasked status task old.files old.failed new.failed old.ahead new.ahead old.output new.output d old.disk new.disk →
+  pub task_comes : (task : Task) → Tasked status task old.files old.failed new.failed old.ahead new.ahead old.output new.output d old.disk
+      new.disk →
       new.input ≡ old.input → ComesOf (Some (asked_for task)) status d old new
   task_comes tasks.Buckets told same = (tasks.Buckets, refl, told, same)
   task_comes (tasks.Export index range) told same = (tasks.Export index range, refl, told, same)
@@ -253,11 +284,13 @@ module _ {D : Type 0} {d : Ghosts D} {o : Option Asked} {status : Status} {old n
   comes_as : (o' : Option Asked) → Carries o status d old new → o ≡ o' → ComesOf o' status d old new
   comes_as o' did is = subst (λ (o : Option Asked). ComesOf o status d old new) is did.comes
 
-  pub by_preview : (stated : Stated) → Carries o status d old new → o ≡ Some (preview stated.host stated.source stated.sourcetype stated.index false) →
+  pub by_preview : (stated : Stated) → Carries o status d old new →
+      o ≡ Some (preview stated.host stated.source stated.sourcetype stated.index false) →
       Previews status stated old.files old.failed new.failed old.ahead new.ahead old.input new.input old.output new.output
   by_preview stated did is = comes_as (Some (preview stated.host stated.source stated.sourcetype stated.index false)) did is
 
-  pub by_store : (stated : Stated) → Carries o status d old new → o ≡ Some (preview stated.host stated.source stated.sourcetype stated.index true) →
+  pub by_store : (stated : Stated) → Carries o status d old new →
+      o ≡ Some (preview stated.host stated.source stated.sourcetype stated.index true) →
       Stored status stated old.files old.failed new.failed old.ahead new.ahead old.input new.input old.output new.output d old.disk new.disk
   by_store stated did is = comes_as (Some (preview stated.host stated.source stated.sourcetype stated.index true)) did is
 
@@ -271,13 +304,16 @@ module _ {D : Type 0} {d : Ghosts D} {o : Option Asked} {status : Status} {old n
   by_feed did is = comes_as (Some feed) did is
 
   pub by_serve : (port requests : ℕ) → Carries o status d old new → o ≡ Some (serve port requests) →
-      Serves status requests old.files old.failed new.failed old.ahead new.ahead old.heard new.heard old.output new.output d old.disk new.disk
+      Serves status requests old.files old.failed new.failed old.ahead new.ahead old.heard new.heard old.output new.output d old.disk
+      new.disk
       × (new.input ≡ old.input)
   by_serve port requests did is = comes_as (Some (serve port requests)) did is
 
-some_task : {D : Type 0} (d : Ghosts D) (o : Option Asked) (status : Status) (old new : Around D) → is_task o ≡ true → ComesOf o status d old new →
+some_task : {D : Type 0} (d : Ghosts D) (o : Option Asked) (status : Status) (old new : Around D) → is_task o ≡ true →
+    ComesOf o status d old new →
     (task : Task) × (o ≡ Some (asked_for task))
-    × Tasked status task old.files old.failed new.failed old.ahead new.ahead old.output new.output d old.disk new.disk × (new.input ≡ old.input)
+    × Tasked status task old.files old.failed new.failed old.ahead new.ahead old.output new.output d old.disk new.disk
+    × (new.input ≡ old.input)
 some_task d None status old new is comes = absurd (true≢false (sym is))
 some_task d (Some (preview host source sourcetype index store)) status old new is comes = absurd (true≢false (sym is))
 some_task d (Some (btool file)) status old new is comes = absurd (true≢false (sym is))
@@ -291,12 +327,15 @@ some_task d (Some (thaw index id)) status old new is comes = (comes.0, sym (ap (
 some_task d (Some tick) status old new is comes = (comes.0, sym (ap (λ (a : Asked). Some a) comes.1), comes.2, comes.3)
 some_task d (Some (selftest seed count)) status old new is comes = absurd (true≢false (sym is))
 
-pub by_task : {D : Type 0} {d : Ghosts D} {o : Option Asked} {status : Status} {old new : Around D} → Carries o status d old new → is_task o ≡ true →
+pub by_task : {D : Type 0} {d : Ghosts D} {o : Option Asked} {status : Status} {old new : Around D} → Carries o status d old new →
+    is_task o ≡ true →
     (task : Task) × (o ≡ Some (asked_for task))
-    × Tasked status task old.files old.failed new.failed old.ahead new.ahead old.output new.output d old.disk new.disk × (new.input ≡ old.input)
+    × Tasked status task old.files old.failed new.failed old.ahead new.ahead old.output new.output d old.disk new.disk
+    × (new.input ≡ old.input)
 by_task {d = d} {o = o} {status = status} {old = old} {new = new} did is = some_task d o status old new is did.comes
 
 -- ---- what is asked for is one thing
 
-pub carried_as : {D : Type 0} {d : Ghosts D} {status : Status} {old new : Around D} {o o' : Option Asked} → o ≡ o' → Carries o' status d old new → Carries o status d old new
+pub carried_as : {D : Type 0} {d : Ghosts D} {status : Status} {old new : Around D} {o o' : Option Asked} → o ≡ o' →
+    Carries o' status d old new → Carries o status d old new
 carried_as {d = d} {status = status} {old = old} {new = new} is did = subst (λ (o : Option Asked). Carries o status d old new) (sym is) did

@@ -6,10 +6,10 @@ use Rattle.ix_base.specs.declared.events.ChannelMeta.{ChannelMeta}
 use Rattle.ix_base.specs.declared.files.File.{File}
 use Rattle.ix_http.specs.Limits.{IsBrief, IsBriefMeta}
 use Rattle.ix_http.specs.Routes.{is_channel_name}
-use Rattle.ix_kept.specs.Taken.{IsTaken, IsStated}
+use Rattle.ix_state.specs.Taken.{IsTaken, IsStated}
 use Rattle.ix_serve.specs.Taking.{TakesAsks}
-use Rattle.indexd_feed.specs.declared.end.End.{End}
-use Rattle.indexd_feed.specs.declared.end.End.TheVariants as ends
+use Rattle.indexd_serve.specs.declared.end.End.{End}
+use Rattle.indexd_serve.specs.declared.end.End.TheVariants as ends
 use Rattle.indexd_core.specs.Feeds.{end_status}
 use Rattle.indexd_core.specs.declared.status.Status.{Status}
 use Rattle.indexd_core.specs.declared.status.Status.TheVariants as statuses
@@ -22,7 +22,8 @@ both true b is = (refl, is)
 both false b is = cc
 
 name_fits : (channel : List ℕ) → is_channel_name channel ≡ true → length channel ≤ 4097
-name_fits channel named = let short : nat_le (length channel) 64 ≡ true = (both _ _ (both (nat_le 1 (length channel)) _ named).1).0 in grind (arith, nat_tests)
+name_fits channel named = let short : nat_le (length channel) 64 ≡ true = (both _ _ (both (nat_le 1 (length channel)) _ named).1).0 in
+    grind (arith, nat_tests)
 
 -- a text that may be stated, and has its limit
 brief_text : (text : Option (List ℕ)) → IfSome text IsBrief → IfSome text (λ (name : List ℕ). length name ≤ 1024)
@@ -96,7 +97,8 @@ of_damaged (ends.Damaged file at) P is damaged = damaged file at refl
 of_damaged ends.Input P is damaged = absurd (apart statuses.Damaged statuses.Input refl is)
 of_damaged ends.Output P is damaged = absurd (apart statuses.Damaged statuses.Output refl is)
 
-pub damaged_end : (ended : Status) (end : End) (P : Type 0) → ended ≡ end_status end → ended ≡ statuses.Damaged → ((file : File) (at : ℕ) → end ≡ ends.Damaged file at → P) → P
+pub damaged_end : (ended : Status) (end : End) (P : Type 0) → ended ≡ end_status end → ended ≡ statuses.Damaged →
+    ((file : File) (at : ℕ) → end ≡ ends.Damaged file at → P) → P
 damaged_end ended end P is at damaged = of_damaged end P (sym at ∙ is) damaged
 
 of_usage : (end : End) → statuses.Usage ≡ end_status end → ⊥

@@ -12,3 +12,4 @@ pub mod ChainLemmas
 pub mod Empty
 pub mod ReadLemmas
 pub mod LockedLemmas
+pub mod BlamedLemmas

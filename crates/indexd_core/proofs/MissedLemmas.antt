@@ -1,46 +1,47 @@
 -- An index whose name is too long for one is missed once the store is open.
-use Rattle.std.proofs.Common.{◌≡◌, ◌≤◌, ◌<◌, ℕ, ℤ, Bool, true, false, List, [], ◌∷◌, ◌++◌, map, length, take, refl, sym, ap, ◌∙◌, subst, inl, inr, ◌⊎◌, arith}
+use Rattle.std.proofs.Common.{◌≡◌, ◌≤◌, ◌<◌, ℕ, ℤ, Bool, true, false, List, [], ◌∷◌, ◌++◌, map, length, take, refl, sym, ap, ◌∙◌, subst}
+use Rattle.std.proofs.Common.{inl, inr, ◌⊎◌, arith}
 use Rattle.std.specs.Prelude.{Option, Some, None, Err, is_some, is_none, ◌==◌, ◌&&◌, nat_lt, codes, bytes_eq, filter, if◌then◌else◌}
 use Rattle.std.specs.List.{AllByRecursion}
 use Rattle.ix_base.specs.Clocks.{Moments, Answered}
 use Rattle.ix_base.specs.Told.{Told}
 use Rattle.ix_base.specs.declared.events.ChannelMeta.{ChannelMeta}
-use Rattle.ix_book.specs.Book.{Book}
+use Rattle.ix_manifest.specs.Book.{NamedItems}
 use Rattle.ix_conf.specs.Value.{is_at, entry_at}
 use Rattle.ix_conf.specs.declared.layers.MergedEntry.{MergedEntry}
 use Rattle.ix_disk.specs.Moments.{Always}
 use Rattle.ix_disk.specs.declared.disk.Disk.{Ghosts}
 use Rattle.ix_items.specs.declared.items.Kept.{Kept}
-use Rattle.ix_kept.specs.Configs.{IsConfig}
-use Rattle.ix_kept.specs.Taken.{IsTaken, AreGiven}
+use Rattle.ix_state.specs.Configs.{IsConfig}
+use Rattle.ix_state.specs.Taken.{IsTaken, AreGiven}
 use Rattle.ix_life.specs.Limits.{limits_of}
 use Rattle.ix_life.specs.Stanzas.{is_index_stanza}
 use Rattle.ix_life.specs.declared.limits.Limits.{Limits}
 use Rattle.ix_life.specs.declared.sets.LimitSet.{LimitSet}
-use Rattle.ix_machine.proofs.Following.{after_more}
-use Rattle.ix_machine.proofs.Named.{by_test, same_bytes}
-use Rattle.ix_machine.specs.Given.{Chooser, entry, entries, is_configured, limits}
-use Rattle.ix_machine.specs.State.{State, empty}
-use Rattle.ix_machine.specs.Step.{after}
-use Rattle.ix_machine.specs.declared.commands.Config.{Config}
-use Rattle.ix_machine.specs.declared.commands.Order.{Order}
+use Rattle.ix_model.proofs.Following.{after_more}
+use Rattle.ix_model.proofs.Named.{by_test, same_bytes}
+use Rattle.ix_model.specs.Given.{Chooser, entry, entries, is_configured, limits}
+use Rattle.ix_model.specs.State.{State, empty}
+use Rattle.ix_model.specs.Step.{state_after}
+use Rattle.ix_model.specs.declared.commands.Config.{Config}
+use Rattle.ix_model.specs.declared.commands.TimedCommand.{TimedCommand}
 use Rattle.ix_run.specs.Giving.{given_all}
-use Rattle.ix_machine.specs.Shelved.{IsSet}
-use Rattle.ix_store.specs.Holding.{Holds}
-use Rattle.ix_store.specs.Written.{Stands}
+use Rattle.ix_model.specs.Shelved.{IsSet}
+use Rattle.ix_store.specs.Holding.{Represents}
+use Rattle.ix_store.specs.Written.{RecoversTo}
 use Rattle.ix_store.specs.declared.store.Store.{Store}
-use Rattle.indexd_store.specs.Ends.{same_entry, same_kept}
-use Rattle.indexd_store.specs.Opened as opened
-use Rattle.indexd_store.specs.Opened.{configuring, Configures, HasOpened, HasStopped}
-use Rattle.indexd_store.specs.Previews.{is_missing_in, HasFed, Fed, Misses}
-use Rattle.indexd_store.specs.Shortened.{IsOfCheckpoint}
-use Rattle.indexd_store.specs.Stops.{loses}
-use Rattle.indexd_store.specs.declared.stop.Stop.{Stop}
-use Rattle.indexd_store.specs.declared.stop.Stop.TheVariants as stops
-use Rattle.indexd_store.proofs.Feeding.{none_fed}
-use Rattle.indexd_store.proofs.Joining.{front_has, begun_taken, fed_when}
-use Rattle.indexd_store.proofs.Shortening.{stopped_short, fed_stop}
-use Rattle.indexd_store.proofs.Tasks.{none_given}
+use Rattle.indexd_run.specs.Ends.{same_entry, same_kept}
+use Rattle.indexd_run.specs.Opened as opened
+use Rattle.indexd_run.specs.Opened.{configuring, Configures, HasOpened, HasStopped}
+use Rattle.indexd_run.specs.Previews.{is_missing_in, HasFed, Fed, Misses}
+use Rattle.indexd_run.specs.Shortened.{IsOfCheckpoint}
+use Rattle.indexd_run.specs.Stops.{loses}
+use Rattle.indexd_run.specs.declared.stop.Stop.{Stop}
+use Rattle.indexd_run.specs.declared.stop.Stop.TheVariants as stops
+use Rattle.indexd_run.proofs.Feeding.{none_fed}
+use Rattle.indexd_run.proofs.Joining.{front_has, begun_taken, fed_when}
+use Rattle.indexd_run.proofs.Shortening.{stopped_short, fed_stop}
+use Rattle.indexd_run.proofs.Tasks.{none_given}
 use Rattle.indexd_core.specs.Stored.{is_long}
 
 both_are : (a b : Bool) → (a && b) ≡ true → (a ≡ true) × (b ≡ true)
@@ -74,12 +75,14 @@ all_same (a ∷ more) (b ∷ bs) e =
     λ i. here i ∷ behind i
 
 -- the settings of a run that is open are those that it was given
-in_force : (choose : Chooser) (mounted configured : List Order) (config : Config) (is_same : Bool) → opened.is_configured choose mounted config ≡ is_same →
-    Configures is_same config configured → (after choose (given_all choose mounted configured)).force ≡ config.kept
+in_force : (choose : Chooser) (mounted configured : List TimedCommand) (config : Config) (is_same : Bool) →
+    opened.is_configured choose mounted config ≡ is_same →
+    Configures is_same config configured → (state_after choose (given_all choose mounted configured)).force ≡ config.kept
 in_force choose mounted configured config true same none =
-    subst (λ (orders : List Order). (after choose (given_all choose mounted orders)).force ≡ config.kept) (sym none) (all_same (after choose mounted).force config.kept same)
+    subst (λ (orders : List TimedCommand). (state_after choose (given_all choose mounted orders)).force ≡ config.kept) (sym none)
+    (all_same (state_after choose mounted).force config.kept same)
 in_force choose mounted configured config false other one =
-    subst (λ (orders : List Order). (after choose (given_all choose mounted orders)).force ≡ config.kept) (sym one.1)
+    subst (λ (orders : List TimedCommand). (state_after choose (given_all choose mounted orders)).force ≡ config.kept) (sym one.1)
     (ap (λ (m : State). m.force) (after_more choose empty mounted (configuring config one.0 ∷ [])))
 
 -- ---- names of indexes are short
@@ -121,15 +124,18 @@ unless : (b : Bool) (found : Limits) → (b ≡ true → ⊥) → is_none (if b 
 unless true found not = absurd (not refl)
 unless false found not = refl
 
-missing_in : (force : List Kept) (set : LimitSet) (index : Option (List ℕ)) → AreBrief force → IsSet force set → is_long index ≡ true → is_missing_in set index ≡ true
+missing_in : (force : List Kept) (set : LimitSet) (index : Option (List ℕ)) → AreBrief force → IsSet force set → is_long index ≡ true →
+    is_missing_in set index ≡ true
 missing_in force set None brief is long = absurd (cc)
 missing_in force set (Some index) brief is long =
     subst (λ (found : Option Limits). is_none found ≡ true) (sym (is.limits.limits index))
-    (unless (is_configured force index) (limits force index) (λ there. too_long (length index) long (configured_brief force index brief there)))
+    (unless (is_configured force index) (limits force index)
+    (λ there. too_long (length index) long (configured_brief force index brief there)))
 
 -- ---- the run
 
-missed_by : (choose : Chooser) (begun : List Order) (config : Config) (origin : ChannelMeta) → IsConfig config → (after choose begun).force ≡ config.kept →
+missed_by : (choose : Chooser) (begun : List TimedCommand) (config : Config) (origin : ChannelMeta) → IsConfig config →
+    (state_after choose begun).force ≡ config.kept →
     is_long origin.index ≡ true → Misses choose begun origin true
 missed_by choose begun config origin is forced long = record {
   limits = config.limits;
@@ -138,28 +144,42 @@ missed_by choose begun config origin is forced long = record {
 }
 
 -- it ends so, or its checkpoint stops it
-pub missed : {D : Type 0} (d : Ghosts D) {M : Type 0} (fits : Book → Type 0) (holds : Chooser → List Order → M → Type 0) (choose : Chooser) (history : List Order) (run k : ℕ)
-    (config : Config) (store later : Store M) (ahead mid ahead' : Option Moments) (first at last : D) (origin : ChannelMeta) (left : Option (List ℕ)) (moment : ℤ) (other : Stop) →
-    IsConfig config → is_long origin.index ≡ true → AreGiven history → HasOpened d fits holds choose history run k config store ahead mid first at → Told (Answered moment) mid ahead' →
+pub missed : {D : Type 0} (d : Ghosts D) {M : Type 0} (fits : NamedItems → Type 0) (holds : Chooser → List TimedCommand → M →
+    Type 0) (choose : Chooser) (history : List TimedCommand) (run k : ℕ)
+    (config : Config) (store later : Store M) (ahead mid ahead' : Option Moments) (first at last : D) (origin : ChannelMeta)
+    (left : Option (List ℕ)) (moment : ℤ) (other : Stop) →
+    IsConfig config → is_long origin.index ≡ true → AreGiven history →
+    HasOpened d fits holds choose history run k config store ahead mid first at → Told (Answered moment) mid ahead' →
     later.run ≡ store.run → (other ≡ stops.NotFound) ⊎ IsOfCheckpoint other →
-    ((now : List Order) (base : ℕ) → AreGiven now → Holds d fits holds choose now base (length now) store at → Always d at last (Stands fits store.run choose now)) →
-    (loses other ≡ false → (now : List Order) (base : ℕ) → AreGiven now → Holds d fits holds choose now base (length now) store at → Holds d fits holds choose now base (length now) later last) →
-    HasStopped other d IsTaken fits choose history run k config ahead ahead' (left ≡ left) (HasFed choose origin (Err other) ahead' left left) first last
-missed d fits holds choose history run k config store later ahead mid ahead' first at last origin left moment other is long given ready told same why images held =
-    let begun : List Order = given_all choose (take ready.count history) ready.configured in
-    let forced : (after choose begun).force ≡ config.kept =
-    in_force choose (take ready.count history) ready.configured config (opened.is_configured choose (take ready.count history) config) refl ready.configures in
-    let all : AreGiven begun = begun_taken IsTaken (λ moment. tt) choose (take ready.count history) config (opened.is_configured choose (take ready.count history) config) ready.configured (λ moment. is)
+    ((now : List TimedCommand) (base : ℕ) → AreGiven now → Represents d fits holds choose now base (length now) store at →
+    Always d at last (RecoversTo fits store.run choose now)) →
+    (loses other ≡ false → (now : List TimedCommand) (base : ℕ) → AreGiven now →
+    Represents d fits holds choose now base (length now) store at → Represents d fits holds choose now base (length now) later last) →
+    HasStopped other d IsTaken fits choose history run k config ahead ahead' (left ≡ left)
+    (HasFed choose origin (Err other) ahead' left left) first last
+missed d fits holds choose history run k config store later ahead mid ahead' first at last origin left moment other is long given ready told
+    same why images held =
+    let begun : List TimedCommand = given_all choose (take ready.count history) ready.configured in
+    let forced : (state_after choose begun).force ≡ config.kept =
+    in_force choose (take ready.count history) ready.configured config (opened.is_configured choose (take ready.count history) config) refl
+    ready.configures in
+    let all : AreGiven begun = begun_taken IsTaken (λ moment. tt) choose (take ready.count history) config
+    (opened.is_configured choose (take ready.count history) config) ready.configured (λ moment. is)
     (front_has IsTaken ready.count history given) ready.configures in
     let fed = none_fed choose ready.count begun origin moment left (missed_by choose begun config origin is forced long) in
-    inr (fed_when d fits holds choose history run k config store ahead mid first at last ready later origin moment ahead' told left left IsTaken (Err other)
-    (stopped_short d fits store.run holds IsTaken choose begun ready.count store later at at last stops.NotFound other (λ orders. orders ≡ []) (λ orders. Fed choose ready.count begun origin moment (Err other) left left orders × AreGiven (given_all choose begun orders))
+    inr (fed_when d fits holds choose history run k config store ahead mid first at last ready later origin moment ahead' told left left
+    IsTaken (Err other)
+    (stopped_short d fits store.run holds IsTaken choose begun ready.count store later at at last stops.NotFound other
+    (λ orders. orders ≡ []) (λ orders. Fed choose ready.count begun origin moment (Err other) left left orders
+    × AreGiven (given_all choose begun orders))
     (λ orders none. (
-      subst (λ (os : List Order). Fed choose ready.count begun origin moment (Err other) left left os) (sym none) (fed_stop choose ready.count begun origin moment stops.NotFound other left left [] why fed),
-      subst (λ (os : List Order). AreGiven (given_all choose begun os)) (sym none) all,
+      subst (λ (os : List TimedCommand). Fed choose ready.count begun origin moment (Err other) left left os) (sym none)
+          (fed_stop choose ready.count begun origin moment stops.NotFound other left left [] why fed),
+      subst (λ (os : List TimedCommand). AreGiven (given_all choose begun os)) (sym none) all,
     ))
-    (λ orders none. subst (λ (os : List Order). AreGiven (given_all choose begun os)) (sym none) all)
-    same (λ lost. absurd (cc)) (λ kept now taken hold. images now ready.count taken hold) (λ kept also now taken hold. held also now ready.count taken hold)
+    (λ orders none. subst (λ (os : List TimedCommand). AreGiven (given_all choose begun os)) (sym none) all)
+    same (λ lost. absurd (cc)) (λ kept now taken hold. images now ready.count taken hold)
+    (λ kept also now taken hold. held also now ready.count taken hold)
     (none_given d fits holds choose begun ready.count store at (λ orders. orders ≡ []) refl ready.hold)))
 
 -- only the disk is at fault where it says so

@@ -6,9 +6,11 @@ use Rattle.std.specs.Option.{option_map_or}
 use Rattle.std.specs.Str.{bytes_eq}
 use Rattle.clap.specs.Kinds.{Kinds}
 use Rattle.clap.specs.Words.{Row, Text, first_of, fault_of, subcommand_of}
-use Rattle.indexd_words.specs.Table.{table}
-use Rattle.indexd_words.specs.Values.{is_name, name_of, file_of, number_in, seconds_of}
-use Rattle.indexd_words.specs.Orders.{Asked, preview, btool, feed, serve, monitor, buckets, export, roll, thaw, tick, selftest, given, where_given, is_set, preview_of, serve_of, range_of, export_of, thaw_of, selftest_of, order_of, order_in, unless_refused, asked}
+use Rattle.indexd_cli.specs.Table.{table}
+use Rattle.indexd_cli.specs.Values.{is_name, name_of, file_of, number_in, seconds_of}
+use Rattle.indexd_cli.specs.Orders.{Asked, preview, btool, feed, serve, monitor, buckets, export, roll, thaw, tick, selftest, given}
+use Rattle.indexd_cli.specs.Orders.{where_given, is_set, preview_of, serve_of, range_of, export_of, thaw_of, selftest_of, order_of}
+use Rattle.indexd_cli.specs.Orders.{order_in, unless_refused, asked}
 use Rattle.indexd_core.specs.Commands.{AskStore}
 use Rattle.indexd_core.specs.Prepared.{Stated}
 use Rattle.indexd_core.specs.Stored.{AreShort}
@@ -45,19 +47,23 @@ given_short : (o : Option Text) → IfSome (option_and_then name_of o) IsShort
 given_short None = tt
 given_short (Some text) = name_short text
 
-map_short : (o : Option Text) → IfSome o IsShort → IfSome (option_map (λ (value : Text). Some value) o) (λ (o : Option Text). IfSome o IsShort)
+map_short : (o : Option Text) → IfSome o IsShort → IfSome (option_map (λ (value : Text). Some value) o)
+    (λ (o : Option Text). IfSome o IsShort)
 map_short None short = tt
 map_short (Some text) short = short
 
-where_short : (o : Option Text) → IfSome (option_map_or (λ (text : Text). option_map (λ (value : Text). Some value) (name_of text)) o (Some None)) (λ (o : Option Text). IfSome o IsShort)
+where_short : (o : Option Text) → IfSome (option_map_or (λ (text : Text). option_map (λ (value : Text). Some value) (name_of text)) o
+    (Some None)) (λ (o : Option Text). IfSome o IsShort)
 where_short None = tt
 where_short (Some text) = map_short (name_of text) (name_short text)
 
-then_in : {X : Type 0} (Q : X → Type 0) (o : Option X) (f : X → Option Asked) → IfSome o Q → ((x : X) → Q x → AreShortIn (f x)) → AreShortIn (option_and_then f o)
+then_in : {X : Type 0} (Q : X → Type 0) (o : Option X) (f : X → Option Asked) → IfSome o Q → ((x : X) → Q x → AreShortIn (f x)) →
+    AreShortIn (option_and_then f o)
 then_in Q None f some so = tt
 then_in Q (Some x) f some so = so x some
 
-map_in : {X : Type 0} (Q : X → Type 0) (o : Option X) (f : X → Asked) → IfSome o Q → ((x : X) → Q x → AreShortIn (Some (f x))) → AreShortIn (option_map f o)
+map_in : {X : Type 0} (Q : X → Type 0) (o : Option X) (f : X → Asked) → IfSome o Q → ((x : X) → Q x → AreShortIn (Some (f x))) →
+    AreShortIn (option_map f o)
 map_in Q None f some so = tt
 map_in Q (Some x) f some so = so x some
 
@@ -80,12 +86,14 @@ unfolding preview_of
 preview_short rows =
     then_in IsShort (given name_of (codes "host") rows) _ (given_short (first_of (codes "host") rows)) (λ host host_is.
     then_in IsShort (given name_of (codes "source") rows) _ (given_short (first_of (codes "source") rows)) (λ source source_is.
-    map_in (λ (o : Option Text). IfSome o IsShort) (where_given name_of (codes "sourcetype") rows) _ (where_short (first_of (codes "sourcetype") rows)) (λ sourcetype sourcetype_is.
+    map_in (λ (o : Option Text). IfSome o IsShort) (where_given name_of (codes "sourcetype") rows) _
+    (where_short (first_of (codes "sourcetype") rows)) (λ sourcetype sourcetype_is.
     (host_is, source_is, sourcetype_is))))
 
 serve_short : (rows : List Row) → AreShortIn (serve_of rows)
 unfolding serve_of
-serve_short rows = others (given (number_in 0 65535) (codes "port") rows) _ (λ port. other (given (number_in 1 1000000) (codes "requests") rows) _ (λ requests. tt))
+serve_short rows = others (given (number_in 0 65535) (codes "port") rows) _
+    (λ port. other (given (number_in 1 1000000) (codes "requests") rows) _ (λ requests. tt))
 
 export_short : (rows : List Row) → AreShortIn (export_of rows)
 unfolding export_of
@@ -93,11 +101,13 @@ export_short rows = others (first_of (codes "INDEX") rows) _ (λ index. other (r
 
 thaw_short : (rows : List Row) → AreShortIn (thaw_of rows)
 unfolding thaw_of
-thaw_short rows = others (first_of (codes "INDEX") rows) _ (λ index. other (given (number_in 0 18446744073709551615) (codes "ID") rows) _ (λ id. tt))
+thaw_short rows = others (first_of (codes "INDEX") rows) _
+    (λ index. other (given (number_in 0 18446744073709551615) (codes "ID") rows) _ (λ id. tt))
 
 selftest_short : (rows : List Row) → AreShortIn (selftest_of rows)
 unfolding selftest_of
-selftest_short rows = others (given (number_in 0 18446744073709551615) (codes "SEED") rows) _ (λ seed. other (given (number_in 1 1000000) (codes "COUNT") rows) _ (λ count. tt))
+selftest_short rows = others (given (number_in 0 18446744073709551615) (codes "SEED") rows) _
+    (λ seed. other (given (number_in 1 1000000) (codes "COUNT") rows) _ (λ count. tt))
 
 order_short : (name : Text) (rows : List Row) → AreShortIn (order_of name rows)
 unfolding order_of
@@ -126,7 +136,8 @@ asked_short : (words : List Text) → AreShortIn (asked words)
 unfolding asked
 asked_short words = taken_short (fault_of table words) (order_in (subcommand_of table words)) (found_short (subcommand_of table words))
 
-pub stated_short : (words : List Text) (stated : Stated) (store : Bool) → asked words ≡ Some (preview stated.host stated.source stated.sourcetype stated.index store) → AreShort stated
+pub stated_short : (words : List Text) (stated : Stated) (store : Bool) →
+    asked words ≡ Some (preview stated.host stated.source stated.sourcetype stated.index store) → AreShort stated
 stated_short words stated store is =
     let all = subst AreShortIn is (asked_short words) in
     record { host = all.0; source = all.1; sourcetype = all.2 }

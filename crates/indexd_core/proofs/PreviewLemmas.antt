@@ -1,11 +1,12 @@
 -- Steps of a preview.
-use Rattle.std.proofs.Common.{◌≡◌, ℕ, ℤ, Bool, true, false, List, [], ◌∷◌, ◌++◌, length, refl, sym, ◌∙◌, ap, subst, append_assoc, ◌<◌, ◌≤◌, inl, inr, arith}
+use Rattle.std.proofs.Common.{◌≡◌, ℕ, ℤ, Bool, true, false, List, [], ◌∷◌, ◌++◌, length, refl, sym, ◌∙◌, ap, subst, append_assoc, ◌<◌, ◌≤◌}
+use Rattle.std.proofs.Common.{inl, inr, arith}
 use Rattle.std.specs.Prelude.{if◌then◌else◌, Option, Some, None}
 use Rattle.std.proofs.lemmas.Grind.{flat_map-append}
 use Rattle.ix_base.specs.Clocks.{clamped}
 use Rattle.ix_base.specs.Stream.{Dated, dated}
 use Rattle.ix_base.specs.Told.{Told, Took, HasWritten, HasBegun}
-use Rattle.indexd_core.specs.declared.prepare.Prepared.{Prepared}
+use Rattle.indexd_core.specs.declared.prepare.PreparedPreview.{PreparedPreview}
 use Rattle.ix_base.specs.declared.events.Routed.{Routed}
 use Rattle.ix_base.specs.Faults.{Rose}
 use Rattle.ix_base.proofs.ToldLemmas.{then_written, then_begun, nothing_written}
@@ -41,8 +42,9 @@ took-took a b (Some x) None z p q = absurd p
 took-took a b (Some x) (Some y) None p q = absurd q
 took-took a b (Some x) (Some y) (Some z) p q = p ∙ ap (λ l. a ++ l) q ∙ sym (append_assoc a b z)
 
--- What a block settles, as text: the text of all bytes is that of the bytes before it and then the lines of its events.
-pub text-more : (prepared : Prepared) (m : ℤ) (taken more : List ℕ) (routed : List Routed) →
+-- What a block settles, as text: the text of all bytes is that of the bytes before it and then the
+-- lines of its events.
+pub text-more : (prepared : PreparedPreview) (m : ℤ) (taken more : List ℕ) (routed : List Routed) →
     settled prepared.settings prepared.meta (dated taken (clamped m) ++ dated more (clamped m)) false
     ≡ settled prepared.settings prepared.meta (dated taken (clamped m)) false ++ routed →
     text_of prepared m (taken ++ more) false ≡ text_of prepared m taken false ++ lines_of prepared.limits routed
@@ -52,7 +54,7 @@ text-more prepared m taken more routed e =
     ∙ lines_of-append prepared.limits (settled prepared.settings prepared.meta (dated taken (clamped m)) false) routed
 
 -- the same, of lines by the limits of a run
-more-by : (prepared : Prepared) (limits : LimitSet) (m : ℤ) (taken more : List ℕ) (routed : List Routed) → limits ≡ prepared.limits →
+more-by : (prepared : PreparedPreview) (limits : LimitSet) (m : ℤ) (taken more : List ℕ) (routed : List Routed) → limits ≡ prepared.limits →
     settled prepared.settings prepared.meta (dated taken (clamped m) ++ dated more (clamped m)) false
     ≡ settled prepared.settings prepared.meta (dated taken (clamped m)) false ++ routed →
     text_of prepared m (taken ++ more) false ≡ text_of prepared m taken false ++ lines_of limits routed
@@ -116,15 +118,15 @@ by-nothing : {A : Type 0} (on : Bool) (text : List A → List ℕ) → text [] �
 by-nothing true text e = e
 by-nothing false text e = e
 
-pub text-of-nothing : (prepared : Prepared) (m : ℤ) → text_of prepared m [] false ≡ []
+pub text-of-nothing : (prepared : PreparedPreview) (m : ℤ) → text_of prepared m [] false ≡ []
 text-of-nothing prepared m =
     by-nothing prepared.settings.merge.on (λ events. lines_of prepared.limits (outcomes prepared.settings prepared.meta None events)) refl
 
-pub nothing-shown : (prepared : Prepared) (m : ℤ) (told : Option (List ℕ)) → HasWritten (text_of prepared m [] false) told told
+pub nothing-shown : (prepared : PreparedPreview) (m : ℤ) (told : Option (List ℕ)) → HasWritten (text_of prepared m [] false) told told
 nothing-shown prepared m told = subst (λ (x : List ℕ). HasWritten x told told) (sym (text-of-nothing prepared m)) (nothing_written told)
 
 -- at the start
-pub starts : (prepared : Prepared) (preview : Preview) (input output : Side) → Holds prepared [] preview →
+pub starts : (prepared : PreparedPreview) (preview : Preview) (input output : Side) → Holds prepared [] preview →
     IsAt prepared input output [] preview input output
 starts prepared preview input output holds =
     record { holds = holds; took = took-nothing input.told; written = nothing-shown prepared preview.moment output.told }
@@ -139,7 +141,8 @@ rose-until a b c (inl lt) le = inl (omega arith)
 rose-until a b c (inr full) le = inr (omega arith)
 
 -- a step stopped, and so the run
-pub run-stops : (stop : Stop) (prepared : Prepared) (old : Preview) (m : ℤ) (taken : List ℕ) (input input₁ input' output output₁ output' : Side) →
+pub run-stops : (stop : Stop) (prepared : PreparedPreview) (old : Preview) (m : ℤ) (taken : List ℕ)
+    (input input₁ input' output output₁ output' : Side) →
     old.moment ≡ m → length taken < input_limit → input.faults ≤ input₁.faults → output.faults ≤ output₁.faults →
     IsAt prepared input output taken old input₁ output₁ → StepStops stop old input₁ input' output₁ output' →
     RunStops stop (text_of prepared m) input input' output output'
@@ -171,7 +174,7 @@ run-stops Output prepared old m taken input input₁ input' output output₁ out
 )
 
 -- what the end settles, as text
-pub text-end : (prepared : Prepared) (limits : LimitSet) (m : ℤ) (taken : List ℕ) (routed : List Routed) → limits ≡ prepared.limits →
+pub text-end : (prepared : PreparedPreview) (limits : LimitSet) (m : ℤ) (taken : List ℕ) (routed : List Routed) → limits ≡ prepared.limits →
     settled prepared.settings prepared.meta (dated taken (clamped m)) true
     ≡ settled prepared.settings prepared.meta (dated taken (clamped m)) false ++ routed →
     text_of prepared m taken true ≡ text_of prepared m taken false ++ lines_of limits routed
@@ -194,7 +197,8 @@ ends-all preview routed output output' closes written = λ prepared input₀ out
     (then_written at.written written)
 
 pub end-stops : (stop : Stop) (preview : Preview) (routed : List Routed) (output output' : Side) →
-    Closes preview.channel routed → PutStops stop (lines_of preview.events.limits routed) output output' → EndStops stop preview output output'
+    Closes preview.channel routed → PutStops stop (lines_of preview.events.limits routed) output output' →
+    EndStops stop preview output output'
 end-stops Memory preview routed output output' closes put = put
 end-stops Input preview routed output output' closes put = put
 end-stops Output preview routed output output' closes put = (

@@ -4,12 +4,12 @@ use Rattle.std.specs.Prelude.{Option}
 use Rattle.ix_base.specs.Clocks.{Moments}
 use Rattle.ix_base.specs.Faults.{Rose}
 use Rattle.ix_base.specs.Told.{HasWritten, HasBegun}
-use Rattle.indexd_core.specs.declared.prepare.Prepared.{Prepared}
+use Rattle.indexd_core.specs.declared.prepare.PreparedPreview.{PreparedPreview}
 use Rattle.std.proofs.lemmas.List.{append-nil}
 use Rattle.indexd_core.specs.Sides.{Side}
 use Rattle.indexd_core.specs.Steps.{ReadsAll, RunStops, EndsAll, EndStops}
 use Rattle.indexd_core.specs.Stops.{stop_status}
-use Rattle.ix_tree.specs.declared.trees.TreeFile.{TreeFile}
+use Rattle.ix_fs.specs.declared.trees.TreeFile.{TreeFile}
 use Rattle.indexd_core.specs.Prepared.{Stated}
 use Rattle.indexd_core.specs.Runs.{Runs, Text, Wrote, WroteUnprepared, Previews, unprepared, ran, text_of}
 use Rattle.indexd_core.specs.declared.status.Status.{Status}
@@ -20,7 +20,7 @@ use Rattle.indexd_core.specs.declared.status.Status.TheVariants as status
 use Rattle.indexd_core.proofs.PreviewLemmas.{took-nothing, nothing-shown, rose-since, rose-until}
 
 -- there was no room at the start
-pub no-room : (prepared : Prepared) (m : ℤ) (input output : Side) → output.faults ≤ output.faults →
+pub no-room : (prepared : PreparedPreview) (m : ℤ) (input output : Side) → output.faults ≤ output.faults →
     Runs status.Memory (text_of prepared m) input input output output
 no-room prepared m input output later = record {
   taken = [];
@@ -52,8 +52,9 @@ stopped stop.Output text input input' output output' later s = record {
 }
 
 -- the limit was taken
-pub endless : (prepared : Prepared) (new : Preview) (m : ℤ) (input input' output output' : Side) → output.faults ≤ output'.faults →
-    new.moment ≡ m → ReadsAll false prepared new input input' output output' → Runs status.Endless (text_of prepared m) input input' output output'
+pub endless : (prepared : PreparedPreview) (new : Preview) (m : ℤ) (input input' output output' : Side) → output.faults ≤ output'.faults →
+    new.moment ≡ m → ReadsAll false prepared new input input' output output' →
+    Runs status.Endless (text_of prepared m) input input' output output'
 endless prepared new m input input' output output' later same r = record {
   taken = r.taken;
   took = r.at.took;
@@ -62,7 +63,8 @@ endless prepared new m input input' output output' later same r = record {
 }
 
 -- the input came to its end, and all was written
-pub done : (prepared : Prepared) (new : Preview) (m : ℤ) (input input' output output₁ output' : Side) → output.faults ≤ output'.faults →
+pub done : (prepared : PreparedPreview) (new : Preview) (m : ℤ) (input input' output output₁ output' : Side) →
+    output.faults ≤ output'.faults →
     new.moment ≡ m → ReadsAll true prepared new input input' output output₁ → EndsAll new output₁ output' →
     Runs status.Done (text_of prepared m) input input' output output'
 done prepared new m input input' output output₁ output' later same r ends = record {
@@ -72,12 +74,13 @@ done prepared new m input input' output output₁ output' later same r ends = re
   outcome = (
     r.end.1,
     r.end.0,
-    subst (λ (z : ℤ). HasWritten (text_of prepared z r.taken true) output.told output'.told) same (ends prepared input output input' r.taken r.at),
+    subst (λ (z : ℤ). HasWritten (text_of prepared z r.taken true) output.told output'.told) same
+        (ends prepared input output input' r.taken r.at),
   );
 }
 
 -- the input came to its end, and then the run stopped
-pub stopped-at-end : (s : Stop) (prepared : Prepared) (new : Preview) (m : ℤ) (input input' output output₁ output' : Side) →
+pub stopped-at-end : (s : Stop) (prepared : PreparedPreview) (new : Preview) (m : ℤ) (input input' output output₁ output' : Side) →
     output.faults ≤ output₁.faults → output.faults ≤ output'.faults → new.moment ≡ m →
     ReadsAll true prepared new input input' output output₁ → EndStops s new output₁ output' →
     Runs (stop_status s) (text_of prepared m) input input' output output'
@@ -101,7 +104,8 @@ stopped-at-end stop.Output prepared new m input input' output output₁ output' 
     true,
     λ is. r.end.1,
     rose-since output.faults output₁.faults output'.faults before ends.0,
-    subst (λ (z : ℤ). HasBegun (text_of prepared z r.taken true) output.told output'.told) same (ends.1 prepared input output input' r.taken r.at),
+    subst (λ (z : ℤ). HasBegun (text_of prepared z r.taken true) output.told output'.told) same
+        (ends.1 prepared input output input' r.taken r.at),
   );
 }
 
@@ -129,36 +133,44 @@ output-rose ended text input input' output output₁ output' r later is =
     ((subst (λ (s : Status). Wrote s text r.taken input input' output output₁) is r.outcome).2) later
 
 -- and of a whole run
-pub previews-not-usage : {ended : Status} {stated : Stated} {files : Option (List TreeFile)} {failed failed' : ℕ} {ahead ahead' : Option Moments}
+pub previews-not-usage : {ended : Status} {stated : Stated} {files : Option (List TreeFile)} {failed failed' : ℕ}
+    {ahead ahead' : Option Moments}
     {input input' output output' : Side} →
     Previews ended stated files failed failed' ahead ahead' input input' output output' → ended ≡ status.Usage → ⊥
-previews-not-usage {stated = stated} {files = files} {failed = failed} {failed' = failed'} {output = output} {output' = output'} (unprepared a i w) is =
+previews-not-usage {stated = stated} {files = files} {failed = failed} {failed' = failed'} {output = output} {output' = output'}
+    (unprepared a i w) is =
     subst (λ (s : Status). WroteUnprepared s stated files failed failed' output output') is w
 previews-not-usage {ended = ended} {input = input} {input' = input'} {output = output} (ran p q r) is =
     not-usage ended (text_of p r.shown) input input' output r.middle r.lines is
 
-pub previews-not-heard : {ended : Status} {stated : Stated} {files : Option (List TreeFile)} {failed failed' : ℕ} {ahead ahead' : Option Moments}
+pub previews-not-heard : {ended : Status} {stated : Stated} {files : Option (List TreeFile)} {failed failed' : ℕ}
+    {ahead ahead' : Option Moments}
     {input input' output output' : Side} →
     Previews ended stated files failed failed' ahead ahead' input input' output output' → ended ≡ status.ListenerFault → ⊥
-previews-not-heard {stated = stated} {files = files} {failed = failed} {failed' = failed'} {output = output} {output' = output'} (unprepared a i w) is =
+previews-not-heard {stated = stated} {files = files} {failed = failed} {failed' = failed'} {output = output} {output' = output'}
+    (unprepared a i w) is =
     subst (λ (s : Status). WroteUnprepared s stated files failed failed' output output') is w
 previews-not-heard {ended = ended} {input = input} {input' = input'} {output = output} (ran p q r) is =
     not-heard ended (text_of p r.shown) input input' output r.middle r.lines is
 
-pub previews-input : {ended : Status} {stated : Stated} {files : Option (List TreeFile)} {failed failed' : ℕ} {ahead ahead' : Option Moments}
+pub previews-input : {ended : Status} {stated : Stated} {files : Option (List TreeFile)} {failed failed' : ℕ}
+    {ahead ahead' : Option Moments}
     {input input' output output' : Side} →
     Previews ended stated files failed failed' ahead ahead' input input' output output' → ended ≡ status.Input →
     Rose input.faults input'.faults ⊎ Rose failed failed'
-previews-input {stated = stated} {files = files} {failed = failed} {failed' = failed'} {output = output} {output' = output'} (unprepared a i w) is =
+previews-input {stated = stated} {files = files} {failed = failed} {failed' = failed'} {output = output} {output' = output'}
+    (unprepared a i w) is =
     inr (subst (λ (s : Status). WroteUnprepared s stated files failed failed' output output') is w).0
 previews-input {ended = ended} {input = input} {input' = input'} {output = output} (ran p q r) is =
     inl (input-rose ended (text_of p r.shown) input input' output r.middle r.lines is)
 
-pub previews-output : {ended : Status} {stated : Stated} {files : Option (List TreeFile)} {failed failed' : ℕ} {ahead ahead' : Option Moments}
+pub previews-output : {ended : Status} {stated : Stated} {files : Option (List TreeFile)} {failed failed' : ℕ}
+    {ahead ahead' : Option Moments}
     {input input' output output' : Side} →
     Previews ended stated files failed failed' ahead ahead' input input' output output' → ended ≡ status.Output →
     Rose output.faults output'.faults
-previews-output {stated = stated} {files = files} {failed = failed} {failed' = failed'} {output = output} {output' = output'} (unprepared a i w) is =
+previews-output {stated = stated} {files = files} {failed = failed} {failed' = failed'} {output = output} {output' = output'}
+    (unprepared a i w) is =
     absurd (subst (λ (s : Status). WroteUnprepared s stated files failed failed' output output') is w)
 previews-output {ended = ended} {input = input} {input' = input'} {output = output} {output' = output'} (ran p q r) is =
     output-rose ended (text_of p r.shown) input input' output r.middle output' r.lines r.later is

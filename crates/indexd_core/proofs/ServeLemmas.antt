@@ -3,10 +3,10 @@ use Rattle.std.proofs.Common.{◌≡◌, ◌∙◌, ℕ, inl, inr, refl, sym}
 use Rattle.std.specs.Prelude.{List, Option}
 use Rattle.ix_base.specs.Faults.{Rose}
 use Rattle.ix_base.specs.declared.files.File.{File}
-use Rattle.ix_link.specs.Listeners.{Handed}
-use Rattle.indexd_feed.specs.declared.end.ServeEnd.{ServeEnd}
-use Rattle.indexd_feed.specs.declared.end.ServeEnd.TheVariants as ends
-use Rattle.ix_feed.specs.Connections.{listened}
+use Rattle.ix_net.specs.Listeners.{Handed}
+use Rattle.indexd_serve.specs.declared.end.ServeEnd.{ServeEnd}
+use Rattle.indexd_serve.specs.declared.end.ServeEnd.TheVariants as ends
+use Rattle.ix_sessions.specs.Connections.{listened}
 use Rattle.indexd_core.specs.Serves.{EndsServing}
 use Rattle.indexd_core.specs.Sides.{Side}
 use Rattle.indexd_core.specs.declared.status.Status.{Status}
@@ -16,7 +16,8 @@ pub same_listened : (a a' : Option (List (Option (List ℕ)))) (b b' : Option (L
 same_listened a a' b b' first second = λ i. record { waiting = first i; handed = second i }
 
 module _ (ended : Status) (requests : ℕ) (output output' : Side) where
-  pub output_served : (end : ServeEnd) → EndsServing ended requests end output output' → ended ≡ statuses.Output → Rose output.faults output'.faults
+  pub output_served : (end : ServeEnd) → EndsServing ended requests end output output' → ended ≡ statuses.Output →
+      Rose output.faults output'.faults
   output_served ends.Done (inl done) is = let e : statuses.Done ≡ statuses.Output = sym done.0 ∙ is in absurd (cc)
   output_served ends.Done (inr unsaid) is = unsaid.1
   output_served ends.Listener wrote is = let e : statuses.ListenerFault ≡ statuses.Output = sym wrote.0 ∙ is in absurd (cc)
@@ -32,7 +33,8 @@ module _ (ended : Status) (requests : ℕ) (output output' : Side) where
   disk_served ends.Disk wrote is = refl
   disk_served (ends.Damaged file at) wrote is = let e : statuses.Damaged ≡ statuses.DiskFault = sym wrote.0 ∙ is in absurd (cc)
 
-  pub listener_served : (end : ServeEnd) → EndsServing ended requests end output output' → ended ≡ statuses.ListenerFault → end ≡ ends.Listener
+  pub listener_served : (end : ServeEnd) → EndsServing ended requests end output output' → ended ≡ statuses.ListenerFault →
+      end ≡ ends.Listener
   listener_served ends.Done (inl done) is = let e : statuses.Done ≡ statuses.ListenerFault = sym done.0 ∙ is in absurd (cc)
   listener_served ends.Done (inr unsaid) is = let e : statuses.Output ≡ statuses.ListenerFault = sym unsaid.0 ∙ is in absurd (cc)
   listener_served ends.Listener wrote is = refl
@@ -40,7 +42,8 @@ module _ (ended : Status) (requests : ℕ) (output output' : Side) where
   listener_served ends.Disk wrote is = let e : statuses.DiskFault ≡ statuses.ListenerFault = sym wrote.0 ∙ is in absurd (cc)
   listener_served (ends.Damaged file at) wrote is = let e : statuses.Damaged ≡ statuses.ListenerFault = sym wrote.0 ∙ is in absurd (cc)
 
-  pub damaged_served : (end : ServeEnd) (P : Type 0) → EndsServing ended requests end output output' → ended ≡ statuses.Damaged → ((file : File) (at : ℕ) → end ≡ ends.Damaged file at → P) → P
+  pub damaged_served : (end : ServeEnd) (P : Type 0) → EndsServing ended requests end output output' → ended ≡ statuses.Damaged →
+      ((file : File) (at : ℕ) → end ≡ ends.Damaged file at → P) → P
   damaged_served ends.Done P (inl done) is damaged = let e : statuses.Done ≡ statuses.Damaged = sym done.0 ∙ is in absurd (cc)
   damaged_served ends.Done P (inr unsaid) is damaged = let e : statuses.Output ≡ statuses.Damaged = sym unsaid.0 ∙ is in absurd (cc)
   damaged_served ends.Listener P wrote is damaged = let e : statuses.ListenerFault ≡ statuses.Damaged = sym wrote.0 ∙ is in absurd (cc)

@@ -4,15 +4,15 @@ use Rattle.std.specs.Prelude.{Result, Ok, Err}
 use Rattle.ix_disk.specs.declared.disk.Disk.{Ghosts}
 use Rattle.ix_replay.specs.Fits.{fits}
 use Rattle.ix_run.specs.Resting.{ReadsShort}
-use Rattle.indexd_feed.specs.Ends.{fed_of, is_short, is_short_served}
-use Rattle.indexd_feed.specs.declared.end.End.{End}
-use Rattle.indexd_feed.specs.declared.end.End.TheVariants as ends
-use Rattle.indexd_feed.specs.declared.end.ServeEnd.{ServeEnd}
-use Rattle.indexd_feed.specs.declared.end.ServeEnd.TheVariants as serving
-use Rattle.indexd_store.specs.Shortened as runs
-use Rattle.indexd_store.specs.Shortened.{EndsShort, StopsShort, HasHadItsRuns}
-use Rattle.indexd_store.specs.declared.stop.Stop.{Stop}
-use Rattle.indexd_store.specs.declared.stop.Stop.TheVariants as stops
+use Rattle.indexd_serve.specs.Ends.{fed_of, is_short, is_short_served}
+use Rattle.indexd_serve.specs.declared.end.End.{End}
+use Rattle.indexd_serve.specs.declared.end.End.TheVariants as ends
+use Rattle.indexd_serve.specs.declared.end.ServeEnd.{ServeEnd}
+use Rattle.indexd_serve.specs.declared.end.ServeEnd.TheVariants as serving
+use Rattle.indexd_run.specs.Shortened as runs
+use Rattle.indexd_run.specs.Shortened.{EndsShort, StopsShort, HasHadItsRuns}
+use Rattle.indexd_run.specs.declared.stop.Stop.{Stop}
+use Rattle.indexd_run.specs.declared.stop.Stop.TheVariants as stops
 use Rattle.indexd_core.specs.Feeds.{end_status}
 use Rattle.indexd_core.specs.Locked.{IsLeftAlone}
 use Rattle.indexd_core.specs.Serves.{EndsServing}
@@ -42,13 +42,17 @@ module _ {D : Type 0} (d : Ghosts D) (disk disk' : D) where
   by ended stop is (inl short) = inl short
   by ended stop is (inr had) = inr (inr (is ∙ ap status_of had.0, had.1))
 
-  pub left_at_stop : (ended : Status) (stop : Stop) → ended ≡ status_of stop → StopsShort d fits stop disk disk' → LeavesShort ended d disk disk'
+  pub left_at_stop : (ended : Status) (stop : Stop) → ended ≡ status_of stop → StopsShort d fits stop disk disk' →
+      LeavesShort ended d disk disk'
   left_at_stop ended stop is short = λ ok. by ended stop is (short (sym (stop_as stop) ∙ (ap is_short_at (sym is) ∙ ok)))
 
-  pub left_at_err : (result : Result Unit Stop) (ended : Status) (stop : Stop) → result ≡ Err stop → ended ≡ status_of stop → EndsShort d fits result disk disk' → LeavesShort ended d disk disk'
-  left_at_err result ended stop same is short = left_at_stop ended stop is (subst (λ (r : Result Unit Stop). EndsShort d fits r disk disk') same short)
+  pub left_at_err : (result : Result Unit Stop) (ended : Status) (stop : Stop) → result ≡ Err stop → ended ≡ status_of stop →
+      EndsShort d fits result disk disk' → LeavesShort ended d disk disk'
+  left_at_err result ended stop same is short = left_at_stop ended stop is
+      (subst (λ (r : Result Unit Stop). EndsShort d fits r disk disk') same short)
 
-  pub left_at_ok : (result : Result Unit Stop) (ended : Status) (done : Unit) → result ≡ Ok done → EndsShort d fits result disk disk' → LeavesShort ended d disk disk'
+  pub left_at_ok : (result : Result Unit Stop) (ended : Status) (done : Unit) → result ≡ Ok done → EndsShort d fits result disk disk' →
+      LeavesShort ended d disk disk'
   left_at_ok result ended done same short = λ ok. inl (subst (λ (r : Result Unit Stop). EndsShort d fits r disk disk') same short)
 
 -- ---- ends
@@ -69,7 +73,8 @@ end_short ended end is ok = sym (end_as end) ∙ (ap is_short_at (sym is) ∙ ok
 other : (ended at : Status) → ended ≡ at → is_short_at at ≡ false → is_short_at ended ≡ true → ⊥
 other ended at is long ok = let e : true ≡ false = sym ok ∙ (ap is_short_at is ∙ long) in cc
 
-pub serve_short : (ended : Status) (requests : ℕ) (end : ServeEnd) (output output' : Side) → EndsServing ended requests end output output' → is_short_at ended ≡ true → is_short_served end ≡ true
+pub serve_short : (ended : Status) (requests : ℕ) (end : ServeEnd) (output output' : Side) → EndsServing ended requests end output output' →
+    is_short_at ended ≡ true → is_short_served end ≡ true
 serve_short ended requests serving.Done output output' wrote ok = refl
 serve_short ended requests serving.Listener output output' wrote ok = refl
 serve_short ended requests serving.Memory output output' wrote ok = absurd (other ended statuses.Memory wrote.0 refl ok)

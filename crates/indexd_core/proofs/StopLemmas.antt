@@ -2,7 +2,7 @@
 use Rattle.std.proofs.Common.{◌≡◌, ◌∙◌, ℕ, List, sym, ap, subst, Option, Result, Ok, Err, IfOk}
 use Rattle.std.specs.Prelude.{OnErr}
 use Rattle.ix_base.specs.declared.faults.NoMemory.{NoMemory}
-use Rattle.ix_tree.specs.declared.trees.TreeFile.{TreeFile}
+use Rattle.ix_fs.specs.declared.trees.TreeFile.{TreeFile}
 use Rattle.indexd_core.specs.Prepared.{Stated, IsNotFound, not_found_line}
 use Rattle.indexd_core.specs.Runs.{WroteUnprepared}
 use Rattle.indexd_core.specs.Sides.{Side}

@@ -1,5 +1,7 @@
--- Runs over a store: their lines, what tasks are given, and a run that misses its index once the store is open.
-use Rattle.std.proofs.Common.{◌≡◌, ◌≤◌, ◌++◌, inl, inr, ℕ, ℤ, Bool, true, false, List, [], ◌∷◌, length, refl, sym, ap, ◌∙◌, subst, append_assoc, arith}
+-- Runs over a store: their lines, what tasks are given, and a run that misses its index once the
+-- store is open.
+use Rattle.std.proofs.Common.{◌≡◌, ◌≤◌, ◌++◌, inl, inr, ℕ, ℤ, Bool, true, false, List, [], ◌∷◌, length, refl, sym, ap, ◌∙◌, subst}
+use Rattle.std.proofs.Common.{append_assoc, arith}
 use Rattle.std.specs.Prelude.{Option, Some, None, Result, Err, IfSome, nat_lt, ◌==◌}
 use Rattle.std.specs.List.{AllByRecursion}
 use Rattle.ix_base.specs.Faults.{Rose}
@@ -7,24 +9,24 @@ use Rattle.ix_base.specs.Told.{HasWritten, HasBegun}
 use Rattle.ix_base.proofs.ToldLemmas.{then_written, then_begun, begun_of_more}
 use Rattle.ix_base.specs.Clocks.{Moments}
 use Rattle.ix_base.specs.declared.files.File.{File}
-use Rattle.ix_tree.specs.declared.trees.TreeFile.{TreeFile}
+use Rattle.ix_fs.specs.declared.trees.TreeFile.{TreeFile}
 use Rattle.ix_disk.specs.Image.{Image}
 use Rattle.ix_disk.specs.declared.disk.Disk.{Ghosts}
-use Rattle.ix_book.specs.Book.{Book}
-use Rattle.ix_kept.specs.Configs.{IsChooser}
-use Rattle.ix_kept.specs.Taken.{IsTaken, AreGiven}
-use Rattle.ix_machine.specs.Given.{Chooser}
-use Rattle.ix_machine.specs.declared.commands.Config.{Config}
-use Rattle.ix_machine.specs.declared.commands.Order.{Order}
+use Rattle.ix_manifest.specs.Book.{NamedItems}
+use Rattle.ix_state.specs.Configs.{IsChooser}
+use Rattle.ix_state.specs.Taken.{IsTaken, AreGiven}
+use Rattle.ix_model.specs.Given.{Chooser}
+use Rattle.ix_model.specs.declared.commands.Config.{Config}
+use Rattle.ix_model.specs.declared.commands.TimedCommand.{TimedCommand}
 use Rattle.ix_replay.specs.Fits.{fits}
 use Rattle.ix_store.specs.declared.fault.MountFault.TheVariants as mounts
-use Rattle.indexd_store.specs.Opened.{Begins, Doing, HasStopped}
-use Rattle.indexd_store.specs.Stops.{is_output, is_input}
-use Rattle.indexd_store.specs.declared.stop.Stop.{Stop}
-use Rattle.indexd_store.specs.declared.stop.Stop.TheVariants as stops
-use Rattle.indexd_store.specs.Tasks.{orders_in}
-use Rattle.indexd_store.specs.declared.task.Task.{Task}
-use Rattle.indexd_store.specs.declared.task.Task.TheVariants as tasks
+use Rattle.indexd_run.specs.Opened.{Begins, Doing, HasStopped}
+use Rattle.indexd_run.specs.Stops.{is_output, is_input}
+use Rattle.indexd_run.specs.declared.stop.Stop.{Stop}
+use Rattle.indexd_run.specs.declared.stop.Stop.TheVariants as stops
+use Rattle.indexd_run.specs.Tasks.{orders_in}
+use Rattle.indexd_run.specs.declared.task.Task.{Task}
+use Rattle.indexd_run.specs.declared.task.Task.TheVariants as tasks
 use Rattle.indexd_core.specs.Commands.{asked_for, is_stored}
 use Rattle.indexd_core.specs.Sides.{Side}
 use Rattle.indexd_core.specs.Stored.{status_of, named_by, tail_of, is_long, FromStart, WroteUnread}
@@ -37,7 +39,8 @@ use Rattle.indexd_core.specs.Texts.{Said, status_code}
 in_pieces : (p i s d n : List ℕ) → p ++ i ++ (s ++ d ++ n) ≡ p ++ (i ++ s ++ d) ++ n
 in_pieces p i s d n =
     append_assoc p i (s ++ d ++ n)
-    ∙ ap (λ (l : List ℕ). p ++ l) (ap (λ (l : List ℕ). i ++ l) (append_assoc s d n) ∙ sym (append_assoc i s (d ++ n)) ∙ sym (append_assoc (i ++ s) d n))
+    ∙ ap (λ (l : List ℕ). p ++ l) (ap (λ (l : List ℕ). i ++ l) (append_assoc s d n) ∙ sym (append_assoc i s (d ++ n))
+    ∙ sym (append_assoc (i ++ s) d n))
     ∙ sym (append_assoc p (i ++ s ++ d) n)
 
 pub missing_line : (p index : List ℕ) (id : Option ℕ) → p ++ index ++ tail_of id ≡ p ++ named_by index id ++ (10 ∷ [])
@@ -58,7 +61,8 @@ pub second_failed : (a b c : List ℕ) (output middle output' : Side) → output
 second_failed a b c output middle output' later written rose begun =
     inr (rose_later output.faults middle.faults output'.faults later rose, begun_of_more c (then_begun written begun))
 
-pub third_said : (a b c : List ℕ) (output middle output' : Side) → output.faults ≤ middle.faults → HasWritten (a ++ b) output.told middle.told →
+pub third_said : (a b c : List ℕ) (output middle output' : Side) → output.faults ≤ middle.faults →
+    HasWritten (a ++ b) output.told middle.told →
     Said c middle output' → Said (a ++ b ++ c) output output'
 third_said a b c output middle output' later written (inl all) = inl (then_written written all)
 third_said a b c output middle output' later written (inr part) =
@@ -116,7 +120,8 @@ of_output stops.Output is = (refl, refl)
 of_output stops.Input is = absurd (apart statuses.Output statuses.Input refl is)
 of_output stops.Endless is = absurd (apart statuses.Output statuses.Endless refl is)
 
-pub output_stop : (ended : Status) (stop : Stop) → ended ≡ status_of stop → ended ≡ statuses.Output → (is_output stop ≡ true) × (stop ≡ stops.Output)
+pub output_stop : (ended : Status) (stop : Stop) → ended ≡ status_of stop → ended ≡ statuses.Output → (is_output stop ≡ true)
+    × (stop ≡ stops.Output)
 output_stop ended stop is at = of_output stop (sym at ∙ is)
 
 of_input : (stop : Stop) → statuses.Input ≡ status_of stop → (is_input stop ≡ true) × (stop ≡ stops.Input)
@@ -131,7 +136,8 @@ of_input stops.Output is = absurd (apart statuses.Input statuses.Output refl is)
 of_input stops.Input is = (refl, refl)
 of_input stops.Endless is = absurd (apart statuses.Input statuses.Endless refl is)
 
-pub input_stop : (ended : Status) (stop : Stop) → ended ≡ status_of stop → ended ≡ statuses.Input → (is_input stop ≡ true) × (stop ≡ stops.Input)
+pub input_stop : (ended : Status) (stop : Stop) → ended ≡ status_of stop → ended ≡ statuses.Input → (is_input stop ≡ true)
+    × (stop ≡ stops.Input)
 input_stop ended stop is at = of_input stop (sym at ∙ is)
 
 of_usage : (stop : Stop) → statuses.Usage ≡ status_of stop → ⊥
@@ -195,7 +201,8 @@ pub done_stop : (ended : Status) (stop : Stop) → ended ≡ status_of stop → 
 done_stop ended stop is at = of_done stop (sym at ∙ is)
 
 -- the log has no history, or a file is blamed
-pub by_blame : (stop : Stop) (P : Type 0) → status_of stop ≡ statuses.Damaged → (stop ≡ stops.Inconsistent → P) → ((file : File) (at : ℕ) → stop ≡ stops.Damaged file at → P) → P
+pub by_blame : (stop : Stop) (P : Type 0) → status_of stop ≡ statuses.Damaged → (stop ≡ stops.Inconsistent → P) →
+    ((file : File) (at : ℕ) → stop ≡ stops.Damaged file at → P) → P
 by_blame stops.Memory P is unsound damaged = absurd (apart statuses.Memory statuses.Damaged refl is)
 by_blame stops.Disk P is unsound damaged = absurd (apart statuses.DiskFault statuses.Damaged refl is)
 by_blame (stops.Damaged file at) P is unsound damaged = damaged file at refl
@@ -220,19 +227,22 @@ err_as a b same = ap (λ x. Err x) same
 
 pub unread_at : (ended at : Status) (files : Option (List TreeFile)) (failed failed' : ℕ) (output output' : Side) →
     WroteUnread ended files failed failed' output output' → ended ≡ at → WroteUnread at files failed failed' output output'
-unread_at ended at files failed failed' output output' wrote is = subst (λ (s : Status). WroteUnread s files failed failed' output output') is wrote
+unread_at ended at files failed failed' output output' wrote is =
+    subst (λ (s : Status). WroteUnread s files failed failed' output output') is wrote
 
 -- ---- what is said of every start
 
 -- each part of the premise by itself
-pub from_start : {D : Type 0} (d : Ghosts D) (disk : D) (comes : Chooser → List Order → ℕ → ℕ → Type 0) →
-    ((choose : Chooser) (history : List Order) (run k : ℕ) → IsChooser choose → AreGiven history → Begins d fits choose history run k disk → (image : Image) → d.seen disk ≡ Some image → comes choose history run k) →
+pub from_start : {D : Type 0} (d : Ghosts D) (disk : D) (comes : Chooser → List TimedCommand → ℕ → ℕ → Type 0) →
+    ((choose : Chooser) (history : List TimedCommand) (run k : ℕ) → IsChooser choose → AreGiven history →
+    Begins d fits choose history run k disk → (image : Image) → d.seen disk ≡ Some image → comes choose history run k) →
     FromStart d disk comes
 from_start d disk comes so = λ choose history run k may. so choose history run k may.chooser may.given may.begins may.image may.tells
 
 -- ---- nothing is mounted for want of memory
 
-pub unmounted : {D : Type 0} (d : Ghosts D) (fits : Book → Type 0) (choose : Chooser) (history : List Order) (run k : ℕ) (config : Config) (ahead : Option Moments)
+pub unmounted : {D : Type 0} (d : Ghosts D) (fits : NamedItems →
+    Type 0) (choose : Chooser) (history : List TimedCommand) (run k : ℕ) (config : Config) (ahead : Option Moments)
     (untouched : Type 0) (may : Doing) (disk : D) → untouched → Begins d fits choose history run k disk → d.moment disk ≤ d.moment disk →
     HasStopped stops.Memory d IsTaken fits choose history run k config ahead ahead untouched may disk disk
 unmounted d fits choose history run k config ahead untouched may disk same begins now = inl (

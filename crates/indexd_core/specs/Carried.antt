@@ -2,28 +2,30 @@
 use Rattle.std.specs.Prelude.{◌≡◌, ◌≤◌, ◌⊎◌, ℕ, true, false, List, Option, Some, None}
 use Rattle.ix_base.specs.Clocks.{Moments}
 use Rattle.ix_base.specs.Faults.{Rose}
-use Rattle.ix_tree.specs.declared.trees.TreeFile.{TreeFile}
+use Rattle.ix_fs.specs.declared.trees.TreeFile.{TreeFile}
 use Rattle.ix_disk.specs.declared.disk.Disk.{Ghosts}
 use Rattle.ix_serve.specs.Serving.{IsTold}
 use Rattle.indexd_settings.specs.Layers.{file_named}
 use Rattle.indexd_settings.specs.declared.layers.SettingsFile.{SettingsFile}
-use Rattle.indexd_words.specs.Orders.{Asked, preview, btool, feed, serve, monitor, buckets, export, roll, thaw, tick, selftest}
-use Rattle.indexd_store.specs.declared.task.Task.{Task}
+use Rattle.indexd_cli.specs.Orders.{Asked, preview, btool, feed, serve, monitor, buckets, export, roll, thaw, tick, selftest}
+use Rattle.indexd_run.specs.declared.task.Task.{Task}
+use Rattle.indexd_core.specs.Blamed.{NamesDamage, IsFilled}
 use Rattle.indexd_core.specs.Btool.{Tells}
 use Rattle.indexd_core.specs.Commands.{is_built, is_stored, asked_for}
 use Rattle.indexd_core.specs.Feeds.{Feeds}
 use Rattle.indexd_core.specs.Locked.{HasRefused, EndsUsed}
 use Rattle.indexd_core.specs.Runs.{Previews, Refuses}
-use Rattle.ix_feed.specs.Connections.{Listened}
+use Rattle.ix_sessions.specs.Connections.{Listened}
 use Rattle.indexd_core.specs.Serves.{Serves}
 use Rattle.indexd_core.specs.Shortened.{LeavesShort}
 use Rattle.indexd_core.specs.Sides.{Side}
 use Rattle.indexd_core.specs.Stored.{FromStart, Stored, Tasked}
 use Rattle.indexd_core.specs.declared.status.Status.{Status}
-use Rattle.indexd_core.specs.declared.status.Status.TheVariants.{Usage, Input, DiskFault, Damaged, Output, ListenerFault, InUse}
+use Rattle.indexd_core.specs.declared.status.Status.TheVariants.{Usage, Input, DiskFault, Damaged, Output, ListenerFault, Full, InUse}
 
--- All that the program works over, as it stands: the files of settings, and how often the tree has failed and has missed a file; what the
--- clock is to tell; the input and the output; what the listener tells, how often it has failed, and how many connections are out; the disk.
+-- All that the program works over, as it stands: the files of settings, and how often the tree has
+-- failed and has missed a file; what the clock is to tell; the input and the output; what the
+-- listener tells, how often it has failed, and how many connections are out; the disk.
 pub record Around (D : Type 0) : Type 0 where
   pub files : Option (List TreeFile)
   pub failed : ℕ
@@ -54,7 +56,8 @@ around files failed missing ahead input output heard deaf out disk = record {
 abbrev pub TaskOf : Asked → Status → {D : Type 0} → Ghosts D → Around D → Around D → Type 0
 TaskOf asked status d old new =
     (task : Task) × (asked_for task ≡ asked)
-    × Tasked status task old.files old.failed new.failed old.ahead new.ahead old.output new.output d old.disk new.disk × (new.input ≡ old.input)
+    × Tasked status task old.files old.failed new.failed old.ahead new.ahead old.output new.output d old.disk new.disk
+    × (new.input ≡ old.input)
 
 -- What comes of each command. `btool` leaves the input and the clock alone, and `serve` the input.
 abbrev pub ComesOf : Option Asked → Status → {D : Type 0} → Ghosts D → Around D → Around D → Type 0
@@ -100,6 +103,8 @@ pub record HasCause (status : Status) {D : Type 0} (d : Ghosts D) (old new : Aro
   pub disk : status ≡ DiskFault → Rose (d.faults old.disk) (d.faults new.disk)
   pub listener : status ≡ ListenerFault → Rose old.deaf new.deaf
   pub undamaged : status ≡ Damaged → FromStart d old.disk (λ choose history run k. ⊥)
+  pub blamed : status ≡ Damaged → NamesDamage d old.disk new.disk old.output new.output
+  pub full : status ≡ Full → IsFilled d old.disk
   pub in_use : status ≡ InUse → HasRefused d old.disk new.disk
 
 -- what comes of what is asked for, or of words that ask for nothing

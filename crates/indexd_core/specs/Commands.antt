@@ -1,10 +1,10 @@
 -- Which words are commands of the program. `monitor` and `selftest` are not built yet.
 use Rattle.std.specs.Prelude.{◌≡◌, ℕ, Bool, true, false, List, Option, Some, None, is_some}
 use Rattle.ix_base.specs.Clocks.{Moments}
-use Rattle.indexd_words.specs.Orders.{Asked, preview, btool, feed, serve, monitor, buckets, export, roll, thaw, tick, selftest, asked}
+use Rattle.indexd_cli.specs.Orders.{Asked, preview, btool, feed, serve, monitor, buckets, export, roll, thaw, tick, selftest, asked}
 use Rattle.indexd_settings.specs.Layers.{file_named}
-use Rattle.indexd_store.specs.declared.task.Task.{Task}
-use Rattle.indexd_store.specs.declared.task.Task.TheVariants as tasks
+use Rattle.indexd_run.specs.declared.task.Task.{Task}
+use Rattle.indexd_run.specs.declared.task.Task.TheVariants as tasks
 use Rattle.indexd_core.specs.Prepared.{Stated}
 
 -- the program does what is asked

@@ -15,3 +15,4 @@ pub mod Carried
 pub mod Starts
 pub mod Chain
 pub mod Locked
+pub mod Blamed

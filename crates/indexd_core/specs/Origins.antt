@@ -2,7 +2,7 @@
 use Rattle.std.specs.Prelude.{ℕ, List, Option, option_map}
 use Rattle.indexd_settings.specs.declared.faults.ConfigurationStop.{ConfigurationStop}
 use Rattle.indexd_settings.specs.declared.faults.ConfigurationStop.TheVariants as settings
-use Rattle.indexd_words.specs.declared.orders.Origin.{Origin}
+use Rattle.indexd_cli.specs.declared.invocation.Origin.{Origin}
 use Rattle.indexd_core.specs.Prepared.{Stated}
 use Rattle.indexd_core.specs.declared.prepare.PrepareStop.{PrepareStop}
 use Rattle.indexd_core.specs.declared.prepare.PrepareStop.TheVariants.{Memory, Input, Refused}

@@ -2,7 +2,7 @@
 use Rattle.std.specs.Prelude.{◌≡◌, ℕ, List, ◌++◌, codes, Option, Some, None, IfSome, IsSome}
 use Rattle.ix_base.specs.Faults.{Rose}
 use Rattle.ix_base.specs.declared.events.ChannelMeta.{ChannelMeta}
-use Rattle.ix_tree.specs.declared.trees.TreeFile.{TreeFile}
+use Rattle.ix_fs.specs.declared.trees.TreeFile.{TreeFile}
 use Rattle.ix_props.specs.Settings.{AreSettings}
 use Rattle.ix_life.specs.Limits.{limits_of}
 use Rattle.ix_life.specs.declared.sets.LimitSet.{LimitSet}
@@ -11,7 +11,7 @@ use Rattle.indexd_settings.specs.Faults.{HasFault}
 use Rattle.indexd_settings.specs.Texts.{fault_line}
 use Rattle.indexd_settings.specs.declared.configuration.Configuration.{Configuration}
 use Rattle.indexd_settings.specs.declared.faults.ConfigurationFault.{ConfigurationFault}
-use Rattle.indexd_core.specs.declared.prepare.Prepared.{Prepared}
+use Rattle.indexd_core.specs.declared.prepare.PreparedPreview.{PreparedPreview}
 use Rattle.indexd_core.specs.declared.prepare.PrepareStop.{PrepareStop}
 use Rattle.indexd_core.specs.declared.prepare.PrepareStop.TheVariants.{Memory, Input, Refused, NotFound}
 
@@ -36,9 +36,9 @@ preview_meta stated limits = record {
   index = Some (index_or_default stated.index limits);
 }
 
--- The files of the tree have no fault, a stated index is configured, and these are the settings that they have for the host, the
--- source and the source type.
-pub record IsPrepared (stated : Stated) (files : Option (List TreeFile)) (prepared : Prepared) : Type 0 where
+-- The files of the tree have no fault, a stated index is configured, and these are the settings
+-- that they have for the host, the source and the source type.
+pub record IsPrepared (stated : Stated) (files : Option (List TreeFile)) (prepared : PreparedPreview) : Type 0 where
   pub configuration : Configuration
   pub files_are : IsConfiguration files configuration
   pub limits_are : prepared.limits ≡ configuration.limits
@@ -57,8 +57,9 @@ pub record IsNotFound (stated : Stated) (files : Option (List TreeFile)) (index 
 abbrev pub not_found_line : List ℕ → List ℕ
 not_found_line index = codes "indexd: not found: " ++ index ++ codes "\n"
 
--- Why a preview is not prepared: want of memory, a tree that failed, the first fault of the files, or an index that is not
--- configured. The two numbers are how often the tree had failed before and after.
+-- Why a preview is not prepared: want of memory, a tree that failed, the first fault of the files,
+-- or an index that is not configured. The two numbers are how often the tree had failed before and
+-- after.
 abbrev pub Unprepared : PrepareStop → Stated → ℕ → ℕ → Option (List TreeFile) → Type 0
 Unprepared Memory stated failed failed' files = Unit {0}
 Unprepared Input stated failed failed' files = Rose failed failed'

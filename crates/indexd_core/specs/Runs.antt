@@ -3,35 +3,37 @@ use Rattle.std.specs.Prelude.{◌⊎◌, ◌≡◌, ◌≤◌, ◌<◌, ◌^◌,
 use Rattle.ix_base.specs.Faults.{Rose}
 use Rattle.ix_base.specs.Clocks.{Moments, Answered, clamped}
 use Rattle.ix_base.specs.Told.{Told, Took, IsFrontOf, HasWritten, HasBegun}
-use Rattle.ix_tree.specs.declared.trees.TreeFile.{TreeFile}
+use Rattle.ix_fs.specs.declared.trees.TreeFile.{TreeFile}
 use Rattle.indexd_settings.specs.Faults.{HasFault}
 use Rattle.indexd_settings.specs.Texts.{fault_line}
 use Rattle.indexd_settings.specs.declared.faults.ConfigurationFault.{ConfigurationFault}
 use Rattle.indexd_core.specs.Prepared.{Stated, IsPrepared, IsNotFound, not_found_line}
-use Rattle.indexd_core.specs.declared.prepare.Prepared.{Prepared}
+use Rattle.indexd_core.specs.declared.prepare.PreparedPreview.{PreparedPreview}
 use Rattle.indexd_core.specs.Sides.{Side, IsAtEnd}
 use Rattle.indexd_core.specs.Texts.{preview_text, status_text, Said}
 use Rattle.indexd_core.specs.declared.status.Status.{Status}
-use Rattle.indexd_core.specs.declared.status.Status.TheVariants.{Done, Memory, Usage, Configuration, Input, DiskFault, Damaged, Output, ListenerFault, NotFound, TooManyChannels, Unreadable, Endless, Full, InUse}
+use Rattle.indexd_core.specs.declared.status.Status.TheVariants.{Done, Memory, Usage, Configuration, Input, DiskFault, Damaged, Output}
+use Rattle.indexd_core.specs.declared.status.Status.TheVariants.{ListenerFault, NotFound, TooManyChannels, Unreadable, Endless, Full}
+use Rattle.indexd_core.specs.declared.status.Status.TheVariants.{InUse}
 
 -- the lines of the events that bytes settle, of a stream that is open (false) or closed
 abbrev pub Text : Type 0
 Text = List ℕ → Bool → List ℕ
 
 -- those of a preview whose clock showed this moment
-abbrev pub text_of : Prepared → ℤ → Text
+abbrev pub text_of : PreparedPreview → ℤ → Text
 text_of prepared shown = preview_text prepared (clamped shown)
 
 -- how many bytes of input are taken at the most
 abbrev pub input_limit : ℕ
 input_limit = 2 ^ 40
 
--- What was written once these bytes were taken, before the line of the status.
--- Done: the input is at its end, and all lines were written.
--- Memory: all lines that some first bytes of those taken have settled. No line stands there in part.
--- Input: reading failed, and all lines that the bytes taken have settled were written.
--- Output: writing failed, and a front of these lines was written, or at the end of the input a front of all.
--- Endless: the limit was taken, and all lines that the bytes taken have settled were written.
+-- What was written once these bytes were taken, before the line of the status. Done: the input is
+-- at its end, and all lines were written. Memory: all lines that some first bytes of those taken
+-- have settled. No line stands there in part. Input: reading failed, and all lines that the bytes
+-- taken have settled were written. Output: writing failed, and a front of these lines was written,
+-- or at the end of the input a front of all. Endless: the limit was taken, and all lines that the
+-- bytes taken have settled were written.
 abbrev pub Wrote : Status → Text → List ℕ → Side → Side → Side → Side → Type 0
 Wrote Done text taken input input' output output' =
     IsAtEnd input' × (length taken < input_limit) × HasWritten (text taken true) output.told output'.told
@@ -62,9 +64,11 @@ pub record Runs (status : Status) (text : Text) (input input' output output' : S
   pub later : output.faults ≤ output'.faults
   pub outcome : Wrote status text taken input input' output output'
 
--- A run that was prepared: the clock is asked once, its answer is the moment at which all bytes arrive, and behind the lines stands the line of
--- the status, or a front of it where the output failed.
-pub record RunsPrepared (status : Status) (prepared : Prepared) (ahead ahead' : Option Moments) (input input' output output' : Side) : Type 0 where
+-- A run that was prepared: the clock is asked once, its answer is the moment at which all bytes
+-- arrive, and behind the lines stands the line of the status, or a front of it where the output
+-- failed.
+pub record RunsPrepared (status : Status) (prepared : PreparedPreview) (ahead ahead' : Option Moments)
+    (input input' output output' : Side) : Type 0 where
   pub shown : ℤ
   pub clock : Told (Answered shown) ahead ahead'
   pub middle : Side
@@ -72,8 +76,9 @@ pub record RunsPrepared (status : Status) (prepared : Prepared) (ahead ahead' : 
   pub line : Said (status_text status) middle output'
   pub later : middle.faults ≤ output'.faults
 
--- Nothing was read or asked but the tree, whose failures are counted before and after. At `Configuration` the line of the first
--- fault of the files was written, at `NotFound` that of the index, which is stated and not configured.
+-- Nothing was read or asked but the tree, whose failures are counted before and after. At
+-- `Configuration` the line of the first fault of the files was written, at `NotFound` that of the
+-- index, which is stated and not configured.
 abbrev pub WroteUnprepared : Status → Stated → Option (List TreeFile) → ℕ → ℕ → Side → Side → Type 0
 WroteUnprepared Done stated files failed failed' output output' = ⊥
 WroteUnprepared Memory stated files failed failed' output output' = Said (status_text Memory) output output'
@@ -93,19 +98,22 @@ WroteUnprepared Unreadable stated files failed failed' output output' = ⊥
 WroteUnprepared Full stated files failed failed' output output' = ⊥
 WroteUnprepared InUse stated files failed failed' output output' = ⊥
 
--- A whole run: it stops before it is prepared, or it runs with the settings that the files have for what is stated.
+-- A whole run: it stops before it is prepared, or it runs with the settings that the files have for
+-- what is stated.
 pub data Previews (status : Status) (stated : Stated) (files : Option (List TreeFile)) (failed failed' : ℕ)
     (ahead ahead' : Option Moments) (input input' output output' : Side) : Type 0 where
   unprepared : ahead' ≡ ahead → input' ≡ input → WroteUnprepared status stated files failed failed' output output' →
       Previews status stated files failed failed' ahead ahead' input input' output output'
-  ran : (prepared : Prepared) → IsPrepared stated files prepared →
+  ran : (prepared : PreparedPreview) → IsPrepared stated files prepared →
       RunsPrepared status prepared ahead ahead' input input' output output' →
       Previews status stated files failed failed' ahead ahead' input input' output output'
 
--- The words were refused, or there was no room to read them: nothing was asked or read, and the line of the status was written.
-pub record Refuses (status : Status) (failed failed' : ℕ) (ahead ahead' : Option Moments) (input input' output output' : Side) : Type 0 where
-  pub status_is : (status ≡ Usage) ⊎ (status ≡ Memory)
-  pub tree_not_asked : failed' ≡ failed
-  pub not_asked : ahead' ≡ ahead
-  pub not_read : input' ≡ input
-  pub line : Said (status_text status) output output'
+-- The words were refused, or there was no room to read them: nothing was asked or read, and the
+-- line of the status was written.
+pub record Refuses (status : Status) (failed failed' : ℕ) (ahead ahead' : Option Moments) (input input' output output' : Side) : Type 0
+  where
+    pub status_is : (status ≡ Usage) ⊎ (status ≡ Memory)
+    pub tree_not_asked : failed' ≡ failed
+    pub not_asked : ahead' ≡ ahead
+    pub not_read : input' ≡ input
+    pub line : Said (status_text status) output output'

@@ -1,8 +1,8 @@
 -- The input and the output of a run, as they are before it and after it.
 use Rattle.std.specs.Prelude.{◌≡◌, ℕ, List, [], Option, IfSome}
 
--- How often an input or an output has failed, and the bytes that it tells, where it tells any: what an input has left, and
--- what an output was given.
+-- How often an input or an output has failed, and the bytes that it tells, where it tells any: what
+-- an input has left, and what an output was given.
 pub record Side : Type 0 where
   pub faults : ℕ
   pub told : Option (List ℕ)

@@ -1,29 +1,30 @@
 -- Runs over a store: what each gives to it and writes, by the status with which it ends.
-use Rattle.std.specs.Prelude.{◌≡◌, ◌≤◌, ◌++◌, nat_lt, ℕ, Bool, true, false, List, length, Option, Some, None, Ok, Err, IfSome, codes, decimal}
+use Rattle.std.specs.Prelude.{◌≡◌, ◌≤◌, ◌++◌, nat_lt, ℕ, Bool, true, false, List, length, Option, Some, None, Ok, Err, IfSome, codes}
+use Rattle.std.specs.Prelude.{decimal}
 use Rattle.ix_base.specs.Clocks.{Moments}
 use Rattle.ix_base.specs.Faults.{Rose}
 use Rattle.ix_base.specs.declared.events.ChannelMeta.{ChannelMeta}
 use Rattle.ix_base.specs.declared.files.Area.{Area}
 use Rattle.ix_base.specs.declared.files.Area.TheVariants.{Meta, Home, Cold, Frozen, Thawed}
 use Rattle.ix_base.specs.declared.files.File.{File}
-use Rattle.ix_tree.specs.declared.trees.TreeFile.{TreeFile}
+use Rattle.ix_fs.specs.declared.trees.TreeFile.{TreeFile}
 use Rattle.ix_disk.specs.declared.disk.Disk.{Ghosts}
-use Rattle.ix_kept.specs.Taken.{IsTaken}
-use Rattle.ix_machine.specs.Given.{Chooser}
-use Rattle.ix_machine.specs.declared.commands.Config.{Config}
-use Rattle.ix_machine.specs.declared.commands.Order.{Order}
+use Rattle.ix_state.specs.Taken.{IsTaken}
+use Rattle.ix_model.specs.Given.{Chooser}
+use Rattle.ix_model.specs.declared.commands.Config.{Config}
+use Rattle.ix_model.specs.declared.commands.TimedCommand.{TimedCommand}
 use Rattle.ix_replay.specs.Fits.{fits}
-use Rattle.indexd_config.specs.Given.{IsConfigOf}
+use Rattle.indexd_settings.specs.Given.{IsConfigOf}
 use Rattle.indexd_settings.specs.Faults.{HasFault}
 use Rattle.indexd_settings.specs.Texts.{fault_line}
 use Rattle.indexd_settings.specs.declared.faults.ConfigurationFault.{ConfigurationFault}
-use Rattle.indexd_store.specs.Opened.{Doing, WhenOpen, HasRun, HasStopped}
-use Rattle.indexd_store.specs.Previews.{HasFed, HasTaken}
-use Rattle.indexd_store.specs.Tasks.{says, HasDone, HasHalted}
-use Rattle.indexd_store.specs.declared.stop.Stop.{Stop}
-use Rattle.indexd_store.specs.declared.stop.Stop.TheVariants as stops
-use Rattle.indexd_store.specs.declared.task.Task.{Task}
-use Rattle.indexd_store.specs.declared.task.Task.TheVariants as tasks
+use Rattle.indexd_run.specs.Opened.{Doing, WhenOpen, HasRun, HasStopped}
+use Rattle.indexd_run.specs.Previews.{HasFed, HasTaken}
+use Rattle.indexd_run.specs.Tasks.{says, HasDone, HasHalted}
+use Rattle.indexd_run.specs.declared.stop.Stop.{Stop}
+use Rattle.indexd_run.specs.declared.stop.Stop.TheVariants as stops
+use Rattle.indexd_run.specs.declared.task.Task.{Task}
+use Rattle.indexd_run.specs.declared.task.Task.TheVariants as tasks
 use Rattle.indexd_core.specs.Chain.{MayRun}
 use Rattle.indexd_core.specs.Prepared.{Stated, index_or_default, not_found_line}
 use Rattle.indexd_core.specs.Locked.{IsLockedOut}
@@ -31,11 +32,14 @@ use Rattle.indexd_core.specs.Sides.{Side}
 use Rattle.indexd_core.specs.Texts.{status_text, Said}
 use Rattle.indexd_core.specs.declared.ends.Named.{Named}
 use Rattle.indexd_core.specs.declared.status.Status.{Status}
-use Rattle.indexd_core.specs.declared.status.Status.TheVariants.{Done, Memory, Usage, Configuration, Input, DiskFault, Damaged, Output, ListenerFault, NotFound, TooManyChannels, Unreadable, Endless, Full, InUse}
+use Rattle.indexd_core.specs.declared.status.Status.TheVariants.{Done, Memory, Usage, Configuration, Input, DiskFault, Damaged, Output}
+use Rattle.indexd_core.specs.declared.status.Status.TheVariants.{ListenerFault, NotFound, TooManyChannels, Unreadable, Endless, Full}
+use Rattle.indexd_core.specs.declared.status.Status.TheVariants.{InUse}
 
 -- ---- statuses and their lines
 
--- What contradicts itself in memory counts as damage of the log. It comes of no disk that stands for a history.
+-- What contradicts itself in memory counts as damage of the log. It comes of no disk that stands
+-- for a history.
 abbrev pub status_of : Stop → Status
 status_of stops.Memory = Memory
 status_of stops.Disk = DiskFault
@@ -99,28 +103,34 @@ named_in tasks.Tick = codes ""
 
 -- ---- runs
 
--- Whatever the images at the start stand for: some history of commands, of which each has the first k at least, and some least run. A premise that nothing meets
--- would make all that is said so empty: whoever adds one to `MayRun` shows in `indexd_premises` what meets it.
-abbrev pub FromStart : {D : Type 0} → Ghosts D → D → (Chooser → List Order → ℕ → ℕ → Type 0) → Type 0
-FromStart d disk comes = (choose : Chooser) (history : List Order) (run k : ℕ) → MayRun d choose history run k disk → comes choose history run k
+-- Whatever the images at the start stand for: some history of commands, of which each has the first
+-- k at least, and some least run. A premise that nothing meets would make all that is said so
+-- empty: whoever adds one to `MayRun` shows in `indexd_premises` what meets it.
+abbrev pub FromStart : {D : Type 0} → Ghosts D → D → (Chooser → List TimedCommand → ℕ → ℕ → Type 0) → Type 0
+FromStart d disk comes = (choose : Chooser) (history : List TimedCommand) (run k : ℕ) → MayRun d choose history run k disk →
+    comes choose history run k
 
--- A run with these settings. Done: what was given and written is as `whole` says, and every image at the exit has all commands. Stopped: the
--- middle is what the output was before the line of the stop; what was given and written is as `part` says, where nothing was given behind the
--- settings `untouched` holds, and `wrote` in any case; every image at the exit has all commands, or where the disk is at fault those that were
--- mounted. In neither case has any image lost what was there at the start.
+-- A run with these settings. Done: what was given and written is as `whole` says, and every image
+-- at the exit has all commands. Stopped: the middle is what the output was before the line of the
+-- stop; what was given and written is as `part` says, where nothing was given behind the settings
+-- `untouched` holds, and `wrote` in any case; every image at the exit has all commands, or where
+-- the disk is at fault those that were mounted. In neither case has any image lost what was there
+-- at the start.
 pub data Comes (status : Status) {D : Type 0} (d : Ghosts D) (config : Config) (named : List ℕ) (ahead ahead' : Option Moments)
     (whole : Chooser → Doing) (untouched : Side → Type 0) (part : Stop → Side → Chooser → Doing) (wrote : Stop → Side → Type 0)
     (output' : Side) (disk disk' : D) : Type 0 where
   done : status ≡ Done →
-      FromStart d disk (λ choose history run k. HasRun false d IsTaken fits choose history run k (WhenOpen choose config ahead (whole choose)) disk disk') →
+      FromStart d disk (λ choose history run k. HasRun false d IsTaken fits choose history run k
+      (WhenOpen choose config ahead (whole choose)) disk disk') →
       Comes status d config named ahead ahead' whole untouched part wrote output' disk disk'
   stopped : (stop : Stop) (middle : Side) → status ≡ status_of stop →
-      FromStart d disk (λ choose history run k. HasStopped stop d IsTaken fits choose history run k config ahead ahead' (untouched middle) (part stop middle choose) disk disk') →
+      FromStart d disk (λ choose history run k. HasStopped stop d IsTaken fits choose history run k config ahead ahead' (untouched middle)
+      (part stop middle choose) disk disk') →
       wrote stop middle → Said (line_of named stop) middle output' →
       Comes status d config named ahead ahead' whole untouched part wrote output' disk disk'
 
--- Nothing was done but to read the settings: at `Configuration` the line of the first fault of the files was written. The two numbers are how
--- often the tree had failed before and after.
+-- Nothing was done but to read the settings: at `Configuration` the line of the first fault of the
+-- files was written. The two numbers are how often the tree had failed before and after.
 abbrev pub WroteUnread : Status → Option (List TreeFile) → ℕ → ℕ → Side → Side → Type 0
 WroteUnread Done files failed failed' output output' = ⊥
 WroteUnread Memory files failed failed' output output' = Said (status_text Memory) output output'
@@ -139,23 +149,28 @@ WroteUnread Endless files failed failed' output output' = ⊥
 WroteUnread Full files failed failed' output output' = ⊥
 WroteUnread InUse files failed failed' output output' = ⊥
 
--- A whole run: it stops before the settings are read, where all is `still` but the tree; or once they are read it is not given the store, and the line of
--- that was written; or it runs with those of the files.
-pub data Whole (status : Status) (files : Option (List TreeFile)) (failed failed' : ℕ) (still out : Type 0) (comes : Config → Type 0) (output output' : Side) : Type 0 where
+-- A whole run: it stops before the settings are read, where all is `still` but the tree; or once
+-- they are read it is not given the store, and the line of that was written; or it runs with those
+-- of the files.
+pub data Whole (status : Status) (files : Option (List TreeFile)) (failed failed' : ℕ) (still out : Type 0) (comes : Config →
+    Type 0) (output output' : Side) : Type 0 where
   unread : still → WroteUnread status files failed failed' output output' → Whole status files failed failed' still out comes output output'
-  locked_out : (config : Config) → IsConfigOf files config → out → Said (status_text status) output output' → Whole status files failed failed' still out comes output output'
+  locked_out : (config : Config) → IsConfigOf files config → out → Said (status_text status) output output' →
+      Whole status files failed failed' still out comes output output'
   ran : (config : Config) → IsConfigOf files config → comes config → Whole status files failed failed' still out comes output output'
 
 -- ---- tasks
 
--- A run of a task with these settings. One that stops has written nothing before its line but where `says` allows it.
+-- A run of a task with these settings. One that stops has written nothing before its line but where
+-- `says` allows it.
 abbrev pub TaskComes : Status → {D : Type 0} → Ghosts D → Config → Task → Option Moments → Option Moments → Side → Side → D → D → Type 0
 TaskComes status d config task ahead ahead' output output' disk disk' =
     Comes status d config (named_in task) ahead ahead' (λ choose. HasDone d choose task ahead' output.told output'.told disk')
     (λ middle. middle.told ≡ output.told) (λ stop middle choose. HasHalted d choose task stop ahead' output.told middle.told disk')
     (λ stop middle. says task stop ≡ false → middle.told ≡ output.told) output' disk disk'
 
-abbrev pub Tasked : Status → Task → Option (List TreeFile) → ℕ → ℕ → Option Moments → Option Moments → Side → Side → {D : Type 0} → Ghosts D → D → D → Type 0
+abbrev pub Tasked : Status → Task → Option (List TreeFile) → ℕ → ℕ → Option Moments → Option Moments → Side → Side → {D : Type 0} →
+    Ghosts D → D → D → Type 0
 Tasked status task files failed failed' ahead ahead' output output' d disk disk' =
     Whole status files failed failed' ((ahead' ≡ ahead) × (disk' ≡ disk)) ((ahead' ≡ ahead) × IsLockedOut status d disk disk')
     (λ config. TaskComes status d config task ahead ahead' output output' disk disk') output output'
@@ -177,8 +192,10 @@ is_long (Some index) = nat_lt 1024 (length index)
 abbrev pub stated_meta : Stated → ChannelMeta
 stated_meta stated = record { host = stated.host; source = stated.source; sourcetype = stated.sourcetype; index = stated.index }
 
--- A run that stores an input with these settings. One that stops writes nothing but its line, and says how much it has read.
-abbrev pub InputComes : Status → {D : Type 0} → Ghosts D → Config → Stated → Option Moments → Option Moments → Side → Side → Side → Side → D → D → Type 0
+-- A run that stores an input with these settings. One that stops writes nothing but its line, and
+-- says how much it has read.
+abbrev pub InputComes : Status → {D : Type 0} → Ghosts D → Config → Stated → Option Moments → Option Moments → Side → Side → Side → Side →
+    D → D → Type 0
 InputComes status d config stated ahead ahead' input input' output output' disk disk' =
     Comes status d config (named_by (index_or_default stated.index config.limits) None) ahead ahead'
     (λ choose. HasFed choose (stated_meta stated) (Ok tt) ahead' input.told input'.told)
@@ -190,7 +207,10 @@ pub record Silent (input input' output output' : Side) : Type 0 where
   pub taken : HasTaken (Ok tt) input.told input'.told
   pub same : output' ≡ output
 
-abbrev pub Stored : Status → Stated → Option (List TreeFile) → ℕ → ℕ → Option Moments → Option Moments → Side → Side → Side → Side → {D : Type 0} → Ghosts D → D → D → Type 0
+abbrev pub Stored : Status → Stated → Option (List TreeFile) → ℕ → ℕ → Option Moments → Option Moments → Side → Side → Side → Side →
+    {D : Type 0} → Ghosts D → D → D → Type 0
 Stored status stated files failed failed' ahead ahead' input input' output output' d disk disk' =
-    Whole status files failed failed' ((ahead' ≡ ahead) × (input' ≡ input) × (disk' ≡ disk)) ((ahead' ≡ ahead) × (input' ≡ input) × IsLockedOut status d disk disk')
-    (λ config. InputComes status d config stated ahead ahead' input input' output output' disk disk' × (status ≡ Done → Silent input input' output output')) output output'
+    Whole status files failed failed' ((ahead' ≡ ahead) × (input' ≡ input) × (disk' ≡ disk)) ((ahead' ≡ ahead) × (input' ≡ input)
+    × IsLockedOut status d disk disk')
+    (λ config. InputComes status d config stated ahead ahead' input input' output output' disk disk'
+    × (status ≡ Done → Silent input input' output output')) output output'

@@ -4,7 +4,7 @@ use Rattle.std.specs.List.{flat_map}
 use Rattle.ix_base.specs.Faults.{Rose}
 use Rattle.ix_base.specs.Stream.{dated}
 use Rattle.ix_base.specs.Told.{HasWritten, HasBegun}
-use Rattle.ix_text.specs.EventLine.{line}
+use Rattle.ix_export.specs.EventLine.{line}
 use Rattle.ix_base.specs.declared.events.Event.{Event}
 use Rattle.ix_base.specs.declared.events.Routed.{Routed}
 use Rattle.ix_base.specs.declared.events.Routed.TheVariants.{To, Null}
@@ -13,13 +13,16 @@ use Rattle.ix_life.specs.declared.sets.LimitSet.{LimitSet}
 use Rattle.ix_life.specs.declared.sets.Route.{Route}
 use Rattle.ix_life.specs.declared.sets.Route.TheVariants as routes
 use Rattle.ix_parse.specs.Settled.{settled}
-use Rattle.indexd_core.specs.declared.prepare.Prepared.{Prepared}
+use Rattle.indexd_core.specs.declared.prepare.PreparedPreview.{PreparedPreview}
 use Rattle.indexd_core.specs.Sides.{Side}
 use Rattle.indexd_core.specs.declared.status.Status.{Status}
-use Rattle.indexd_core.specs.declared.status.Status.TheVariants.{Done, Memory, Usage, Configuration, Input, DiskFault, Damaged, Output, ListenerFault, NotFound, TooManyChannels, Unreadable, Endless, Full, InUse}
+use Rattle.indexd_core.specs.declared.status.Status.TheVariants.{Done, Memory, Usage, Configuration, Input, DiskFault, Damaged, Output}
+use Rattle.indexd_core.specs.declared.status.Status.TheVariants.{ListenerFault, NotFound, TooManyChannels, Unreadable, Endless, Full}
+use Rattle.indexd_core.specs.declared.status.Status.TheVariants.{InUse}
 
--- Where an event of an index is kept, by how it is routed: in the index itself, in the one for events without an index of their own,
--- or nowhere. The index is the one that the event names once its changes were made.
+-- Where an event of an index is kept, by how it is routed: in the index itself, in the one for
+-- events without an index of their own, or nowhere. The index is the one that the event names once
+-- its changes were made.
 abbrev pub home_by : LimitSet → List ℕ → Route → Option (List ℕ)
 home_by limits index routes.Given = Some index
 home_by limits index routes.LastChance = limits.last_chance
@@ -41,10 +44,11 @@ routed_line limits Null = []
 abbrev pub lines_of : LimitSet → List Routed → List ℕ
 lines_of limits routed = flat_map (routed_line limits) routed
 
--- The lines of the events that are settled of bytes which all come at one moment, the stream being open or closed. `settled` merges the
--- lines of the stream into events, dates these, and changes them, all by the settings; the time of an event is then that of its date, an
--- earlier event's, or the moment.
-abbrev pub preview_text : Prepared → ℤ → List ℕ → Bool → List ℕ
+-- The lines of the events that are settled of bytes which all come at one moment, the stream being
+-- open or closed. `settled` merges the lines of the stream into events, dates these, and changes
+-- them, all by the settings; the time of an event is then that of its date, an earlier event's, or
+-- the moment.
+abbrev pub preview_text : PreparedPreview → ℤ → List ℕ → Bool → List ℕ
 preview_text prepared moment bytes closed =
     lines_of prepared.limits (settled prepared.settings prepared.meta (dated bytes moment) closed)
 

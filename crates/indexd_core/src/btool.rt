@@ -9,10 +9,10 @@ ghost use Rattle.indexd_core.specs.Sides.{side};
 ghost use Rattle.indexd_core.specs.Texts.{Said, status_text};
 
 use crate::status::{Status, say};
-use indexd_settings::{LayerStop, Refusal, SettingsFile};
+use indexd_settings::{LayerFault, LayerStop, SettingsFile};
 use ix_base::{Bytes, NoMemory, Sink};
 use ix_conf::{Layers, merge};
-use ix_tree::Tree;
+use ix_fs::Tree;
 use std::alloc::Global;
 
 /// The listing of layers.
@@ -26,7 +26,8 @@ fn list(alloc: Global, layers: &Layers) -> Result<Bytes, NoMemory>
 /// Reads the layers of a file, and lists them.
 fn list_file<T: Tree>(alloc: Global, file: SettingsFile, tree: &mut T) -> Result<Bytes, LayerStop>
     ensures listing { IfOk result (λ text. HasListing file (T.files tree.old) text) }
-    ensures stopped { IfErr result (λ stop. LayerStops stop (T.faults tree.old) (T.faults tree.new) (T.files tree.old) (λ all. settings all file)) }
+    ensures stopped { IfErr result (λ stop. LayerStops stop (T.faults tree.old) (T.faults tree.new) (T.files tree.old)
+        (λ all. settings all file)) }
     ensures same { T.files tree.new ≡ T.files tree.old }
     ensures later { T.faults tree.old ≤ T.faults tree.new }
     ensures later_missing { T.missing tree.old ≤ T.missing tree.new }
@@ -40,7 +41,7 @@ fn list_file<T: Tree>(alloc: Global, file: SettingsFile, tree: &mut T) -> Result
 fn say_refusal<W: Sink>(
     alloc: Global,
     file: SettingsFile,
-    refusal: &Refusal,
+    refusal: &LayerFault,
     output: &mut W,
 ) -> Status
     ensures said { RefusalSaid result file refusal.now

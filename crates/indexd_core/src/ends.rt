@@ -1,5 +1,5 @@
-//! How a run over a store that stops is told: its status, and its line. None of it takes memory. `stored.rt`, `feed.rt` and
-//! `serve.rt` call `say_stop`.
+//! How a run over a store that stops is told: its status, and its line. None of it takes memory.
+//! `stored.rt`, `feed.rt` and `serve.rt` call `say_stop`.
 
 ghost use Rattle.std.specs.Prelude.{◌≡◌, ◌≤◌, ◌++◌, length};
 ghost use Rattle.indexd_core.specs.Prepared as prepared;
@@ -9,7 +9,7 @@ ghost use Rattle.indexd_core.specs.Texts.{Said};
 
 use crate::status::{Status, say};
 use arrayvec::ArrayString;
-use indexd_store::Stop;
+use indexd_run::Stop;
 use itoa::Buffer;
 use ix_base::{Area, File, Sink};
 
@@ -87,7 +87,8 @@ fn damaged_line(file: File, at: u64) -> ArrayString<80>
 
 /// Writes the line of a damaged file.
 pub fn say_damaged<W: Sink>(file: File, at: u64, output: &mut W)
-    ensures said { Said (defs.damaged_line file at) (side (W.faults output.old) (W.given output.old)) (side (W.faults output.new) (W.given output.new)) }
+    ensures said { Said (defs.damaged_line file at) (side (W.faults output.old) (W.given output.old))
+        (side (W.faults output.new) (W.given output.new)) }
     ensures later { W.faults output.old ≤ W.faults output.new }
 {
     let line = damaged_line(file, at);
@@ -117,7 +118,8 @@ fn put_last<W: Sink>(piece: &[u8], output: &mut W)
 
 /// Writes a text in three pieces.
 fn put_three<W: Sink>(first: &[u8], second: &[u8], third: &[u8], output: &mut W)
-    ensures said { Said (first.now ++ second.now ++ third.now) (side (W.faults output.old) (W.given output.old)) (side (W.faults output.new) (W.given output.new)) }
+    ensures said { Said (first.now ++ second.now ++ third.now) (side (W.faults output.old) (W.given output.old))
+        (side (W.faults output.new) (W.given output.new)) }
     ensures later { W.faults output.old ≤ W.faults output.new }
 {
     if let Err(_) = output.put(first) {
@@ -131,7 +133,8 @@ fn put_three<W: Sink>(first: &[u8], second: &[u8], third: &[u8], output: &mut W)
 
 /// Writes the line of what was not found.
 fn say_missing<W: Sink>(named: Named<'_>, output: &mut W)
-    ensures said { Said (prepared.not_found_line (defs.named_of named.entry)) (side (W.faults output.old) (W.given output.old)) (side (W.faults output.new) (W.given output.new)) }
+    ensures said { Said (prepared.not_found_line (defs.named_of named.entry)) (side (W.faults output.old) (W.given output.old))
+        (side (W.faults output.new) (W.given output.new)) }
     ensures later { W.faults output.old ≤ W.faults output.new }
 {
     let tail = tail_of(named.id);
@@ -143,10 +146,12 @@ fn say_missing<W: Sink>(named: Named<'_>, output: &mut W)
     );
 }
 
-/// Writes the line of a run that stops, and answers its status. Where the line cannot be written the status stays.
+/// Writes the line of a run that stops, and answers its status. Where the line cannot be written
+/// the status stays.
 pub fn say_stop<W: Sink>(stop: Stop, named: Named<'_>, output: &mut W) -> Status
     ensures status { result ≡ defs.status_of stop }
-    ensures said { Said (defs.line_of (defs.named_of named.entry) stop) (side (W.faults output.old) (W.given output.old)) (side (W.faults output.new) (W.given output.new)) }
+    ensures said { Said (defs.line_of (defs.named_of named.entry) stop) (side (W.faults output.old) (W.given output.old))
+        (side (W.faults output.new) (W.given output.new)) }
     ensures later { W.faults output.old ≤ W.faults output.new }
 {
     let status = status_of(stop);

@@ -1,4 +1,5 @@
-//! The lines of the events that a preview writes. One that was sent to the null queue, or that no index keeps, has none.
+//! The lines of the events that a preview writes. One that was sent to the null queue, or that no
+//! index keeps, has none.
 
 ghost use Rattle.std.specs.Prelude.{◌≡◌, ◌≤◌, ◌++◌, [], ℕ, List, Some, OnOk, IfErr};
 ghost use Rattle.std.specs.Option.{option_copied};
@@ -10,8 +11,8 @@ ghost use Rattle.indexd_core.specs.Stops.{PutStops};
 
 use crate::preview::Stop;
 use ix_base::{Event, EventRef, FailPlan, MemSink, NoMemory, Routed, RoutedList, Sink};
+use ix_export::LineWriter;
 use ix_life::{LimitSet, Route};
-use ix_text::LineWriter;
 use std::alloc::Global;
 
 /// The index that keeps events of this one; `None` where no index does.
@@ -28,8 +29,8 @@ fn home<'a>(limits: &'a LimitSet, index: &'a [u8]) -> Option<&'a [u8]>
     }
 }
 
-/// Writes events as lines, those of a block in one piece. The text is laid out in memory that is kept from one block to
-/// the next.
+/// Writes events as lines, those of a block in one piece. The text is laid out in memory that is
+/// kept from one block to the next.
 #[derive(Drop)]
 pub struct EventWriter {
     /// The indexes, which say where events are kept.
@@ -52,7 +53,8 @@ impl EventWriter {
 
     /// Lays out the line of an event in the index that keeps it, behind those that stand there.
     fn add_event(&mut self, event: &Event) -> Result<(), NoMemory>
-        ensures line { OnOk result (self.new.text.bytes ≡ self.old.text.bytes ++ kept_line event.now (home self.old.limits event.now.index)) }
+        ensures line { OnOk result (self.new.text.bytes ≡ self.old.text.bytes
+            ++ kept_line event.now (home self.old.limits event.now.index)) }
         ensures limits { self.new.limits ≡ self.old.limits }
     {
         let Some(index) = home(&self.limits, event.index.as_slice()) else {
@@ -68,7 +70,8 @@ impl EventWriter {
         }
     }
 
-    /// Lays out the line of an event, behind those that stand there. One that goes to the null queue has none.
+    /// Lays out the line of an event, behind those that stand there. One that goes to the null
+    /// queue has none.
     fn add(&mut self, routed: &Routed) -> Result<(), NoMemory>
         ensures line { OnOk result (self.new.text.bytes ≡ self.old.text.bytes ++ routed_line self.old.limits routed.now) }
         ensures limits { self.new.limits ≡ self.old.limits }

@@ -1,10 +1,11 @@
-//! The command `feed`: requests are served from the input to the output, and the line of the status is written behind the replies. `top`
-//! calls `feed`.
+//! The command `feed`: requests are served from the input to the output, and the line of the status
+//! is written behind the replies. `top` calls `feed`.
 
 ghost use Rattle.std.specs.Prelude.{◌≡◌, ◌≤◌, ◌⊎◌, true, Some};
 ghost use Rattle.ix_base.specs.Faults.{Rose};
-ghost use Rattle.ix_kept.specs.Configs.{IsConfig};
+ghost use Rattle.ix_state.specs.Configs.{IsConfig};
 ghost use Rattle.ix_serve.specs.Serving.{IsTold};
+ghost use Rattle.indexd_core.specs.Blamed.{NamesDamage, IsFilled};
 ghost use Rattle.indexd_core.specs.Feeds as defs;
 ghost use Rattle.indexd_core.specs.Feeds.{FeedComes, Feeds};
 ghost use Rattle.indexd_core.specs.Locked.{HasRefused, EndsUsed};
@@ -18,14 +19,14 @@ use crate::lock::{lock_out, say_locked_out};
 use crate::prepare::say_unread;
 use crate::status::{Status, say};
 use arrayvec::ArrayString;
-use indexd_config::read_config;
-use indexd_feed::{End, run_streams};
+use indexd_serve::{End, run_streams};
+use indexd_settings::read_config;
 use itoa::Buffer;
+use ix_apply::StateMachine;
 use ix_base::{Clock, Sink, Source};
 use ix_disk::Disk;
-use ix_machine::Config;
-use ix_tier::Tier;
-use ix_tree::Tree;
+use ix_fs::Tree;
+use ix_model::Config;
 use std::alloc::Global;
 
 /// The status of a run of requests.
@@ -57,17 +58,20 @@ fn unreadable_line(request: u64) -> ArrayString<64>
 
 /// Writes the line of a request that cannot be read.
 fn say_unreadable<W: Sink>(request: u64, output: &mut W)
-    ensures said { Said (defs.unreadable_line request) (side (W.faults output.old) (W.given output.old)) (side (W.faults output.new) (W.given output.new)) }
+    ensures said { Said (defs.unreadable_line request) (side (W.faults output.old) (W.given output.old))
+        (side (W.faults output.new) (W.given output.new)) }
     ensures later { W.faults output.old ≤ W.faults output.new }
 {
     let line = unreadable_line(request);
     let _ = output.put(line.as_str().as_bytes());
 }
 
-/// Writes the line of a run of requests, and answers its status. Where the line cannot be written the status stays.
+/// Writes the line of a run of requests, and answers its status. Where the line cannot be written
+/// the status stays.
 fn say_end<W: Sink>(end: End, output: &mut W) -> Status
     ensures status { result ≡ defs.end_status end }
-    ensures said { Said (defs.end_line end) (side (W.faults output.old) (W.given output.old)) (side (W.faults output.new) (W.given output.new)) }
+    ensures said { Said (defs.end_line end) (side (W.faults output.old) (W.given output.old))
+        (side (W.faults output.new) (W.given output.new)) }
     ensures later { W.faults output.old ≤ W.faults output.new }
 {
     let status = end_status(end);
@@ -101,18 +105,21 @@ fn feed_with<S: Source, W: Sink, C: Clock, D: Disk>(
     ensures disk_later { D.Disk.faults disk.old ≤ D.Disk.faults disk.new }
     ensures disk { result ≡ Status.DiskFault → Rose (D.Disk.faults disk.old) (D.Disk.faults disk.new) }
     ensures undamaged { result ≡ Status.Damaged → FromStart D.Disk disk.old (λ choose history run k. ⊥) }
+    ensures blamed { result ≡ Status.Damaged → NamesDamage D.Disk disk.old disk.new
+        (side (W.faults output.old) (W.given output.old)) (side (W.faults output.new) (W.given output.new)) }
+    ensures full { result ≡ Status.Full → IsFilled D.Disk disk.old }
     ensures usage { result ≡ Status.Usage → ⊥ }
     ensures listener { result ≡ Status.ListenerFault → ⊥ }
     ensures in_use { result ≡ Status.InUse → ⊥ }
 {
-    match run_streams::<Tier, D, C, S, W>(alloc, disk, clock, config, input, output) {
+    match run_streams::<StateMachine, D, C, S, W>(alloc, disk, clock, config, input, output) {
         Ok(end) => say_end(end, output),
         Err(stop) => say_stop(stop, Named::of_index(b""), output),
     }
 }
 
-/// Serves the requests of the input over the store of a disk with the settings of the files, and writes the line of the status behind the
-/// replies.
+/// Serves the requests of the input over the store of a disk with the settings of the files, and
+/// writes the line of the status behind the replies.
 pub fn feed<S: Source, W: Sink, C: Clock, T: Tree, D: Disk>(
     alloc: Global,
     input: &mut S,
@@ -134,6 +141,9 @@ pub fn feed<S: Source, W: Sink, C: Clock, T: Tree, D: Disk>(
     ensures disk { result ≡ Status.DiskFault → Rose (D.Disk.faults disk.old) (D.Disk.faults disk.new) }
     // A disk that keeps what was committed, and tells what it reads, is never damaged.
     ensures undamaged { result ≡ Status.Damaged → FromStart D.Disk disk.old (λ choose history run k. ⊥) }
+    ensures blamed { result ≡ Status.Damaged → NamesDamage D.Disk disk.old disk.new
+        (side (W.faults output.old) (W.given output.old)) (side (W.faults output.new) (W.given output.new)) }
+    ensures full { result ≡ Status.Full → IsFilled D.Disk disk.old }
     ensures usage { result ≡ Status.Usage → ⊥ }
     ensures listener { result ≡ Status.ListenerFault → ⊥ }
     ensures in_use { result ≡ Status.InUse → HasRefused D.Disk disk.old disk.new }

@@ -21,7 +21,7 @@ pub use chain::{
     the_next_run_may_begin,
 };
 /// What the program's store is over, for callers that open that store themselves.
-pub use ix_tier::Tier;
+pub use ix_apply::StateMachine;
 pub use laws::blank_disks_are_starts;
 pub use program::top;
 pub use reading::a_feed_that_is_done_has_read_all;

@@ -5,7 +5,7 @@ ghost use Rattle.ix_life.specs.Limits.{limits_of};
 ghost use Rattle.ix_props.specs.Settings.{AreSettings, AreUsable};
 ghost use Rattle.indexd_settings.specs.Configuration.{IsConfiguration};
 ghost use Rattle.indexd_settings.specs.Faults.{Stops};
-ghost use Rattle.ix_tree.specs.declared.trees.TreeFile.{TreeFile};
+ghost use Rattle.ix_fs.specs.declared.trees.TreeFile.{TreeFile};
 ghost use Rattle.indexd_core.specs.Prepared.{Stated, preview_meta, index_or_default, IsPrepared, Unprepared, not_found_line};
 ghost use Rattle.indexd_core.specs.Runs.{WroteUnprepared};
 ghost use Rattle.indexd_core.specs.Sides.{side};
@@ -14,17 +14,17 @@ ghost use Rattle.indexd_core.specs.Origins.{stated_of};
 ghost use Rattle.indexd_core.specs.Stored.{stated_meta, WroteUnread};
 
 use crate::status::{Status, say};
+use indexd_cli::Origin;
 use indexd_settings::{Configuration, ConfigurationFault, ConfigurationStop, read_configuration};
-use indexd_words::Origin;
 use ix_base::{Bytes, ChannelMeta, NoMemory, Sink};
+use ix_fs::Tree;
 use ix_life::LimitSet;
 use ix_props::Settings;
-use ix_tree::Tree;
 use std::alloc::Global;
 
 /// What a preview is prepared with.
 #[derive(Drop)]
-pub struct Prepared {
+pub struct PreparedPreview {
     /// The indexes, which say where events are kept.
     pub limits: LimitSet,
     /// What is known of the bytes.
@@ -116,7 +116,8 @@ fn meta_of(alloc: Global, origin: Origin<'_>, limits: &LimitSet) -> Result<Chann
 /// The name of the stated index, where it is not configured.
 fn missing_index<'a>(index: Option<&'a str>, limits: &LimitSet) -> Option<&'a str>
     ensures none { result ≡ None → IfSome (option_map (λ s. s.now) index.entry) (λ index. IsSome (limits_of limits.now index)) }
-    ensures some { IfSome (option_map (λ s. s.now) result) (λ missing. (option_map (λ s. s.now) index.entry ≡ Some missing) × (limits_of limits.now missing ≡ None)) }
+    ensures some { IfSome (option_map (λ s. s.now) result) (λ missing. (option_map (λ s. s.now) index.entry ≡ Some missing)
+        × (limits_of limits.now missing ≡ None)) }
 {
     match index {
         Some(index) => match limits.limits(index.as_bytes()) {
@@ -132,7 +133,7 @@ fn choose(
     alloc: Global,
     origin: Origin<'_>,
     configuration: Configuration,
-) -> Result<Prepared, NoMemory>
+) -> Result<PreparedPreview, NoMemory>
     ensures usable { IfOk result (λ prepared. AreUsable prepared.settings) }
     ensures limits { IfOk result (λ prepared. prepared.limits ≡ configuration.limits) }
     ensures meta { IfOk result (λ prepared. prepared.meta ≡ preview_meta (stated_of origin.entry) configuration.limits) }
@@ -140,23 +141,25 @@ fn choose(
 {
     let meta = meta_of(alloc, origin, &configuration.limits)?;
     let settings = configuration.props.settings(alloc, &meta)?;
-    Ok(Prepared {
+    Ok(PreparedPreview {
         limits: configuration.limits,
         meta,
         settings,
     })
 }
 
-/// Reads the settings and chooses those of a preview. The files of the tree are judged first, and then the index.
+/// Reads the settings and chooses those of a preview. The files of the tree are judged first, and
+/// then the index.
 pub fn prepare<T: Tree>(
     alloc: Global,
     origin: Origin<'_>,
     tree: &mut T,
-) -> Result<Prepared, PrepareStop>
+) -> Result<PreparedPreview, PrepareStop>
     ensures index { IfOk result (λ prepared. IsSome prepared.meta.index) }
     ensures usable { IfOk result (λ prepared. AreUsable prepared.settings) }
     ensures ok { IfOk result (λ prepared. IsPrepared (stated_of origin.entry) (T.files tree.old) prepared) }
-    ensures stopped { IfErr result (λ stop. Unprepared stop (stated_of origin.entry) (T.faults tree.old) (T.faults tree.new) (T.files tree.old)) }
+    ensures stopped { IfErr result (λ stop. Unprepared stop (stated_of origin.entry) (T.faults tree.old) (T.faults tree.new)
+        (T.files tree.old)) }
     ensures same { T.files tree.new ≡ T.files tree.old }
     ensures later { T.faults tree.old ≤ T.faults tree.new }
     ensures later_missing { T.missing tree.old ≤ T.missing tree.new }
@@ -180,7 +183,8 @@ fn not_found_line(alloc: Global, index: &[u8]) -> Result<Bytes, NoMemory>
     Ok(line)
 }
 
-/// Writes the line of a status. Where there was no room for it, that is the status; where it cannot be written, the status stays.
+/// Writes the line of a status. Where there was no room for it, that is the status; where it cannot
+/// be written, the status stays.
 fn say_line<W: Sink>(line: Result<Bytes, NoMemory>, status: Status, output: &mut W) -> Status
     ensures line { IfOk line (λ text. (result ≡ status) × Said text
         (side (W.faults output.old) (W.given output.old)) (side (W.faults output.new) (W.given output.new))) }
@@ -202,7 +206,8 @@ fn say_line<W: Sink>(line: Result<Bytes, NoMemory>, status: Status, output: &mut
 
 /// Says why a preview was not prepared.
 pub fn say_stop<W: Sink>(alloc: Global, stop: &PrepareStop, output: &mut W) -> Status
-    ensures said { (stated : Stated) (files : Option (List TreeFile)) (failed failed' : ℕ) → Unprepared stop.now stated failed failed' files →
+    ensures said { (stated : Stated) (files : Option (List TreeFile)) (failed failed' : ℕ) →
+        Unprepared stop.now stated failed failed' files →
         WroteUnprepared result stated files failed failed'
         (side (W.faults output.old) (W.given output.old)) (side (W.faults output.new) (W.given output.new)) }
     ensures later { W.faults output.old ≤ W.faults output.new }

@@ -1,23 +1,25 @@
-//! `preview`: the input as one closed stream, and a line for each event that it comes to. An event may be of several lines of the input.
+//! `preview`: the input as one closed stream, and a line for each event that it comes to. An event
+//! may be of several lines of the input.
 
-ghost use Rattle.std.specs.Prelude.{◌≡◌, ◌≢◌, ◌≤◌, ◌<◌, ℕ, ℤ, List, [], ◌++◌, length, take, true, false, IfOk, OnOk, IfErr, OnErr, Option, Some, IfSome, IsSome, vec_len};
+ghost use Rattle.std.specs.Prelude.{◌≡◌, ◌≢◌, ◌≤◌, ◌<◌, ℕ, ℤ, List, [], ◌++◌, length, take, true, false, IfOk, OnOk, IfErr, OnErr, Option};
+ghost use Rattle.std.specs.Prelude.{Some, IfSome, IsSome, vec_len};
 ghost use Rattle.indexd_core.specs.Stops.{stop_status};
 ghost use Rattle.ix_base.specs.Faults.{Rose};
 ghost use Rattle.ix_base.specs.Told.{Told, Took, HasWritten, HasBegun};
 ghost use Rattle.ix_props.specs.Settings.{AreUsable};
 ghost use Rattle.indexd_core.specs.Origins.{stated_of};
-ghost use Rattle.indexd_core.specs.declared.prepare.Prepared.{Prepared as Ready};
+ghost use Rattle.indexd_core.specs.declared.prepare.PreparedPreview.{PreparedPreview as Ready};
 ghost use Rattle.indexd_core.specs.Sides.{side, IsAtEnd};
 ghost use Rattle.indexd_core.specs.Texts.{lines_of};
 ghost use Rattle.indexd_core.specs.Runs.{Runs, RunsPrepared, Previews, text_of};
 
 use crate::events::EventWriter;
-use crate::prepare::{Prepared, prepare, say_stop};
+use crate::prepare::{PreparedPreview, prepare, say_stop};
 use crate::status::{Status, say};
-use indexd_words::Origin;
+use indexd_cli::Origin;
 use ix_base::{Clock, NoMemory, Sink, Source, Steps};
+use ix_fs::Tree;
 use ix_parse::Channel;
-use ix_tree::Tree;
 use std::alloc::Global;
 use std::marker::Brand;
 use std::sync::ledger::{Blank, Ledger};
@@ -25,15 +27,16 @@ use std::sync::ledger::{Blank, Ledger};
 /// How many bytes of input are taken at the most.
 const INPUT_LIMIT: u64 = 1 << 40;
 
-/// How many bytes are read at once. The lines and events of so many are in memory together, and should find room in the
-/// caches of a processor.
+/// How many bytes are read at once. The lines and events of so many are in memory together, and
+/// should find room in the caches of a processor.
 const BLOCK: usize = 1 << 16;
 
 /// A run of `preview`.
 #[derive(Drop)]
 pub struct Preview {
     pub channel: Channel,
-    /// The moment at which all its bytes arrive. An event without a date of its own has it too, or an earlier event's time.
+    /// The moment at which all its bytes arrive. An event without a date of its own has it too, or
+    /// an earlier event's time.
     pub moment: i64,
     events: EventWriter,
 }
@@ -73,7 +76,7 @@ impl Preview {
     ghost use Rattle.indexd_core.specs.Steps.{Holds, Advances, StepStops, ReadsAll, RunStops, EndsAll, EndStops};
 
     /// A run that has read nothing yet.
-    fn start(alloc: Global, prepared: Prepared, moment: i64) -> Result<Preview, NoMemory>
+    fn start(alloc: Global, prepared: PreparedPreview, moment: i64) -> Result<Preview, NoMemory>
         requires meta { IsSome prepared.meta.index }
         requires usable { AreUsable prepared.settings }
         ensures holds { IfOk result (λ preview. Holds prepared [] preview) }
@@ -87,7 +90,8 @@ impl Preview {
         })
     }
 
-    /// Reads a block, takes it in and writes the lines of the events that it settles; 0 bytes at the end of the input.
+    /// Reads a block, takes it in and writes the lines of the events that it settles; 0 bytes at
+    /// the end of the input.
     fn take_block<S: Source, W: Sink, L: Ledger>(
         &mut self,
         block: &mut [u8],
@@ -119,7 +123,8 @@ impl Preview {
         Ok(n)
     }
 
-    /// Reads the input to its end, or up to the limit, and writes the lines of the events that it settles; whether it came to the end.
+    /// Reads the input to its end, or up to the limit, and writes the lines of the events that it
+    /// settles; whether it came to the end.
     fn read_all<S: Source, W: Sink, L: Ledger>(
         &mut self,
         block: &mut [u8],
@@ -167,8 +172,8 @@ impl Preview {
         Ok(())
     }
 
-    /// Reads the input to its end and writes the lines of its events. Steps are counted in a ledger that the blank one
-    /// opens.
+    /// Reads the input to its end and writes the lines of its events. Steps are counted in a ledger
+    /// that the blank one opens.
     fn run<S: Source, W: Sink, L: Ledger>(
         &mut self,
         block: &mut [u8],
@@ -203,7 +208,7 @@ impl Preview {
 /// The lines of the input's events, all before the line of the status.
 fn preview_lines<S: Source, W: Sink>(
     alloc: Global,
-    prepared: Prepared,
+    prepared: PreparedPreview,
     moment: i64,
     input: &mut S,
     output: &mut W,
@@ -226,11 +231,11 @@ fn preview_lines<S: Source, W: Sink>(
     preview.run::<S, W, Brand>(&mut block, input, output, Blank::new(1))
 }
 
-/// Reads the input as one closed stream, all of whose bytes arrive at the moment that the clock shows first, and writes the
-/// lines of its events and the line of the status.
+/// Reads the input as one closed stream, all of whose bytes arrive at the moment that the clock
+/// shows first, and writes the lines of its events and the line of the status.
 fn preview_input<S: Source, W: Sink, C: Clock>(
     alloc: Global,
-    prepared: Prepared,
+    prepared: PreparedPreview,
     input: &mut S,
     output: &mut W,
     clock: &mut C,

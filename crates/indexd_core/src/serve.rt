@@ -1,13 +1,14 @@
-//! The command `serve`: connections are served, one request each, and then it is written how many, or the line of the status. `top` calls
-//! `serve`.
+//! The command `serve`: connections are served, one request each, and then it is written how many,
+//! or the line of the status. `top` calls `serve`.
 
 ghost use Rattle.std.specs.Prelude.{◌≡◌, ◌≤◌, true, Some};
 ghost use Rattle.ix_base.specs.Faults.{Rose};
-ghost use Rattle.ix_kept.specs.Configs.{IsConfig};
+ghost use Rattle.ix_state.specs.Configs.{IsConfig};
 ghost use Rattle.ix_serve.specs.Serving.{IsTold};
-ghost use Rattle.indexd_feed.specs.declared.end.ServeEnd.TheVariants as ends;
+ghost use Rattle.indexd_serve.specs.declared.end.ServeEnd.TheVariants as ends;
+ghost use Rattle.indexd_core.specs.Blamed.{NamesDamage, IsFilled};
 ghost use Rattle.indexd_core.specs.Serves as defs;
-ghost use Rattle.ix_feed.specs.Connections.{listened};
+ghost use Rattle.ix_sessions.specs.Connections.{listened};
 ghost use Rattle.indexd_core.specs.Serves.{EndsServing, ServeComes, Serves};
 ghost use Rattle.indexd_core.specs.Locked.{HasRefused, EndsUsed};
 ghost use Rattle.indexd_core.specs.Shortened.{LeavesShort};
@@ -20,15 +21,15 @@ use crate::lock::{lock_out, say_locked_out};
 use crate::prepare::say_unread;
 use crate::status::{Status, say};
 use arrayvec::ArrayString;
-use indexd_config::read_config;
-use indexd_feed::{ServeEnd, run_serve};
+use indexd_serve::{ServeEnd, run_serve};
+use indexd_settings::read_config;
 use itoa::Buffer;
+use ix_apply::StateMachine;
 use ix_base::{Clock, Sink};
 use ix_disk::Disk;
-use ix_link::Listener;
-use ix_machine::Config;
-use ix_tier::Tier;
-use ix_tree::Tree;
+use ix_fs::Tree;
+use ix_model::Config;
+use ix_net::Listener;
 use std::alloc::Global;
 
 /// What `serve` is to do.
@@ -51,9 +52,11 @@ fn served_line(requests: u32) -> ArrayString<32>
     line
 }
 
-/// Writes how many connections were served, and answers the status: `Output` where that cannot be written.
+/// Writes how many connections were served, and answers the status: `Output` where that cannot be
+/// written.
 fn say_served<W: Sink>(requests: u32, output: &mut W) -> Status
-    ensures said { EndsServing result requests ends.Done (side (W.faults output.old) (W.given output.old)) (side (W.faults output.new) (W.given output.new)) }
+    ensures said { EndsServing result requests ends.Done (side (W.faults output.old) (W.given output.old))
+        (side (W.faults output.new) (W.given output.new)) }
     ensures later { W.faults output.old ≤ W.faults output.new }
 {
     let line = served_line(requests);
@@ -66,17 +69,19 @@ fn say_served<W: Sink>(requests: u32, output: &mut W) -> Status
 /// Writes the line of a status, and answers it.
 fn say_fault<W: Sink>(status: Status, output: &mut W) -> Status
     ensures status { result ≡ status }
-    ensures said { Said (status_text status) (side (W.faults output.old) (W.given output.old)) (side (W.faults output.new) (W.given output.new)) }
+    ensures said { Said (status_text status) (side (W.faults output.old) (W.given output.old))
+        (side (W.faults output.new) (W.given output.new)) }
     ensures later { W.faults output.old ≤ W.faults output.new }
 {
     say(status, output);
     status
 }
 
-/// Writes how many connections were served, or the line of a run that ended otherwise, and answers its status. Where the line cannot be
-/// written the status stays.
+/// Writes how many connections were served, or the line of a run that ended otherwise, and answers
+/// its status. Where the line cannot be written the status stays.
 fn say_end<W: Sink>(end: ServeEnd, requests: u32, output: &mut W) -> Status
-    ensures said { EndsServing result requests end (side (W.faults output.old) (W.given output.old)) (side (W.faults output.new) (W.given output.new)) }
+    ensures said { EndsServing result requests end (side (W.faults output.old) (W.given output.old))
+        (side (W.faults output.new) (W.given output.new)) }
     ensures later { W.faults output.old ≤ W.faults output.new }
 {
     match end {
@@ -91,7 +96,8 @@ fn say_end<W: Sink>(end: ServeEnd, requests: u32, output: &mut W) -> Status
     }
 }
 
-/// Takes the port, serves the connections with these settings, and writes how many, or the line of the status.
+/// Takes the port, serves the connections with these settings, and writes how many, or the line of
+/// the status.
 fn serve_with<W: Sink, C: Clock, D: Disk, L: Listener>(
     alloc: Global,
     config: Config,
@@ -115,6 +121,9 @@ fn serve_with<W: Sink, C: Clock, D: Disk, L: Listener>(
     ensures listener { result ≡ Status.ListenerFault → Rose (L.faults listener.old) (L.faults listener.new) }
     ensures out { L.out listener.new ≡ L.out listener.old }
     ensures undamaged { result ≡ Status.Damaged → FromStart D.Disk disk.old (λ choose history run k. ⊥) }
+    ensures blamed { result ≡ Status.Damaged → NamesDamage D.Disk disk.old disk.new
+        (side (W.faults output.old) (W.given output.old)) (side (W.faults output.new) (W.given output.new)) }
+    ensures full { result ≡ Status.Full → IsFilled D.Disk disk.old }
     ensures input { result ≡ Status.Input → ⊥ }
     ensures usage { result ≡ Status.Usage → ⊥ }
     ensures in_use { result ≡ Status.InUse → HasRefused D.Disk disk.old disk.new }
@@ -126,7 +135,7 @@ fn serve_with<W: Sink, C: Clock, D: Disk, L: Listener>(
     }
     match lock_out(disk) {
         None => {
-            match run_serve::<Tier, D, C, L>(
+            match run_serve::<StateMachine, D, C, L>(
                 alloc,
                 disk,
                 clock,
@@ -142,9 +151,10 @@ fn serve_with<W: Sink, C: Clock, D: Disk, L: Listener>(
     }
 }
 
-/// Serves connections over the store of a disk with the settings of the files, one request each, and writes how many, or the line of the
-/// status. The port is taken before the store is touched: a second server over the same port stops there. A connection that comes while the
-/// store is mounted waits, and nothing was answered on it if it cannot be.
+/// Serves connections over the store of a disk with the settings of the files, one request each,
+/// and writes how many, or the line of the status. The port is taken before the store is touched: a
+/// second server over the same port stops there. A connection that comes while the store is mounted
+/// waits, and nothing was answered on it if it cannot be.
 pub fn serve<W: Sink, C: Clock, T: Tree, D: Disk, L: Listener>(
     alloc: Global,
     serving: Serving,
@@ -154,7 +164,8 @@ pub fn serve<W: Sink, C: Clock, T: Tree, D: Disk, L: Listener>(
     disk: &mut D,
     listener: &mut L,
 ) -> Status
-    ensures serves { Serves result serving.requests (T.files tree.old) (T.faults tree.old) (T.faults tree.new) (C.ahead clock.old) (C.ahead clock.new)
+    ensures serves { Serves result serving.requests (T.files tree.old) (T.faults tree.old) (T.faults tree.new) (C.ahead clock.old)
+        (C.ahead clock.new)
         (listened (L.waiting listener.old) (L.handed listener.old)) (listened (L.waiting listener.new) (L.handed listener.new))
         (side (W.faults output.old) (W.given output.old)) (side (W.faults output.new) (W.given output.new)) D.Disk disk.old disk.new }
     ensures short { LeavesShort result D.Disk disk.old disk.new }
@@ -169,6 +180,9 @@ pub fn serve<W: Sink, C: Clock, T: Tree, D: Disk, L: Listener>(
     ensures out { L.out listener.new ≡ L.out listener.old }
     // A disk that keeps what was committed, and tells what it reads, is never damaged.
     ensures undamaged { result ≡ Status.Damaged → FromStart D.Disk disk.old (λ choose history run k. ⊥) }
+    ensures blamed { result ≡ Status.Damaged → NamesDamage D.Disk disk.old disk.new
+        (side (W.faults output.old) (W.given output.old)) (side (W.faults output.new) (W.given output.new)) }
+    ensures full { result ≡ Status.Full → IsFilled D.Disk disk.old }
     ensures usage { result ≡ Status.Usage → ⊥ }
     ensures in_use { result ≡ Status.InUse → HasRefused D.Disk disk.old disk.new }
     ensures used { D.Disk.in_use disk.old ≡ Some true → EndsUsed result D.Disk disk.old disk.new }

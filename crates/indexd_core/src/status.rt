@@ -21,7 +21,8 @@ pub enum Status {
     Input,
     /// 5: the disk of the store failed. `indexd: disk fault`
     DiskFault,
-    /// 6: a file of the store is damaged. `indexd: damaged: ` and its area, its number and the place
+    /// 6: a file of the store is damaged. `indexd: damaged: ` and its area, its number and the
+    /// place
     Damaged,
     /// 7: writing the output failed.
     Output,
@@ -31,7 +32,8 @@ pub enum Status {
     NotFound,
     /// 11: 256 channels are open, and one more is to be begun. `indexd: too many channels`
     TooManyChannels,
-    /// 12: a request was cut, or it is not known where it ends. `indexd: request ` and its number, ` cannot be read`
+    /// 12: a request was cut, or it is not known where it ends. `indexd: request ` and its number,
+    /// ` cannot be read`
     Unreadable,
     /// 13: the input has 2^40 bytes or more, or 2^32 requests were served. `indexd: endless input`
     Endless,
@@ -85,10 +87,11 @@ impl Status {
     }
 }
 
-/// Writes the line of a status, where it is always the same one. Where writing fails the status stays, and a front of the
-/// line may stand there.
+/// Writes the line of a status, where it is always the same one. Where writing fails the status
+/// stays, and a front of the line may stand there.
 pub fn say<W: Sink>(status: Status, output: &mut W)
-    ensures said { Said (status_text status) (side (W.faults output.old) (W.given output.old)) (side (W.faults output.new) (W.given output.new)) }
+    ensures said { Said (status_text status) (side (W.faults output.old) (W.given output.old))
+        (side (W.faults output.new) (W.given output.new)) }
     ensures later { W.faults output.old ≤ W.faults output.new }
 {
     let text = status.text();

@@ -1,16 +1,20 @@
-//! The commands over a store: their settings are read, they are run, and the line of their status is written. `top` calls `run_stored`
-//! and `store_preview`.
+//! The commands over a store: their settings are read, they are run, and the line of their status
+//! is written. `top` calls `run_stored` and `store_preview`.
 
-ghost use Rattle.std.specs.Prelude.{◌≡◌, ◌≤◌, ◌⊎◌, ℕ, List, Option, None, Some, true, false, length, Err, IfOk, IfErr, OnOk, IfSome, IsErrOf};
+ghost use Rattle.std.specs.Prelude.{◌≡◌, ◌≤◌, ◌⊎◌, ℕ, List, Option, None, Some, true, false, length, Err, IfOk, IfErr, OnOk, IfSome};
+ghost use Rattle.std.specs.Prelude.{IsErrOf};
 ghost use Rattle.ix_base.specs.Faults.{Rose};
-ghost use Rattle.ix_kept.specs.Configs.{IsConfig};
-ghost use Rattle.ix_kept.specs.Taken.{IsTaken};
+ghost use Rattle.ix_state.specs.Configs.{IsConfig};
+ghost use Rattle.ix_state.specs.Taken.{IsTaken};
 ghost use Rattle.ix_replay.specs.Fits.{fits};
 ghost use Rattle.ix_serve.specs.Serving.{IsTold};
-ghost use Rattle.indexd_store.specs.Opened.{HasRun, HasStopped, WhenOpen};
-ghost use Rattle.indexd_store.specs.Previews.{HasFed, HasTaken};
-ghost use Rattle.indexd_store.specs.Shortened.{EndsShort, StopsShort};
-ghost use Rattle.indexd_store.specs.Stops.{is_output, is_input};
+ghost use Rattle.ix_recovery.specs.Recalled.{GivesNone};
+ghost use Rattle.indexd_run.specs.Blamed.{Blames};
+ghost use Rattle.indexd_run.specs.Opened.{HasRun, HasStopped, WhenOpen};
+ghost use Rattle.indexd_run.specs.Previews.{HasFed, HasTaken};
+ghost use Rattle.indexd_run.specs.Shortened.{EndsShort, StopsShort};
+ghost use Rattle.indexd_run.specs.Stops.{is_output, is_input};
+ghost use Rattle.indexd_core.specs.Blamed.{NamesDamage, IsFilled};
 ghost use Rattle.indexd_core.specs.Locked.{HasRefused, EndsUsed};
 ghost use Rattle.indexd_core.specs.Origins.{stated_of};
 ghost use Rattle.indexd_core.specs.Prepared.{index_or_default};
@@ -23,15 +27,15 @@ use crate::ends::{Named, say_stop};
 use crate::lock::{lock_out, say_locked_out};
 use crate::prepare::{index_of, say_unread, stated_meta};
 use crate::status::{Status, say};
-use indexd_config::read_config;
-use indexd_store::{Stop, Task, open, run_preview, run_task, stop_run};
-use indexd_words::Origin;
+use indexd_cli::Origin;
+use indexd_run::{Stop, Task, open, run_preview, run_task, stop_run};
+use indexd_settings::read_config;
+use ix_apply::StateMachine;
 use ix_base::{Bytes, ChannelMeta, Clock, NoMemory, Sink, Source};
 use ix_disk::Disk;
+use ix_fs::Tree;
 use ix_life::LimitSet;
-use ix_machine::Config;
-use ix_tier::Tier;
-use ix_tree::Tree;
+use ix_model::Config;
 use std::alloc::Global;
 
 /// What a task names.
@@ -55,7 +59,8 @@ fn run_with<W: Sink, C: Clock, D: Disk>(
     disk: &mut D,
 ) -> Status
     requires { IsConfig config }
-    ensures comes { TaskComes result D.Disk config task.entry (C.ahead clock.old) (C.ahead clock.new) (side (W.faults output.old) (W.given output.old)) (side (W.faults output.new) (W.given output.new)) disk.old disk.new }
+    ensures comes { TaskComes result D.Disk config task.entry (C.ahead clock.old) (C.ahead clock.new)
+        (side (W.faults output.old) (W.given output.old)) (side (W.faults output.new) (W.given output.new)) disk.old disk.new }
     ensures short { LeavesShort result D.Disk disk.old disk.new }
     ensures output { result ≡ Status.Output → Rose (W.faults output.old) (W.faults output.new) }
     ensures input { result ≡ Status.Input → ⊥ }
@@ -64,17 +69,21 @@ fn run_with<W: Sink, C: Clock, D: Disk>(
     ensures disk_later { D.Disk.faults disk.old ≤ D.Disk.faults disk.new }
     ensures disk { result ≡ Status.DiskFault → Rose (D.Disk.faults disk.old) (D.Disk.faults disk.new) }
     ensures undamaged { result ≡ Status.Damaged → FromStart D.Disk disk.old (λ choose history run k. ⊥) }
+    ensures blamed { result ≡ Status.Damaged → NamesDamage D.Disk disk.old disk.new
+        (side (W.faults output.old) (W.given output.old)) (side (W.faults output.new) (W.given output.new)) }
+    ensures full { result ≡ Status.Full → IsFilled D.Disk disk.old }
     ensures usage { result ≡ Status.Usage → ⊥ }
     ensures listener { result ≡ Status.ListenerFault → ⊥ }
     ensures in_use { result ≡ Status.InUse → ⊥ }
 {
-    match run_task::<Tier, D, C, W>(alloc, disk, clock, config, task, output) {
+    match run_task::<StateMachine, D, C, W>(alloc, disk, clock, config, task, output) {
         Ok(()) => Status::Done,
         Err(stop) => say_stop(stop, named_in(task), output),
     }
 }
 
-/// Runs a task over the store of a disk with the settings of the files, and writes the line of its status.
+/// Runs a task over the store of a disk with the settings of the files, and writes the line of its
+/// status.
 pub fn run_stored<W: Sink, C: Clock, T: Tree, D: Disk>(
     alloc: Global,
     task: Task<'_>,
@@ -83,7 +92,8 @@ pub fn run_stored<W: Sink, C: Clock, T: Tree, D: Disk>(
     tree: &mut T,
     disk: &mut D,
 ) -> Status
-    ensures tasked { Tasked result task.entry (T.files tree.old) (T.faults tree.old) (T.faults tree.new) (C.ahead clock.old) (C.ahead clock.new)
+    ensures tasked { Tasked result task.entry (T.files tree.old) (T.faults tree.old) (T.faults tree.new) (C.ahead clock.old)
+        (C.ahead clock.new)
         (side (W.faults output.old) (W.given output.old)) (side (W.faults output.new) (W.given output.new)) D.Disk disk.old disk.new }
     ensures short { LeavesShort result D.Disk disk.old disk.new }
     ensures output { result ≡ Status.Output → Rose (W.faults output.old) (W.faults output.new) }
@@ -94,6 +104,9 @@ pub fn run_stored<W: Sink, C: Clock, T: Tree, D: Disk>(
     ensures disk { result ≡ Status.DiskFault → Rose (D.Disk.faults disk.old) (D.Disk.faults disk.new) }
     // A disk that keeps what was committed, and tells what it reads, is never damaged.
     ensures undamaged { result ≡ Status.Damaged → FromStart D.Disk disk.old (λ choose history run k. ⊥) }
+    ensures blamed { result ≡ Status.Damaged → NamesDamage D.Disk disk.old disk.new
+        (side (W.faults output.old) (W.given output.old)) (side (W.faults output.new) (W.given output.new)) }
+    ensures full { result ≡ Status.Full → IsFilled D.Disk disk.old }
     ensures usage { result ≡ Status.Usage → ⊥ }
     ensures listener { result ≡ Status.ListenerFault → ⊥ }
     ensures in_use { result ≡ Status.InUse → HasRefused D.Disk disk.old disk.new }
@@ -124,8 +137,9 @@ fn is_long(origin: &ChannelMeta) -> bool
     }
 }
 
-/// Opens the store of a disk with these settings, and misses the stated index, whose name is too long for one. The clock is asked as it
-/// is for any input, and the log is made short where it is long.
+/// Opens the store of a disk with these settings, and misses the stated index, whose name is too
+/// long for one. The clock is asked as it is for any input, and the log is made short where it is
+/// long.
 fn miss<C: Clock, D: Disk>(
     alloc: Global,
     config: Config,
@@ -135,7 +149,8 @@ fn miss<C: Clock, D: Disk>(
 ) -> Stop
     requires settings { IsConfig config }
     requires long { defs.is_long origin.now.index ≡ true }
-    ensures stopped { (left : Option (List ℕ)) → FromStart D.Disk disk.old (λ choose history run k. HasStopped result D.Disk IsTaken fits choose history run k config
+    ensures stopped { (left : Option (List ℕ)) → FromStart D.Disk disk.old
+        (λ choose history run k. HasStopped result D.Disk IsTaken fits choose history run k config
         (C.ahead clock.old) (C.ahead clock.new) (left ≡ left)
         (HasFed choose origin.now (Err result) (C.ahead clock.new) left left) disk.old disk.new) }
     ensures short { StopsShort D.Disk fits result disk.old disk.new }
@@ -143,10 +158,11 @@ fn miss<C: Clock, D: Disk>(
     ensures later { D.Disk.faults disk.old ≤ D.Disk.faults disk.new }
     ensures cause { result ≡ Stop.Disk → Rose (D.Disk.faults disk.old) (D.Disk.faults disk.new) }
     ensures undamaged { defs.status_of result ≡ Status.Damaged → FromStart D.Disk disk.old (λ choose history run k. ⊥) }
+    ensures blamed { Blames result D.Disk fits GivesNone disk.old disk.new }
     ensures quiet { is_output result ≡ false }
     ensures unread { is_input result ≡ false }
 {
-    let mut store = match open::<Tier, D, C>(alloc, disk, clock, config) {
+    let mut store = match open::<StateMachine, D, C>(alloc, disk, clock, config) {
         Ok(store) => store,
         Err(stop) => return stop,
     };
@@ -154,8 +170,8 @@ fn miss<C: Clock, D: Disk>(
     stop_run(&mut store, disk, Stop::NotFound)
 }
 
-/// Stores an input in the store of a disk. An index whose name is too long is configured nowhere: it is missed, as others that are not
-/// configured, once the store is open.
+/// Stores an input in the store of a disk. An index whose name is too long is configured nowhere:
+/// it is missed, as others that are not configured, once the store is open.
 fn store_input<C: Clock, S: Source, D: Disk>(
     alloc: Global,
     config: Config,
@@ -169,8 +185,10 @@ fn store_input<C: Clock, S: Source, D: Disk>(
     requires source { length origin.source ≤ 1024 }
     requires sourcetype { IfSome origin.sourcetype (λ (name : List ℕ). length name ≤ 1024) }
     ensures done { OnOk result (FromStart D.Disk disk.old (λ choose history run k. HasRun false D.Disk IsTaken fits choose history run k
-        (WhenOpen choose config (C.ahead clock.old) (HasFed choose origin result (C.ahead clock.new) (S.left input.old) (S.left input.new))) disk.old disk.new)) }
-    ensures stopped { IfErr result (λ stop. FromStart D.Disk disk.old (λ choose history run k. HasStopped stop D.Disk IsTaken fits choose history run k config
+        (WhenOpen choose config (C.ahead clock.old) (HasFed choose origin result (C.ahead clock.new) (S.left input.old) (S.left input.new)))
+        disk.old disk.new)) }
+    ensures stopped { IfErr result (λ stop. FromStart D.Disk disk.old
+        (λ choose history run k. HasStopped stop D.Disk IsTaken fits choose history run k config
         (C.ahead clock.old) (C.ahead clock.new) (S.left input.new ≡ S.left input.old)
         (HasFed choose origin result (C.ahead clock.new) (S.left input.old) (S.left input.new)) disk.old disk.new)) }
     ensures short { EndsShort D.Disk fits result disk.old disk.new }
@@ -179,14 +197,16 @@ fn store_input<C: Clock, S: Source, D: Disk>(
     ensures cause { IsErrOf result Stop.Disk → Rose (D.Disk.faults disk.old) (D.Disk.faults disk.new) }
     ensures read_later { S.faults input.old ≤ S.faults input.new }
     ensures input { IsErrOf result Stop.Input → Rose (S.faults input.old) (S.faults input.new) }
-    ensures undamaged { IfErr result (λ stop. defs.status_of stop ≡ Status.Damaged → FromStart D.Disk disk.old (λ choose history run k. ⊥)) }
+    ensures undamaged { IfErr result (λ stop. defs.status_of stop ≡ Status.Damaged →
+        FromStart D.Disk disk.old (λ choose history run k. ⊥)) }
+    ensures blamed { IfErr result (λ stop. Blames stop D.Disk fits GivesNone disk.old disk.new) }
     ensures quiet { IfErr result (λ stop. is_output stop ≡ false) }
     ensures read { HasTaken result (S.left input.old) (S.left input.new) }
 {
     if is_long(&origin) {
         return Err(miss(alloc, config, &origin, clock, disk));
     }
-    run_preview::<Tier, D, C, S>(alloc, disk, clock, config, input, origin)
+    run_preview::<StateMachine, D, C, S>(alloc, disk, clock, config, input, origin)
 }
 
 /// What is known of the bytes of an input, and the index that is stated, or the default one.
@@ -230,6 +250,9 @@ fn store_with<S: Source, W: Sink, C: Clock, D: Disk>(
     ensures disk_later { D.Disk.faults disk.old ≤ D.Disk.faults disk.new }
     ensures disk { result ≡ Status.DiskFault → Rose (D.Disk.faults disk.old) (D.Disk.faults disk.new) }
     ensures undamaged { result ≡ Status.Damaged → FromStart D.Disk disk.old (λ choose history run k. ⊥) }
+    ensures blamed { result ≡ Status.Damaged → NamesDamage D.Disk disk.old disk.new
+        (side (W.faults output.old) (W.given output.old)) (side (W.faults output.new) (W.given output.new)) }
+    ensures full { result ≡ Status.Full → IsFilled D.Disk disk.old }
     ensures usage { result ≡ Status.Usage → ⊥ }
     ensures listener { result ≡ Status.ListenerFault → ⊥ }
     ensures in_use { result ≡ Status.InUse → ⊥ }
@@ -246,7 +269,8 @@ fn store_with<S: Source, W: Sink, C: Clock, D: Disk>(
     say_stop(stop, Named::of_index(index.as_slice()), output)
 }
 
-/// Stores the input in the store of a disk with the settings of the files, and writes the line of the status.
+/// Stores the input in the store of a disk with the settings of the files, and writes the line of
+/// the status.
 pub fn store_preview<S: Source, W: Sink, C: Clock, T: Tree, D: Disk>(
     alloc: Global,
     origin: Origin<'_>,
@@ -257,7 +281,8 @@ pub fn store_preview<S: Source, W: Sink, C: Clock, T: Tree, D: Disk>(
     disk: &mut D,
 ) -> Status
     requires { AreShort (stated_of origin) }
-    ensures stored { Stored result (stated_of origin.entry) (T.files tree.old) (T.faults tree.old) (T.faults tree.new) (C.ahead clock.old) (C.ahead clock.new)
+    ensures stored { Stored result (stated_of origin.entry) (T.files tree.old) (T.faults tree.old) (T.faults tree.new) (C.ahead clock.old)
+        (C.ahead clock.new)
         (side (S.faults input.old) (S.left input.old)) (side (S.faults input.new) (S.left input.new))
         (side (W.faults output.old) (W.given output.old)) (side (W.faults output.new) (W.given output.new)) D.Disk disk.old disk.new }
     ensures short { LeavesShort result D.Disk disk.old disk.new }
@@ -270,6 +295,9 @@ pub fn store_preview<S: Source, W: Sink, C: Clock, T: Tree, D: Disk>(
     ensures disk { result ≡ Status.DiskFault → Rose (D.Disk.faults disk.old) (D.Disk.faults disk.new) }
     // A disk that keeps what was committed, and tells what it reads, is never damaged.
     ensures undamaged { result ≡ Status.Damaged → FromStart D.Disk disk.old (λ choose history run k. ⊥) }
+    ensures blamed { result ≡ Status.Damaged → NamesDamage D.Disk disk.old disk.new
+        (side (W.faults output.old) (W.given output.old)) (side (W.faults output.new) (W.given output.new)) }
+    ensures full { result ≡ Status.Full → IsFilled D.Disk disk.old }
     ensures usage { result ≡ Status.Usage → ⊥ }
     ensures listener { result ≡ Status.ListenerFault → ⊥ }
     ensures in_use { result ≡ Status.InUse → HasRefused D.Disk disk.old disk.new }

@@ -1,38 +1,39 @@
--- A run that is done, over a disk on which nothing was written: what is said of every run from a start is said of it. For `first_run`.
+-- A run that is done, over a disk on which nothing was written: what is said of every run from a
+-- start is said of it. For `first_run`.
 use Rattle.std.proofs.Common.{◌≡◌, ◌<◌, inl, inr, ℕ, true, List, [], sym, ap, ◌∙◌, subst, length, take, arith, refl}
 use Rattle.std.specs.Prelude.{Option, false}
 use Rattle.std.proofs.lemmas.List.{take_all}
 use Rattle.ix_base.specs.Clocks.{Moments}
 use Rattle.ix_disk.specs.Image.{Image, nothing}
 use Rattle.ix_disk.specs.declared.disk.Disk.{Ghosts}
-use Rattle.ix_feed.specs.Connections as connections
-use Rattle.ix_feed.specs.Connections.{Listened}
-use Rattle.ix_feed.specs.Feeding as feeding
-use Rattle.ix_feed.specs.declared.feed.Fed.{Fed}
-use Rattle.ix_feed.specs.declared.feed.Fed.TheVariants as fed
-use Rattle.ix_feed.specs.declared.serve.Heard.{Heard}
-use Rattle.ix_feed.specs.declared.serve.Heard.TheVariants as heard
-use Rattle.ix_keep.specs.declared.fault.CommitFault.TheVariants as commits
-use Rattle.ix_kept.specs.Taken.{IsTaken, AreGiven}
-use Rattle.ix_machine.specs.Given.{Chooser}
-use Rattle.ix_machine.specs.declared.commands.Config.{Config}
-use Rattle.ix_machine.specs.declared.commands.Order.{Order}
+use Rattle.ix_sessions.specs.Connections as connections
+use Rattle.ix_sessions.specs.Connections.{Listened}
+use Rattle.ix_sessions.specs.Feeding as feeding
+use Rattle.ix_sessions.specs.declared.feed.Fed.{Fed}
+use Rattle.ix_sessions.specs.declared.feed.Fed.TheVariants as fed
+use Rattle.ix_sessions.specs.declared.serve.Heard.{Heard}
+use Rattle.ix_sessions.specs.declared.serve.Heard.TheVariants as heard
+use Rattle.ix_commit.specs.declared.fault.CommitFault.TheVariants as commits
+use Rattle.ix_state.specs.Taken.{IsTaken, AreGiven}
+use Rattle.ix_model.specs.Given.{Chooser}
+use Rattle.ix_model.specs.declared.commands.Config.{Config}
+use Rattle.ix_model.specs.declared.commands.TimedCommand.{TimedCommand}
 use Rattle.ix_replay.specs.Fits.{fits}
 use Rattle.ix_run.specs.Giving.{given_all}
 use Rattle.ix_run.proofs.Gone.{stands_from}
 use Rattle.ix_serve.specs.Serving.{IsTold}
-use Rattle.ix_store.specs.Written.{Stands, StandsFrom}
-use Rattle.ix_tree.specs.declared.trees.TreeFile.{TreeFile}
-use Rattle.indexd_feed.specs.Ends.{FedBehind, HeardBehind, fed_of, heard_end}
-use Rattle.indexd_feed.specs.Serving.{HasServed, Requests, Connections}
-use Rattle.indexd_feed.specs.Sides.{IsSound}
-use Rattle.indexd_feed.specs.declared.end.End.{End}
-use Rattle.indexd_feed.specs.declared.end.End.TheVariants as ends
-use Rattle.indexd_feed.specs.declared.end.ServeEnd.{ServeEnd}
-use Rattle.indexd_feed.specs.declared.end.ServeEnd.TheVariants as serving
-use Rattle.indexd_store.specs.Opened.{Doing, WhenOpen, HasRun}
-use Rattle.indexd_store.specs.declared.stop.Stop.{Stop}
-use Rattle.indexd_store.specs.declared.stop.Stop.TheVariants as stops
+use Rattle.ix_store.specs.Written.{RecoversTo, RecoversToPrefix}
+use Rattle.ix_fs.specs.declared.trees.TreeFile.{TreeFile}
+use Rattle.indexd_serve.specs.Ends.{FedBehind, HeardBehind, fed_of, heard_end}
+use Rattle.indexd_serve.specs.Serving.{HasServed, Requests, Connections}
+use Rattle.indexd_serve.specs.Sides.{IsSound}
+use Rattle.indexd_serve.specs.declared.end.End.{End}
+use Rattle.indexd_serve.specs.declared.end.End.TheVariants as ends
+use Rattle.indexd_serve.specs.declared.end.ServeEnd.{ServeEnd}
+use Rattle.indexd_serve.specs.declared.end.ServeEnd.TheVariants as serving
+use Rattle.indexd_run.specs.Opened.{Doing, WhenOpen, HasRun}
+use Rattle.indexd_run.specs.declared.stop.Stop.{Stop}
+use Rattle.indexd_run.specs.declared.stop.Stop.TheVariants as stops
 use Rattle.indexd_core.specs.Feeds as feeds
 use Rattle.indexd_core.specs.Feeds.{FeedComes, end_status}
 use Rattle.indexd_core.specs.Locked.{IsLockedOut}
@@ -84,7 +85,8 @@ open_served (heard.Broken commits.Disk) (inr other) = other.0
 open_served (heard.Broken (commits.Damaged file at)) (inl e) = absurd (cc)
 open_served (heard.Broken (commits.Damaged file at)) (inr other) = other.0
 
-served_whole : (status : Status) (requests : ℕ) (end : ServeEnd) (output output' : Side) → status ≡ Done → EndsServing status requests end output output' → end ≡ serving.Done
+served_whole : (status : Status) (requests : ℕ) (end : ServeEnd) (output output' : Side) → status ≡ Done →
+    EndsServing status requests end output output' → end ≡ serving.Done
 served_whole status requests serving.Done output output' is e = refl
 served_whole status requests serving.Listener output output' is e = let s = e.0 in absurd (cc)
 served_whole status requests serving.Memory output output' is e = let s = e.0 in absurd (cc)
@@ -94,19 +96,21 @@ served_whole status requests (serving.Damaged file at) output output' is e = let
 -- ---- images
 
 -- an image that a run has written for a history stands for all of it
-whole : (run : ℕ) (choose : Chooser) (history : List Order) (image : Image) → Stands fits run choose history image → StandsFrom fits run choose history (length history) image
+whole : (run : ℕ) (choose : Chooser) (history : List TimedCommand) (image : Image) → RecoversTo fits run choose history image →
+    RecoversToPrefix fits run choose history (length history) image
 whole run choose history image stands =
     stands_from fits run run choose history (length history) (length history) image (omega arith) (omega arith) (omega arith)
-    (subst (λ (h : List Order). Stands fits run choose h image) (sym (take_all (length history) history (omega arith))) stands)
+    (subst (λ (h : List TimedCommand). RecoversTo fits run choose h image) (sym (take_all (length history) history (omega arith))) stands)
 
 -- ---- runs
 
 module _ {D : Type 0} {d : Ghosts D} {disk : D} (choose : Chooser) (may : MayRun d choose [] 0 0 disk) where
   -- what is said of every run from here is said of this one
-  is_said : (comes : Chooser → List Order → ℕ → ℕ → Type 0) → FromStart d disk comes → comes choose [] 0 0
+  is_said : (comes : Chooser → List TimedCommand → ℕ → ℕ → Type 0) → FromStart d disk comes → comes choose [] 0 0
   is_said comes from = from choose [] 0 0 may
 
-  history_of : (now : List Order) (run : ℕ) (disk' : D) → 0 < run → AreGiven now → ((image : Image) → d.may_leave disk' image → StandsFrom fits run choose now (length now) image) → IsTold d disk' →
+  history_of : (now : List TimedCommand) (run : ℕ) (disk' : D) → 0 < run → AreGiven now →
+      ((image : Image) → d.may_leave disk' image → RecoversToPrefix fits run choose now (length now) image) → IsTold d disk' →
       HasHistory d disk'
   history_of now run disk' begun given all told = record {
     choose = choose;
@@ -116,34 +120,45 @@ module _ {D : Type 0} {d : Ghosts D} {disk : D} (choose : Chooser) (may : MayRun
     may_run = record { chooser = may.chooser; given = given; begins = all; image = told.0; tells = told.1 };
   }
 
-  of_run : (mays : List Order → List Order → List Order → Type 0) (disk' : D) → IsTold d disk' → HasRun false d IsTaken fits choose [] 0 0 mays disk disk' → HasHistory d disk'
+  of_run : (mays : List TimedCommand → List TimedCommand → List TimedCommand → Type 0) (disk' : D) → IsTold d disk' →
+      HasRun false d IsTaken fits choose [] 0 0 mays disk disk' → HasHistory d disk'
   of_run mays disk' told was =
-      history_of (given_all choose (given_all choose (take was.count []) was.configured) was.orders) was.new_run disk' was.passes.later was.given was.exit told
+      history_of (given_all choose (given_all choose (take was.count []) was.configured) was.orders) was.new_run disk' was.passes.later
+      was.given was.exit told
 
-  pub of_comes : (status : Status) (config : Config) (named : List ℕ) (ahead ahead' : Option Moments) (what : Chooser → Doing) (untouched : Side → Type 0)
+  pub of_comes : (status : Status) (config : Config) (named : List ℕ) (ahead ahead' : Option Moments) (what : Chooser →
+      Doing) (untouched : Side → Type 0)
       (part : Stop → Side → Chooser → Doing) (wrote : Stop → Side → Type 0) (output' : Side) (disk' : D) → IsTold d disk' → status ≡ Done →
       Comes status d config named ahead ahead' what untouched part wrote output' disk disk' → HasHistory d disk'
   of_comes status config named ahead ahead' what untouched part wrote output' disk' told is (done e from) =
       of_run (WhenOpen choose config ahead (what choose)) disk' told
-      (is_said (λ choose history run k. HasRun false d IsTaken fits choose history run k (WhenOpen choose config ahead (what choose)) disk disk') from)
+      (is_said (λ choose history run k. HasRun false d IsTaken fits choose history run k (WhenOpen choose config ahead (what choose)) disk
+      disk') from)
   of_comes status config named ahead ahead' what untouched part wrote output' disk' told is (stopped stop middle e from w s) =
       absurd (not_done stop (sym e ∙ is))
 
-  pub of_feed : (status : Status) (config : Config) (ahead ahead' : Option Moments) (input input' output output' : Side) (disk' : D) → IsTold d disk' → status ≡ Done →
+  pub of_feed : (status : Status) (config : Config) (ahead ahead' : Option Moments) (input input' output output' : Side) (disk' : D) →
+      IsTold d disk' → status ≡ Done →
       FeedComes status d config ahead ahead' input input' output output' disk disk' → HasHistory d disk'
-  of_feed status config ahead ahead' input input' output output' disk' told is (feeds.shut stop e from same said) = absurd (not_done stop (sym e ∙ is))
+  of_feed status config ahead ahead' input input' output output' disk' told is (feeds.shut stop e from same said) =
+      absurd (not_done stop (sym e ∙ is))
   of_feed status config ahead ahead' input input' output output' disk' told is (feeds.served end middle e l m reads from said) =
       let was = is_said (λ choose history run k. HasServed d IsTaken fits choose history run k config ahead
-      (Requests d fits (fed_of end) (IsSound output.faults middle.faults) input.told input'.told ahead' output.told middle.told disk') disk disk') from in
+      (Requests d fits (fed_of end) (IsSound output.faults middle.faults) input.told input'.told ahead' output.told middle.told disk') disk
+      disk') from in
       let requests = was.served in
       history_of was.now was.new_run disk' was.passes.later was.given
-      (λ image left. whole was.new_run choose was.now image (requests.all (open_behind requests.first end (sym e ∙ is) requests.ends_behind) image left)) told
+      (λ image left. whole was.new_run choose was.now image
+      (requests.all (open_behind requests.first end (sym e ∙ is) requests.ends_behind) image left)) told
 
-  pub of_serve : (status : Status) (config : Config) (requests : ℕ) (ahead ahead' : Option Moments) (heard heard' : Listened) (output output' : Side) (disk' : D) → IsTold d disk' → status ≡ Done →
+  pub of_serve : (status : Status) (config : Config) (requests : ℕ) (ahead ahead' : Option Moments) (heard heard' : Listened)
+      (output output' : Side) (disk' : D) → IsTold d disk' → status ≡ Done →
       ServeComes status d config requests ahead ahead' heard heard' output output' disk disk' → HasHistory d disk'
   of_serve status config requests ahead ahead' heard heard' output output' disk' told is (serves.unbound e a h s said) = absurd (cc)
-  of_serve status config requests ahead ahead' heard heard' output output' disk' told is (serves.locked_out a h out said) = absurd (not_out d disk disk' status is out)
-  of_serve status config requests ahead ahead' heard heard' output output' disk' told is (serves.shut stop e from same said) = absurd (not_done stop (sym e ∙ is))
+  of_serve status config requests ahead ahead' heard heard' output output' disk' told is (serves.locked_out a h out said) =
+      absurd (not_out d disk disk' status is out)
+  of_serve status config requests ahead ahead' heard heard' output output' disk' told is (serves.shut stop e from same said) =
+      absurd (not_done stop (sym e ∙ is))
   of_serve status config requests ahead ahead' heard heard' output output' disk' told is (serves.served end hears from wrote) =
       let was = is_said (λ choose history run k. HasServed d IsTaken fits choose history run k config ahead
       (Connections d fits requests end heard heard' ahead' disk') disk disk') from in
@@ -154,7 +169,8 @@ module _ {D : Type 0} {d : Ghosts D} {disk : D} (choose : Chooser) (may : MayRun
       (λ image left. whole was.new_run choose was.now image (visits.all (open_served visits.first behind) image left)) told
 
 -- one that is done has read the settings
-pub of_whole : (status : Status) (files : Option (List TreeFile)) (failed failed' : ℕ) (still out : Type 0) (comes : Config → Type 0) (output output' : Side) (said : Type 0) → status ≡ Done →
+pub of_whole : (status : Status) (files : Option (List TreeFile)) (failed failed' : ℕ) (still out : Type 0) (comes : Config →
+    Type 0) (output output' : Side) (said : Type 0) → status ≡ Done →
     (out → ⊥) → ((config : Config) → comes config → said) → Whole status files failed failed' still out comes output output' → said
 of_whole status files failed failed' still out comes output output' said is never f (unread s wrote) =
     absurd (subst (λ (s : Status). WroteUnread s files failed failed' output output') is wrote)

@@ -1,21 +1,23 @@
 -- What a first run leaves for a second one, with no premise on histories.
 use Rattle.std.specs.Prelude.{◌≡◌, ◌<◌, ℕ, List, [], length}
 use Rattle.ix_disk.specs.declared.disk.Disk.{Ghosts}
-use Rattle.ix_machine.specs.Given.{Chooser}
-use Rattle.ix_machine.specs.declared.commands.Order.{Order}
+use Rattle.ix_model.specs.Given.{Chooser}
+use Rattle.ix_model.specs.declared.commands.TimedCommand.{TimedCommand}
 use Rattle.indexd_core.specs.Chain.{MayRun, MayGoOn}
 use Rattle.indexd_core.specs.declared.status.Status.{Status}
 use Rattle.indexd_core.specs.declared.status.Status.TheVariants.{Done}
 
--- every image that a crash may leave stands for all of one history of commands and a run that was begun, and a second run may begin over that
+-- every image that a crash may leave stands for all of one history of commands and a run that was
+-- begun, and a second run may begin over that
 pub record HasHistory {D : Type 0} (d : Ghosts D) (disk : D) : Type 0 where
   pub choose : Chooser
-  pub history : List Order
+  pub history : List TimedCommand
   pub run : ℕ
   pub begun : 0 < run
   pub may_run : MayRun d choose history run (length history) disk
 
--- Whatever the status is, a second run may begin over some history; and at `Done` over one that every image has whole.
+-- Whatever the status is, a second run may begin over some history; and at `Done` over one that
+-- every image has whole.
 pub record GoesOn (status : Status) {D : Type 0} (d : Ghosts D) (disk : D) : Type 0 where
   pub choose : Chooser
   pub again : MayGoOn d choose [] 0 0 disk

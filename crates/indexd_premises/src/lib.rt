@@ -1,16 +1,18 @@
-//! A guard: a sentence whose premises nobody can meet says nothing, and no wrong body of code shows it. What `top` says of runs over a store
-//! has premises: a chooser of settings, a history for which the images at the start stand, a disk that tells what it reads. Here the program runs
-//! over an empty disk in memory, which meets them all, and what is said of that run has no premise on histories left. So the gate fails where a
-//! definition changes into one that nothing meets. Whoever adds a premise to `MayRun` of `indexd_core` shows here what meets it.
+//! A guard: a sentence whose premises nobody can meet says nothing, and no wrong body of code shows
+//! it. What `top` says of runs over a store has premises: a chooser of settings, a history for
+//! which the images at the start stand, a disk that tells what it reads. Here the program runs over
+//! an empty disk in memory, which meets them all, and what is said of that run has no premise on
+//! histories left. So the gate fails where a definition changes into one that nothing meets.
+//! Whoever adds a premise to `MayRun` of `indexd_core` shows here what meets it.
 #![tactic(auto)]
 
 ghost use Rattle.std.specs.Prelude.{◌≡◌, ℕ, [], true};
-ghost use Rattle.ix_machine.specs.Given.{Chooser};
+ghost use Rattle.ix_model.specs.Given.{Chooser};
 ghost use Rattle.indexd_core.specs.Chain.{MayRun};
 ghost use Rattle.indexd_core.specs.Commands.{is_task, AskStore, AskFeed, AskServe};
 ghost use Rattle.indexd_core.specs.Prepared.{Stated};
 ghost use Rattle.indexd_core.specs.Starts.{IsBlank, IsStart};
-ghost use Rattle.indexd_words.specs.Orders.{asked};
+ghost use Rattle.indexd_cli.specs.Orders.{asked};
 ghost use Rattle.indexd_premises.specs.Standing.{GoesOn};
 
 #[cfg(test)]
@@ -22,8 +24,8 @@ use indexd_core::{
 };
 use ix_base::{Clock, FailPlan, Sink, Source, Text};
 use ix_disk::{Disk, MemDisk};
-use ix_link::Listener;
-use ix_tree::Tree;
+use ix_fs::Tree;
+use ix_net::Listener;
 use std::alloc::Global;
 
 /// An empty disk in memory. It meets all that the clauses of `top` ask of a start.
@@ -32,15 +34,16 @@ pub fn empty_disk(alloc: Global) -> MemDisk
     ensures begins { (choose : Chooser) × MayRun ⟦<MemDisk as Disk>⟧ choose [] 0 0 result }
     ensures start { IsStart ⟦<MemDisk as Disk>⟧ result }
 {
-    ix_kept::choosers_exist();
+    ix_state::choosers_exist();
     an_empty_disk_may_run::<MemDisk>();
     blank_disks_are_starts::<MemDisk>();
     MemDisk::new(alloc, FailPlan::none(alloc))
 }
 
-/// Runs the program over an empty disk in memory, and answers with its status the disk that it leaves. Nothing is damaged, whatever the
-/// status is a second run may begin there, and at 0 every image that a crash may leave stands for all of one history of commands and for a run
-/// that was begun, so that the second one has a greater number.
+/// Runs the program over an empty disk in memory, and answers with its status the disk that it
+/// leaves. Nothing is damaged, whatever the status is a second run may begin there, and at 0 every
+/// image that a crash may leave stands for all of one history of commands and for a run that was
+/// begun, so that the second one has a greater number.
 pub fn first_run<S: Source, W: Sink, C: Clock, T: Tree, L: Listener>(
     alloc: Global,
     words: &[Text],

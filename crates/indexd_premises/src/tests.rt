@@ -3,8 +3,8 @@
 use crate::first_run;
 use indexd_core::Status;
 use ix_base::{Bytes, FailPlan, MemClock, MemSink, MemSource, Text};
-use ix_link::{MemLink, MemLinkList, MemListener};
-use ix_tree::{MemTree, TreeFileList};
+use ix_fs::{MemTree, TreeFileList};
+use ix_net::{MemLink, MemLinkList, MemListener};
 use std::alloc::Global;
 use std::process::Abort;
 
@@ -32,7 +32,8 @@ fn listener_of(alloc: Global) -> MemListener {
     MemListener::new(alloc, links, FailPlan::none(alloc))
 }
 
-/// The number of the status of a first run that has no settings and an empty input, and that one peer calls where it listens.
+/// The number of the status of a first run that has no settings and an empty input, and that one
+/// peer calls where it listens.
 fn code_of(alloc: Global, line: &str) -> u8 {
     let words = words_of(alloc, line);
     let mut input = MemSource::in_pieces(Bytes::new(alloc), 1, FailPlan::none(alloc));

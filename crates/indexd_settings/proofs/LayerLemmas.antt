@@ -1,16 +1,18 @@
 -- Files that are read piece by piece, and layers one behind the other.
-use Rattle.std.proofs.Common.{◌≡◌, ◌≤◌, ◌+◌, ℕ, List, [], ◌∷◌, ◌++◌, length, take, drop, refl, sym, ◌∙◌, ap, subst, append_assoc, Option, Some, None, Result, Ok, Err, IfSome, IfOk, IfErr, ◌≢◌}
+use Rattle.std.proofs.Common.{◌≡◌, ◌≤◌, ◌+◌, ℕ, List, [], ◌∷◌, ◌++◌, length, take, drop, refl, sym, ◌∙◌, ap, subst, append_assoc, Option}
+use Rattle.std.proofs.Common.{Some, None, Result, Ok, Err, IfSome, IfOk, IfErr, ◌≢◌}
 use Rattle.std.specs.List.{AllByRecursion}
 use Rattle.std.proofs.lemmas.List.{take-append-drop, length-append, length-take-le}
 use Rattle.std.proofs.Math.Seq.{drop-append-add}
-use Rattle.ix_tree.specs.Trees.{bytes_at, ReadsAt}
-use Rattle.ix_tree.specs.declared.trees.TreeFile.{TreeFile}
+use Rattle.ix_fs.specs.Trees.{bytes_at, ReadsAt}
+use Rattle.ix_fs.specs.declared.trees.TreeFile.{TreeFile}
 use Rattle.ix_conf.specs.Grammar.{pairs, Gives}
 use Rattle.ix_conf.specs.declared.entries.Entry.{Entry}
 use Rattle.ix_conf.specs.declared.entries.ConfFault.{ConfFault}
 use Rattle.ix_conf.specs.declared.layers.Layer.{Layer}
-use Rattle.indexd_settings.specs.Layers.{or_empty, text_at, path_in, in_layer, layer_read, IsTextOr, IsOfText, IsBegun, before, led_by, LayerRefused, Reads}
-use Rattle.indexd_settings.specs.declared.layers.Refusal.{Refusal}
+use Rattle.indexd_settings.specs.Layers.{or_empty, text_at, path_in, in_layer, layer_read, IsTextOr, IsOfText, IsBegun, before, led_by}
+use Rattle.indexd_settings.specs.Layers.{LayerRefused, Reads}
+use Rattle.indexd_settings.specs.declared.layers.LayerFault.{LayerFault}
 use Rattle.indexd_settings.specs.declared.layers.SettingsFile.{SettingsFile}
 use Rattle.indexd_settings.specs.declared.layers.LayerStop.{LayerStop}
 use Rattle.indexd_settings.specs.declared.layers.LayerStop.TheVariants.{Memory, Input, Refused}
@@ -19,8 +21,10 @@ use Rattle.indexd_settings.specs.declared.layers.LayerStop.TheVariants.{Memory, 
 piece : (text rest buf : List ℕ) (n : ℕ) → n ≤ length buf → take n buf ≡ take n rest →
     text ++ rest ≡ (text ++ take n buf) ++ drop (length (text ++ take n buf)) (text ++ rest)
 piece text rest buf n room same =
-    let len : length (text ++ take n buf) ≡ length text + n = length-append text (take n buf) ∙ ap (λ k. length text + k) (length-take-le n buf room) in
-    let behind : drop (length (text ++ take n buf)) (text ++ rest) ≡ drop n rest = ap (λ k. drop k (text ++ rest)) len ∙ drop-append-add text rest n in
+    let len : length (text ++ take n buf) ≡ length text + n = length-append text (take n buf)
+    ∙ ap (λ k. length text + k) (length-take-le n buf room) in
+    let behind : drop (length (text ++ take n buf)) (text ++ rest) ≡ drop n rest = ap (λ k. drop k (text ++ rest)) len
+    ∙ drop-append-add text rest n in
     sym (ap (λ r. text ++ r) (take-append-drop n rest)) ∙ sym (append_assoc text (take n rest) (drop n rest))
     ∙ ap (λ t. (text ++ t) ++ drop n rest) (sym same) ∙ ap (λ r. (text ++ take n buf) ++ r) (sym behind)
 
@@ -39,18 +43,20 @@ begun_further None path text buf n room reads begun = begun
 begun_further (Some all) path text buf n room reads begun = piece_of (bytes_at all path) text buf n room reads begun
 
 -- a layer behind the first ones stands before the others
-pub led_by_one_more : (first : List Layer) (layer : Layer) (others : Result (List Layer) Refusal) →
+pub led_by_one_more : (first : List Layer) (layer : Layer) (others : Result (List Layer) LayerFault) →
     led_by first (before (Ok layer) others) ≡ led_by (first ++ layer ∷ []) others
 led_by_one_more first layer (Err refusal) = refl
 led_by_one_more first layer (Ok layers) = ap (λ (l : List Layer). Ok l) (sym (append_assoc first (layer ∷ []) layers))
 
 -- layers of texts with one more behind them
-pub texts_more : (layers : List Layer) (layer : Layer) → AllByRecursion IsOfText layers → IsOfText layer → AllByRecursion IsOfText (layers ++ layer ∷ [])
+pub texts_more : (layers : List Layer) (layer : Layer) → AllByRecursion IsOfText layers → IsOfText layer →
+    AllByRecursion IsOfText (layers ++ layer ∷ [])
 texts_more [] layer texts text = (text, tt)
 texts_more (first ∷ layers) layer texts text = (texts.0, texts_more layers layer texts.1 text)
 
 -- a layer of entries that were read of a text is of that text
-pub layer_of_text : (result : Result Layer LayerStop) (entries : Result (List Entry) ConfFault) → IfOk result (λ layer. entries ≡ Ok layer.file) →
+pub layer_of_text : (result : Result Layer LayerStop) (entries : Result (List Entry) ConfFault) →
+    IfOk result (λ layer. entries ≡ Ok layer.file) →
     IfOk entries (λ file. (bytes : List ℕ) × (pairs bytes ≡ Ok file)) → IfOk result (λ layer. IsOfText layer)
 layer_of_text (Ok layer) entries file text =
     subst (λ (e : Result (List Entry) ConfFault). IfOk e (λ file. (bytes : List ℕ) × (pairs bytes ≡ Ok file))) file text

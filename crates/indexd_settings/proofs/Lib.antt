@@ -1,3 +1,4 @@
 pub mod LayerLemmas
 pub mod MergedLemmas
 pub mod ValueLemmas
+pub mod GivenLemmas

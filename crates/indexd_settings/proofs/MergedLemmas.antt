@@ -2,7 +2,7 @@
 use Rattle.std.proofs.Common.{◌≡◌, ◌≤◌, ℕ, List, ◌++◌, refl, sym, subst, ap, inl, inr, arith, Option, Some, None, IfSome, Result, Ok, Err}
 use Rattle.std.specs.List.{AllByRecursion}
 use Rattle.ix_base.specs.Faults.{Rose}
-use Rattle.ix_tree.specs.declared.trees.TreeFile.{TreeFile}
+use Rattle.ix_fs.specs.declared.trees.TreeFile.{TreeFile}
 use Rattle.ix_conf.specs.Value.{AreMerged}
 use Rattle.ix_conf.specs.declared.layers.Layer.{Layer}
 use Rattle.ix_conf.specs.declared.layers.MergedEntry.{MergedEntry}
@@ -11,7 +11,7 @@ use Rattle.indexd_settings.specs.Merged.{IsMergedOf, AreMergedFiles, AreZonesOf}
 use Rattle.indexd_settings.specs.Faults.{IsSound, AreSoundBefore, IsFaultIn, HasFault, StopsIn, Stops, stop_in}
 use Rattle.indexd_settings.specs.declared.layers.LayerStop.{LayerStop}
 use Rattle.indexd_settings.specs.declared.layers.LayerStop.TheVariants as layers
-use Rattle.indexd_settings.specs.declared.layers.Refusal.{Refusal}
+use Rattle.indexd_settings.specs.declared.layers.LayerFault.{LayerFault}
 use Rattle.indexd_settings.specs.declared.layers.SettingsFile.{SettingsFile}
 use Rattle.indexd_settings.specs.declared.layers.SettingsFile.TheVariants.{Props, Transforms, Indexes, Inputs, Zones}
 use Rattle.indexd_settings.specs.declared.merged.MergedFiles.{MergedFiles}
@@ -36,7 +36,8 @@ is-first file (faults.Props why) files sound found = absurd found
 is-first file (faults.Indexes why) files sound found = absurd found
 
 -- reading stopped in one file, and so did the reading of all
-pub all-stop : (file : SettingsFile) (stop : ConfigurationStop) (before failed failed' : ℕ) (files : Option (List TreeFile)) → before ≤ failed →
+pub all-stop : (file : SettingsFile) (stop : ConfigurationStop) (before failed failed' : ℕ) (files : Option (List TreeFile)) →
+    before ≤ failed →
     AreSoundBefore files file → StopsIn file stop failed failed' files → Stops stop before failed' files
 all-stop file stops.Memory before failed failed' files later sound stop = tt
 all-stop file stops.Input before failed failed' files later sound stop = rose-since before failed failed' later stop
@@ -48,20 +49,23 @@ abbrev AreFolders : Option (List TreeFile) → List (List ℕ) → Type 0
 AreFolders files folders = IfSome files (λ all. folders ≡ folders_of all)
 
 -- what was read in the folders of the layers was read of the files
-read_of : (files : Option (List TreeFile)) (file : SettingsFile) (folders : List (List ℕ)) (found : Result (List Layer) Refusal) → AreFolders files folders →
+read_of : (files : Option (List TreeFile)) (file : SettingsFile) (folders : List (List ℕ)) (found : Result (List Layer) LayerFault) →
+    AreFolders files folders →
     ReadAs files (λ all. layers_read all file folders) found → ReadAs files (λ all. of_files all file) found
 read_of None file folders found told read = tt
 read_of (Some all) file folders found told read = subst (λ (f : List (List ℕ)). layers_read all file f ≡ found) told read
 
 -- behind it stands what is known without any file
-followed : (files : Option (List TreeFile)) (file : SettingsFile) (found : Result (List Layer) Refusal) →
+followed : (files : Option (List TreeFile)) (file : SettingsFile) (found : Result (List Layer) LayerFault) →
     ReadAs files (λ all. of_files all file) found → ReadAs files (λ all. settings all file) (followed_by (built_in file) found)
 followed None file found read = tt
-followed (Some all) file found read = ap (λ (r : Result (List Layer) Refusal). followed_by (built_in file) r) read
+followed (Some all) file found read = ap (λ (r : Result (List Layer) LayerFault). followed_by (built_in file) r) read
 
 -- a file was merged
-pub is-merged : (files : Option (List TreeFile)) (file : SettingsFile) (folders : List (List ℕ)) (found all : List Layer) (entries : List MergedEntry) →
-    ReadAs files (λ all. layers_read all file folders) (Ok found) → AllByRecursion IsOfText found → all ≡ found ++ built_in file → AreMerged all entries →
+pub is-merged : (files : Option (List TreeFile)) (file : SettingsFile) (folders : List (List ℕ)) (found all : List Layer)
+    (entries : List MergedEntry) →
+    ReadAs files (λ all. layers_read all file folders) (Ok found) → AllByRecursion IsOfText found → all ≡ found ++ built_in file →
+    AreMerged all entries →
     AreFolders files folders → IsMergedOf files file entries
 is-merged files file folders found all entries read texts behind merged told = record {
   layers = found;
@@ -139,7 +143,8 @@ are-read files found props transforms indexes inputs zones = record {
 }
 
 -- and where reading it stopped, it stopped by the tree as it is
-pub stops-told : (files files' : Option (List TreeFile)) (file : SettingsFile) (stop : ConfigurationStop) (failed failed' : ℕ) (folders : List (List ℕ)) →
+pub stops-told : (files files' : Option (List TreeFile)) (file : SettingsFile) (stop : ConfigurationStop) (failed failed' : ℕ)
+    (folders : List (List ℕ)) →
     files' ≡ files → IfSome files (λ all. folders ≡ folders_of all) →
     (IfSome files' (λ all. folders ≡ folders_of all) → StopsIn file stop failed failed' files') → StopsIn file stop failed failed' files
 stops-told files files' file stop failed failed' folders same told stops =

@@ -1,6 +1,6 @@
 -- Values that are refused, and want of memory.
 use Rattle.std.proofs.Common.{◌≡◌, ◌≢◌, ℕ, List, Option, refl, sym, subst}
-use Rattle.ix_tree.specs.declared.trees.TreeFile.{TreeFile}
+use Rattle.ix_fs.specs.declared.trees.TreeFile.{TreeFile}
 use Rattle.ix_props.specs.Props.{RefusesProps}
 use Rattle.ix_props.specs.declared.faults.SettingFault.{SettingFault}
 use Rattle.ix_props.specs.declared.faults.SettingFault.TheVariants as props

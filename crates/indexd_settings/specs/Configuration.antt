@@ -1,6 +1,6 @@
 -- What the settings of a run are read as.
 use Rattle.std.specs.Prelude.{◌≡◌, List, Option, None}
-use Rattle.ix_tree.specs.declared.trees.TreeFile.{TreeFile}
+use Rattle.ix_fs.specs.declared.trees.TreeFile.{TreeFile}
 use Rattle.ix_props.specs.Props.{AreRead}
 use Rattle.ix_life.specs.Limits.{AreLimits, first_fault}
 use Rattle.indexd_settings.specs.Merged.{AreMergedFiles}

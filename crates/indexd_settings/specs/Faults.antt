@@ -1,9 +1,9 @@
 -- The first fault in the settings of a run, and why there are none.
 use Rattle.std.specs.Prelude.{◌≡◌, ◌≢◌, ℕ, List, Option, Ok, Err}
 use Rattle.ix_base.specs.Faults.{Rose}
-use Rattle.ix_tree.specs.declared.trees.TreeFile.{TreeFile}
-use Rattle.ix_tree.specs.declared.trees.TreeFault.{TreeFault}
-use Rattle.ix_tree.specs.declared.trees.TreeFault.TheVariants as trees
+use Rattle.ix_fs.specs.declared.trees.TreeFile.{TreeFile}
+use Rattle.ix_fs.specs.declared.trees.TreeFault.{TreeFault}
+use Rattle.ix_fs.specs.declared.trees.TreeFault.TheVariants as trees
 use Rattle.ix_conf.specs.declared.layers.Layer.{Layer}
 use Rattle.ix_conf.specs.declared.layers.MergedEntry.{MergedEntry}
 use Rattle.ix_props.specs.Props.{AreRead, RefusesProps}
@@ -41,7 +41,8 @@ RefusesLimits entries (faults.File file refusal) = ⊥
 RefusesLimits entries (faults.Props why) = ⊥
 RefusesLimits entries (faults.Indexes why) = (why ≢ limits.NoMemory) × Refuses (first_fault entries) why
 
--- a value of the merged files is refused: the first one of props.conf, or where it has none, the first one of indexes.conf
+-- a value of the merged files is refused: the first one of props.conf, or where it has none, the
+-- first one of indexes.conf
 abbrev pub RefusesValue : MergedFiles → ConfigurationFault → Type 0
 RefusesValue found (faults.File file refusal) = ⊥
 RefusesValue found (faults.Props why) = (why ≢ props.NoMemory) × RefusesProps found.transforms found.zones found.props why
@@ -54,8 +55,8 @@ HasFault files (faults.File file refusal) = AreSoundBefore files file × ReadAs 
 HasFault files (faults.Props why) = (found : MergedFiles) × AreMergedFiles files found × RefusesValue found (faults.Props why)
 HasFault files (faults.Indexes why) = (found : MergedFiles) × AreMergedFiles files found × RefusesValue found (faults.Indexes why)
 
--- Why there are no settings: want of memory, a tree that failed, or the first fault. The two numbers are how often the tree had
--- failed before and after.
+-- Why there are no settings: want of memory, a tree that failed, or the first fault. The two
+-- numbers are how often the tree had failed before and after.
 abbrev pub Stops : ConfigurationStop → ℕ → ℕ → Option (List TreeFile) → Type 0
 Stops stops.Memory failed failed' files = Unit {0}
 Stops stops.Input failed failed' files = Rose failed failed'

@@ -1,10 +1,11 @@
 -- The files of settings, and the layers in which they stand over one another.
-use Rattle.std.specs.Prelude.{if◌then◌else◌, bytes_eq, ◌≡◌, ◌<◌, ℕ, List, [], ◌∷◌, ◌++◌, length, drop, map, codes, Option, Some, None, IfSome, Result, Ok, Err}
+use Rattle.std.specs.Prelude.{if◌then◌else◌, bytes_eq, ◌≡◌, ◌<◌, ℕ, List, [], ◌∷◌, ◌++◌, length, drop, map, codes, Option, Some, None}
+use Rattle.std.specs.Prelude.{IfSome, Result, Ok, Err}
 use Rattle.ix_base.specs.Faults.{Rose}
-use Rattle.ix_tree.specs.Trees.{bytes_at, names_in}
-use Rattle.ix_tree.specs.declared.trees.TreeFile.{TreeFile}
-use Rattle.ix_tree.specs.declared.trees.TreeFault.{TreeFault}
-use Rattle.ix_tree.specs.declared.trees.TreeFault.TheVariants.{Failed, Missing, NoMemory as no_memory}
+use Rattle.ix_fs.specs.Trees.{bytes_at, names_in}
+use Rattle.ix_fs.specs.declared.trees.TreeFile.{TreeFile}
+use Rattle.ix_fs.specs.declared.trees.TreeFault.{TreeFault}
+use Rattle.ix_fs.specs.declared.trees.TreeFault.TheVariants.{Failed, Missing, NoMemory as no_memory}
 use Rattle.ix_conf.specs.Grammar.{pairs}
 use Rattle.ix_conf.specs.Zones.{zone_entries, zones}
 use Rattle.ix_conf.specs.declared.entries.Entry.{Entry}
@@ -13,7 +14,7 @@ use Rattle.ix_conf.specs.declared.entries.ConfFault.{ConfFault}
 use Rattle.ix_conf.specs.declared.layers.Layer.{Layer}
 use Rattle.indexd_settings.specs.declared.layers.SettingsFile.{SettingsFile}
 use Rattle.indexd_settings.specs.declared.layers.SettingsFile.TheVariants.{Props, Transforms, Indexes, Inputs, Zones}
-use Rattle.indexd_settings.specs.declared.layers.Refusal.{Refusal}
+use Rattle.indexd_settings.specs.declared.layers.LayerFault.{LayerFault}
 use Rattle.indexd_settings.specs.declared.layers.LayerStop.{LayerStop}
 use Rattle.indexd_settings.specs.declared.layers.LayerStop.TheVariants.{Memory, Input, Refused}
 
@@ -42,8 +43,8 @@ path_in layer file = layer ++ codes "/" ++ file_name file ++ codes ".conf"
 abbrev pub app_layer : List ℕ → List ℕ → List ℕ
 app_layer kind app = codes "etc/apps/" ++ app ++ kind
 
--- The layers that have a file, highest first: what the system says before what each app does, and all that was said here
--- before what came with it.
+-- The layers that have a file, highest first: what the system says before what each app does, and
+-- all that was said here before what came with it.
 abbrev pub layer_names : List (List ℕ) → List (List ℕ)
 layer_names apps =
     codes "etc/system/local" ∷ map (app_layer (codes "/local")) apps
@@ -62,25 +63,25 @@ abbrev pub text_at : List TreeFile → List ℕ → List ℕ
 text_at files path = or_empty (bytes_at files path)
 
 -- the layer of these entries, or their fault in this layer
-abbrev pub in_layer : List ℕ → Result (List Entry) ConfFault → Result Layer Refusal
+abbrev pub in_layer : List ℕ → Result (List Entry) ConfFault → Result Layer LayerFault
 in_layer name (Ok entries) = Ok (record { name = name; file = entries })
 in_layer name (Err fault) = Err (record { layer = name; fault = fault })
 
-abbrev pub layer_read : List TreeFile → SettingsFile → List ℕ → Result Layer Refusal
+abbrev pub layer_read : List TreeFile → SettingsFile → List ℕ → Result Layer LayerFault
 layer_read files file name = in_layer name (pairs (text_at files (path_in name file)))
 
 -- layers before others; the first fault stays
-abbrev pub before : Result Layer Refusal → Result (List Layer) Refusal → Result (List Layer) Refusal
+abbrev pub before : Result Layer LayerFault → Result (List Layer) LayerFault → Result (List Layer) LayerFault
 before (Err refusal) others = Err refusal
 before (Ok layer) (Err refusal) = Err refusal
 before (Ok layer) (Ok layers) = Ok (layer ∷ layers)
 
-abbrev pub layers_read : List TreeFile → SettingsFile → List (List ℕ) → Result (List Layer) Refusal
+abbrev pub layers_read : List TreeFile → SettingsFile → List (List ℕ) → Result (List Layer) LayerFault
 layers_read files file [] = Ok []
 layers_read files file (name ∷ names) = before (layer_read files file name) (layers_read files file names)
 
 -- those that the files of a tree alone have, highest first
-abbrev pub of_files : List TreeFile → SettingsFile → Result (List Layer) Refusal
+abbrev pub of_files : List TreeFile → SettingsFile → Result (List Layer) LayerFault
 of_files files file = layers_read files file (folders_of files)
 
 -- a layer that the grammar makes of a text
@@ -95,39 +96,39 @@ built_in Indexes = []
 built_in Inputs = []
 built_in Zones = record { name = codes "built-in"; file = zone_entries zones } ∷ []
 
-abbrev pub followed_by : List Layer → Result (List Layer) Refusal → Result (List Layer) Refusal
+abbrev pub followed_by : List Layer → Result (List Layer) LayerFault → Result (List Layer) LayerFault
 followed_by last (Err refusal) = Err refusal
 followed_by last (Ok layers) = Ok (layers ++ last)
 
-abbrev pub led_by : List Layer → Result (List Layer) Refusal → Result (List Layer) Refusal
+abbrev pub led_by : List Layer → Result (List Layer) LayerFault → Result (List Layer) LayerFault
 led_by first (Err refusal) = Err refusal
 led_by first (Ok layers) = Ok (first ++ layers)
 
 -- The layers of a file, highest first, or the first fault in them.
-abbrev pub settings : List TreeFile → SettingsFile → Result (List Layer) Refusal
+abbrev pub settings : List TreeFile → SettingsFile → Result (List Layer) LayerFault
 settings files file = followed_by (built_in file) (of_files files file)
 
 -- the line of a fault
-abbrev pub refusal_text : SettingsFile → Refusal → List ℕ
+abbrev pub refusal_text : SettingsFile → LayerFault → List ℕ
 refusal_text file refusal = codes "indexd: configuration: " ++ path_in refusal.layer file ++ fault_text refusal.fault ++ codes "\n"
 
 -- Where the tree tells its files, what was read is what they say.
-abbrev pub ReadAs : {X : Type 0} → Option (List TreeFile) → (List TreeFile → Result X Refusal) → Result X Refusal → Type 0
+abbrev pub ReadAs : {X : Type 0} → Option (List TreeFile) → (List TreeFile → Result X LayerFault) → Result X LayerFault → Type 0
 ReadAs files read result = IfSome files (λ all. read all ≡ result)
 
 -- the fault is the one that was found; no other stop says anything
-abbrev pub LayerRefused : {X : Type 0} → LayerStop → Result X Refusal → Type 0
+abbrev pub LayerRefused : {X : Type 0} → LayerStop → Result X LayerFault → Type 0
 LayerRefused Memory found = Unit {0}
 LayerRefused Input found = ⊥
 LayerRefused (Refused refusal) found = found ≡ Err refusal
 
 -- why reading stopped: want of memory, a tree that failed, or a fault that the file has
-abbrev pub LayerStops : {X : Type 0} → LayerStop → ℕ → ℕ → Option (List TreeFile) → (List TreeFile → Result X Refusal) → Type 0
+abbrev pub LayerStops : {X : Type 0} → LayerStop → ℕ → ℕ → Option (List TreeFile) → (List TreeFile → Result X LayerFault) → Type 0
 LayerStops Memory faults faults' files read = Unit {0}
 LayerStops Input faults faults' files read = Rose faults faults'
 LayerStops (Refused refusal) faults faults' files read = ReadAs files read (Err refusal)
 
-abbrev pub Reads : {X : Type 0} → Result X LayerStop → ℕ → ℕ → Option (List TreeFile) → (List TreeFile → Result X Refusal) → Type 0
+abbrev pub Reads : {X : Type 0} → Result X LayerStop → ℕ → ℕ → Option (List TreeFile) → (List TreeFile → Result X LayerFault) → Type 0
 Reads (Ok x) faults faults' files read = ReadAs files read (Ok x)
 Reads (Err stop) faults faults' files read = LayerStops stop faults faults' files read
 

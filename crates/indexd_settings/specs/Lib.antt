@@ -3,3 +3,4 @@ pub mod Merged
 pub mod Faults
 pub mod Texts
 pub mod Configuration
+pub mod Given

@@ -1,7 +1,7 @@
 -- The five files of settings as they were read and merged.
 use Rattle.std.specs.Prelude.{◌++◌, List, Option, Ok}
 use Rattle.std.specs.List.{AllByRecursion}
-use Rattle.ix_tree.specs.declared.trees.TreeFile.{TreeFile}
+use Rattle.ix_fs.specs.declared.trees.TreeFile.{TreeFile}
 use Rattle.ix_conf.specs.Value.{AreMerged}
 use Rattle.ix_conf.specs.declared.layers.Layer.{Layer}
 use Rattle.ix_conf.specs.declared.layers.MergedEntry.{MergedEntry}
@@ -10,7 +10,8 @@ use Rattle.indexd_settings.specs.declared.layers.SettingsFile.{SettingsFile}
 use Rattle.indexd_settings.specs.declared.layers.SettingsFile.TheVariants.{Props, Transforms, Indexes, Inputs, Zones}
 use Rattle.indexd_settings.specs.declared.merged.MergedFiles.{MergedFiles}
 
--- no layer of the file has a fault, and this is what they and what is known without any file are merged to
+-- no layer of the file has a fault, and this is what they and what is known without any file are
+-- merged to
 pub record IsMergedOf (files : Option (List TreeFile)) (file : SettingsFile) (entries : List MergedEntry) : Type 0 where
   pub layers : List Layer
   pub read : ReadAs files (λ all. of_files all file) (Ok layers)

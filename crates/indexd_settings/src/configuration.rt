@@ -8,9 +8,9 @@ ghost use Rattle.ix_life.specs.Limits.{AreLimits, first_fault};
 
 use crate::faults::{ConfigurationFault, ConfigurationStop};
 use crate::merged::MergedFiles;
+use ix_fs::Tree;
 use ix_life::{LimitFault, LimitSet};
 use ix_props::{Props, SettingFault};
-use ix_tree::Tree;
 use std::alloc::Global;
 
 /// What the settings of a run are read as.
@@ -56,8 +56,8 @@ fn read_limits(alloc: Global, found: &MergedFiles) -> Result<LimitSet, Configura
 }
 
 impl MergedFiles {
-    /// Reads the values of the merged files: those of props.conf with the transforms and zones that they name, and then those of
-    /// indexes.conf. The first fault counts.
+    /// Reads the values of the merged files: those of props.conf with the transforms and zones that
+    /// they name, and then those of indexes.conf. The first fault counts.
     pub fn configuration(&self, alloc: Global) -> Result<Configuration, ConfigurationStop>
         ensures ok { IfOk result (λ configuration. IsReadOf self.now configuration) }
         ensures stopped { IfErr result (λ stop. StopsAt self.now stop) }
@@ -68,8 +68,9 @@ impl MergedFiles {
     }
 }
 
-/// Reads the settings of a run from the five files in all layers of the tree. The grammar of all five is judged before any value.
-/// `Input` comes only where the tree has failed, and `Refused` has the first fault.
+/// Reads the settings of a run from the five files in all layers of the tree. The grammar of all
+/// five is judged before any value. `Input` comes only where the tree has failed, and `Refused` has
+/// the first fault.
 pub fn read_configuration<T: Tree>(
     alloc: Global,
     tree: &mut T,

@@ -2,13 +2,14 @@
 
 ghost use Rattle.std.specs.Prelude.{◌≡◌, ◌++◌, [], ◌∷◌, codes, OnOk, IfOk, bytes_eq};
 ghost use Rattle.indexd_settings.specs.Layers.{file_name};
-ghost use Rattle.indexd_settings.specs.Texts.{is_key_of_change, is_key_of_place, file_of_key, value_line, stanza_line, setting_line, limit_line, fault_line};
+ghost use Rattle.indexd_settings.specs.Texts.{is_key_of_change, is_key_of_place, file_of_key, value_line, stanza_line, setting_line};
+ghost use Rattle.indexd_settings.specs.Texts.{limit_line, fault_line};
 
-use crate::layers::{Refusal, SettingsFile};
+use crate::layers::{LayerFault, SettingsFile};
 use ix_base::{Bytes, NoMemory};
+use ix_fs::TreeFault;
 use ix_life::LimitFault;
 use ix_props::SettingFault;
-use ix_tree::TreeFault;
 use std::alloc::Global;
 use thiserror::Error;
 
@@ -19,9 +20,10 @@ pub enum ConfigurationFault {
     #[error("a settings file is refused: {refusal}")]
     File {
         file: SettingsFile,
-        refusal: Refusal,
+        refusal: LayerFault,
     },
-    /// All files are texts of settings, and a value of props.conf, or of a transform or zone that it names, is none of its kind.
+    /// All files are texts of settings, and a value of props.conf, or of a transform or zone that
+    /// it names, is none of its kind.
     #[error("props.conf has a bad value: {0}")]
     Props(SettingFault),
     /// There is no fault but in a value of indexes.conf or in the name of an index.
@@ -150,47 +152,21 @@ fn value_line(
 fn setting_line(alloc: Global, fault: &SettingFault) -> Result<Bytes, NoMemory>
     ensures { IfOk result (λ line. line ≡ setting_line fault.now) }
 {
+    let name = fault.name().as_bytes();
     match fault {
-        SettingFault::BadValue { stanza, key } => {
+        SettingFault::BadValue { stanza, key } | SettingFault::BadPattern { stanza, key, .. } => {
             let key = key.as_slice();
-            value_line(alloc, file_of_key(key), stanza.as_slice(), key, b"BadValue")
-        }
-        SettingFault::BadPattern { stanza, key, .. } => {
-            let key = key.as_slice();
-            value_line(
-                alloc,
-                file_of_key(key),
-                stanza.as_slice(),
-                key,
-                b"BadPattern",
-            )
+            value_line(alloc, file_of_key(key), stanza.as_slice(), key, name)
         }
         SettingFault::UnknownTransform { stanza, key, .. } => {
             let stanza = stanza.as_slice();
-            value_line(
-                alloc,
-                SettingsFile::Props,
-                stanza,
-                key.as_slice(),
-                b"UnknownTransform",
-            )
+            value_line(alloc, SettingsFile::Props, stanza, key.as_slice(), name)
         }
         SettingFault::UnknownZone { stanza, .. } => {
-            value_line(
-                alloc,
-                SettingsFile::Props,
-                stanza.as_slice(),
-                b"TZ",
-                b"UnknownZone",
-            )
+            value_line(alloc, SettingsFile::Props, stanza.as_slice(), b"TZ", name)
         }
         SettingFault::BadStanzaPattern { stanza } => {
-            stanza_line(
-                alloc,
-                SettingsFile::Props,
-                stanza.as_slice(),
-                b"BadStanzaPattern",
-            )
+            stanza_line(alloc, SettingsFile::Props, stanza.as_slice(), name)
         }
         SettingFault::NoMemory => Err(NoMemory),
     }
@@ -199,32 +175,22 @@ fn setting_line(alloc: Global, fault: &SettingFault) -> Result<Bytes, NoMemory>
 fn limit_line(alloc: Global, fault: &LimitFault) -> Result<Bytes, NoMemory>
     ensures { IfOk result (λ line. line ≡ limit_line fault.now) }
 {
+    let name = fault.name().as_bytes();
     match fault {
         LimitFault::BadValue { stanza, key } => {
             let stanza = stanza.as_slice();
-            value_line(
-                alloc,
-                SettingsFile::Indexes,
-                stanza,
-                key.as_slice(),
-                b"BadValue",
-            )
+            value_line(alloc, SettingsFile::Indexes, stanza, key.as_slice(), name)
         }
         LimitFault::BadIndexName { stanza } => {
-            stanza_line(
-                alloc,
-                SettingsFile::Indexes,
-                stanza.as_slice(),
-                b"BadIndexName",
-            )
+            stanza_line(alloc, SettingsFile::Indexes, stanza.as_slice(), name)
         }
         LimitFault::NoMemory => Err(NoMemory),
     }
 }
 
 impl ConfigurationFault {
-    /// The line that tells of the fault, with its newline: the file with its layer and place, or the stanza and the key, and the
-    /// name of the fault.
+    /// The line that tells of the fault, with its newline: the file with its layer and place, or
+    /// the stanza and the key, and the name of the fault.
     pub fn line(&self, alloc: Global) -> Result<Bytes, NoMemory>
         ensures { IfOk result (λ line. line ≡ fault_line self.now) }
     {

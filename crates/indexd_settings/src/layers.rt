@@ -1,15 +1,19 @@
-//! Files of settings, read from the layers of a tree. `btool` reads one, the other commands read all five.
+//! Files of settings, read from the layers of a tree. `btool` reads one, the other commands read
+//! all five.
 
-ghost use Rattle.std.specs.Prelude.{◌≡◌, ◌≢◌, ◌≤◌, ◌<◌, ◌+◌, ◌++◌, ◌∷◌, [], ℕ, List, length, take, drop, map, codes, OnOk, OnErr, IfOk, IfErr, IfSome, IfNone, Some, None, Ok, Err, IsErrOf, vec_len};
+ghost use Rattle.std.specs.Prelude.{◌≡◌, ◌≢◌, ◌≤◌, ◌<◌, ◌+◌, ◌++◌, ◌∷◌, [], ℕ, List, length, take, drop, map, codes, OnOk, OnErr, IfOk};
+ghost use Rattle.std.specs.Prelude.{IfErr, IfSome, IfNone, Some, None, Ok, Err, IsErrOf, vec_len};
 ghost use Rattle.std.specs.List.{AllByRecursion};
 ghost use Rattle.ix_base.specs.Faults.{Rose};
-ghost use Rattle.ix_tree.specs.Trees.{bytes_at, names_in, HasSize};
+ghost use Rattle.ix_fs.specs.Trees.{bytes_at, names_in, HasSize};
 ghost use Rattle.ix_conf.specs.Grammar.{pairs, Gives};
-ghost use Rattle.indexd_settings.specs.Layers.{file_name, file_named, path_in, app_layer, layer_names, folders_of, text_at, in_layer, layer_read, layers_read, built_in, settings, refusal_text, ReadAs, IsOfText, LayerStops, Reads, IsBegun, IsTextOr, LayerRefused};
+ghost use Rattle.indexd_settings.specs.Layers.{file_name, file_named, path_in, app_layer, layer_names, folders_of, text_at, in_layer};
+ghost use Rattle.indexd_settings.specs.Layers.{layer_read, layers_read, built_in, settings, refusal_text, ReadAs, IsOfText, LayerStops};
+ghost use Rattle.indexd_settings.specs.Layers.{Reads, IsBegun, IsTextOr, LayerRefused};
 
 use ix_base::{Bytes, Names, NoMemory};
 use ix_conf::{ConfFault, ConfFile, Layer, Layers, built_in_zones, parse};
-use ix_tree::{Tree, TreeFault};
+use ix_fs::{Tree, TreeFault};
 use std::alloc::Global;
 use std::string::ToString;
 use thiserror::Error;
@@ -27,7 +31,7 @@ pub enum SettingsFile {
 /// The fault of a file, and the layer that it stands in.
 #[derive(Debug, Drop, Error)]
 #[error("a layer of a settings file is refused: {fault}")]
-pub struct Refusal {
+pub struct LayerFault {
     pub layer: Bytes,
     pub fault: ConfFault,
 }
@@ -40,7 +44,7 @@ pub enum LayerStop {
     /// The tree failed.
     Input,
     /// A file has a fault.
-    Refused(Refusal),
+    Refused(LayerFault),
 }
 
 impl From<NoMemory> for LayerStop {
@@ -112,7 +116,7 @@ impl SettingsFile {
     }
 }
 
-impl Refusal {
+impl LayerFault {
     /// The line that tells of the fault in a file.
     pub fn text(&self, alloc: Global, file: SettingsFile) -> Result<Bytes, NoMemory>
         ensures { IfOk result (λ text. text ≡ refusal_text file self.now) }
@@ -220,7 +224,8 @@ fn read_bytes<T: Tree>(
     path: &[u8],
     size: u64,
 ) -> Result<Bytes, TreeFault>
-    ensures text { IfOk result (λ text. IfSome (T.files tree.old) (λ all. size ≡ length (text_at all path.now) → text ≡ text_at all path.now)) }
+    ensures text { IfOk result (λ text. IfSome (T.files tree.old) (λ all. size ≡ length (text_at all path.now) →
+        text ≡ text_at all path.now)) }
     ensures failed { IsErrOf result TreeFault.Failed → Rose (T.faults tree.old) (T.faults tree.new) }
     ensures present { IsErrOf result TreeFault.Missing → ⊥ }
     ensures same { T.files tree.new ≡ T.files tree.old }
@@ -290,7 +295,8 @@ fn layer_of(
     entries: Result<ConfFile, ConfFault>,
 ) -> Result<Layer, LayerStop>
     ensures ok { IfOk result (λ layer. (bytes : List ℕ) → Gives entries (pairs bytes) → in_layer name.now (pairs bytes) ≡ Ok layer) }
-    ensures err { IfErr result (λ stop. (bytes : List ℕ) → Gives entries (pairs bytes) → LayerRefused stop (in_layer name.now (pairs bytes))) }
+    ensures err { IfErr result (λ stop. (bytes : List ℕ) → Gives entries (pairs bytes) →
+        LayerRefused stop (in_layer name.now (pairs bytes))) }
     ensures file { IfOk result (λ layer. entries ≡ Ok layer.file) }
     ensures no_tree { result ≢ Err LayerStop.Input }
 {
@@ -298,7 +304,7 @@ fn layer_of(
     match entries {
         Ok(file) => Ok(Layer { name, file }),
         Err(ConfFault::NoMemory) => Err(LayerStop::Memory),
-        Err(fault) => Err(LayerStop::Refused(Refusal { layer: name, fault })),
+        Err(fault) => Err(LayerStop::Refused(LayerFault { layer: name, fault })),
     }
 }
 
@@ -356,7 +362,8 @@ impl SettingsFile {
         }
     }
 
-    /// Reads the file in these layers, the highest first, and adds what is known without any file. The first fault counts.
+    /// Reads the file in these layers, the highest first, and adds what is known without any file.
+    /// The first fault counts.
     pub fn read_in<T: Tree>(
         self,
         alloc: Global,
@@ -374,7 +381,8 @@ impl SettingsFile {
         Ok(layers)
     }
 
-    /// Reads the file in all layers of the tree, the highest first, and adds what is known without any file. The first fault counts.
+    /// Reads the file in all layers of the tree, the highest first, and adds what is known without
+    /// any file. The first fault counts.
     pub fn read_all<T: Tree>(self, alloc: Global, tree: &mut T) -> Result<Layers, LayerStop>
         ensures reads { Reads result (T.faults tree.old) (T.faults tree.new) (T.files tree.old) (λ all. settings all self) }
         ensures same { T.files tree.new ≡ T.files tree.old }

@@ -9,7 +9,7 @@ use crate::faults::{ConfigurationFault, ConfigurationStop};
 use crate::layers::{LayerStop, SettingsFile, layer_folders};
 use ix_base::Names;
 use ix_conf::{Merged, merge};
-use ix_tree::Tree;
+use ix_fs::Tree;
 use std::alloc::Global;
 
 /// The merged settings of the five files.
@@ -94,7 +94,8 @@ fn merge_zones<T: Tree>(
     ensures ok { IfSome (T.files tree.old) (λ all. folders.now ≡ folders_of all) →
         IfOk result (λ zones. AreZonesOf (T.files tree.old) zones.own zones.all) }
     ensures stopped { IfSome (T.files tree.old) (λ all. folders.now ≡ folders_of all) →
-        IfErr result (λ stop. LayerStops stop (T.faults tree.old) (T.faults tree.new) (T.files tree.old) (λ all. settings all SettingsFile.Zones)) }
+        IfErr result (λ stop. LayerStops stop (T.faults tree.old) (T.faults tree.new) (T.files tree.old)
+        (λ all. settings all SettingsFile.Zones)) }
     ensures same { T.files tree.new ≡ T.files tree.old }
     ensures later { T.faults tree.old ≤ T.faults tree.new }
     ensures later_missing { T.missing tree.old ≤ T.missing tree.new }
@@ -127,7 +128,8 @@ fn read_file<T: Tree>(
     }
 }
 
-/// Reads the zones in these layers, and merges them with and without the built-in ones. A fault of a layer is one of this file.
+/// Reads the zones in these layers, and merges them with and without the built-in ones. A fault of
+/// a layer is one of this file.
 fn read_zones<T: Tree>(
     alloc: Global,
     tree: &mut T,
@@ -148,8 +150,9 @@ fn read_zones<T: Tree>(
 }
 
 impl MergedFiles {
-    /// Reads all five files in all layers of the tree. The first fault counts, the files being read in the order props,
-    /// transforms, indexes, inputs and zones, and the layers of each from the highest.
+    /// Reads all five files in all layers of the tree. The first fault counts, the files being read
+    /// in the order props, transforms, indexes, inputs and zones, and the layers of each from the
+    /// highest.
     pub fn read<T: Tree>(alloc: Global, tree: &mut T) -> Result<MergedFiles, ConfigurationStop>
         ensures ok { IfOk result (λ found. AreMergedFiles (T.files tree.old) found) }
         ensures stopped { IfErr result (λ stop. Stops stop (T.faults tree.old) (T.faults tree.new) (T.files tree.old)) }

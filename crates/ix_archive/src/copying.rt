@@ -4,7 +4,7 @@ ghost use Rattle.std.specs.Prelude.{◌≡◌, ◌≢◌, ◌≤◌, ◌<◌, �
 ghost use Rattle.ix_base.specs.Faults.{Rose, HasCause};
 ghost use Rattle.ix_base.specs.Told.{Told};
 ghost use Rattle.ix_disk.specs.Image.{Image, bytes_in, Apart};
-ghost use Rattle.ix_disk.specs.Moments.{Goes};
+ghost use Rattle.ix_disk.specs.Moments.{ImagesStep};
 ghost use Rattle.ix_archive.specs.Copies.{HasFirst, HasCopy, OnShort, Moves};
 
 use ix_base::{Failed, File};
@@ -32,7 +32,8 @@ impl From<Failed> for CopyFault {
     }
 }
 
-/// Copies the bytes at a place, as many as the buffer has room for and the file has, and answers how many.
+/// Copies the bytes at a place, as many as the buffer has room for and the file has, and answers
+/// how many.
 #[tactic(auto, using(ix_disk::proofs::Others::others))]
 fn copy_piece<D: Disk>(
     disk: &mut D,
@@ -47,8 +48,9 @@ fn copy_piece<D: Disk>(
     ensures some { IfOk result (λ n. 0 < n) }
     ensures within { IfOk result (λ n. n ≤ length buf.old) }
     ensures moved { IfOk result (λ n. Told (Moves from to at (at + n)) (D.Disk.seen disk.old) (D.Disk.seen disk.new)) }
-    ensures short { IfErr result (λ fault. OnShort fault (λ place. (place ≡ at) × ((image : Image) → D.Disk.seen disk.old ≡ Some image → length (bytes_in image from) ≤ at))) }
-    ensures images { Goes D.Disk disk.old disk.new (Apart to) }
+    ensures short { IfErr result (λ fault. OnShort fault (λ place. (place ≡ at)
+        × ((image : Image) → D.Disk.seen disk.old ≡ Some image → length (bytes_in image from) ≤ at))) }
+    ensures images { ImagesStep D.Disk disk.old disk.new (Apart to) }
     ensures seen { Told (Apart to) (D.Disk.seen disk.old) (D.Disk.seen disk.new) }
     ensures cause { IsErrOf result CopyFault.Disk → Rose (D.Disk.faults disk.old) (D.Disk.faults disk.new) }
     ensures later { D.Disk.faults disk.old ≤ D.Disk.faults disk.new }
@@ -73,8 +75,9 @@ fn copy_pieces<D: Disk>(
     requires room { 0 < length buf.old }
     requires long { (image : Image) → D.Disk.seen disk.old ≡ Some image → len ≤ length (bytes_in image from) }
     ensures moved { OnOk result (Told (Moves from to 0 len) (D.Disk.seen disk.old) (D.Disk.seen disk.new)) }
-    ensures short { IfErr result (λ fault. OnShort fault (λ place. (place < len) × ((image : Image) → D.Disk.seen disk.old ≡ Some image → ⊥))) }
-    ensures images { Goes D.Disk disk.old disk.new (Apart to) }
+    ensures short { IfErr result (λ fault. OnShort fault (λ place. (place < len)
+        × ((image : Image) → D.Disk.seen disk.old ≡ Some image → ⊥))) }
+    ensures images { ImagesStep D.Disk disk.old disk.new (Apart to) }
     ensures seen { Told (Apart to) (D.Disk.seen disk.old) (D.Disk.seen disk.new) }
     ensures cause { IsErrOf result CopyFault.Disk → Rose (D.Disk.faults disk.old) (D.Disk.faults disk.new) }
     ensures later { D.Disk.faults disk.old ≤ D.Disk.faults disk.new }
@@ -90,8 +93,8 @@ fn copy_pieces<D: Disk>(
     Ok(())
 }
 
-/// Writes the first bytes of a file at the front of another, piece by piece through the buffer, and syncs the other.
-/// `Short` comes where the first file has fewer bytes. It takes no memory.
+/// Writes the first bytes of a file at the front of another, piece by piece through the buffer, and
+/// syncs the other. `Short` comes where the first file has fewer bytes. It takes no memory.
 #[tactic(auto, using(ix_disk::proofs::Others::others))]
 pub fn copy<D: Disk>(
     disk: &mut D,
@@ -105,9 +108,10 @@ pub fn copy<D: Disk>(
     ensures copied { OnOk result ((image : Image) → D.Disk.may_leave disk.new image → HasCopy D.Disk disk.old from to len image) }
     ensures long { OnOk result ((image : Image) → D.Disk.seen disk.old ≡ Some image → len ≤ length (bytes_in image from)) }
     ensures short { IfErr result (λ fault. OnShort fault (λ place. place < len)) }
-    ensures place { IfErr result (λ fault. OnShort fault (λ place. (image : Image) → D.Disk.seen disk.old ≡ Some image → place ≡ length (bytes_in image from))) }
+    ensures place { IfErr result (λ fault. OnShort fault (λ place. (image : Image) → D.Disk.seen disk.old ≡ Some image →
+        place ≡ length (bytes_in image from))) }
     // Every image since the start has all other files, and a read of them gives what it gave.
-    ensures images { Goes D.Disk disk.old disk.new (Apart to) }
+    ensures images { ImagesStep D.Disk disk.old disk.new (Apart to) }
     ensures seen { Told (Apart to) (D.Disk.seen disk.old) (D.Disk.seen disk.new) }
     ensures cause { IsErrOf result CopyFault.Disk → Rose (D.Disk.faults disk.old) (D.Disk.faults disk.new) }
     ensures later { D.Disk.faults disk.old ≤ D.Disk.faults disk.new }

@@ -1,27 +1,28 @@
 -- What becomes of the ways of frames.
-use Rattle.std.proofs.Common.{◌≡◌, ℕ, ◌+◌, ◌≤◌, if◌then◌else◌, not, Bool, true, false, List, [], ◌∷◌, ◌++◌, length, Option, Some, None, refl, sym, ◌∙◌, ap, subst, arith, append_assoc, length-append}
+use Rattle.std.proofs.Common.{◌≡◌, ℕ, ◌+◌, ◌≤◌, if◌then◌else◌, not, Bool, true, false, List, [], ◌∷◌, ◌++◌, length, Option, Some, None}
+use Rattle.std.proofs.Common.{refl, sym, ◌∙◌, ap, subst, arith, append_assoc, length-append}
 use Rattle.std.specs.Prelude.{slice_get}
 use Rattle.std.proofs.lemmas.Option.{slice_get_within}
 use Rattle.std.proofs.lemmas.List.{append-nil}
 use Rattle.ix_pattern.specs.Piece.{in_set}
 use Rattle.ix_pattern.specs.Ways.{Text, Way, edge, here, byte_ways, ways}
 use Rattle.ix_pattern.specs.Rows.{Rows, tree}
-use Rattle.ix_threads.specs.declared.code.Instr.{Instr}
-use Rattle.ix_threads.specs.declared.cells.Event.{Event}
-use Rattle.ix_threads.specs.declared.cells.Cell.{Cell}
-use Rattle.ix_threads.specs.declared.cells.Best.{Best}
-use Rattle.ix_threads.specs.declared.code.Ask.{Ask}
-use Rattle.ix_threads.specs.declared.program.Program.{Program}
-use Rattle.ix_threads.specs.Looks.{HasNoLook}
-use Rattle.ix_threads.specs.Programs.{IsProgram, AllAsked}
-use Rattle.ix_threads.specs.Written.{IsWritten}
-use Rattle.ix_threads.proofs.ProgramLemmas.{program-code, program-sets, program-head}
+use Rattle.ix_pikevm.specs.declared.code.Instr.{Instr}
+use Rattle.ix_pikevm.specs.declared.cells.Event.{Event}
+use Rattle.ix_pikevm.specs.declared.cells.Cell.{Cell}
+use Rattle.ix_pikevm.specs.declared.cells.Best.{Best}
+use Rattle.ix_pikevm.specs.declared.code.Lookahead.{Lookahead}
+use Rattle.ix_pikevm.specs.declared.program.Program.{Program}
+use Rattle.ix_pikevm.specs.Looks.{HasNoLook}
+use Rattle.ix_pikevm.specs.Programs.{IsProgram, AllAsked}
+use Rattle.ix_pikevm.specs.Written.{IsWritten}
+use Rattle.ix_pikevm.proofs.ProgramLemmas.{program-code, program-sets, program-head}
 use Rattle.ix_backtrack.specs.Tried.{IsPlainCode}
-use Rattle.ix_threads.specs.declared.cells.Best.TheVariants.{No, End as BestEnd, More}
-use Rattle.ix_threads.specs.Leaf.{at}
-use Rattle.ix_threads.specs.Code.{Mean, Meaning, history, tested, best_ways}
-use Rattle.ix_threads.specs.Ran.{Ends, IsOf, Grown}
-use Rattle.ix_threads.proofs.HistoryLemmas.{history-new}
+use Rattle.ix_pikevm.specs.declared.cells.Best.TheVariants.{No, End as BestEnd, More}
+use Rattle.ix_pikevm.specs.Leaf.{at}
+use Rattle.ix_pikevm.specs.Code.{Mean, Meaning, history, tested, best_ways}
+use Rattle.ix_pikevm.specs.Ran.{Ends, IsOf, Grown}
+use Rattle.ix_pikevm.proofs.HistoryLemmas.{history-new}
 use Rattle.ix_backtrack.specs.declared.frames.Frame.{Frame}
 use Rattle.ix_backtrack.specs.declared.frames.Turn.{Turn}
 use Rattle.ix_backtrack.specs.declared.frames.Turn.TheVariants.{On, Fork, Back, End, Edge}
@@ -29,7 +30,8 @@ use Rattle.ix_backtrack.specs.Frames.{frame_ways, stack_ways, turn_ways, IsFrame
 
 -- ---- a byte
 
-pub byte-here : (next : ℕ → List Way) (set : List Bool) (text : Text) (p b : ℕ) (t : Bool) → slice_get text.bytes p ≡ Some b → t ≡ in_set set b →
+pub byte-here : (next : ℕ → List Way) (set : List Bool) (text : Text) (p b : ℕ) (t : Bool) → slice_get text.bytes p ≡ Some b →
+    t ≡ in_set set b →
     tested next (byte_ways set text (at p []) (slice_get text.bytes p)) ≡ (if t then next (p + 1) else [])
 byte-here next set text p b t got is =
     ap (λ o. tested next (byte_ways set text (at p []) o)) got ∙ ap (λ x. tested next (here x (at (p + 1) []))) (sym is) ∙ split t
@@ -38,7 +40,8 @@ byte-here next set text p b t got is =
     split true = append-nil (next (p + 1))
     split false = refl
 
-pub byte-past : (next : ℕ → List Way) (set : List Bool) (text : Text) (p : ℕ) (u : Bool) → slice_get text.bytes p ≡ None → text.unfinished ≡ u →
+pub byte-past : (next : ℕ → List Way) (set : List Bool) (text : Text) (p : ℕ) (u : Bool) → slice_get text.bytes p ≡ None →
+    text.unfinished ≡ u →
     tested next (byte_ways set text (at p []) (slice_get text.bytes p)) ≡ (if u then edge ∷ [] else [])
 byte-past next set text p u got is =
     ap (λ o. tested next (byte_ways set text (at p []) o)) got ∙ ap (λ x. tested next (if x then edge ∷ [] else [])) is ∙ split u
@@ -64,11 +67,13 @@ pub stack-pushed : (w : Frame → List Way) (fs : List Frame) (f : Frame) → st
 stack-pushed w [] f = sym (append-nil (w f))
 stack-pushed w (g ∷ fs) f = ap (λ l. l ++ w g) (stack-pushed w fs f) ∙ append_assoc (w f) (stack_ways w fs) (w g)
 
-pub frames-pushed : (n c bytes : ℕ) (fs : List Frame) (f : Frame) → AreFrames n c bytes fs → IsFrame n c bytes f → AreFrames n c bytes (fs ++ f ∷ [])
+pub frames-pushed : (n c bytes : ℕ) (fs : List Frame) (f : Frame) → AreFrames n c bytes fs → IsFrame n c bytes f →
+    AreFrames n c bytes (fs ++ f ∷ [])
 frames-pushed n c bytes [] f a k = (k, tt)
 frames-pushed n c bytes (g ∷ fs) f a k = (a.0, frames-pushed n c bytes fs f a.1 k)
 
-pub frames-popped : (n c bytes : ℕ) (fs : List Frame) (f : Frame) → AreFrames n c bytes (fs ++ f ∷ []) → AreFrames n c bytes fs × IsFrame n c bytes f
+pub frames-popped : (n c bytes : ℕ) (fs : List Frame) (f : Frame) → AreFrames n c bytes (fs ++ f ∷ []) → AreFrames n c bytes fs
+    × IsFrame n c bytes f
 frames-popped n c bytes [] f a = (tt, a.0)
 frames-popped n c bytes (g ∷ fs) f a = let r = frames-popped n c bytes fs f a.1 in ((a.0, r.0), r.1)
 
@@ -87,7 +92,8 @@ goes-init code rows text start place cells stack is blank mean rank m later =
     sym (ap (λ s. mean start [] place ++ stack_ways (frame_ways mean (cells ++ later)) s) is ∙ append-nil (mean start [] place))
 
 -- cells may come
-pub goes-grown : (code : List Instr) (rows : Rows) (text : Text) (start place : ℕ) (cells new : List Cell) (f : Frame) (stack : List Frame) → Grown cells new →
+pub goes-grown : (code : List Instr) (rows : Rows) (text : Text) (start place : ℕ) (cells new : List Cell) (f : Frame)
+    (stack : List Frame) → Grown cells new →
     Goes code rows text start place cells f stack → Goes code rows text start place new f stack
 goes-grown code rows text start place cells new f stack g goes blank mean rank m later =
     subst (λ c. mean start [] place ≡ frame_ways mean c f ++ stack_ways (frame_ways mean c) stack)
@@ -99,14 +105,18 @@ pub goes-on : (code : List Instr) (rows : Rows) (text : Text) (start place : ℕ
 goes-on code rows text start place cells f g stack t goes blank mean rank m later =
     goes blank mean rank m later ∙ ap (λ l. l ++ stack_ways (frame_ways mean (cells ++ later)) stack) (t blank mean rank m later)
 
-pub goes-fork : (code : List Instr) (rows : Rows) (text : Text) (start place : ℕ) (cells : List Cell) (f a b : Frame) (stack new : List Frame) → new ≡ stack ++ b ∷ [] →
+pub goes-fork : (code : List Instr) (rows : Rows) (text : Text) (start place : ℕ) (cells : List Cell) (f a b : Frame)
+    (stack new : List Frame) → new ≡ stack ++ b ∷ [] →
     Turns code rows text cells f (Fork a b) → Goes code rows text start place cells f stack → Goes code rows text start place cells a new
 goes-fork code rows text start place cells f a b stack new is t goes blank mean rank m later =
     goes blank mean rank m later ∙ ap (λ l. l ++ stack_ways (frame_ways mean (cells ++ later)) stack) (t blank mean rank m later)
-    ∙ append_assoc (frame_ways mean (cells ++ later) a) (frame_ways mean (cells ++ later) b) (stack_ways (frame_ways mean (cells ++ later)) stack)
-    ∙ ap (λ l. frame_ways mean (cells ++ later) a ++ l) (sym (ap (stack_ways (frame_ways mean (cells ++ later))) is ∙ stack-pushed (frame_ways mean (cells ++ later)) stack b))
+    ∙ append_assoc (frame_ways mean (cells ++ later) a) (frame_ways mean (cells ++ later) b)
+    (stack_ways (frame_ways mean (cells ++ later)) stack)
+    ∙ ap (λ l. frame_ways mean (cells ++ later) a ++ l)
+    (sym (ap (stack_ways (frame_ways mean (cells ++ later))) is ∙ stack-pushed (frame_ways mean (cells ++ later)) stack b))
 
-pub goes-back : (code : List Instr) (rows : Rows) (text : Text) (start place : ℕ) (cells : List Cell) (f g : Frame) (stack new : List Frame) → stack ≡ new ++ g ∷ [] →
+pub goes-back : (code : List Instr) (rows : Rows) (text : Text) (start place : ℕ) (cells : List Cell) (f g : Frame)
+    (stack new : List Frame) → stack ≡ new ++ g ∷ [] →
     Turns code rows text cells f Back → Goes code rows text start place cells f stack → Goes code rows text start place cells g new
 goes-back code rows text start place cells f g stack new is t goes blank mean rank m later =
     goes blank mean rank m later ∙ ap (λ l. l ++ stack_ways (frame_ways mean (cells ++ later)) stack) (t blank mean rank m later)
@@ -114,12 +124,14 @@ goes-back code rows text start place cells f g stack new is t goes blank mean ra
 
 -- ---- the end
 
-same-rows : (code : List Instr) (pattern rows : Rows) (text : Text) (blank : List (Option (ℕ × ℕ))) (mean : Mean) (rank : ℕ → ℕ) → rows ≡ pattern →
+same-rows : (code : List Instr) (pattern rows : Rows) (text : Text) (blank : List (Option (ℕ × ℕ))) (mean : Mean) (rank : ℕ → ℕ) →
+    rows ≡ pattern →
     Meaning code rows text blank mean rank → Meaning code pattern text blank mean rank
 same-rows code pattern rows text blank mean rank e m = subst (λ r. Meaning code r text blank mean rank) e m
 
 -- at the end of the cells
-goes-now : (code : List Instr) (rows : Rows) (text : Text) (start place : ℕ) (cells : List Cell) (f : Frame) (stack : List Frame) (t : Turn) →
+goes-now : (code : List Instr) (rows : Rows) (text : Text) (start place : ℕ) (cells : List Cell) (f : Frame) (stack : List Frame)
+    (t : Turn) →
     Turns code rows text cells f t → Goes code rows text start place cells f stack →
     (blank : List (Option (ℕ × ℕ))) (mean : Mean) (rank : ℕ → ℕ) → Meaning code rows text blank mean rank →
     mean start [] place ≡ turn_ways mean blank cells f t ++ stack_ways (frame_ways mean cells) stack
@@ -128,19 +140,26 @@ goes-now code rows text start place cells f stack t turns goes blank mean rank m
     (goes blank mean rank m [] ∙ ap (λ l. l ++ stack_ways (frame_ways mean (cells ++ [])) stack) (turns blank mean rank m []))
 
 pub ends-here : (code : List Instr) (pattern : Rows) (text : Text) (start place : ℕ) (cells : List Cell) (f : Frame) (stack : List Frame) →
-    Turns code pattern text cells f End → Goes code pattern text start place cells f stack → Ends (IsOf pattern) code text start place cells (BestEnd f.place f.trail)
+    Turns code pattern text cells f End → Goes code pattern text start place cells f stack →
+    Ends (IsOf pattern) code text start place cells (BestEnd f.place f.trail)
 ends-here code pattern text start place cells f stack t goes rows blank mean rank m e =
-    ap (λ l. slice_get l 0) (goes-now code pattern text start place cells f stack End t goes blank mean rank (same-rows code pattern rows text blank mean rank e m))
+    ap (λ l. slice_get l 0) (goes-now code pattern text start place cells f stack End t goes blank mean rank
+    (same-rows code pattern rows text blank mean rank e m))
 
 pub ends-edge : (code : List Instr) (pattern : Rows) (text : Text) (start place : ℕ) (cells : List Cell) (f : Frame) (stack : List Frame) →
-    Turns code pattern text cells f Edge → Goes code pattern text start place cells f stack → Ends (IsOf pattern) code text start place cells More
+    Turns code pattern text cells f Edge → Goes code pattern text start place cells f stack →
+    Ends (IsOf pattern) code text start place cells More
 ends-edge code pattern text start place cells f stack t goes rows blank mean rank m e =
-    ap (λ l. slice_get l 0) (goes-now code pattern text start place cells f stack Edge t goes blank mean rank (same-rows code pattern rows text blank mean rank e m))
+    ap (λ l. slice_get l 0) (goes-now code pattern text start place cells f stack Edge t goes blank mean rank
+    (same-rows code pattern rows text blank mean rank e m))
 
-pub ends-none : (code : List Instr) (pattern : Rows) (text : Text) (start place : ℕ) (cells : List Cell) (f : Frame) (stack : List Frame) → stack ≡ [] →
-    Turns code pattern text cells f Back → Goes code pattern text start place cells f stack → Ends (IsOf pattern) code text start place cells No
+pub ends-none : (code : List Instr) (pattern : Rows) (text : Text) (start place : ℕ) (cells : List Cell) (f : Frame) (stack : List Frame) →
+    stack ≡ [] →
+    Turns code pattern text cells f Back → Goes code pattern text start place cells f stack →
+    Ends (IsOf pattern) code text start place cells No
 ends-none code pattern text start place cells f stack none t goes rows blank mean rank m e =
-    ap (λ l. slice_get l 0) (goes-now code pattern text start place cells f stack Back t goes blank mean rank (same-rows code pattern rows text blank mean rank e m)
+    ap (λ l. slice_get l 0) (goes-now code pattern text start place cells f stack Back t goes blank mean rank
+    (same-rows code pattern rows text blank mean rank e m)
     ∙ ap (stack_ways (frame_ways mean cells)) none)
 
 pub grown-more : {cells new : List Cell} → Grown cells new → length cells ≤ length new
@@ -148,14 +167,15 @@ grown-more {cells} {new} g = let n = ap length g.is in omega (arith, n, length-a
 
 -- ---- a pattern that was written out
 
-no-look : (asks : List Ask) (code : List Instr) → asks ≡ [] → AllAsked asks code → HasNoLook code
+no-look : (asks : List Lookahead) (code : List Instr) → asks ≡ [] → AllAsked asks code → HasNoLook code
 no-look asks code none all pc piece next e =
     let a = all pc piece next e in
     let got : slice_get [] a.k ≡ Some a.ask = subst (λ l. slice_get l a.k ≡ Some a.ask) none a.at in
     let h = slice_get_within [] a.k a.ask got in
     omega (arith, h)
 
-pub plain-code : (rows : Rows) (program : Program) (code : List Instr) → code ≡ program.code.items → program.asks.items ≡ [] → IsWritten rows program → IsPlainCode rows code
+pub plain-code : (rows : Rows) (program : Program) (code : List Instr) → code ≡ program.code.items → program.asks.items ≡ [] →
+    IsWritten rows program → IsPlainCode rows code
 plain-code rows program code is none w =
     subst (IsPlainCode rows) (sym is)
     (record {
@@ -165,11 +185,14 @@ plain-code rows program code is none w =
     })
 
 -- what stands for the head of the ways of the code does so for those of the pattern
-pub settled-head : (rows : Rows) (program : Program) (code : List Instr) (text : Text) (place : ℕ) (cells : List Cell) (best : Best) (blank : List (Option (ℕ × ℕ))) →
-    code ≡ program.code.items → IsWritten rows program → place ≤ length text.bytes → Ends (IsOf rows) code text program.start place cells best →
+pub settled-head : (rows : Rows) (program : Program) (code : List Instr) (text : Text) (place : ℕ) (cells : List Cell) (best : Best)
+    (blank : List (Option (ℕ × ℕ))) →
+    code ≡ program.code.items → IsWritten rows program → place ≤ length text.bytes →
+    Ends (IsOf rows) code text program.start place cells best →
     slice_get (ways (tree rows) text (at place blank)) 0 ≡ slice_get (best_ways blank cells best) 0
 settled-head rows program code text place cells best blank is w le e =
-    program-head (IsOf rows) rows (tree rows) code text program.start place cells best blank (subst (λ c. IsProgram rows (tree rows) c program.start) (sym is) w.code) refl le e
+    program-head (IsOf rows) rows (tree rows) code text program.start place cells best blank
+    (subst (λ c. IsProgram rows (tree rows) c program.start) (sym is) w.code) refl le e
 
 -- ---- a look at the next byte
 

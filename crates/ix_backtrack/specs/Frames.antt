@@ -2,11 +2,11 @@
 use Rattle.std.specs.Prelude.{◌≡◌, ℕ, ◌<◌, ◌≤◌, List, [], ◌∷◌, ◌++◌, Option, Some, None}
 use Rattle.ix_pattern.specs.Ways.{Text, Way, edge}
 use Rattle.ix_pattern.specs.Rows.{Rows}
-use Rattle.ix_threads.specs.Code.{Mean, Meaning, history, best_ways}
-use Rattle.ix_threads.specs.declared.code.Instr.{Instr}
-use Rattle.ix_threads.specs.declared.cells.Cell.{Cell}
-use Rattle.ix_threads.specs.declared.cells.Event.{Event}
-use Rattle.ix_threads.specs.declared.cells.Best.TheVariants.{End as BestEnd}
+use Rattle.ix_pikevm.specs.Code.{Mean, Meaning, history, best_ways}
+use Rattle.ix_pikevm.specs.declared.code.Instr.{Instr}
+use Rattle.ix_pikevm.specs.declared.cells.Cell.{Cell}
+use Rattle.ix_pikevm.specs.declared.cells.Event.{Event}
+use Rattle.ix_pikevm.specs.declared.cells.Best.TheVariants.{End as BestEnd}
 use Rattle.ix_backtrack.specs.declared.frames.Frame.{Frame}
 use Rattle.ix_backtrack.specs.declared.frames.Turn.{Turn}
 use Rattle.ix_backtrack.specs.declared.frames.Turn.TheVariants.{On, Fork, Back, End, Edge}
@@ -28,7 +28,8 @@ turn_ways mean blank cells f Back = []
 turn_ways mean blank cells f End = best_ways blank cells (BestEnd f.place f.trail)
 turn_ways mean blank cells f Edge = edge ∷ []
 
--- it stands at one of n instructions and at a place of a text of so many bytes, and its trail is one of c cells
+-- it stands at one of n instructions and at a place of a text of so many bytes, and its trail is
+-- one of c cells
 pub record IsFrame (n c bytes : ℕ) (f : Frame) : Type 0 where
   pub pc : f.pc < n
   pub trail : f.trail ≤ c
@@ -69,7 +70,8 @@ Glances code rows text f o =
 -- the instruction has no way at the place, whatever came before
 abbrev pub Dies : List Instr → Rows → Text → ℕ → ℕ → Type 0
 Dies code rows text pc p =
-    (blank : List (Option (ℕ × ℕ))) (mean : Mean) (rank : ℕ → ℕ) → Meaning code rows text blank mean rank → (h : List Event) → mean pc h p ≡ []
+    (blank : List (Option (ℕ × ℕ))) (mean : Mean) (rank : ℕ → ℕ) → Meaning code rows text blank mean rank → (h : List Event) →
+    mean pc h p ≡ []
 
 -- it has the ways of the first frame and behind them those of the other
 abbrev pub Chooses : List Instr → Rows → Text → Frame → Frame → Turn → Type 0

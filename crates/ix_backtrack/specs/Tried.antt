@@ -2,12 +2,12 @@
 use Rattle.std.specs.Prelude.{◌≡◌, ℕ, ◌+◌, List, Option, Some, None, length, min}
 use Rattle.ix_pattern.specs.Ways.{Text}
 use Rattle.ix_pattern.specs.Rows.{Rows}
-use Rattle.ix_threads.specs.Code.{IsCode, HasSets}
-use Rattle.ix_threads.specs.Looks.{HasNoLook}
-use Rattle.ix_threads.specs.Ran.{Ends, IsOf}
-use Rattle.ix_threads.specs.declared.code.Instr.{Instr}
-use Rattle.ix_threads.specs.declared.cells.Cell.{Cell}
-use Rattle.ix_threads.specs.declared.cells.Best.{Best}
+use Rattle.ix_pikevm.specs.Code.{IsCode, HasSets}
+use Rattle.ix_pikevm.specs.Looks.{HasNoLook}
+use Rattle.ix_pikevm.specs.Ran.{Ends, IsOf}
+use Rattle.ix_pikevm.specs.declared.code.Instr.{Instr}
+use Rattle.ix_pikevm.specs.declared.cells.Cell.{Cell}
+use Rattle.ix_pikevm.specs.declared.cells.Best.{Best}
 
 -- code of a pattern with these pieces, without lookaheads
 pub record IsPlainCode (rows : Rows) (code : List Instr) : Type 0 where

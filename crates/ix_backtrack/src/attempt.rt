@@ -1,30 +1,30 @@
 //! An attempt at one place: one way after the other.
 
 ghost use Rattle.std.specs.Prelude.{◌≡◌, ◌≤◌, ◌<◌, ◌++◌, ◌∷◌, [], length, IfOk, OnOk, Some, None};
-ghost use Rattle.ix_threads.specs.Leaf.{text_of};
+ghost use Rattle.ix_pikevm.specs.Leaf.{text_of};
 ghost use Rattle.ix_backtrack.specs.Tried.{IsPlainCode, Settled};
 
 use crate::frames::{Frame, Turn};
 use crate::turn::turn;
 use ix_base::{NoMemory, Steps};
 use ix_pattern::Pattern;
-use ix_threads::cells::{Best, Cell};
-use ix_threads::code::Instr;
-use ix_threads::input::Input;
+use ix_pikevm::cells::{Best, Cell};
+use ix_pikevm::code::Instr;
+use ix_pikevm::input::Input;
 use std::sync::ledger::Ledger;
 
 /// What an attempt came to, where it was not given up, and how many turns it took.
 #[derive(Clone, Copy)]
-pub struct Tried {
+pub struct BacktrackOutcome {
     pub best: Option<Best>,
     pub taken: u64,
 }
 
 /// What an attempt came to after so many turns.
-fn came_to(best: Best, taken: u64) -> Tried
+fn came_to(best: Best, taken: u64) -> BacktrackOutcome
     ensures { result ≡ record { best = Some best; taken = taken } }
 {
-    Tried {
+    BacktrackOutcome {
         best: Some(best),
         taken,
     }
@@ -43,7 +43,8 @@ fn put_off(stack: &mut Vec<Frame>, frame: Frame) -> Result<(), NoMemory>
     Ok(())
 }
 
-/// What stands for the head of the ways of an instruction at a place of a text. It is given up after so many turns.
+/// What stands for the head of the ways of an instruction at a place of a text. It is given up
+/// after so many turns.
 pub fn attempt<L: Ledger>(
     p: &Pattern,
     code: &[Instr],
@@ -54,7 +55,7 @@ pub fn attempt<L: Ledger>(
     stack: &mut Vec<Frame>,
     cells: &mut Vec<Cell>,
     steps: &mut Steps<L>,
-) -> Result<Tried, NoMemory>
+) -> Result<BacktrackOutcome, NoMemory>
     requires code { IsPlainCode p.now.rows code.now }
     requires start { start < length code.now }
     requires within { place ≤ length input.bytes.now }
@@ -94,7 +95,7 @@ pub fn attempt<L: Ledger>(
             Turn::Edge => return Ok(came_to(Best::More, taken)),
         }
     }
-    Ok(Tried {
+    Ok(BacktrackOutcome {
         best: None,
         taken: limit,
     })

@@ -3,16 +3,16 @@
 ghost use Rattle.std.specs.Prelude.{◌≡◌, ℕ, ◌<◌, ◌≤◌, ◌+◌, List, [], length, Option, slice_get};
 ghost use Rattle.ix_pattern.specs.Piece.{in_set};
 ghost use Rattle.ix_pattern.specs.Ways.{byte_ways};
-ghost use Rattle.ix_threads.specs.Code.{Mean, history, set_in, sets_of, tested};
-ghost use Rattle.ix_threads.specs.Leaf.{leaf_ways, text_of, at};
-ghost use Rattle.ix_threads.specs.declared.cells.Cell.{Cell};
+ghost use Rattle.ix_pikevm.specs.Code.{Mean, history, set_in, sets_of, tested};
+ghost use Rattle.ix_pikevm.specs.Leaf.{leaf_ways, text_of, at};
+ghost use Rattle.ix_pikevm.specs.declared.cells.Cell.{Cell};
 ghost use Rattle.ix_backtrack.specs.Frames.{turn_ways, IsFrame, IsTurn};
 
 use crate::frames::{Frame, Turn};
 use ix_base::Steps;
 use ix_pattern::{Node, Pattern};
-use ix_threads::input::Input;
-use ix_threads::leaf::Leaf;
+use ix_pikevm::input::Input;
+use ix_pikevm::leaf::Leaf;
 use std::sync::ledger::Ledger;
 
 /// Whether a piece takes a byte. One that is no byte piece takes none.
@@ -37,9 +37,11 @@ pub fn behind_byte<L: Ledger>(
 ) -> Turn
     requires { set < length p.now.rows }
     ensures ways { (mean : Mean) (blank : List (Option (ℕ × ℕ))) (cells : List Cell) →
-        tested (mean next (history cells frame.trail)) (byte_ways (set_in (sets_of p.now.rows) set) (text_of input.entry) (at frame.place []) (slice_get input.entry.bytes.now frame.place))
+        tested (mean next (history cells frame.trail)) (byte_ways (set_in (sets_of p.now.rows) set) (text_of input.entry)
+        (at frame.place []) (slice_get input.entry.bytes.now frame.place))
         ≡ turn_ways mean blank cells frame result }
-    ensures known { (n c : ℕ) → next < n → IsFrame n c (length input.entry.bytes.now) frame → IsTurn n c (length input.entry.bytes.now) result }
+    ensures known { (n c : ℕ) → next < n → IsFrame n c (length input.entry.bytes.now) frame →
+        IsTurn n c (length input.entry.bytes.now) result }
 {
     if frame.place >= input.bytes.len() {
         return if input.unfinished {

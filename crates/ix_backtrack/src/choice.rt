@@ -1,8 +1,9 @@
-//! A choice, with a look at the next byte: a part of it that comes to nothing at once is not taken up.
+//! A choice, with a look at the next byte: a part of it that comes to nothing at once is not taken
+//! up.
 
 ghost use Rattle.std.specs.Prelude.{◌≡◌, ℕ, ◌+◌, ◌<◌, ◌≤◌, ◌++◌, length, true, List};
-ghost use Rattle.ix_threads.specs.Leaf.{text_of};
-ghost use Rattle.ix_threads.specs.declared.cells.Cell.{Cell};
+ghost use Rattle.ix_pikevm.specs.Leaf.{text_of};
+ghost use Rattle.ix_pikevm.specs.declared.cells.Cell.{Cell};
 ghost use Rattle.ix_backtrack.specs.Frames.{IsFrame, IsTurn, IsIfSome, Glances, Dies, Chooses};
 ghost use Rattle.ix_backtrack.specs.Tried.{IsPlainCode};
 
@@ -10,13 +11,14 @@ use crate::behind::takes;
 use crate::frames::{Frame, Turn};
 use ix_base::Steps;
 use ix_pattern::Pattern;
-use ix_threads::code::{Instr, instr_at};
-use ix_threads::input::Input;
-use ix_threads::leaf;
-use ix_threads::leaf::Leaf;
+use ix_pikevm::code::{Instr, instr_at};
+use ix_pikevm::input::Input;
+use ix_pikevm::leaf;
+use ix_pikevm::leaf::Leaf;
 use std::sync::ledger::Ledger;
 
-/// The frame, or where it stands before a byte, the one behind that. There is none where it does not take the byte.
+/// The frame, or where it stands before a byte, the one behind that. There is none where it does
+/// not take the byte.
 fn glance<L: Ledger>(
     p: &Pattern,
     code: &[Instr],
@@ -27,7 +29,8 @@ fn glance<L: Ledger>(
     requires code { IsPlainCode p.now.rows code.now }
     requires pc { frame.pc < length code.now }
     ensures glances { Glances code.now p.now.rows (text_of input.entry) frame result }
-    ensures known { (c : ℕ) → IsFrame (length code.now) c (length input.entry.bytes.now) frame → IsIfSome (length code.now) c (length input.entry.bytes.now) result }
+    ensures known { (c : ℕ) → IsFrame (length code.now) c (length input.entry.bytes.now) frame →
+        IsIfSome (length code.now) c (length input.entry.bytes.now) result }
 {
     let Instr::Byte { set, next } = instr_at(code, frame.pc) else {
         return Some(frame);
@@ -106,7 +109,8 @@ pub fn choice<L: Ledger>(
     requires other { other.pc < length code.now }
     requires within { other.place ≤ length input.bytes.now }
     ensures chooses { Chooses code.now p.now.rows (text_of input.entry) first other result }
-    ensures known { (c : ℕ) → IsFrame (length code.now) c (length input.entry.bytes.now) first → IsFrame (length code.now) c (length input.entry.bytes.now) other →
+    ensures known { (c : ℕ) → IsFrame (length code.now) c (length input.entry.bytes.now) first →
+        IsFrame (length code.now) c (length input.entry.bytes.now) other →
         IsTurn (length code.now) c (length input.entry.bytes.now) result }
 {
     let Some(ahead) = glance(p, code, input, first, steps) else {

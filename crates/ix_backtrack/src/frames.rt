@@ -1,6 +1,7 @@
 //! What is still to be tried.
 
-/// A way that goes on: its instruction, the trail of what it has come through, and the place of the text at which it stands.
+/// A way that goes on: its instruction, the trail of what it has come through, and the place of the
+/// text at which it stands.
 #[derive(Clone, Copy)]
 pub struct Frame {
     pub pc: usize,

@@ -2,9 +2,9 @@
 #![tactic(auto)]
 
 mod attempt;
+pub mod backtrack_scratch;
 mod behind;
 mod choice;
 pub mod frames;
 mod outcome;
-pub mod tries;
 mod turn;

@@ -1,13 +1,13 @@
 //! The groups of the way that was found.
 
 ghost use Rattle.std.specs.Prelude.{◌≡◌, IfOk, None, length, replicate, slice_get, Some, ◌<◌};
-ghost use Rattle.ix_threads.specs.Code.{history, replay, best_ways};
-ghost use Rattle.ix_threads.specs.Outcomes.{head_of};
+ghost use Rattle.ix_pikevm.specs.Code.{history, replay, best_ways};
+ghost use Rattle.ix_pikevm.specs.Outcomes.{head_of};
 
 use ix_base::NoMemory;
-use ix_threads::cells::{Best, Cell, Event};
-use ix_threads::groups::turns_of;
-use ix_threads::run::Outcome;
+use ix_pikevm::cells::{Best, Cell, Event};
+use ix_pikevm::groups::turns_of;
+use ix_pikevm::run::Outcome;
 use std::alloc::Global;
 
 fn cell_at(cells: &[Cell], i: usize) -> Cell
@@ -17,8 +17,8 @@ fn cell_at(cells: &[Cell], i: usize) -> Cell
     cells[i]
 }
 
-/// The events of a trail, the newest first. Room is made for those of a way that has come through all the cells, as most
-/// have, or for some.
+/// The events of a trail, the newest first. Room is made for those of a way that has come through
+/// all the cells, as most have, or for some.
 fn events_of(alloc: Global, cells: &[Cell], trail: usize) -> Result<Vec<Event>, NoMemory>
     ensures { IfOk result (λ events. events.items ≡ history cells.now trail) }
 {

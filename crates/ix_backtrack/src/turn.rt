@@ -1,8 +1,8 @@
 //! What becomes of a way at its instruction.
 
 ghost use Rattle.std.specs.Prelude.{◌≡◌, ◌+◌, ◌<◌, ◌∷◌, ◌++◌, [], length, IfOk, OnOk};
-ghost use Rattle.ix_threads.specs.Leaf.{text_of};
-ghost use Rattle.ix_threads.specs.Ran.{Grown};
+ghost use Rattle.ix_pikevm.specs.Leaf.{text_of};
+ghost use Rattle.ix_pikevm.specs.Ran.{Grown};
 ghost use Rattle.ix_backtrack.specs.Frames.{IsFrame, IsTurn, Turns};
 ghost use Rattle.ix_backtrack.specs.Tried.{IsPlainCode};
 
@@ -11,10 +11,10 @@ use crate::choice::choice;
 use crate::frames::{Frame, Turn};
 use ix_base::{NoMemory, Steps};
 use ix_pattern::Pattern;
-use ix_threads::cells::{Cell, Event};
-use ix_threads::code::{Instr, instr_at};
-use ix_threads::input::{Input, byte_before};
-use ix_threads::leaf;
+use ix_pikevm::cells::{Cell, Event};
+use ix_pikevm::code::{Instr, instr_at};
+use ix_pikevm::input::{Input, byte_before};
+use ix_pikevm::leaf;
 use std::sync::ledger::Ledger;
 
 /// Room for some cells at once, where there is none yet.

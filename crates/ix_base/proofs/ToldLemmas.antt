@@ -45,7 +45,11 @@ told-wrote-began a b (Some x) (Some y) None p q = absurd q
 told-wrote-began a b (Some x) (Some y) (Some z) p q =
     record {
       part = a ++ q.part;
-      is_front = record { rest = q.is_front.rest; whole_is = ap (λ l. a ++ l) q.is_front.whole_is ∙ sym (append_assoc a q.part q.is_front.rest) };
+      is_front = record {
+        rest = q.is_front.rest;
+        whole_is = ap (λ l. a ++ l) q.is_front.whole_is
+            ∙ sym (append_assoc a q.part q.is_front.rest);
+      };
       written = q.written ∙ ap (λ l. l ++ q.part) p ∙ append_assoc x a q.part;
     }
 

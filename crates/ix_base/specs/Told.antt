@@ -1,7 +1,8 @@
 -- What an object of the outside tells of its content, where it knows it.
 use Rattle.std.specs.Prelude.{◌≡◌, ℕ, List, ◌++◌, Option, None, Some}
 
--- What is told has gone through the step. An object that tells goes on telling, and one that doesn't never begins to.
+-- What is told has gone through the step. An object that tells goes on telling, and one that
+-- doesn't never begins to.
 abbrev pub Told : {A : Type 0} → (A → A → Type 0) → Option A → Option A → Type 0
 Told step None None = Unit {0}
 Told step None (Some new) = ⊥

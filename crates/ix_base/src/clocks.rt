@@ -7,11 +7,12 @@ ghost use Rattle.ix_base.specs.Clocks.{Moments, Answered, moments_from, clamped}
 use std::rt::Clock as ReadsClock;
 use std::time::{SystemTime, UNIX_EPOCH};
 
-/// The last moment that is taken: the beginning of the year 2100, in microseconds since 1970-01-01T00:00:00Z.
+/// The last moment that is taken: the beginning of the year 2100, in microseconds since
+/// 1970-01-01T00:00:00Z.
 pub const LATEST_MOMENT: i64 = 4_102_444_800_000_000;
 
-/// A moment brought between the beginning of 1970 and that of 2100: a lower one becomes 0, a higher one
-/// `LATEST_MOMENT`. Each call that takes a moment from its caller begins with this.
+/// A moment brought between the beginning of 1970 and that of 2100: a lower one becomes 0, a higher
+/// one `LATEST_MOMENT`. Each call that takes a moment from its caller begins with this.
 pub fn clamped(moment: i64) -> i64
     ensures { result ≡ clamped moment }
 {
@@ -28,7 +29,8 @@ pub trait Clock {
         ensures { Told (Answered result) (ahead self.old) (ahead self.new) };
 }
 
-/// A clock that answers the moments of a list in turn. The last one repeats, and an empty list answers 0.
+/// A clock that answers the moments of a list in turn. The last one repeats, and an empty list
+/// answers 0.
 #[derive(Drop)]
 pub struct MemClock {
     moments: Vec<i64>,
@@ -57,8 +59,8 @@ impl Clock for MemClock {
     }
 }
 
-/// The clock of the machine. It tells nothing of the moments to come, and answers 0 where the machine has no time
-/// after 1970.
+/// The clock of the machine. It tells nothing of the moments to come, and answers 0 where the
+/// machine has no time after 1970.
 #[derive(Drop)]
 pub struct HostClock<R: ReadsClock + Drop> {
     rt: R,

@@ -5,8 +5,8 @@ ghost use Rattle.std.specs.Prelude.{◌≡◌, ◌+◌, ◌<◌};
 use std::marker::Model;
 use std::sync::ledger::{Blank, Book, Ledger, Share};
 
-/// How many steps were taken. It has no bytes at run time, and only `tick` changes it. `L` is the ledger that it is
-/// counted in.
+/// How many steps were taken. It has no bytes at run time, and only `tick` changes it. `L` is the
+/// ledger that it is counted in.
 #[derive(Drop)]
 pub struct Steps<L: Ledger> {
     book: Book<L>,

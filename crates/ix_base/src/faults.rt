@@ -33,7 +33,8 @@ impl<T: Drop> From<AllocFailed<T>> for NoMemory {
 #[error("the bytes are no record")]
 pub struct BadRecord;
 
-/// Which calls of an object in memory are to fail, and how many have failed. Calls are numbered from 0.
+/// Which calls of an object in memory are to fail, and how many have failed. Calls are numbered
+/// from 0.
 pub struct FailPlan {
     /// The number of the next call. It stands at 2^64 - 1.
     pub calls: u64,

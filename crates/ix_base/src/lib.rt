@@ -1,5 +1,5 @@
-//! What every other crate stands on: the traits of the outside with their forms in memory and over the real
-//! things, and the types that crates share.
+//! What every other crate stands on: the traits of the outside with their forms in memory and over
+//! the real things, and the types that crates share.
 #![tactic(auto)]
 
 mod clocks;

@@ -1,6 +1,7 @@
 //! Lists that contracts see as lists.
 
-ghost use Rattle.std.specs.Prelude.{◌≡◌, ◌≤◌, ◌+◌, ◌-◌, ◌++◌, ◌∷◌, [], length, take, drop, replicate, min, OnOk, OnErr, IfOk, ◌==◌, string_bytes, option_to_list, IsSome, ◌↔◌, ◌<◌, slice_set, slice_get, Some};
+ghost use Rattle.std.specs.Prelude.{◌≡◌, ◌≤◌, ◌+◌, ◌-◌, ◌++◌, ◌∷◌, [], length, take, drop, replicate, min, OnOk, OnErr, IfOk, ◌==◌};
+ghost use Rattle.std.specs.Prelude.{string_bytes, option_to_list, IsSome, ◌↔◌, ◌<◌, slice_set, slice_get, Some};
 ghost use Rattle.std.specs.Str.{IsUtf8};
 
 use crate::faults::NoMemory;
@@ -95,7 +96,8 @@ impl<T> Sequence<T> {
 }
 
 impl<T: Drop> Sequence<T> {
-    /// Adds a value at the end. Where there is no room for it, it is dropped and nothing else changes.
+    /// Adds a value at the end. Where there is no room for it, it is dropped and nothing else
+    /// changes.
     pub fn push(&mut self, value: T) -> Result<(), NoMemory>
         ensures ok { OnOk result (self.new ≡ self.old ++ value ∷ []) }
         ensures err { OnErr result (self.new ≡ self.old) }
@@ -157,7 +159,8 @@ impl Sequence<u8> {
         }
     }
 
-    /// Writes bytes over those from a place on, and past the end. Where there is no room for them nothing changes.
+    /// Writes bytes over those from a place on, and past the end. Where there is no room for them
+    /// nothing changes.
     pub fn overwrite(&mut self, at: usize, bytes: &[u8]) -> Result<(), NoMemory>
         requires { at ≤ length self.old }
         ensures ok { OnOk result (self.new ≡ take at self.old ++ bytes.now ++ drop (at + length bytes.now) self.old) }
@@ -180,7 +183,8 @@ impl Sequence<u8> {
     }
 }
 
-/// Written as the vector of its values, so that a fault that holds bytes can be printed for its maintainers.
+/// Written as the vector of its values, so that a fault that holds bytes can be printed for its
+/// maintainers.
 impl<T: fmt::Debug> fmt::Debug for Sequence<T> {
     ghost use Rattle.std.specs.Fmt.{debug_list};
 

@@ -35,7 +35,8 @@ pub struct MemSink {
 }
 
 impl MemSink {
-    /// An empty sink, whose calls fail by the plan. One that is to fail writes the first half of its piece.
+    /// An empty sink, whose calls fail by the plan. One that is to fail writes the first half of
+    /// its piece.
     pub fn new(alloc: Global, plan: FailPlan) -> Self
         ensures given { ⟦<MemSink as Sink>⟧.given result ≡ Some [] }
         ensures faults { ⟦<MemSink as Sink>⟧.faults result ≡ plan.faults }
@@ -83,7 +84,8 @@ impl Sink for MemSink {
 
     ghost faults = { λ s. s.plan.faults };
 
-    /// It fails where the plan has this call due. Another call fails only where there is no room, and writes nothing then.
+    /// It fails where the plan has this call due. Another call fails only where there is no room,
+    /// and writes nothing then.
     fn put(&mut self, bytes: &[u8]) -> Result<(), Failed>
         ensures written { OnOk result (HasWritten bytes.now (Some self.old.bytes) (Some self.new.bytes)) }
         ensures begun { OnErr result (HasBegun bytes.now (Some self.old.bytes) (Some self.new.bytes)) }

@@ -1,6 +1,7 @@
 //! What bytes are read from.
 
-ghost use Rattle.std.specs.Prelude.{◌≡◌, ◌≤◌, ◌<◌, ◌-◌, ◌^◌, ℕ, min, max, List, [], Option, Some, None, length, take, drop, IfOk, IfSome, OnOk, OnErr, is_ok, not};
+ghost use Rattle.std.specs.Prelude.{◌≡◌, ◌≤◌, ◌<◌, ◌-◌, ◌^◌, ℕ, min, max, List, [], Option, Some, None, length, take, drop, IfOk, IfSome};
+ghost use Rattle.std.specs.Prelude.{OnOk, OnErr, is_ok, not};
 ghost use Rattle.ix_base.specs.Plans.{is_due, CountsCall};
 ghost use Rattle.ix_base.specs.Faults.{HasCause, Rose};
 ghost use Rattle.ix_base.specs.Told.{Told, Took};
@@ -17,8 +18,8 @@ pub trait Source {
     /// How often it has failed.
     ghost faults: { Self → ℕ };
 
-    /// Reads bytes into the front of the buffer, and answers how many; 0 for a buffer that is not empty is the end.
-    /// A read that fails takes none.
+    /// Reads bytes into the front of the buffer, and answers how many; 0 for a buffer that is not
+    /// empty is the end. A read that fails takes none.
     fn read(&mut self, buf: &mut [u8]) -> Result<usize, Failed>
         ensures count { IfOk result (λ n. n ≤ length buf.old) }
         ensures bytes { IfOk result (λ n. Told (Took (take n buf.new)) (left self.old) (left self.new)) }
@@ -96,12 +97,14 @@ impl Source for MemSource {
 
     ghost faults = { λ s. s.plan.faults };
 
-    /// It fails exactly where the plan has this call due. Else it takes as much as there is, but for the size of the buffer
-    /// and of a piece.
+    /// It fails exactly where the plan has this call due. Else it takes as much as there is, but
+    /// for the size of the buffer and of a piece.
     fn read(&mut self, buf: &mut [u8]) -> Result<usize, Failed>
         ensures count { IfOk result (λ n. n ≤ length buf.old) }
-        ensures bytes { IfOk result (λ n. Told (Took (take n buf.new)) (Some (drop self.old.at self.old.bytes)) (Some (drop self.new.at self.new.bytes))) }
-        ensures end { IfOk result (λ n. n ≡ 0 → 0 < length buf.old → IfSome (Some (drop self.old.at self.old.bytes)) (λ bytes. bytes ≡ [])) }
+        ensures bytes { IfOk result (λ n. Told (Took (take n buf.new)) (Some (drop self.old.at self.old.bytes))
+            (Some (drop self.new.at self.new.bytes))) }
+        ensures end { IfOk result (λ n. n ≡ 0 → 0 < length buf.old →
+            IfSome (Some (drop self.old.at self.old.bytes)) (λ bytes. bytes ≡ [])) }
         ensures failed { OnErr result (Some (drop self.new.at self.new.bytes) ≡ Some (drop self.old.at self.old.bytes)) }
         ensures cause { HasCause self.old.plan.faults self.new.plan.faults result }
         ensures due { is_ok result ≡ not (is_due self.old.plan) }

@@ -1,5 +1,6 @@
 -- A turn of housekeeping keeps the bounds of what a store can keep.
-use Rattle.std.proofs.Common.{◌≡◌, ◌≤◌, ◌<◌, ◌^◌, ℕ, suc, ◌+◌, ℤ, Bool, true, false, List, [], ◌∷◌, ◌++◌, length, map, refl, sym, ap, ap₂, ◌∙◌, arith, subst, length-append}
+use Rattle.std.proofs.Common.{◌≡◌, ◌≤◌, ◌<◌, ◌^◌, ℕ, suc, ◌+◌, ℤ, Bool, true, false, List, [], ◌∷◌, ◌++◌, length, map, refl, sym, ap, ap₂}
+use Rattle.std.proofs.Common.{◌∙◌, arith, subst, length-append}
 use Rattle.std.specs.Prelude.{Option, Some, None, if◌then◌else◌}
 use Rattle.std.specs.List.{AllByRecursion, flat_map, sum_by}
 use Rattle.std.proofs.lemmas.List.Sums.{sum_by-cons}
@@ -11,15 +12,16 @@ use Rattle.ix_items.specs.declared.items.Item.{Item}
 use Rattle.ix_items.specs.declared.items.Item.TheVariants as items
 use Rattle.ix_items.specs.declared.items.Kept.{Kept}
 use Rattle.ix_items.specs.declared.items.Rule.{Rule}
-use Rattle.ix_machine.specs.Bounds.{KeepsBounds, HasTime, AreTimes, bytes_in, events_in, bucket_items, entry_items, next_item, channel_item, sized_items}
-use Rattle.ix_machine.specs.Buckets.{Standing, live, frozen, Slot, Index, buckets, ledger}
-use Rattle.ix_machine.specs.Keeping.{turned, file_behind}
-use Rattle.ix_machine.specs.Keeping as kept
-use Rattle.ix_machine.specs.State.{State}
-use Rattle.ix_machine.specs.Step.{turn_in, turned_index, files_taken, all_turned}
-use Rattle.ix_machine.proofs.Named.{by_test}
-use Rattle.ix_shelves.specs.Buckets.{Turn, is_among, rule_of, entry_of, staying}
-use Rattle.ix_shelves.proofs.Sizes.{bucket_size, entry_size, size_behind, entries_size}
+use Rattle.ix_model.specs.Bounds.{KeepsBounds, HasTime, AreTimes, bytes_in, events_in, bucket_items, entry_items, next_item, channel_item}
+use Rattle.ix_model.specs.Bounds.{sized_items}
+use Rattle.ix_model.specs.Buckets.{Standing, live, frozen, Slot, Index, buckets, ledger}
+use Rattle.ix_model.specs.Keeping.{turned, file_behind}
+use Rattle.ix_model.specs.Keeping as kept
+use Rattle.ix_model.specs.State.{State}
+use Rattle.ix_model.specs.Step.{turn_in, turned_index, files_taken, all_turned}
+use Rattle.ix_model.proofs.Named.{by_test}
+use Rattle.ix_catalog.specs.Buckets.{Turn, is_among, rule_of, entry_of, staying}
+use Rattle.ix_catalog.proofs.Sizes.{bucket_size, entry_size, size_behind, entries_size}
 use Rattle.ix_bounds.proofs.TickSums.{Counts, bucket_sum, entry_sum, all_least}
 
 -- ---- what is counted
@@ -117,7 +119,8 @@ abbrev items_of : List Kept → List Index → List Item → List Item → List 
 items_of force is spots nexts channels =
     items.Settings force ∷ flat_map bucket_items is ++ flat_map entry_items is ++ spots ++ nexts ++ channels
 
-items_size : (force : List Kept) (is : List Index) (spots nexts channels : List Item) → length (body_bytes (items_of force is spots nexts channels))
+items_size : (force : List Kept) (is : List Index) (spots nexts channels : List Item) →
+    length (body_bytes (items_of force is spots nexts channels))
     ≡ length (item_bytes (items.Settings force)) + ((sum_by (bucket_sum size_of) is + sum_by (entry_sum entry_length) is)
     + ((length (body_bytes spots) + length (body_bytes nexts)) + length (body_bytes channels)))
 items_size force is spots nexts channels =
@@ -138,7 +141,8 @@ many : (t : Turn) (file : ℕ) (slots : List Slot) → length (kept.all_turned t
 many t file [] = refl
 many t file (s ∷ slots) = ap (λ (n : ℕ). suc n) (many t (file_behind t file s.standing) slots)
 
-nexts_same : (force : List Kept) (moment : ℤ) (file : ℕ) (is : List Index) → map next_item (all_turned force moment file is) ≡ map next_item is
+nexts_same : (force : List Kept) (moment : ℤ) (file : ℕ) (is : List Index) →
+    map next_item (all_turned force moment file is) ≡ map next_item is
 nexts_same force moment file [] = refl
 nexts_same force moment file (i ∷ is) =
     ap₂ (λ (n : ℕ) (l : List Item). items.NextId i.name n ∷ l) (many (turn_in force moment i) file i.slots)
@@ -149,7 +153,8 @@ slot_times : (t : Turn) (file : ℕ) (slots : List Slot) → AllByRecursion (λ 
 slot_times t file [] h = tt
 slot_times t file (s ∷ slots) h = (h.0, slot_times t (file_behind t file s.standing) slots h.1)
 
-times_keep : (force : List Kept) (moment : ℤ) (file : ℕ) (is : List Index) → AllByRecursion AreTimes is → AllByRecursion AreTimes (all_turned force moment file is)
+times_keep : (force : List Kept) (moment : ℤ) (file : ℕ) (is : List Index) → AllByRecursion AreTimes is →
+    AllByRecursion AreTimes (all_turned force moment file is)
 times_keep force moment file [] h = tt
 times_keep force moment file (i ∷ is) h =
     (slot_times (turn_in force moment i) file i.slots h.0, times_keep force moment (file + files_taken force moment i) is h.1)
@@ -157,10 +162,13 @@ times_keep force moment file (i ∷ is) h =
 abbrev HasId : Index → Type 0
 HasId i = length i.slots < 2 ^ 63
 
-ids_keep : (force : List Kept) (moment : ℤ) (file : ℕ) (is : List Index) → AllByRecursion HasId is → AllByRecursion HasId (all_turned force moment file is)
+ids_keep : (force : List Kept) (moment : ℤ) (file : ℕ) (is : List Index) → AllByRecursion HasId is →
+    AllByRecursion HasId (all_turned force moment file is)
 ids_keep force moment file [] h = tt
-ids_keep force moment file (i ∷ is) h =
-    (subst (λ (n : ℕ). n < 2 ^ 63) (sym (many (turn_in force moment i) file i.slots)) h.0, ids_keep force moment (file + files_taken force moment i) is h.1)
+ids_keep force moment file (i ∷ is) h = (
+  subst (λ (n : ℕ). n < 2 ^ 63) (sym (many (turn_in force moment i) file i.slots)) h.0,
+  ids_keep force moment (file + files_taken force moment i) is h.1,
+)
 
 -- ---- all of it
 

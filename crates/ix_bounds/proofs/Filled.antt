@@ -1,5 +1,6 @@
 -- After every history, each index among those that ever had a bucket has one.
-use Rattle.std.proofs.Common.{◌≡◌, ◌≤◌, ℕ, suc, ◌+◌, ℤ, Bool, true, false, List, [], ◌∷◌, ◌++◌, length, refl, sym, ap, subst, inl, inr, arith}
+use Rattle.std.proofs.Common.{◌≡◌, ◌≤◌, ℕ, suc, ◌+◌, ℤ, Bool, true, false, List, [], ◌∷◌, ◌++◌, length, refl, sym, ap, subst, inl, inr}
+use Rattle.std.proofs.Common.{arith}
 use Rattle.std.specs.Prelude.{Option, Some, None, ◌⊎◌, if◌then◌else◌, is_some, slice_get}
 use Rattle.std.specs.List.{AllByRecursion}
 use Rattle.std.proofs.lemmas.List.{length-map}
@@ -8,22 +9,22 @@ use Rattle.ix_base.specs.declared.events.Routed.{Routed}
 use Rattle.ix_base.specs.declared.events.Routed.TheVariants.{To, Null}
 use Rattle.ix_items.specs.declared.items.Kept.{Kept}
 use Rattle.ix_life.specs.declared.limits.Limits.{Limits}
-use Rattle.ix_machine.specs.Buckets.{Slot, Index}
-use Rattle.ix_machine.specs.Given.{Chooser, home, limits}
-use Rattle.ix_machine.specs.Keeping.{file_behind, closed_slot, thawed_slot}
-use Rattle.ix_machine.specs.Keeping as kept
-use Rattle.ix_machine.specs.Placed.{filled_slot, placed, roll}
-use Rattle.ix_machine.specs.State.{Catalog, index_name, fresh_index, empty}
-use Rattle.ix_machine.specs.Step.{filled, deal_to, deal, turn_in, files_taken, all_turned, closed_index, thawed_index, after}
-use Rattle.ix_machine.specs.Sums.{IsSound}
-use Rattle.ix_machine.specs.declared.commands.Order.{Order}
-use Rattle.ix_machine.proofs.Dealing.{length_update}
-use Rattle.ix_machine.proofs.Named.{all_change, all_put}
-use Rattle.ix_machine.proofs.Placing.{GoesInto, GoesBehind, goes}
-use Rattle.ix_machine.proofs.Sound.{sound_placed, sound_turned, sound_closed, sound_thawed}
-use Rattle.ix_machine.proofs.Stepping.{Keeps, keeps_after}
-use Rattle.ix_shelves.specs.Buckets.{Turn, named}
-use Rattle.ix_shelves.specs.Lists.{find, change, insert, stands_before}
+use Rattle.ix_model.specs.Buckets.{Slot, Index}
+use Rattle.ix_model.specs.Given.{Chooser, home, limits}
+use Rattle.ix_model.specs.Keeping.{file_behind, closed_slot, thawed_slot}
+use Rattle.ix_model.specs.Keeping as kept
+use Rattle.ix_model.specs.Placed.{filled_slot, placed, roll}
+use Rattle.ix_model.specs.State.{Catalog, index_name, fresh_index, empty}
+use Rattle.ix_model.specs.Step.{filled, deal_to, deal, turn_in, files_taken, all_turned, closed_index, thawed_index, state_after}
+use Rattle.ix_model.specs.Sums.{IsSound}
+use Rattle.ix_model.specs.declared.commands.TimedCommand.{TimedCommand}
+use Rattle.ix_model.proofs.Dealing.{length_update}
+use Rattle.ix_model.proofs.Named.{all_change, all_put}
+use Rattle.ix_model.proofs.Placing.{GoesInto, GoesBehind, goes}
+use Rattle.ix_model.proofs.Sound.{sound_placed, sound_turned, sound_closed, sound_thawed}
+use Rattle.ix_model.proofs.Stepping.{Keeps, keeps_after}
+use Rattle.ix_catalog.specs.Buckets.{Turn, named}
+use Rattle.ix_catalog.specs.Lists.{find, change, insert, stands_before}
 
 abbrev pub IsFilled : Index → Type 0
 IsFilled i = IsSound i × (1 ≤ length i.slots)
@@ -40,7 +41,8 @@ some_behind [] x = omega arith
 some_behind (y ∷ xs) x = omega arith
 
 placed_some : (limits : Limits) (file : ℕ) (event : Event) (used : ℕ) (moment : ℤ) (slots : List Slot) →
-    GoesInto limits file event used moment slots ⊎ GoesBehind limits file event used moment slots → 1 ≤ length (placed limits file event used moment slots)
+    GoesInto limits file event used moment slots ⊎ GoesBehind limits file event used moment slots →
+    1 ≤ length (placed limits file event used moment slots)
 placed_some limits file event used moment slots (inl g) =
     let a = some_at g.place slots g.slot g.found in
     let b = length_update g.place (filled_slot limits event used moment) slots in
@@ -49,13 +51,15 @@ placed_some limits file event used moment slots (inl g) =
 placed_some limits file event used moment slots (inr g) =
     subst (λ (l : List Slot). 1 ≤ length l) (sym g.comes_to) (some_behind (roll g.rolls slots) _)
 
-is_placed : (force : List Kept) (moment : ℤ) (file used : ℕ) (event : Event) (i : Index) → IsSound i → IsFilled (filled force moment file used event i)
+is_placed : (force : List Kept) (moment : ℤ) (file used : ℕ) (event : Event) (i : Index) → IsSound i →
+    IsFilled (filled force moment file used event i)
 is_placed force moment file used event i h = (
   sound_placed i.name (limits force i.name) file event used moment i.slots h,
   placed_some (limits force i.name) file event used moment i.slots (goes i.name (limits force i.name) file event used moment i.slots h),
 )
 
-put : (name : List ℕ) (f : Index → Index) (is : List Index) (b : Bool) → ((i : Index) → IsSound i → IsFilled (f i)) → AllByRecursion IsFilled is →
+put : (name : List ℕ) (f : Index → Index) (is : List Index) (b : Bool) → ((i : Index) → IsSound i → IsFilled (f i)) →
+    AllByRecursion IsFilled is →
     AllByRecursion IsFilled (if b then change index_name name f is else insert index_name (f (fresh_index name)) is)
 put name f is true k h = all_change IsFilled index_name name f is h (λ i p. k i p.0)
 put name f is false k h = all_put IsFilled (stands_before index_name) (f (fresh_index name)) is (k (fresh_index name) tt) h
@@ -71,7 +75,8 @@ length_turned : (t : Turn) (file : ℕ) (slots : List Slot) → length (kept.all
 length_turned t file [] = refl
 length_turned t file (s ∷ slots) = ap suc (length_turned t (file_behind t file s.standing) slots)
 
-turns_filled : (force : List Kept) (moment : ℤ) (file : ℕ) (is : List Index) → AllByRecursion IsFilled is → AllByRecursion IsFilled (all_turned force moment file is)
+turns_filled : (force : List Kept) (moment : ℤ) (file : ℕ) (is : List Index) → AllByRecursion IsFilled is →
+    AllByRecursion IsFilled (all_turned force moment file is)
 turns_filled force moment file [] h = tt
 turns_filled force moment file (i ∷ is) h = (
   (
@@ -95,8 +100,11 @@ keeps_filled = record {
   rolls = λ index s h. all_change IsFilled index_name index closed_index s.indexes h
       (λ i p. (sound_closed i.name 0 i.slots p.0, (let a = length-map i.slots closed_slot in let b = p.1 in omega (arith, a, b))));
   thaws = λ index id s h. all_change IsFilled index_name index (thawed_index id s.next_file) s.indexes h
-      (λ i p. (sound_thawed i.name id s.next_file i.slots p.0, (let a = length_update id (thawed_slot s.next_file) i.slots in let b = p.1 in omega (arith, a, b))));
+      (λ i p. (
+        sound_thawed i.name id s.next_file i.slots p.0,
+        (let a = length_update id (thawed_slot s.next_file) i.slots in let b = p.1 in omega (arith, a, b)),
+      ));
 }
 
-pub filled_after : (choose : Chooser) (history : List Order) → AreFilled (after choose history).catalog
+pub filled_after : (choose : Chooser) (history : List TimedCommand) → AreFilled (state_after choose history).catalog
 filled_after choose history = keeps_after AreFilled keeps_filled choose empty history tt

@@ -7,18 +7,18 @@ use Rattle.ix_items.specs.declared.items.Entry.{Entry}
 use Rattle.ix_items.specs.declared.items.Kept.{Kept}
 use Rattle.ix_life.specs.Order.{put}
 use Rattle.ix_life.specs.declared.views.IndexView.{IndexView}
-use Rattle.ix_machine.specs.Buckets.{Slot, Index}
-use Rattle.ix_machine.specs.Given.{Chooser}
-use Rattle.ix_machine.specs.Shown.{configured, with_fresh, index_view}
-use Rattle.ix_machine.specs.State.{index_name, fresh_index}
-use Rattle.ix_machine.specs.Step.{after}
-use Rattle.ix_machine.specs.declared.commands.Order.{Order}
-use Rattle.ix_machine.proofs.Ascending.{in_order_after}
-use Rattle.ix_machine.proofs.Ledgers.{all_after}
-use Rattle.ix_machine.proofs.Named.{by_test}
-use Rattle.ix_shelves.specs.Lists.{find, change, insert, stands_before}
-use Rattle.ix_shelves.specs.Measures.{has_number}
-use Rattle.ix_machine.specs.Shelved.{shelved_indexes}
+use Rattle.ix_model.specs.Buckets.{Slot, Index}
+use Rattle.ix_model.specs.Given.{Chooser}
+use Rattle.ix_model.specs.Shown.{configured, with_fresh, index_view}
+use Rattle.ix_model.specs.State.{index_name, fresh_index}
+use Rattle.ix_model.specs.Step.{state_after}
+use Rattle.ix_model.specs.declared.commands.TimedCommand.{TimedCommand}
+use Rattle.ix_model.proofs.Ascending.{in_order_after}
+use Rattle.ix_model.proofs.Ledgers.{all_after}
+use Rattle.ix_model.proofs.Named.{by_test}
+use Rattle.ix_catalog.specs.Lists.{find, change, insert, stands_before}
+use Rattle.ix_catalog.specs.Measures.{has_number}
+use Rattle.ix_model.specs.Shelved.{shelved_indexes}
 use Rattle.ix_bounds.proofs.Filled.{IsFilled, filled_after}
 use Rattle.ix_bounds.proofs.Listed.{IsNumbered, numbered_in, has_slots, has_number_is}
 use Rattle.ix_bounds.proofs.Sums.{all_from}
@@ -47,7 +47,8 @@ filter_all : {X : Type 0} (p : X → Bool) (xs : List X) → AllByRecursion (λ 
 filter_all p [] h = refl
 filter_all {X} p (x ∷ xs) h = let t = h.0 in rw t (ap (λ (l : List X). x ∷ l) (filter_all p xs h.1))
 
-filter_put : {X : Type 0} (p : X → Bool) (before : X → X → Bool) (a : X) (xs : List X) → p a ≡ false → filter p (put before a xs) ≡ filter p xs
+filter_put : {X : Type 0} (p : X → Bool) (before : X → X → Bool) (a : X) (xs : List X) → p a ≡ false →
+    filter p (put before a xs) ≡ filter p xs
 filter_put p before a [] h = rw h refl
 filter_put {X} p before a (x ∷ xs) h =
     by_test (before x a)
@@ -64,7 +65,8 @@ had i = has_slots i.slots
 filter_one : (is : List Index) (name : List ℕ) → filter had (with_fresh is name) ≡ filter had is
 filter_one is name = by (is_some (find index_name name is))
   where
-    by : (b : Bool) → filter had (if b then change index_name name (λ (i : Index). i) is else insert index_name (fresh_index name) is) ≡ filter had is
+    by : (b : Bool) → filter had (if b then change index_name name (λ (i : Index). i) is else insert index_name (fresh_index name)
+        is) ≡ filter had is
     by true = ap (filter had) (change_same index_name name is)
     by false = filter_put had (stands_before index_name) (fresh_index name) is refl
 
@@ -81,29 +83,37 @@ filled_had i h = by i.slots h.1
 
 -- ---- those that ever had a bucket
 
-module _ (choose : Chooser) (history : List Order) (force : List Kept) (entries : List Entry) (moved : IsPermutation entries (after choose history).catalog.ledger) where
-  found : filter (has_number entries) (shelved_indexes force (after choose history).catalog.indexes) ≡ map (index_view force) (after choose history).catalog.indexes
+module _ (choose : Chooser) (history : List TimedCommand) (force : List Kept) (entries : List Entry)
+    (moved : IsPermutation entries (state_after choose history).catalog.ledger) where
+  found : filter (has_number entries) (shelved_indexes force (state_after choose history).catalog.indexes) ≡ map (index_view force)
+      (state_after choose history).catalog.indexes
   found =
-      filter_map (has_number entries) (index_view force) (fold with_fresh (after choose history).catalog.indexes (configured force))
+      filter_map (has_number entries) (index_view force) (fold with_fresh (state_after choose history).catalog.indexes (configured force))
       ∙ ap (map (index_view force))
-      (filter_same (λ (i : Index). has_number entries (index_view force i)) had (fold with_fresh (after choose history).catalog.indexes (configured force))
-      (all_from (IsNumbered entries) (λ (i : Index). has_number entries (index_view force i) ≡ had i) (λ i n. has_number_is entries i.name i.slots n)
-      (fold with_fresh (after choose history).catalog.indexes (configured force))
-      (numbered_in (after choose history).catalog (configured force) entries (all_after choose history) (in_order_after choose history).indexes moved))
-      ∙ filter_fresh (configured force) (after choose history).catalog.indexes
-      ∙ filter_all had (after choose history).catalog.indexes
-      (all_from IsFilled (λ (i : Index). had i ≡ true) filled_had (after choose history).catalog.indexes (filled_after choose history)))
+      (filter_same (λ (i : Index). has_number entries (index_view force i)) had
+      (fold with_fresh (state_after choose history).catalog.indexes (configured force))
+      (all_from (IsNumbered entries) (λ (i : Index). has_number entries (index_view force i) ≡ had i)
+      (λ i n. has_number_is entries i.name i.slots n)
+      (fold with_fresh (state_after choose history).catalog.indexes (configured force))
+      (numbered_in (state_after choose history).catalog (configured force) entries (all_after choose history)
+      (in_order_after choose history).indexes moved))
+      ∙ filter_fresh (configured force) (state_after choose history).catalog.indexes
+      ∙ filter_all had (state_after choose history).catalog.indexes
+      (all_from IsFilled (λ (i : Index). had i ≡ true) filled_had (state_after choose history).catalog.indexes
+      (filled_after choose history)))
 
   zipped : (is : List Index) → AllZip IsBucketed is (map bucketed_of (map (index_view force) is))
   zipped [] = tt
   zipped (i ∷ is) = (record { name = refl; buckets = refl }, zipped is)
 
   pub are_indexes : AllByRecursion BringsLimits history →
-      AreIndexes (after choose history).catalog.indexes (bucketed entries (shelved_indexes force (after choose history).catalog.indexes))
+      AreIndexes (state_after choose history).catalog.indexes
+      (bucketed entries (shelved_indexes force (state_after choose history).catalog.indexes))
   are_indexes brings =
       record {
         names = names_are_no_volumes choose history brings;
-        zipped = subst (λ (l : List IndexView). AllZip IsBucketed (after choose history).catalog.indexes (map bucketed_of l)) (sym found)
-            (zipped (after choose history).catalog.indexes);
+        zipped = subst (λ (l : List IndexView). AllZip IsBucketed (state_after choose history).catalog.indexes (map bucketed_of l))
+            (sym found)
+            (zipped (state_after choose history).catalog.indexes);
         ascending = (in_order_after choose history).indexes;
       }

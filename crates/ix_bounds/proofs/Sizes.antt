@@ -11,16 +11,16 @@ use Rattle.ix_items.specs.declared.items.Item.{Item}
 use Rattle.ix_items.specs.declared.items.Item.TheVariants as items
 use Rattle.ix_items.specs.declared.items.Kept.{Kept}
 use Rattle.ix_life.specs.declared.views.IndexView.{IndexView}
-use Rattle.ix_machine.specs.Bounds.{bucket_items, entry_items, next_item, channel_item, sized_items}
-use Rattle.ix_machine.specs.Buckets.{Slot, Index, buckets, ledger}
-use Rattle.ix_machine.specs.Shown.{configured, with_fresh, index_view}
-use Rattle.ix_machine.specs.State.{State, Catalog, Life, index_name}
-use Rattle.ix_machine.proofs.Ledgers.{HasAll}
-use Rattle.ix_shelves.specs.Lists.{AreAscending}
-use Rattle.ix_shelves.specs.Measures.{index_items, shelf_items, shelf_size}
-use Rattle.ix_shelves.specs.Shelves.{next_number}
-use Rattle.ix_shelves.proofs.Sizes.{next_size}
-use Rattle.ix_machine.specs.Shelved.{shelved_indexes, shelved}
+use Rattle.ix_model.specs.Bounds.{bucket_items, entry_items, next_item, channel_item, sized_items}
+use Rattle.ix_model.specs.Buckets.{Slot, Index, buckets, ledger}
+use Rattle.ix_model.specs.Shown.{configured, with_fresh, index_view}
+use Rattle.ix_model.specs.State.{State, Catalog, ChannelHistory, index_name}
+use Rattle.ix_model.proofs.Ledgers.{HasAll}
+use Rattle.ix_catalog.specs.Lists.{AreAscending}
+use Rattle.ix_catalog.specs.Measures.{index_items, shelf_items, shelf_size}
+use Rattle.ix_catalog.specs.Shelves.{next_number}
+use Rattle.ix_catalog.proofs.Sizes.{next_size}
+use Rattle.ix_model.specs.Shelved.{shelved_indexes, shelved}
 use Rattle.ix_bounds.specs.Parts.{Parts, channel_of, IsPartsOf}
 use Rattle.ix_bounds.specs.Within.{item_size, settings_size, channel_size, spot_size, size}
 use Rattle.ix_bounds.proofs.Added.{in_ledger, entries_sum}
@@ -43,7 +43,8 @@ buckets_size i = sum_by item_size (bucket_items i)
 abbrev index_size : Index → ℕ
 index_size i = buckets_size i + number_size (has_slots i.slots) i.name
 
-view_size : (entries : List Entry) (force : List Kept) (i : Index) → IsNumbered entries i → sum_by item_size (index_items entries (index_view force i)) ≡ index_size i
+view_size : (entries : List Entry) (force : List Kept) (i : Index) → IsNumbered entries i →
+    sum_by item_size (index_items entries (index_view force i)) ≡ index_size i
 view_size entries force i h =
     ap (λ (b : Bool). sum_by item_size (bucket_items i ++ (if b then next ∷ [] else []))) (has_number_is entries i.name i.slots h)
     ∙ by (has_slots i.slots)
@@ -61,7 +62,8 @@ view_size entries force i h =
 filled_size : (i : Index) → IsFilled i → index_size i ≡ buckets_size i + item_size (next_item i)
 filled_size i h = by i.slots h.1
   where
-    by : (slots : List Slot) → 1 ≤ length slots → buckets_size i + number_size (has_slots slots) i.name ≡ buckets_size i + item_size (next_item i)
+    by : (slots : List Slot) → 1 ≤ length slots → buckets_size i + number_size (has_slots slots) i.name ≡ buckets_size i + item_size
+        (next_item i)
     by [] k = absurd (omega (arith, k))
     by (s ∷ slots) k = let a = next_size i.name (length i.slots) in omega (arith, a)
 
@@ -77,7 +79,8 @@ shelves_size force s entries h =
     let all = fold with_fresh s.indexes (configured force) in
     let a = sum_map (λ (v : IndexView). sum_by item_size (index_items entries v)) (index_view force) all in
     let b = sum_same (λ (i : Index). sum_by item_size (index_items entries (index_view force i))) index_size all
-    (all_from (IsNumbered entries) (λ i. sum_by item_size (index_items entries (index_view force i)) ≡ index_size i) (view_size entries force) all
+    (all_from (IsNumbered entries) (λ i. sum_by item_size (index_items entries (index_view force i)) ≡ index_size i)
+    (view_size entries force) all
     (numbered_in s (configured force) entries h.0 h.2 h.3)) in
     let c = fresh_sum index_size (λ name. refl) (configured force) s.indexes in
     let d = sum_same index_size (λ (i : Index). buckets_size i + item_size (next_item i)) s.indexes
@@ -90,7 +93,8 @@ entry_size e = item_size (items.Ledger e)
 
 shelf_size_is : (force : List Kept) (s : Catalog) (entries : List Entry) → Joined s entries →
     shelf_size entries (shelved force s)
-    ≡ sum_by buckets_size s.indexes + sum_by (λ (i : Index). item_size (next_item i)) s.indexes + sum_by (λ (i : Index). sum_by item_size (entry_items i)) s.indexes
+    ≡ sum_by buckets_size s.indexes + sum_by (λ (i : Index). item_size (next_item i)) s.indexes + sum_by
+    (λ (i : Index). sum_by item_size (entry_items i)) s.indexes
 shelf_size_is force s entries h =
     let views = shelved_indexes force s.indexes in
     let a = body_size (shelf_items entries (shelved force s)) in
@@ -114,7 +118,7 @@ state_size : (m : State) → length (body_bytes (sized_items m))
     + sum_by (λ (i : Index). sum_by item_size (entry_items i)) m.catalog.indexes
     + sum_by spot_size m.spots
     + sum_by (λ (i : Index). item_size (next_item i)) m.catalog.indexes
-    + sum_by (λ (life : Life). item_size (channel_item life)) m.channels
+    + sum_by (λ (life : ChannelHistory). item_size (channel_item life)) m.channels
 state_size m =
     let one = items.Settings m.force in
     let two = flat_map bucket_items m.catalog.indexes in

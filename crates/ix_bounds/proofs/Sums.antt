@@ -3,11 +3,11 @@ use Rattle.std.proofs.Common.{◌≡◌, ◌≤◌, ℕ, ◌+◌, List, [], ◌�
 use Rattle.std.specs.Prelude.{fold, unwrap_or}
 use Rattle.std.specs.List.{AllByRecursion, sum_by, flat_map}
 use Rattle.std.proofs.lemmas.List.Sums.{sum_by-cons, sum_by-append}
-use Rattle.ix_machine.specs.Buckets.{Index}
-use Rattle.ix_machine.specs.Shown.{with_fresh}
-use Rattle.ix_machine.specs.State.{index_name, fresh_index}
-use Rattle.ix_machine.proofs.Named.{sum_change_or_insert}
-use Rattle.ix_shelves.specs.Lists.{find}
+use Rattle.ix_model.specs.Buckets.{Index}
+use Rattle.ix_model.specs.Shown.{with_fresh}
+use Rattle.ix_model.specs.State.{index_name, fresh_index}
+use Rattle.ix_model.proofs.Named.{sum_change_or_insert}
+use Rattle.ix_catalog.specs.Lists.{find}
 
 pub sum_same : {X : Type 0} (f g : X → ℕ) (xs : List X) → AllByRecursion (λ x. f x ≡ g x) xs → sum_by f xs ≡ sum_by g xs
 sum_same f g [] h = refl
@@ -78,7 +78,8 @@ pub all_from : {X : Type 0} (P Q : X → Type 0) → ((x : X) → P x → Q x) �
 all_from P Q k [] h = tt
 all_from P Q k (x ∷ xs) h = (k x h.0, all_from P Q k xs h.1)
 
-pub all_two : {X : Type 0} (P Q R : X → Type 0) → ((x : X) → P x → Q x → R x) → (xs : List X) → AllByRecursion P xs → AllByRecursion Q xs → AllByRecursion R xs
+pub all_two : {X : Type 0} (P Q R : X → Type 0) → ((x : X) → P x → Q x → R x) → (xs : List X) → AllByRecursion P xs → AllByRecursion Q xs →
+    AllByRecursion R xs
 all_two P Q R k [] h i = tt
 all_two P Q R k (x ∷ xs) h i = (k x h.0 i.0, all_two P Q R k xs h.1 i.1)
 
@@ -89,5 +90,6 @@ fresh_sum g z [] is = refl
 fresh_sum g z (name ∷ names) is =
     fresh_sum g z names (with_fresh is name)
     ∙ (let a = sum_change_or_insert index_name name (λ (i : Index). i) (fresh_index name) g 0 is (z name)
-    (let n : g (unwrap_or (find index_name name is) (fresh_index name)) ≡ g (unwrap_or (find index_name name is) (fresh_index name)) + 0 = omega arith in n) in
+    (let n : g (unwrap_or (find index_name name is) (fresh_index name)) ≡ g
+    (unwrap_or (find index_name name is) (fresh_index name)) + 0 = omega arith in n) in
     omega (arith, a))

@@ -7,11 +7,11 @@ use Rattle.ix_items.specs.declared.items.Bucket.{Bucket}
 use Rattle.ix_items.specs.declared.items.Entry.{Entry}
 use Rattle.ix_items.specs.declared.items.Kept.{Kept}
 use Rattle.ix_items.specs.declared.items.Rule.{Rule}
-use Rattle.ix_machine.specs.Buckets.{Standing, live, frozen, Slot, Index, listed, entered, buckets, ledger}
-use Rattle.ix_machine.specs.Keeping.{turned_by, turned, file_behind}
-use Rattle.ix_machine.specs.Keeping as kept
-use Rattle.ix_machine.specs.Step.{turn_in, turned_index, files_taken, all_turned}
-use Rattle.ix_shelves.specs.Buckets.{Turn, rule_of, entry_of, staying}
+use Rattle.ix_model.specs.Buckets.{Standing, live, frozen, Slot, Index, listed, entered, buckets, ledger}
+use Rattle.ix_model.specs.Keeping.{turned_by, turned, file_behind}
+use Rattle.ix_model.specs.Keeping as kept
+use Rattle.ix_model.specs.Step.{turn_in, turned_index, files_taken, all_turned}
+use Rattle.ix_catalog.specs.Buckets.{Turn, rule_of, entry_of, staying}
 
 -- what a bucket counts for is what its entry counts for at least, and what it does where it stays
 pub record Counts (name : List ℕ) (f : Bucket → ℕ) (g : Entry → ℕ) : Type 0 where
@@ -40,7 +40,8 @@ module _ (name : List ℕ) (f : Bucket → ℕ) (g : Entry → ℕ) (h : Counts 
   -- ---- an index
 
   slots_least : (t : Turn) (file : ℕ) (slots : List Slot) → t.index ≡ name →
-      sum_by f (buckets (kept.all_turned t file slots)) + sum_by g (ledger (kept.all_turned t file slots)) ≤ sum_by f (buckets slots) + sum_by g (ledger slots)
+      sum_by f (buckets (kept.all_turned t file slots)) + sum_by g (ledger (kept.all_turned t file slots)) ≤ sum_by f
+      (buckets slots) + sum_by g (ledger slots)
   slots_least t file [] e = omega arith
   slots_least t file (s ∷ slots) e =
       let next = file_behind t file s.standing in

@@ -1,22 +1,23 @@
 -- What a Tick leaves to the command behind it.
 use Rattle.std.proofs.Common.{◌≡◌, ◌≤◌, ◌<◌, ◌^◌, ℕ, ℤ, Bool, true, false, List, [], ◌∷◌, ◌++◌, refl, sym, arith, subst}
 use Rattle.std.proofs.lemmas.Int.{ints}
-use Rattle.ix_machine.specs.Bounds.{KeepsBounds}
-use Rattle.ix_machine.specs.Given.{Chooser}
-use Rattle.ix_machine.specs.Judged.{judged, waits_for_tick}
-use Rattle.ix_machine.specs.State.{State, empty}
-use Rattle.ix_machine.specs.Step.{after, effective, step}
-use Rattle.ix_machine.specs.declared.commands.Command.{Command}
-use Rattle.ix_machine.specs.declared.commands.Command.TheVariants.{Begin, Block, End, Tick, Roll, Thaw, Configure, Direct}
-use Rattle.ix_machine.specs.declared.commands.Order.{Order}
-use Rattle.ix_machine.proofs.Following.{after_more}
+use Rattle.ix_model.specs.Bounds.{KeepsBounds}
+use Rattle.ix_model.specs.Given.{Chooser}
+use Rattle.ix_model.specs.Judged.{judged, waits_for_tick}
+use Rattle.ix_model.specs.State.{State, empty}
+use Rattle.ix_model.specs.Step.{state_after, effective, step}
+use Rattle.ix_model.specs.declared.commands.Command.{Command}
+use Rattle.ix_model.specs.declared.commands.Command.TheVariants.{Begin, Block, End, Tick, Roll, Thaw, Configure, Direct}
+use Rattle.ix_model.specs.declared.commands.TimedCommand.{TimedCommand}
+use Rattle.ix_model.proofs.Following.{after_more}
 use Rattle.ix_bounds.specs.Ticked.{tick_for, IsTicked}
 use Rattle.ix_bounds.proofs.Bounded as bounded
 
 false_true : false ≡ true → ⊥
 false_true e = cc
 
-judged_same : (choose : Chooser) (m : State) (order : Order) (command : Command) → waits_for_tick command ≡ true → judged (step choose m (tick_for order)) command ≡ judged m command
+judged_same : (choose : Chooser) (m : State) (order : TimedCommand) (command : Command) → waits_for_tick command ≡ true →
+    judged (step choose m (tick_for order)) command ≡ judged m command
 judged_same choose m order (Begin channel meta) w = refl
 judged_same choose m order (Block channel bytes spot) w = refl
 judged_same choose m order (End channel) w = refl
@@ -29,7 +30,8 @@ judged_same choose m order (Direct events) w = refl
 once_more : (last moment : ℤ) → effective (effective last moment) moment ≡ effective last moment
 once_more last moment = grind (arith, ints)
 
-bounds_keep : (choose : Chooser) (m : State) (order : Order) → KeepsBounds m → (step choose m (tick_for order)).catalog.next_file < 2 ^ 63 →
+bounds_keep : (choose : Chooser) (m : State) (order : TimedCommand) → KeepsBounds m →
+    (step choose m (tick_for order)).catalog.next_file < 2 ^ 63 →
     KeepsBounds (step choose m (tick_for order))
 bounds_keep choose m order h n =
     let moment : ℤ = effective m.last order.moment in
@@ -45,7 +47,7 @@ bounds_keep choose m order h n =
       items = bounded.size m moment h;
     }
 
-ticked : (choose : Chooser) (m : State) (order : Order) → IsTicked order m (step choose m (tick_for order))
+ticked : (choose : Chooser) (m : State) (order : TimedCommand) → IsTicked order m (step choose m (tick_for order))
 ticked choose m order = record {
   force = refl;
   channels = refl;
@@ -56,6 +58,8 @@ ticked choose m order = record {
   bounds = bounds_keep choose m order;
 }
 
-pub ticks : (choose : Chooser) (history : List Order) (order : Order) → IsTicked order (after choose history) (after choose (history ++ tick_for order ∷ []))
+pub ticks : (choose : Chooser) (history : List TimedCommand) (order : TimedCommand) →
+    IsTicked order (state_after choose history) (state_after choose (history ++ tick_for order ∷ []))
 ticks choose history order =
-    subst (IsTicked order (after choose history)) (sym (after_more choose empty history (tick_for order ∷ []))) (ticked choose (after choose history) order)
+    subst (IsTicked order (state_after choose history)) (sym (after_more choose empty history (tick_for order ∷ [])))
+    (ticked choose (state_after choose history) order)

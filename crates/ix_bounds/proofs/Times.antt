@@ -8,9 +8,9 @@ use Rattle.std.proofs.lemmas.List.Sums.{sum_by-append}
 use Rattle.ix_base.specs.declared.events.Event.{Event}
 use Rattle.ix_items.specs.declared.items.Bucket.{Bucket}
 use Rattle.ix_items.specs.declared.items.Entry.{Entry}
-use Rattle.ix_machine.specs.Bounds.{IsTime, HasTime, AreTimes}
-use Rattle.ix_machine.specs.Buckets.{Standing, live, frozen, Slot, Index, listed, entered, buckets, ledger}
-use Rattle.ix_machine.specs.Sums.{latest, earliest, AreSums, IsStandingOf, AreSoundFrom, IsSound}
+use Rattle.ix_model.specs.Bounds.{IsTime, HasTime, AreTimes}
+use Rattle.ix_model.specs.Buckets.{Standing, live, frozen, Slot, Index, listed, entered, buckets, ledger}
+use Rattle.ix_model.specs.Sums.{latest, earliest, AreSums, IsStandingOf, AreSoundFrom, IsSound}
 use Rattle.ix_bounds.proofs.Added.{in_index}
 
 -- ---- the latest and the earliest
@@ -52,12 +52,16 @@ are_between t u (e ∷ es) h k =
       each = ((let q : IsTime e.time = omega (arith, ints, clamps, a, b) in q), p.each);
     }
 
-pub stated : (events : List Event) (count bytes : ℕ) (newest oldest : ℤ) → AreSums events count bytes newest oldest → AllByRecursion HasTime events → IsTime newest × IsTime oldest
+pub stated : (events : List Event) (count bytes : ℕ) (newest oldest : ℤ) → AreSums events count bytes newest oldest →
+    AllByRecursion HasTime events → IsTime newest × IsTime oldest
 stated events count bytes newest oldest h k =
-    let times : AllByRecursion HasTime (h.first ∷ h.rest) = subst (AllByRecursion HasTime) h.events_are k in
-    (subst IsTime (sym h.newest_is) (latest_time h.first.time h.rest times.0 times.1), subst IsTime (sym h.oldest_is) (earliest_time h.first.time h.rest times.0 times.1))
+    let times : AllByRecursion HasTime (h.first ∷ h.rest) = subst (AllByRecursion HasTime) h.events_are k in (
+      subst IsTime (sym h.newest_is) (latest_time h.first.time h.rest times.0 times.1),
+      subst IsTime (sym h.oldest_is) (earliest_time h.first.time h.rest times.0 times.1),
+    )
 
-pub held : (events : List Event) (count bytes : ℕ) (newest oldest : ℤ) → AreSums events count bytes newest oldest → IsTime newest → IsTime oldest → AllByRecursion HasTime events
+pub held : (events : List Event) (count bytes : ℕ) (newest oldest : ℤ) → AreSums events count bytes newest oldest → IsTime newest →
+    IsTime oldest → AllByRecursion HasTime events
 held events count bytes newest oldest h n o =
     let p = are_between h.first.time h.first.time h.rest (subst IsTime h.newest_is n) (subst IsTime h.oldest_is o) in
     let b = p.below in
@@ -85,7 +89,8 @@ over_none n o h = ((let p : IsTime n = omega (arith, h) in p), (let p : IsTime o
 abbrev standing_over : Standing → ℕ
 standing_over standing = sum_by bucket_over (option_to_list (listed standing)) + sum_by entry_over (option_to_list (entered standing))
 
-standing_none : (index : List ℕ) (id : ℕ) (events : List Event) (standing : Standing) → IsStandingOf index id events standing → AllByRecursion HasTime events →
+standing_none : (index : List ℕ) (id : ℕ) (events : List Event) (standing : Standing) → IsStandingOf index id events standing →
+    AllByRecursion HasTime events →
     standing_over standing ≡ 0
 standing_none index id events (live b) h k =
     let p = stated events b.count b.bytes b.newest b.oldest h.is_of.sums k in
@@ -102,7 +107,8 @@ standing_none index id events (frozen e (Some b)) h k =
     let s = none_over b.newest b.oldest r.0 r.1 in
     omega (arith, q, s)
 
-standing_times : (index : List ℕ) (id : ℕ) (events : List Event) (standing : Standing) → IsStandingOf index id events standing → standing_over standing ≡ 0 →
+standing_times : (index : List ℕ) (id : ℕ) (events : List Event) (standing : Standing) → IsStandingOf index id events standing →
+    standing_over standing ≡ 0 →
     AllByRecursion HasTime events
 standing_times index id events (live b) h k =
     let p = over_none b.newest b.oldest (omega (arith, k)) in held events b.count b.bytes b.newest b.oldest h.is_of.sums p.0 p.1
@@ -123,7 +129,8 @@ one_more s slots =
 abbrev SlotHasTimes : Slot → Type 0
 SlotHasTimes s = AllByRecursion HasTime s.events
 
-slots_none : (index : List ℕ) (id : ℕ) (slots : List Slot) → AreSoundFrom index id slots → AllByRecursion SlotHasTimes slots → slots_over slots ≡ 0
+slots_none : (index : List ℕ) (id : ℕ) (slots : List Slot) → AreSoundFrom index id slots → AllByRecursion SlotHasTimes slots →
+    slots_over slots ≡ 0
 slots_none index id [] h k = refl
 slots_none index id (s ∷ slots) h k =
     let a = one_more s slots in
@@ -131,7 +138,8 @@ slots_none index id (s ∷ slots) h k =
     let c = slots_none index (suc id) slots h.1 k.1 in
     omega (arith, a, b, c)
 
-slots_times : (index : List ℕ) (id : ℕ) (slots : List Slot) → AreSoundFrom index id slots → slots_over slots ≡ 0 → AllByRecursion SlotHasTimes slots
+slots_times : (index : List ℕ) (id : ℕ) (slots : List Slot) → AreSoundFrom index id slots → slots_over slots ≡ 0 →
+    AllByRecursion SlotHasTimes slots
 slots_times index id [] h k = tt
 slots_times index id (s ∷ slots) h k =
     let a = one_more s slots in (

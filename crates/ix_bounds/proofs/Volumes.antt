@@ -12,18 +12,19 @@ use Rattle.ix_life.specs.Limits.{listed_with, listed_at, main_of, listed, named 
 use Rattle.ix_life.specs.Stanzas.{is_default, is_volume, is_index_stanza, is_index}
 use Rattle.ix_life.specs.declared.sets.IndexLimits.{IndexLimits}
 use Rattle.ix_life.specs.declared.sets.LimitSet.{LimitSet}
-use Rattle.ix_machine.specs.Buckets.{Index}
-use Rattle.ix_machine.specs.Given.{Chooser, entries, is_configured, home}
-use Rattle.ix_machine.specs.State.{State, Catalog, index_name, fresh_index, empty}
-use Rattle.ix_machine.specs.Step.{filled, deal_to, deal, deal_all, outcomes, files_taken, all_turned, closed_index, thawed_index, moves, force, effective, step, after_from}
-use Rattle.ix_machine.specs.declared.commands.Command.{Command}
-use Rattle.ix_machine.specs.declared.commands.Command.TheVariants.{Begin, Block, End, Tick, Roll, Thaw, Configure, Direct}
-use Rattle.ix_machine.specs.declared.commands.Order.{Order}
-use Rattle.ix_machine.proofs.Named.{by_test, same_bytes, all_change, all_change_or_insert}
-use Rattle.ix_shelves.specs.Buckets.{named}
-use Rattle.ix_machine.specs.Shelved.{IsSet}
-use Rattle.ix_machine.proofs.Homes.{home_listed}
-use Rattle.ix_machine.proofs.Listing.{among}
+use Rattle.ix_model.specs.Buckets.{Index}
+use Rattle.ix_model.specs.Given.{Chooser, entries, is_configured, home}
+use Rattle.ix_model.specs.State.{State, Catalog, index_name, fresh_index, empty}
+use Rattle.ix_model.specs.Step.{filled, deal_to, deal, deal_all, outcomes, files_taken, all_turned, closed_index, thawed_index, moves}
+use Rattle.ix_model.specs.Step.{force, effective, step, after_from}
+use Rattle.ix_model.specs.declared.commands.Command.{Command}
+use Rattle.ix_model.specs.declared.commands.Command.TheVariants.{Begin, Block, End, Tick, Roll, Thaw, Configure, Direct}
+use Rattle.ix_model.specs.declared.commands.TimedCommand.{TimedCommand}
+use Rattle.ix_model.proofs.Named.{by_test, same_bytes, all_change, all_change_or_insert}
+use Rattle.ix_catalog.specs.Buckets.{named}
+use Rattle.ix_model.specs.Shelved.{IsSet}
+use Rattle.ix_model.proofs.Homes.{home_listed}
+use Rattle.ix_model.proofs.Listing.{among}
 use Rattle.ix_bounds.specs.Names.{CommandBringsLimits, BringsLimits, HasName, NamesAreNoVolumes}
 
 some_same : {X : Type 0} {x y : X} → Some x ≡ Some y → x ≡ y
@@ -50,17 +51,20 @@ main_no_volume name t = ap is_volume (same_bytes name (codes "main") t)
 
 pub no_volume : (es : List MergedEntry) (name : List ℕ) → is_index es name ≡ true → is_volume name ≡ false
 no_volume es name t =
-    index_no_volume (bytes_eq name (codes "main")) (is_default name) (is_volume name) (is_some (entry_at name [] es)) (main_no_volume name) t
+    index_no_volume (bytes_eq name (codes "main")) (is_default name) (is_volume name) (is_some (entry_at name [] es)) (main_no_volume name)
+    t
 
 abbrev IsIndexName : List ℕ → Type 0
 IsIndexName name = is_volume name ≡ false
 
-all_behind : (xs ys : List IndexLimits) → AllByRecursion (λ (x : IndexLimits). IsIndexName x.name) xs → AllByRecursion (λ (x : IndexLimits). IsIndexName x.name) ys →
+all_behind : (xs ys : List IndexLimits) → AllByRecursion (λ (x : IndexLimits). IsIndexName x.name) xs →
+    AllByRecursion (λ (x : IndexLimits). IsIndexName x.name) ys →
     AllByRecursion (λ (x : IndexLimits). IsIndexName x.name) (xs ++ ys)
 all_behind [] ys h k = k
 all_behind (x ∷ xs) ys h k = (h.0, all_behind xs ys h.1 k)
 
-one_listed : (all : List MergedEntry) (e : MergedEntry) (key : List ℕ) → AllByRecursion (λ (x : IndexLimits). IsIndexName x.name) (listed_with all e key)
+one_listed : (all : List MergedEntry) (e : MergedEntry) (key : List ℕ) →
+    AllByRecursion (λ (x : IndexLimits). IsIndexName x.name) (listed_with all e key)
 one_listed all e (b ∷ key) = tt
 one_listed all e [] =
     by_test (is_index_stanza e.stanza)
@@ -79,7 +83,8 @@ main_listed all None = (refl, tt)
 listed_names : (es : List MergedEntry) → AllByRecursion (λ (x : IndexLimits). IsIndexName x.name) (listed es)
 listed_names es = all_behind (flat_map (listed_at es) es) (main_of es) (all_listed es es) (main_listed es (entry_at (codes "main") [] es))
 
-found_name : (xs : List IndexLimits) (name : List ℕ) → AllByRecursion (λ (x : IndexLimits). IsIndexName x.name) xs → among (map (λ (x : IndexLimits). x.name) xs) name ≡ true →
+found_name : (xs : List IndexLimits) (name : List ℕ) → AllByRecursion (λ (x : IndexLimits). IsIndexName x.name) xs →
+    among (map (λ (x : IndexLimits). x.name) xs) name ≡ true →
     IsIndexName name
 found_name [] name h t = absurd (false_true t)
   where
@@ -96,7 +101,8 @@ abbrev GoesToIndexes : List Kept → Type 0
 GoesToIndexes kept = (index name : List ℕ) → home kept index ≡ Some name → IsIndexName name
 
 by_set : (kept : List Kept) (set : LimitSet) → IsSet kept set → GoesToIndexes kept
-by_set kept set h = λ index name e. found_name (listed (entries kept)) name (listed_names (entries kept)) (home_listed kept set index name h e)
+by_set kept set h = λ index name e. found_name (listed (entries kept)) name (listed_names (entries kept))
+    (home_listed kept set index name h e)
 
 by_none : GoesToIndexes []
 by_none = λ index name e.
@@ -119,22 +125,26 @@ by_command old (Direct events) b h = h
 abbrev AreNamed : Catalog → Type 0
 AreNamed s = AllByRecursion HasName s.indexes
 
-one_dealt : (kept : List Kept) (moment : ℤ) (s : Catalog) (event : Event) (o : Option (List ℕ)) → ((name : List ℕ) → o ≡ Some name → IsIndexName name) → AreNamed s →
+one_dealt : (kept : List Kept) (moment : ℤ) (s : Catalog) (event : Event) (o : Option (List ℕ)) →
+    ((name : List ℕ) → o ≡ Some name → IsIndexName name) → AreNamed s →
     AreNamed (deal_to kept moment s event o)
 one_dealt kept moment s event None g h = h
 one_dealt kept moment s event (Some name) g h =
-    all_change_or_insert HasName index_name name (filled kept moment s.next_file (s.counts.placed + 1) (named name event)) (fresh_index name) s.indexes h
+    all_change_or_insert HasName index_name name (filled kept moment s.next_file (s.counts.placed + 1) (named name event))
+    (fresh_index name) s.indexes h
     (λ i p. p) (g name refl)
 
 dealt : (kept : List Kept) (moment : ℤ) (s : Catalog) (o : Routed) → GoesToIndexes kept → AreNamed s → AreNamed (deal kept moment s o)
 dealt kept moment s (To event) g h = one_dealt kept moment s event (home kept event.index) (g event.index) h
 dealt kept moment s Null g h = h
 
-all_dealt : (kept : List Kept) (moment : ℤ) (s : Catalog) (os : List Routed) → GoesToIndexes kept → AreNamed s → AreNamed (deal_all kept moment s os)
+all_dealt : (kept : List Kept) (moment : ℤ) (s : Catalog) (os : List Routed) → GoesToIndexes kept → AreNamed s →
+    AreNamed (deal_all kept moment s os)
 all_dealt kept moment s [] g h = h
 all_dealt kept moment s (o ∷ os) g h = all_dealt kept moment (deal kept moment s o) os g (dealt kept moment s o g h)
 
-turned : (kept : List Kept) (moment : ℤ) (file : ℕ) (is : List Index) → AllByRecursion HasName is → AllByRecursion HasName (all_turned kept moment file is)
+turned : (kept : List Kept) (moment : ℤ) (file : ℕ) (is : List Index) → AllByRecursion HasName is →
+    AllByRecursion HasName (all_turned kept moment file is)
 turned kept moment file [] h = tt
 turned kept moment file (i ∷ is) h = (h.0, turned kept moment (file + files_taken kept moment i) is h.1)
 
@@ -148,16 +158,19 @@ moved kept (Thaw index id) moment s h = all_change HasName index_name index (tha
 moved kept (Configure config) moment s h = h
 moved kept (Direct events) moment s h = h
 
-one_step : (choose : Chooser) (m : State) (o : Order) → GoesToIndexes m.force → AreNamed m.catalog → AreNamed (step choose m o).catalog
+one_step : (choose : Chooser) (m : State) (o : TimedCommand) → GoesToIndexes m.force → AreNamed m.catalog →
+    AreNamed (step choose m o).catalog
 one_step choose m o g h =
     let moment = effective m.last o.moment in
     moved m.force o.command moment (deal_all m.force moment m.catalog (outcomes choose m o.command moment))
     (all_dealt m.force moment m.catalog (outcomes choose m o.command moment) g h)
 
-all_steps : (choose : Chooser) (m : State) (history : List Order) → AllByRecursion BringsLimits history → GoesToIndexes m.force → AreNamed m.catalog →
+all_steps : (choose : Chooser) (m : State) (history : List TimedCommand) → AllByRecursion BringsLimits history → GoesToIndexes m.force →
+    AreNamed m.catalog →
     AreNamed (after_from choose m history).catalog
 all_steps choose m [] b g h = h
-all_steps choose m (o ∷ history) b g h = all_steps choose (step choose m o) history b.1 (by_command m.force o.command b.0 g) (one_step choose m o g h)
+all_steps choose m (o ∷ history) b g h = all_steps choose (step choose m o) history b.1 (by_command m.force o.command b.0 g)
+    (one_step choose m o g h)
 
 pub names_are_no_volumes : NamesAreNoVolumes
 names_are_no_volumes choose history b = all_steps choose empty history b by_none tt

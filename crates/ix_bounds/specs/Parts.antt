@@ -5,19 +5,20 @@ use Rattle.ix_base.specs.declared.events.ChannelMeta.{ChannelMeta}
 use Rattle.ix_base.specs.declared.events.Spot.{Spot}
 use Rattle.ix_items.specs.declared.items.Entry.{Entry}
 use Rattle.ix_items.specs.declared.items.Kept.{Kept}
-use Rattle.ix_machine.specs.State.{State, Life}
-use Rattle.ix_shelves.specs.declared.shelves.Shelves.{Shelves}
-use Rattle.ix_machine.specs.Shelved.{shelved}
+use Rattle.ix_model.specs.State.{State, ChannelHistory}
+use Rattle.ix_catalog.specs.declared.index_table.IndexTable.{IndexTable}
+use Rattle.ix_model.specs.Shelved.{shelved}
 
--- the settings that are kept, the names and metadata of the open channels, the spots, the shelves and the ledger
+-- the settings that are kept, the names and metadata of the open channels, the spots, the shelves
+-- and the ledger
 pub record Parts : Type 0 where
   pub kept : List Kept
   pub channels : List (List ℕ × ChannelMeta)
   pub spots : List Spot
-  pub shelves : Shelves
+  pub shelves : IndexTable
   pub ledger : List Entry
 
-abbrev pub channel_of : Life → List ℕ × ChannelMeta
+abbrev pub channel_of : ChannelHistory → List ℕ × ChannelMeta
 channel_of life = (life.name, life.meta)
 
 -- They are those of a state. The ledger has its entries, in whatever order.

@@ -9,13 +9,13 @@ use Rattle.ix_life.specs.declared.limits.Limits.{Limits}
 use Rattle.ix_life.specs.declared.sets.IndexLimits.{IndexLimits}
 use Rattle.ix_life.specs.declared.sets.LimitSet.{LimitSet}
 use Rattle.ix_life.specs.declared.views.IndexView.{IndexView}
-use Rattle.ix_machine.specs.Buckets.{Index, buckets}
-use Rattle.ix_machine.specs.Given.{entries}
-use Rattle.ix_machine.specs.State.{index_name}
-use Rattle.ix_shelves.specs.Lists.{change_or_insert, AreAscending}
-use Rattle.ix_shelves.specs.Measures.{has_number}
-use Rattle.ix_shelves.specs.Shelves.{view_name}
-use Rattle.ix_machine.specs.Shelved.{IsSet}
+use Rattle.ix_model.specs.Buckets.{Index, buckets}
+use Rattle.ix_model.specs.Given.{entries}
+use Rattle.ix_model.specs.State.{index_name}
+use Rattle.ix_catalog.specs.Lists.{change_or_insert, AreAscending}
+use Rattle.ix_catalog.specs.Measures.{has_number}
+use Rattle.ix_catalog.specs.Shelves.{view_name}
+use Rattle.ix_model.specs.Shelved.{IsSet}
 use Rattle.ix_bounds.specs.Names.{HasName}
 use Rattle.ix_bounds.specs.declared.shelving.Bucketed.{Bucketed}
 

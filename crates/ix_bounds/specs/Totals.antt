@@ -5,14 +5,15 @@ use Rattle.ix_base.specs.declared.events.ChannelMeta.{ChannelMeta}
 use Rattle.ix_base.specs.declared.events.Spot.{Spot}
 use Rattle.ix_items.specs.declared.items.Entry.{Entry}
 use Rattle.ix_items.specs.declared.items.Kept.{Kept}
-use Rattle.ix_shelves.specs.Measures.{capped}
-use Rattle.ix_shelves.specs.declared.shelves.Shelves.{Shelves}
+use Rattle.ix_catalog.specs.Measures.{capped}
+use Rattle.ix_catalog.specs.declared.index_table.IndexTable.{IndexTable}
 use Rattle.ix_bounds.specs.Parts.{Parts}
 use Rattle.ix_bounds.specs.Within.{channel_size, spot_size}
 use Rattle.ix_bounds.specs.declared.totals.Channels.{Channels}
 use Rattle.ix_bounds.specs.declared.totals.Spots.{Spots}
 
--- how many channels there are, and the bytes of their items, each up to the largest number of its type
+-- how many channels there are, and the bytes of their items, each up to the largest number of its
+-- type
 pub record AreChannels (channels : List (List ℕ × ChannelMeta)) (sum : Channels) : Type 0 where
   pub count : sum.count ≡ capped (length channels)
   pub size : sum.size ≡ capped (sum_by channel_size channels)
@@ -26,7 +27,8 @@ pub record AreSpots (spots : List Spot) (sum : Spots) : Type 0 where
   pub size : sum.size ≡ capped (sum_by spot_size spots)
 
 -- what is measured is what these parts come to
-pub record AreMeasured (p : Parts) (kept : List Kept) (channels : Channels) (spots : Spots) (shelves : Shelves) (ledger : List Entry) : Type 0 where
+pub record AreMeasured (p : Parts) (kept : List Kept) (channels : Channels) (spots : Spots) (shelves : IndexTable)
+    (ledger : List Entry) : Type 0 where
   pub kept_are : p.kept ≡ kept
   pub channels_are : AreChannels p.channels channels
   pub spots_are : AreSpots p.spots spots

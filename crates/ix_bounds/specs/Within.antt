@@ -10,12 +10,12 @@ use Rattle.ix_items.specs.declared.items.Item.{Item}
 use Rattle.ix_items.specs.declared.items.Item.TheVariants as items
 use Rattle.ix_items.specs.declared.items.Kept.{Kept}
 use Rattle.ix_life.specs.declared.views.IndexView.{IndexView}
-use Rattle.ix_machine.specs.Bounds.{IsTime, KeepsBounds}
-use Rattle.ix_machine.specs.Given.{Chooser}
-use Rattle.ix_machine.specs.Judged.{most_channels}
-use Rattle.ix_machine.specs.Step.{after}
-use Rattle.ix_machine.specs.declared.commands.Order.{Order}
-use Rattle.ix_shelves.specs.Measures.{all_bytes, all_events, shelf_size}
+use Rattle.ix_model.specs.Bounds.{IsTime, KeepsBounds}
+use Rattle.ix_model.specs.Given.{Chooser}
+use Rattle.ix_model.specs.Judged.{most_channels}
+use Rattle.ix_model.specs.Step.{state_after}
+use Rattle.ix_model.specs.declared.commands.TimedCommand.{TimedCommand}
+use Rattle.ix_catalog.specs.Measures.{all_bytes, all_events, shelf_size}
 use Rattle.ix_bounds.specs.Parts.{Parts, IsPartsOf}
 
 -- ---- times
@@ -63,7 +63,8 @@ pub record AreWithin (p : Parts) : Type 0 where
   pub channels : length p.channels ≤ most_channels
   pub items : size p < 2 ^ 29
 
--- After every history, a state keeps the bounds exactly where the parts of it that are in memory are within theirs.
+-- After every history, a state keeps the bounds exactly where the parts of it that are in memory
+-- are within theirs.
 abbrev pub BoundsAreSeen : Type 0
-BoundsAreSeen = (choose : Chooser) (history : List Order) (p : Parts) → IsPartsOf (after choose history) p →
-    (AreWithin p → KeepsBounds (after choose history)) × (KeepsBounds (after choose history) → AreWithin p)
+BoundsAreSeen = (choose : Chooser) (history : List TimedCommand) (p : Parts) → IsPartsOf (state_after choose history) p →
+    (AreWithin p → KeepsBounds (state_after choose history)) × (KeepsBounds (state_after choose history) → AreWithin p)

@@ -1,4 +1,5 @@
-//! Whether the parts of a state that are in memory are within their bounds. The store asks before it takes a state.
+//! Whether the parts of a state that are in memory are within their bounds. The store asks before
+//! it takes a state.
 
 ghost use Rattle.std.specs.Prelude.{◌≡◌, ◌↔◌, true};
 ghost use Rattle.std.specs.List.{list_all};
@@ -8,9 +9,9 @@ ghost use Rattle.ix_bounds.specs.Totals.{AreMeasured};
 ghost use Rattle.ix_bounds.specs.Within.{AreWithin};
 
 use crate::totals::{Channels, Spots, settings_size};
+use ix_catalog::{IndexTable, all_bytes, all_events, shelf_size};
 use ix_items::{Bucket, Entry, Kept};
 use ix_life::IndexView;
-use ix_shelves::{Shelves, all_bytes, all_events, shelf_size};
 
 /// How far from 1970 the time of an event is at most, in microseconds.
 const FARTHEST: u64 = 1 << 62;
@@ -66,7 +67,7 @@ fn entries_have_times(ledger: &[Entry]) -> bool
 }
 
 /// Whether the counts of files, bytes and events are within their bounds.
-fn are_numbers(ledger: &[Entry], shelves: &Shelves) -> bool
+fn are_numbers(ledger: &[Entry], shelves: &IndexTable) -> bool
     ensures { result ≡ tests.are_numbers ledger.now shelves.now }
 {
     u128::from(shelves.settled) < TOO_LARGE
@@ -75,8 +76,9 @@ fn are_numbers(ledger: &[Entry], shelves: &Shelves) -> bool
         && all_events(ledger, shelves) < TOO_LARGE
 }
 
-/// Whether the items of a state, of which those of channels and spots have so many bytes, are few enough.
-fn are_few(kept: &[Kept], others: u128, ledger: &[Entry], shelves: &Shelves) -> bool
+/// Whether the items of a state, of which those of channels and spots have so many bytes, are few
+/// enough.
+fn are_few(kept: &[Kept], others: u128, ledger: &[Entry], shelves: &IndexTable) -> bool
     ensures { result ≡ tests.are_few kept.now others ledger.now shelves.now }
 {
     settings_size(kept)
@@ -91,7 +93,7 @@ fn are_within(
     channels: Channels,
     spots: Spots,
     ledger: &[Entry],
-    shelves: &Shelves,
+    shelves: &IndexTable,
 ) -> bool
     ensures { result ≡ tests.are_within kept.now channels spots ledger.now shelves.now }
 {
@@ -108,14 +110,15 @@ fn are_within(
         )
 }
 
-/// Whether a state with these settings, channels, spots, entries and shelves keeps the bounds of what a store can keep. It takes no
-/// memory, and goes over all there is once, and over the ledger once more for each index that has no bucket.
+/// Whether a state with these settings, channels, spots, entries and shelves keeps the bounds of
+/// what a store can keep. It takes no memory, and goes over all there is once, and over the ledger
+/// once more for each index that has no bucket.
 pub fn keeps_bounds(
     kept: &[Kept],
     channels: Channels,
     spots: Spots,
     ledger: &[Entry],
-    shelves: &Shelves,
+    shelves: &IndexTable,
 ) -> bool
     ensures { (p : Parts) → AreMeasured p kept.now channels spots shelves.now ledger.now → (result ≡ true ↔ AreWithin p) }
 {

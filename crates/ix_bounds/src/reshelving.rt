@@ -1,24 +1,25 @@
-//! What a change of settings makes of the indexes that are seen. The store calls it for the command Configure.
+//! What a change of settings makes of the indexes that are seen. The store calls it for the command
+//! Configure.
 
 ghost use Rattle.std.specs.Prelude.{◌≡◌, ◌++◌, ◌∷◌, [], List, IfOk, OnOk};
 ghost use Rattle.std.specs.List.{AllByRecursion, list_any};
 ghost use Rattle.std.specs.List.Sorted.{IsPermutation};
 ghost use Rattle.ix_items.specs.declared.items.Kept.{Kept};
-ghost use Rattle.ix_machine.specs.Given.{Chooser};
-ghost use Rattle.ix_machine.specs.Step.{after};
-ghost use Rattle.ix_machine.specs.declared.commands.Order.{Order};
-ghost use Rattle.ix_shelves.specs.Measures.{has_number};
-ghost use Rattle.ix_shelves.specs.Shelves.{is_of};
-ghost use Rattle.ix_machine.specs.Shelved.{shelved_indexes};
+ghost use Rattle.ix_model.specs.Given.{Chooser};
+ghost use Rattle.ix_model.specs.Step.{state_after};
+ghost use Rattle.ix_model.specs.declared.commands.TimedCommand.{TimedCommand};
+ghost use Rattle.ix_catalog.specs.Measures.{has_number};
+ghost use Rattle.ix_catalog.specs.Shelves.{is_of};
+ghost use Rattle.ix_model.specs.Shelved.{shelved_indexes};
 ghost use Rattle.ix_bounds.specs.Names.{BringsLimits};
 ghost use Rattle.ix_bounds.specs.Shelving as defs;
 ghost use Rattle.ix_bounds.specs.Shelving.{AreSettings};
 
-use crate::shelving::{Bucketed, shelve};
+use crate::shelving::{Bucketed, view_indexes};
 use ix_base::{Bytes, NoMemory};
+use ix_catalog::IndexTable;
 use ix_items::Entry;
 use ix_life::{IndexView, IndexViewList, LimitSet, copy_buckets};
-use ix_shelves::Shelves;
 use std::alloc::Global;
 
 /// Whether the ledger has an entry of an index.
@@ -72,17 +73,20 @@ fn bucketed(alloc: Global, ledger: &[Entry], list: &[IndexView]) -> Result<Vec<B
     Ok(found)
 }
 
-/// The indexes that are seen once other settings are in force. Those that are neither configured by them nor ever had a bucket are gone.
-pub fn reshelve(
+/// The indexes that are seen once other settings are in force. Those that are neither configured by
+/// them nor ever had a bucket are gone.
+pub fn view_indexes_anew(
     alloc: Global,
     set: &LimitSet,
-    old: &Shelves,
+    old: &IndexTable,
     ledger: &[Entry],
 ) -> Result<IndexViewList, NoMemory>
     ensures { IfOk result (λ list.
-        (choose : Chooser) (history : List Order) (force next : List Kept) → AllByRecursion BringsLimits history → AreSettings next set.now →
-        old.now.indexes ≡ shelved_indexes force (after choose history).catalog.indexes → IsPermutation ledger.now (after choose history).catalog.ledger →
-        list ≡ shelved_indexes next (after choose history).catalog.indexes) }
+        (choose : Chooser) (history : List TimedCommand) (force next : List Kept) → AllByRecursion BringsLimits history →
+        AreSettings next set.now →
+        old.now.indexes ≡ shelved_indexes force (state_after choose history).catalog.indexes →
+        IsPermutation ledger.now (state_after choose history).catalog.ledger →
+        list ≡ shelved_indexes next (state_after choose history).catalog.indexes) }
 {
-    shelve(alloc, set, bucketed(alloc, ledger, old.indexes.as_slice())?)
+    view_indexes(alloc, set, bucketed(alloc, ledger, old.indexes.as_slice())?)
 }

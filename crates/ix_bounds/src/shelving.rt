@@ -1,13 +1,13 @@
-//! The indexes that are seen, made of those that ever had a bucket. A mount calls `shelve`.
+//! The indexes that are seen, made of those that ever had a bucket. A mount calls `view_indexes`.
 
 ghost use Rattle.std.specs.Prelude.{◌≡◌, ◌≤◌, ◌++◌, ◌∷◌, List, map, length, take, drop, bytes_eq, IfOk, OnOk};
 ghost use Rattle.std.specs.List.{list_any};
 ghost use Rattle.ix_items.specs.declared.items.Kept.{Kept};
 ghost use Rattle.ix_life.specs.declared.views.IndexView as views;
-ghost use Rattle.ix_machine.specs.Buckets.{Index};
-ghost use Rattle.ix_shelves.specs.Lists.{insert};
-ghost use Rattle.ix_shelves.specs.Shelves.{view_name};
-ghost use Rattle.ix_machine.specs.Shelved.{shelved_indexes};
+ghost use Rattle.ix_model.specs.Buckets.{Index};
+ghost use Rattle.ix_catalog.specs.Lists.{insert};
+ghost use Rattle.ix_catalog.specs.Shelves.{view_name};
+ghost use Rattle.ix_model.specs.Shelved.{shelved_indexes};
 ghost use Rattle.std.specs.Ordering.{nat_cmp, is_lt};
 ghost use Rattle.std.specs.Cmp.Lexicographic.{slice_cmp};
 ghost use Rattle.ix_bounds.specs.Shelving as defs;
@@ -22,7 +22,8 @@ use std::cmp::Ordering;
 #[derive(Drop)]
 pub struct Bucketed {
     pub name: Bytes,
-    /// The buckets that are seen of it, by their numbers upwards: none where all are frozen and none is thawed.
+    /// The buckets that are seen of it, by their numbers upwards: none where all are frozen and
+    /// none is thawed.
     pub buckets: BucketList,
 }
 
@@ -79,7 +80,8 @@ fn stands_before(view: &IndexView, name: &[u8]) -> bool
 /// The place of an index of this name among others.
 fn place_for(name: &[u8], list: &[IndexView]) -> usize
     ensures within { result ≤ length list.now }
-    ensures inserted { (v : views.IndexView) → v.name ≡ name.now → insert view_name v list.now ≡ take result list.now ++ v ∷ drop result list.now }
+    ensures inserted { (v : views.IndexView) → v.name ≡ name.now → insert view_name v list.now ≡ take result list.now ++ v
+        ∷ drop result list.now }
 {
     for at in 0..list.len() {
         if !stands_before(&list[at], name) {
@@ -129,13 +131,15 @@ fn shelve_all(
     Ok(list)
 }
 
-/// The indexes that are seen, by their names: those that ever had a bucket, and the configured ones among them, each with its limits.
-pub fn shelve(
+/// The indexes that are seen, by their names: those that ever had a bucket, and the configured ones
+/// among them, each with its limits.
+pub fn view_indexes(
     alloc: Global,
     set: &LimitSet,
     indexes: Vec<Bucketed>,
 ) -> Result<IndexViewList, NoMemory>
-    ensures { IfOk result (λ list. (force : List Kept) (all : List Index) → AreSettings force set.now → AreIndexes all indexes.items → list ≡ shelved_indexes force all) }
+    ensures { IfOk result (λ list. (force : List Kept) (all : List Index) → AreSettings force set.now → AreIndexes all indexes.items →
+        list ≡ shelved_indexes force all) }
 {
     Ok(Sequence::from_vec(shelve_all(alloc, set, indexes)?))
 }

@@ -1,12 +1,12 @@
-//! How much the settings, the channels and the spots of a state come to. The store adds up those of the state to come part by part, since
-//! its channels and spots are not in one list yet.
+//! How much the settings, the channels and the spots of a state come to. The store adds up those of
+//! the state to come part by part, since its channels and spots are not in one list yet.
 
 ghost use Rattle.std.specs.Prelude.{◌≡◌, ◌+◌, ◌^◌, ◌<◌, ◌++◌, ◌∷◌, ℕ, List, [], length, min};
 ghost use Rattle.ix_base.specs.declared.events.ChannelMeta.{ChannelMeta};
 ghost use Rattle.ix_base.specs.declared.events.Spot.{Spot};
-ghost use Rattle.ix_fields.specs.Spelling.{string, option};
+ghost use Rattle.ix_coding.specs.Spelling.{string, option};
 ghost use Rattle.ix_items.specs.Spelling.{kept_bytes};
-ghost use Rattle.ix_shelves.specs.Measures.{capped};
+ghost use Rattle.ix_catalog.specs.Measures.{capped};
 ghost use Rattle.ix_bounds.specs.Totals.{AreChannels, AreSpots};
 ghost use Rattle.ix_bounds.specs.Within as defs;
 
@@ -18,7 +18,8 @@ use ix_items::Kept;
 pub struct Channels {
     /// How many there are.
     pub count: u128,
-    /// How many bytes their items have, without what is carried of their streams; 2^128 - 1 where there are more.
+    /// How many bytes their items have, without what is carried of their streams; 2^128 - 1 where
+    /// there are more.
     pub size: u128,
 }
 

@@ -34,22 +34,28 @@ split_records : (event : Event) (events : List Event) → records (event ∷ eve
 split_records event events = flat_map-cons event_bytes event events
 
 -- the bytes between two places, cut at one between them
-split_between : (at next until : ℕ) (bytes : List ℕ) → at ≤ next → next ≤ until → between at until bytes ≡ between at next bytes ++ between next until bytes
+split_between : (at next until : ℕ) (bytes : List ℕ) → at ≤ next → next ≤ until → between at until bytes ≡ between at next bytes
+    ++ between next until bytes
 split_between at next until bytes low high =
     let sum : until - at ≡ (next - at) + (until - next) = omega arith in
     let place : at + (next - at) ≡ next = omega arith in
     ap (λ (n : ℕ). take n (drop at bytes)) sum ∙ take-add (next - at) (until - next) (drop at bytes)
-    ∙ ap (λ (l : List ℕ). between at next bytes ++ take (until - next) l) (drop-drop (next - at) at bytes ∙ ap (λ (n : ℕ). drop n bytes) place)
+    ∙ ap (λ (l : List ℕ). between at next bytes ++ take (until - next) l) (drop-drop (next - at) at bytes
+    ∙ ap (λ (n : ℕ). drop n bytes) place)
 
-step : (events : List Event) (count at next until : ℕ) (bytes : List ℕ) (more : List Event) → AllByRecursion IsInRange more → count + length more ≡ length events → at + length (records more) ≡ until
-    → between at until bytes ≡ records more → at < until → next ≤ until → HasRecord at next bytes → IsLeft events (count + 1) next until bytes
+step : (events : List Event) (count at next until : ℕ) (bytes : List ℕ) (more : List Event) → AllByRecursion IsInRange more →
+    count + length more ≡ length events → at + length (records more) ≡ until
+    → between at until bytes ≡ records more → at < until → next ≤ until → HasRecord at next bytes →
+    IsLeft events (count + 1) next until bytes
 step events count at next until bytes [] all counted size spelled lt le has = absurd (omega arith)
 step events count at next until bytes (event ∷ more) all counted size spelled lt le has =
     let low : at ≤ next = omega (arith, has.size) in
     let both : event_bytes has.event ++ between next until bytes ≡ event_bytes event ++ records more =
-    ap (λ (l : List ℕ). l ++ between next until bytes) (sym has.is_record.spelled) ∙ sym (split_between at next until bytes low le) ∙ spelled ∙ split_records event more in
+    ap (λ (l : List ℕ). l ++ between next until bytes) (sym has.is_record.spelled) ∙ sym (split_between at next until bytes low le)
+    ∙ spelled ∙ split_records event more in
     let one = one_reading has.event event (between next until bytes) (records more) has.is_record.in_range all.0 both in
-    let whole : length (records (event ∷ more)) ≡ length (event_bytes event) + length (records more) = ap length (split_records event more) ∙ length-append (event_bytes event) (records more) in
+    let whole : length (records (event ∷ more)) ≡ length (event_bytes event) + length (records more) = ap length (split_records event more)
+    ∙ length-append (event_bytes event) (records more) in
     let same : length (event_bytes has.event) ≡ length (event_bytes event) = ap (λ (e : Event). length (event_bytes e)) one.0 in
     record {
       more = more;
@@ -59,22 +65,28 @@ step events count at next until bytes (event ∷ more) all counted size spelled 
       spelled = one.1;
     }
 
-pub one_less : (events : List Event) (count at next until : ℕ) (bytes : List ℕ) → at < until → next ≤ until → HasRecord at next bytes → IsLeft events count at until bytes → IsLeft events (count + 1) next until bytes
-one_less events count at next until bytes lt le has left = step events count at next until bytes left.more left.in_range left.counted left.size left.spelled lt le has
+pub one_less : (events : List Event) (count at next until : ℕ) (bytes : List ℕ) → at < until → next ≤ until → HasRecord at next bytes →
+    IsLeft events count at until bytes → IsLeft events (count + 1) next until bytes
+one_less events count at next until bytes lt le has left =
+    step events count at next until bytes left.more left.in_range left.counted left.size left.spelled lt le has
 
 none_more : (more : List Event) → length (records more) ≡ 0 → length more ≡ 0
 none_more [] none = refl
 none_more (event ∷ more) none =
-    let whole : length (records (event ∷ more)) ≡ length (event_bytes event) + length (records more) = ap length (split_records event more) ∙ length-append (event_bytes event) (records more) in
+    let whole : length (records (event ∷ more)) ≡ length (event_bytes event) + length (records more) = ap length (split_records event more)
+    ∙ length-append (event_bytes event) (records more) in
     absurd (omega (arith, whole, none, length_event_bytes event))
 
-pub none_left : (events : List Event) (count at until : ℕ) (bytes : List ℕ) → until ≤ at → IsLeft events count at until bytes → count ≡ length events
+pub none_left : (events : List Event) (count at until : ℕ) (bytes : List ℕ) → until ≤ at → IsLeft events count at until bytes →
+    count ≡ length events
 none_left events count at until bytes le left = omega (arith, left.counted, none_more left.more (omega (arith, left.size)))
 
-no_bad : (at until : ℕ) (bytes : List ℕ) (more : List Event) → AllByRecursion IsInRange more → at + length (records more) ≡ until → between at until bytes ≡ records more → at < until → HasNoRecord at until bytes → ⊥
+no_bad : (at until : ℕ) (bytes : List ℕ) (more : List Event) → AllByRecursion IsInRange more → at + length (records more) ≡ until →
+    between at until bytes ≡ records more → at < until → HasNoRecord at until bytes → ⊥
 no_bad at until bytes [] all size spelled lt none = omega arith
 no_bad at until bytes (event ∷ more) all size spelled lt none =
-    let whole : length (records (event ∷ more)) ≡ length (event_bytes event) + length (records more) = ap length (split_records event more) ∙ length-append (event_bytes event) (records more) in
+    let whole : length (records (event ∷ more)) ≡ length (event_bytes event) + length (records more) = ap length (split_records event more)
+    ∙ length-append (event_bytes event) (records more) in
     let n : ℕ = length (event_bytes event) in
     let fits : n ≤ until - at = omega (arith, whole, size) in
     let within : at + n ≤ until = omega (arith, whole, size) in
@@ -85,7 +97,8 @@ no_bad at until bytes (event ∷ more) all size spelled lt none =
           ∙ ap (take n) (spelled ∙ split_records event more) ∙ take_at (event_bytes event) (records more) n refl;
     })
 
-pub not_bad : (events : List Event) (count at until : ℕ) (bytes : List ℕ) → at < until → HasNoRecord at until bytes → IsLeft events count at until bytes → ⊥
+pub not_bad : (events : List Event) (count at until : ℕ) (bytes : List ℕ) → at < until → HasNoRecord at until bytes →
+    IsLeft events count at until bytes → ⊥
 not_bad events count at until bytes lt none left = no_bad at until bytes left.more left.in_range left.size left.spelled lt none
 
 -- a fault that could only be of a bad record, where there is none

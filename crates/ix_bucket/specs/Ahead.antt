@@ -9,9 +9,10 @@ use Rattle.ix_bucket.specs.declared.ahead.Reader.{Reader}
 use Rattle.ix_bucket.specs.declared.ahead.ReadFault.{ReadFault}
 use Rattle.ix_bucket.specs.declared.ahead.ReadFault.TheVariants.{Disk, BadRecord, NoMemory}
 use Rattle.ix_bucket.specs.Record.{event_bytes, IsRecordOf}
-use Rattle.ix_fields.specs.Reading.{number_at}
+use Rattle.ix_coding.specs.Reading.{number_at}
 
--- The bytes that the reader holds are those that a read of its file gives there now, where the disk tells it.
+-- The bytes that the reader holds are those that a read of its file gives there now, where the disk
+-- tells it.
 pub record IsCurrent {D : Type 0} (g : Ghosts D) (reader : Reader) (disk : D) : Type 0 where
   pub held : (image : Image) → g.seen disk ≡ Some image → IsFrontOf reader.held.items (drop reader.start (bytes_in image reader.file))
 

@@ -1,7 +1,7 @@
 -- The bytes of events in a bucket's file.
 use Rattle.std.specs.Prelude.{◌≡◌, ℕ, List, ◌++◌}
 use Rattle.std.specs.List.{flat_map}
-use Rattle.ix_fields.specs.Spelling.{signed, string, IsSigned64, IsShort}
+use Rattle.ix_coding.specs.Spelling.{signed, string, IsSigned64, IsShort}
 use Rattle.ix_base.specs.declared.events.Event.{Event}
 
 -- two moments and six strings

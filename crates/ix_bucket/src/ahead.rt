@@ -1,20 +1,21 @@
 //! Records read from files, one behind the other.
 
-ghost use Rattle.std.specs.Prelude.{◌≡◌, ◌≢◌, ◌↔◌, ◌≤◌, ◌<◌, ◌+◌, ◌-◌, ◌==◌, ℕ, List, [], length, take, drop, min, Some, IfOk, IfErr, IfSome, IsNone, IsOkAnd, IsErrOf, IsTrue, OnOk, OnErr, nat_le, ◌&&◌, if◌then◌else◌};
+ghost use Rattle.std.specs.Prelude.{◌≡◌, ◌≢◌, ◌↔◌, ◌≤◌, ◌<◌, ◌+◌, ◌-◌, ◌==◌, ℕ, List, [], length, take, drop, min, Some, IfOk, IfErr};
+ghost use Rattle.std.specs.Prelude.{IfSome, IsNone, IsOkAnd, IsErrOf, IsTrue, OnOk, OnErr, nat_le, ◌&&◌, if◌then◌else◌};
 ghost use Rattle.std.specs.Borrow.{sem};
 ghost use Rattle.std.specs.Io.BufRead.{Rests};
 ghost use Rattle.ix_bucket.specs.contracts.ahead.Reader.{the_row};
 ghost use Rattle.ix_base.specs.Faults.{Rose, HasCause};
 ghost use Rattle.ix_base.specs.Lent.{lent_event};
 ghost use Rattle.ix_disk.specs.Image.{Image, bytes_in, Stays};
-ghost use Rattle.ix_disk.specs.Moments.{Goes};
+ghost use Rattle.ix_disk.specs.Moments.{ImagesStep};
 ghost use Rattle.ix_bucket.specs.Record.{event_bytes, IsRecordOf};
 ghost use Rattle.ix_bucket.specs.Ahead.{IsCurrent, HoldsNothing, HasNoRecord, between, needed, Shows, view_of, OnBadRecord};
 
 use crate::reading::decode;
 use ix_base::{Area, BadRecord, EventRef, Failed, File, NoMemory};
+use ix_coding::read_u32;
 use ix_disk::Disk;
-use ix_fields::read_u32;
 use std::alloc::{AllocError, Global};
 use thiserror::Error;
 
@@ -65,8 +66,9 @@ pub struct Reader {
 /// How many bytes a reader reads at a time, where the file has them.
 const PIECE: u64 = 1 << 20;
 
-/// How many bytes the record takes that begins so, by its length; four where the length is not whole.
-#[tactic(auto, unfolding(ix_fields::specs::Reading::four_at))]
+/// How many bytes the record takes that begins so, by its length; four where the length is not
+/// whole.
+#[tactic(auto, unfolding(ix_coding::specs::Reading::four_at))]
 fn needed(bytes: &[u8]) -> u64
     ensures { result ≡ needed bytes.now }
 {
@@ -91,7 +93,8 @@ fn part(bytes: &[u8], at: u64, len: u64) -> &[u8]
     }
 }
 
-/// Reads so many bytes of a file, as many as there are, in place of those that were held. A fault leaves none.
+/// Reads so many bytes of a file, as many as there are, in place of those that were held. A fault
+/// leaves none.
 fn read_piece<D: Disk>(
     disk: &mut D,
     file: File,
@@ -99,13 +102,14 @@ fn read_piece<D: Disk>(
     len: usize,
     held: &mut Vec<u8>,
 ) -> Result<(), ReadFault>
-    ensures read { OnOk result ((image : Image) → D.Disk.seen disk.old ≡ Some image → held.new.items ≡ take len (drop at (bytes_in image file))) }
+    ensures read { OnOk result ((image : Image) → D.Disk.seen disk.old ≡ Some image →
+        held.new.items ≡ take len (drop at (bytes_in image file))) }
     ensures none { OnErr result (held.new.items ≡ []) }
     ensures bad { IfErr result (λ fault. OnBadRecord fault (λ place. ⊥)) }
     ensures cause { IsErrOf result ReadFault.Disk → Rose (D.Disk.faults disk.old) (D.Disk.faults disk.new) }
     ensures later { D.Disk.faults disk.old ≤ D.Disk.faults disk.new }
     ensures same { D.Disk.seen disk.new ≡ D.Disk.seen disk.old }
-    ensures images { Goes D.Disk disk.old disk.new Stays }
+    ensures images { ImagesStep D.Disk disk.old disk.new Stays }
 {
     held.clear();
     if held.resize(len, 0).is_err() {
@@ -129,7 +133,7 @@ fn size_at<D: Disk>(disk: &mut D, file: File, at: u64) -> Result<u64, Failed>
     ensures least { IfOk result (λ n. 4 ≤ n) }
     ensures cause { HasCause (D.Disk.faults disk.old) (D.Disk.faults disk.new) result }
     ensures same { D.Disk.seen disk.new ≡ D.Disk.seen disk.old }
-    ensures images { Goes D.Disk disk.old disk.new Stays }
+    ensures images { ImagesStep D.Disk disk.old disk.new Stays }
 {
     let mut head = [0u8; 4];
     let n = disk.read(file, at, &mut head)?;
@@ -138,11 +142,12 @@ fn size_at<D: Disk>(disk: &mut D, file: File, at: u64) -> Result<u64, Failed>
 
 /// How many bytes of a file stand between two places.
 fn room<D: Disk>(disk: &mut D, file: File, at: u64, until: u64) -> Result<u64, Failed>
-    ensures room { IfOk result (λ n. (image : Image) → D.Disk.seen disk.old ≡ Some image → n ≡ length (between at until (bytes_in image file))) }
+    ensures room { IfOk result (λ n. (image : Image) → D.Disk.seen disk.old ≡ Some image →
+        n ≡ length (between at until (bytes_in image file))) }
     ensures within { IfOk result (λ n. n ≤ until - at) }
     ensures cause { HasCause (D.Disk.faults disk.old) (D.Disk.faults disk.new) result }
     ensures same { D.Disk.seen disk.new ≡ D.Disk.seen disk.old }
-    ensures images { Goes D.Disk disk.old disk.new Stays }
+    ensures images { ImagesStep D.Disk disk.old disk.new Stays }
 {
     let len = disk.length(file)?;
     Ok(len.min(until).saturating_sub(at))
@@ -165,8 +170,8 @@ impl Reader {
         })
     }
 
-    /// Lets go of what was read ahead, and keeps the room for it. After somebody has changed a file, the reader reads
-    /// from the disk again.
+    /// Lets go of what was read ahead, and keeps the room for it. After somebody has changed a
+    /// file, the reader reads from the disk again.
     pub fn forget(&mut self)
         ensures { HoldsNothing self.new }
     {
@@ -208,13 +213,15 @@ impl Reader {
         ensures current { IsCurrent D.Disk self.new disk.new }
         ensures file { OnOk result (self.new.file ≡ file) }
         ensures start { OnOk result (self.new.start ≡ at) }
-        ensures shown { OnOk result ((image : Image) → D.Disk.seen disk.old ≡ Some image → Shows (view_of self.new at until) (between at until (bytes_in image file))) }
+        ensures shown { OnOk result ((image : Image) → D.Disk.seen disk.old ≡ Some image →
+            Shows (view_of self.new at until) (between at until (bytes_in image file))) }
         ensures place { IfErr result (λ fault. OnBadRecord fault (λ place. place ≡ at)) }
-        ensures bad { IfErr result (λ fault. OnBadRecord fault (λ place. (image : Image) → D.Disk.seen disk.old ≡ Some image → HasNoRecord at until (bytes_in image file))) }
+        ensures bad { IfErr result (λ fault. OnBadRecord fault (λ place. (image : Image) → D.Disk.seen disk.old ≡ Some image →
+            HasNoRecord at until (bytes_in image file))) }
         ensures cause { IsErrOf result ReadFault.Disk → Rose (D.Disk.faults disk.old) (D.Disk.faults disk.new) }
         ensures later { D.Disk.faults disk.old ≤ D.Disk.faults disk.new }
         ensures same { D.Disk.seen disk.new ≡ D.Disk.seen disk.old }
-        ensures images { Goes D.Disk disk.old disk.new Stays }
+        ensures images { ImagesStep D.Disk disk.old disk.new Stays }
     {
         self.held.clear();
         let room = room(disk, file, at, until)?;
@@ -239,13 +246,15 @@ impl Reader {
     ) -> Result<(), ReadFault>
         ensures current { IsCurrent D.Disk self.old disk.old → IsCurrent D.Disk self.new disk.new }
         ensures start { OnOk result (self.new.start ≤ at) }
-        ensures shown { OnOk result ((image : Image) → D.Disk.seen disk.old ≡ Some image → IsCurrent D.Disk self.old disk.old → Shows (view_of self.new at until) (between at until (bytes_in image file))) }
+        ensures shown { OnOk result ((image : Image) → D.Disk.seen disk.old ≡ Some image → IsCurrent D.Disk self.old disk.old →
+            Shows (view_of self.new at until) (between at until (bytes_in image file))) }
         ensures place { IfErr result (λ fault. OnBadRecord fault (λ place. place ≡ at)) }
-        ensures bad { IfErr result (λ fault. OnBadRecord fault (λ place. (image : Image) → D.Disk.seen disk.old ≡ Some image → HasNoRecord at until (bytes_in image file))) }
+        ensures bad { IfErr result (λ fault. OnBadRecord fault (λ place. (image : Image) → D.Disk.seen disk.old ≡ Some image →
+            HasNoRecord at until (bytes_in image file))) }
         ensures cause { IsErrOf result ReadFault.Disk → Rose (D.Disk.faults disk.old) (D.Disk.faults disk.new) }
         ensures later { D.Disk.faults disk.old ≤ D.Disk.faults disk.new }
         ensures same { D.Disk.seen disk.new ≡ D.Disk.seen disk.old }
-        ensures images { Goes D.Disk disk.old disk.new Stays }
+        ensures images { ImagesStep D.Disk disk.old disk.new Stays }
     {
         if !self.has(file, at, until) {
             self.fetch(disk, file, at, until)?;
@@ -253,10 +262,10 @@ impl Reader {
         Ok(())
     }
 
-    /// The event of the record at `at`, with its fields lent from the reader, and the place after it, by `until` at the
-    /// latest; `None` where `at` is `until`. The answers are those of the file as a read gives it now, where what the
-    /// reader holds is so too: a new reader holds nothing, as one that forgot, and a call keeps it so as long as nobody
-    /// changes the file.
+    /// The event of the record at `at`, with its fields lent from the reader, and the place after
+    /// it, by `until` at the latest; `None` where `at` is `until`. The answers are those of the
+    /// file as a read gives it now, where what the reader holds is so too: a new reader holds
+    /// nothing, as one that forgot, and a call keeps it so as long as nobody changes the file.
     pub fn next<D: Disk>(
         &mut self,
         disk: &mut D,
@@ -268,15 +277,17 @@ impl Reader {
         ensures after { IfOk result (λ answer. IfSome answer (λ found. (at < found.1) × (found.1 ≤ until))) }
         // The place after it is that of its record's end, whatever the file holds behind.
         ensures size { IfOk result (λ answer. IfSome answer (λ found. found.1 ≡ at + length (event_bytes (lent_event found.0)))) }
-        ensures found { IfOk result (λ answer. IfSome answer (λ found. (image : Image) → D.Disk.seen disk.old ≡ Some image → IsCurrent D.Disk self.old disk.old →
+        ensures found { IfOk result (λ answer. IfSome answer (λ found. (image : Image) → D.Disk.seen disk.old ≡ Some image →
+            IsCurrent D.Disk self.old disk.old →
             IsRecordOf (between at found.1 (bytes_in image file)) (lent_event found.0))) }
         ensures place { IfErr result (λ fault. OnBadRecord fault (λ place. place ≡ at)) }
-        ensures bad { IfErr result (λ fault. OnBadRecord fault (λ place. (image : Image) → D.Disk.seen disk.old ≡ Some image → IsCurrent D.Disk self.old disk.old →
+        ensures bad { IfErr result (λ fault. OnBadRecord fault (λ place. (image : Image) → D.Disk.seen disk.old ≡ Some image →
+            IsCurrent D.Disk self.old disk.old →
             HasNoRecord at until (bytes_in image file))) }
         ensures cause { IsErrOf result ReadFault.Disk → Rose (D.Disk.faults disk.old) (D.Disk.faults disk.new) }
         ensures later { D.Disk.faults disk.old ≤ D.Disk.faults disk.new }
         ensures same { D.Disk.seen disk.new ≡ D.Disk.seen disk.old }
-        ensures images { Goes D.Disk disk.old disk.new Stays }
+        ensures images { ImagesStep D.Disk disk.old disk.new Stays }
         ensures* current { sem 𝓛 (Rests the_row self.entry (λ new. IsCurrent D.Disk self.old disk.old → IsCurrent D.Disk new disk.new)) }
     {
         if at == until {

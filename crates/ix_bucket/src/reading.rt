@@ -3,13 +3,13 @@
 ghost use Rattle.std.specs.Prelude.{◌≡◌, ◌≤◌, ◌++◌, ℕ, List, length, take, IfOk, OnErr, IsOkAnd};
 ghost use Rattle.ix_base.specs.declared.events.Event.{Event};
 ghost use Rattle.ix_base.specs.Lent.{lent_event};
-ghost use Rattle.ix_fields.specs.Reading.{Gives};
-ghost use Rattle.ix_fields.specs.Spelling.{IsSigned64};
+ghost use Rattle.ix_coding.specs.Reading.{Gives};
+ghost use Rattle.ix_coding.specs.Spelling.{IsSigned64};
 ghost use Rattle.ix_bucket.specs.Record.{fields, event_bytes, IsInRange, IsRecordOf};
 ghost use Rattle.ix_bucket.specs.Reading.{fields_at, record_at};
 
 use ix_base::{BadRecord, EventRef};
-use ix_fields::{BadField, read_i64, read_string};
+use ix_coding::{BadField, read_i64, read_string};
 
 #[tactic(auto, unfolding(crate::specs::Reading::fields_at))]
 fn fields_at(bytes: &[u8]) -> Result<(EventRef<'_>, &[u8]), BadField>
@@ -54,8 +54,9 @@ fn record_at(bytes: &[u8]) -> Result<(EventRef<'_>, &[u8]), BadField>
     Ok((event, rest))
 }
 
-/// The event of the record at the front, with its fields lent from the bytes, and how many bytes the record takes.
-/// Bytes may follow it. `BadRecord` comes where no first bytes are a record. It takes no memory.
+/// The event of the record at the front, with its fields lent from the bytes, and how many bytes
+/// the record takes. Bytes may follow it. `BadRecord` comes where no first bytes are a record. It
+/// takes no memory.
 pub fn decode<'a>(bytes: &'a [u8]) -> Result<(EventRef<'a>, usize), BadRecord>
     ensures within { IfOk result (λ found. found.1 ≤ length bytes.now) }
     // The first bytes are the record of the event.

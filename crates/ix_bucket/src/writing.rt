@@ -1,12 +1,12 @@
 //! Records written.
 
 ghost use Rattle.std.specs.Prelude.{◌≡◌, ◌<◌, ◌^◌, ◌++◌, length, OnOk, OnErr};
-ghost use Rattle.ix_fields.specs.Spelling.{signed, string, IsShort};
-ghost use Rattle.ix_fields.specs.Writing.{Extends};
+ghost use Rattle.ix_coding.specs.Spelling.{signed, string, IsShort};
+ghost use Rattle.ix_coding.specs.Writing.{Extends};
 ghost use Rattle.ix_bucket.specs.Record.{fields, event_bytes};
 
 use ix_base::{Bytes, Event, NoMemory};
-use ix_fields::{put_i64, put_string, put_u32};
+use ix_coding::{put_i64, put_string, put_u32};
 
 /// The length of an event's fields.
 #[tactic(auto, using(crate::proofs::Sizes::length_fields))]
@@ -22,7 +22,8 @@ fn size_of(event: &Event) -> u32
 #[tactic(auto, using(crate::proofs::Sizes::length_fields))]
 fn put_first_fields(event: &Event, out: &mut Bytes) -> Result<(), NoMemory>
     requires { IsShort (fields event.now) }
-    ensures ok { OnOk result (out.new ≡ out.old ++ (signed event.now.time ++ signed event.now.arrival ++ string event.now.index ++ string event.now.host)) }
+    ensures ok { OnOk result (out.new ≡ out.old ++ (signed event.now.time ++ signed event.now.arrival ++ string event.now.index
+        ++ string event.now.host)) }
     ensures begun { Extends out.old out.new }
 {
     put_i64(event.time, out)?;
@@ -36,7 +37,8 @@ fn put_first_fields(event: &Event, out: &mut Bytes) -> Result<(), NoMemory>
 #[tactic(auto, using(crate::proofs::Sizes::length_fields))]
 fn put_last_fields(event: &Event, out: &mut Bytes) -> Result<(), NoMemory>
     requires { IsShort (fields event.now) }
-    ensures ok { OnOk result (out.new ≡ out.old ++ (string event.now.source ++ string event.now.sourcetype ++ string event.now.meta ++ string event.now.raw)) }
+    ensures ok { OnOk result (out.new ≡ out.old ++ (string event.now.source ++ string event.now.sourcetype ++ string event.now.meta
+        ++ string event.now.raw)) }
     ensures begun { Extends out.old out.new }
 {
     put_string(event.source.as_slice(), out)?;
@@ -57,7 +59,8 @@ fn put_record(event: &Event, out: &mut Bytes) -> Result<(), NoMemory>
     Ok(())
 }
 
-/// Adds the event's record at the end, of fewer than 2^32 bytes. Where there is no room for it nothing changes.
+/// Adds the event's record at the end, of fewer than 2^32 bytes. Where there is no room for it
+/// nothing changes.
 #[tactic(auto, using(crate::proofs::Sizes::length_event_bytes))]
 pub fn encode(event: &Event, out: &mut Bytes) -> Result<(), NoMemory>
     requires { length (event_bytes event.now) < 2 ^ 32 }

@@ -6,8 +6,8 @@ use Rattle.ix_base.specs.declared.events.Routed.{Routed}
 use Rattle.ix_base.specs.declared.events.Routed.TheVariants.{To, Null}
 use Rattle.ix_life.specs.declared.sets.LimitSet.{LimitSet}
 use Rattle.ix_parse.specs.Limits.{IsSmall}
-use Rattle.ix_shelves.specs.Numbers.{HasRecord}
-use Rattle.ix_shelves.proofs.RecordSizes.{small_has_record}
+use Rattle.ix_catalog.specs.Numbers.{HasRecord}
+use Rattle.ix_catalog.proofs.RecordSizes.{small_has_record}
 use Rattle.ix_channels.specs.Sizes.{IsBriefOutcome, HasBriefChance}
 
 brief_has_record : (set : LimitSet) (outcome : Routed) → HasBriefChance set → IsBriefOutcome outcome → HasRecord set outcome
@@ -21,7 +21,8 @@ brief_has_record set (To event) chance brief =
     let index = brief.index in
     small_has_record set event (omega (arith, host, source, sourcetype, meta, raw)) (omega (arith, index)) chance
 
-pub brief_have_records : (set : LimitSet) (outcomes : List Routed) → HasBriefChance set → All IsBriefOutcome outcomes → All (HasRecord set) outcomes
+pub brief_have_records : (set : LimitSet) (outcomes : List Routed) → HasBriefChance set → All IsBriefOutcome outcomes →
+    All (HasRecord set) outcomes
 brief_have_records set outcomes chance brief = λ k d h. brief_has_record set (slice_index_or outcomes k d) chance (brief k d h)
 
 small_is_brief : (outcome : Routed) → IsSmall outcome → IsBriefOutcome outcome

@@ -1,20 +1,21 @@
 -- What is carried of a channel has far fewer than 2^32 bytes.
-use Rattle.std.proofs.Common.{◌≡◌, ℕ, ℤ, ◌+◌, ◌*◌, ◌<◌, ◌≤◌, ◌^◌, Bool, true, false, List, [], ◌∷◌, ◌++◌, length, refl, sym, subst, arith, length-append}
+use Rattle.std.proofs.Common.{◌≡◌, ℕ, ℤ, ◌+◌, ◌*◌, ◌<◌, ◌≤◌, ◌^◌, Bool, true, false, List, [], ◌∷◌, ◌++◌, length, refl, sym, subst, arith}
+use Rattle.std.proofs.Common.{length-append}
 use Rattle.std.specs.Prelude.{Option, Some, None, ◌==◌, ◌||◌, nat_lt}
 use Rattle.std.specs.List.{flat_map}
 use Rattle.std.specs.Option.{ForSome}
 use Rattle.std.proofs.lemmas.Bool.{ltb-false}
 use Rattle.ix_base.specs.declared.events.Line.{Line}
-use Rattle.ix_carry.specs.Form.{HasForm, IsCarryOf}
-use Rattle.ix_carry.specs.Spelling.{line_bytes, runs_bytes, event_bytes, line_parts_bytes, merge_parts_bytes, spell}
-use Rattle.ix_carry.specs.declared.carry.Carry.{Carry}
-use Rattle.ix_carry.specs.declared.carry.CarryRules.{CarryRules}
-use Rattle.ix_carry.proofs.Runs.{length-dated_of, length_runs}
-use Rattle.ix_fields.specs.Spelling.{byte, four, signed, flag, string, option}
+use Rattle.ix_parse.specs.Form.{HasForm, IsCarryOf}
+use Rattle.ix_parse.specs.Spelling.{line_bytes, runs_bytes, event_bytes, line_parts_bytes, merge_parts_bytes, spell}
+use Rattle.ix_parse.specs.declared.carry.Carry.{Carry}
+use Rattle.ix_parse.specs.declared.carry.CarryRules.{CarryRules}
+use Rattle.ix_parse.proofs.Runs.{length-dated_of, length_runs}
+use Rattle.ix_coding.specs.Spelling.{byte, four, signed, flag, string, option}
 use Rattle.ix_lines.specs.Carry.{dated_of}
 use Rattle.ix_lines.specs.Lines.{effective}
 use Rattle.ix_merge.specs.declared.events.Whole.{Whole}
-use Rattle.ix_machine.proofs.Named.{by_test}
+use Rattle.ix_model.proofs.Named.{by_test}
 
 length_four : (n : ℕ) → length (four n) ≡ 4
 unfolding four
@@ -37,7 +38,8 @@ pub length_string : (text : List ℕ) → length (string text) ≡ 4 + length te
 unfolding string
 length_string text = omega (arith, length-append (four (length text)) text, length_four (length text))
 
-length_option : {A : Type 0} (write : A → List ℕ) (o : Option A) (n : ℕ) → ForSome o (λ (x : A). length (write x) ≤ n) → length (option write o) ≤ 1 + n
+length_option : {A : Type 0} (write : A → List ℕ) (o : Option A) (n : ℕ) → ForSome o (λ (x : A). length (write x) ≤ n) →
+    length (option write o) ≤ 1 + n
 unfolding option
 length_option write None n h = omega (arith, length_flag false)
 length_option write (Some x) n h = omega (arith, length-append (flag true) (write x), length_flag true, h x refl)
@@ -46,7 +48,12 @@ length_option write (Some x) n h = omega (arith, length-append (flag true) (writ
 
 length_line : (line : Line) → length (line_bytes line) ≡ 12 + length line.bytes
 unfolding line_bytes
-length_line line = omega (arith, length-append (signed line.moment) (string line.bytes), length_signed line.moment, length_string line.bytes)
+length_line line = omega (
+  arith,
+  length-append (signed line.moment) (string line.bytes),
+  length_signed line.moment,
+  length_string line.bytes,
+)
 
 length_lines : (runs : List Line) → length (flat_map line_bytes runs) ≡ 12 * length runs + length (dated_of runs)
 length_lines [] = refl
@@ -55,7 +62,12 @@ length_lines (run ∷ runs) =
 
 length_pending : (runs : List Line) → length (runs_bytes runs) ≡ 4 + 12 * length runs + length (dated_of runs)
 unfolding runs_bytes
-length_pending runs = omega (arith, length-append (four (length runs)) (flat_map line_bytes runs), length_four (length runs), length_lines runs)
+length_pending runs = omega (
+  arith,
+  length-append (four (length runs)) (flat_map line_bytes runs),
+  length_four (length runs),
+  length_lines runs,
+)
 
 length_event : (event : Whole) → length (event_bytes event) ≡ 16 + length event.raw
 unfolding event_bytes
@@ -92,10 +104,12 @@ module _ (rules : CarryRules) (carry : Carry) (h : HasForm rules carry) where
       omega (arith, length_pending carry.lines.pending, few, many)
 
   line : length (option line_bytes carry.lines.line) ≤ 1048590
-  line = length_option line_bytes carry.lines.line 1048589 (λ l e. (let few = (h.line l e).few in omega (arith, length_line l, few, cut_at rules.truncate)))
+  line = length_option line_bytes carry.lines.line 1048589
+      (λ l e. (let few = (h.line l e).few in omega (arith, length_line l, few, cut_at rules.truncate)))
 
   event : length (option event_bytes carry.merge.event) ≤ 4194321
-  event = length_option event_bytes carry.merge.event 4194320 (λ w e. (let few = (h.merge.sized w e).few_bytes in omega (arith, length_event w, few)))
+  event = length_option event_bytes carry.merge.event 4194320
+      (λ w e. (let few = (h.merge.sized w e).few_bytes in omega (arith, length_event w, few)))
 
   latest : length (option signed carry.latest) ≤ 9
   latest = length_option signed carry.latest 8 (λ z e. omega (arith, length_signed z))

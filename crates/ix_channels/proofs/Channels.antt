@@ -1,17 +1,18 @@
 -- Open channels beside their lives: they stand in the same order, by their names.
-use Rattle.std.proofs.Common.{◌≡◌, ℕ, zero, suc, ◌+◌, ◌<◌, ◌≤◌, Bool, true, false, List, [], ◌∷◌, refl, sym, ap, ◌∙◌, subst, length, get_or, arith}
+use Rattle.std.proofs.Common.{◌≡◌, ℕ, zero, suc, ◌+◌, ◌<◌, ◌≤◌, Bool, true, false, List, [], ◌∷◌, refl, sym, ap, ◌∙◌, subst, length}
+use Rattle.std.proofs.Common.{get_or, arith}
 use Rattle.std.specs.Prelude.{Some, None, not, nat_lt, bytes_eq}
 use Rattle.std.specs.List.{AllZip, position, position_or_len, prefix_len, insert, remove}
 use Rattle.std.specs.Ordering.{nat_cmp, is_lt}
 use Rattle.std.specs.Cmp.Lexicographic.{slice_cmp}
 use Rattle.std.proofs.lemmas.Bool.{ltb-true, ltb-false}
-use Rattle.ix_machine.specs.State.{Life, life_name}
-use Rattle.ix_machine.proofs.Named.{by_test}
-use Rattle.ix_shelves.specs.Lists as lists
-use Rattle.ix_shelves.specs.Lists.{find, change, without, update, stands_before}
-use Rattle.ix_kept.specs.Causes.{has_name}
-use Rattle.ix_kept.specs.Held.{IsOpen}
-use Rattle.ix_kept.specs.declared.held.Open.{Open}
+use Rattle.ix_model.specs.State.{ChannelHistory, life_name}
+use Rattle.ix_model.proofs.Named.{by_test}
+use Rattle.ix_catalog.specs.Lists as lists
+use Rattle.ix_catalog.specs.Lists.{find, change, without, update, stands_before}
+use Rattle.ix_state.specs.Causes.{has_name}
+use Rattle.ix_state.specs.Held.{IsOpen}
+use Rattle.ix_state.specs.declared.state.OpenChannel.{OpenChannel}
 use Rattle.ix_channels.specs.Places.{is_before, place_for}
 
 false_true : false ≡ true → ⊥
@@ -26,12 +27,13 @@ some_same e = cc
 -- ---- the place of a name
 
 -- the channel at this place is the first one of the name
-abbrev pub StandsAt : List ℕ → ℕ → List Open → Type 0
+abbrev pub StandsAt : List ℕ → ℕ → List OpenChannel → Type 0
 StandsAt name k [] = ⊥
 StandsAt name zero (o ∷ os) = has_name name o ≡ true
 StandsAt name (suc k) (o ∷ os) = (has_name name o ≡ false) × StandsAt name k os
 
-stands_there : (name : List ℕ) (os : List Open) → position_or_len (has_name name) os < length os → StandsAt name (position_or_len (has_name name) os) os
+stands_there : (name : List ℕ) (os : List OpenChannel) → position_or_len (has_name name) os < length os →
+    StandsAt name (position_or_len (has_name name) os) os
 stands_there name [] l = absurd (omega arith)
 stands_there name (o ∷ os) l =
     by_test (has_name name o)
@@ -47,7 +49,7 @@ stands_there name (o ∷ os) l =
     less : 1 + k < length (o ∷ os) → k < length os
     less h = omega arith
 
-pub stands : (name : List ℕ) (os : List Open) (k : ℕ) → position (has_name name) os ≡ Some k → StandsAt name k os
+pub stands : (name : List ℕ) (os : List OpenChannel) (k : ℕ) → position (has_name name) os ≡ Some k → StandsAt name k os
 stands name os k e =
     by_test (nat_lt p (length os))
     (λ t. subst (λ (j : ℕ). StandsAt name j os) (some_same (rw t at e)) (stands_there name os (ltb-true p (length os) t)))
@@ -82,15 +84,16 @@ found_none p xs e =
 
 -- ---- the life at a place
 
-pub record IsOf (name : List ℕ) (ls : List Life) (o : Open) : Type 0 where
-  pub life : Life
+pub record IsOf (name : List ℕ) (ls : List ChannelHistory) (o : OpenChannel) : Type 0 where
+  pub life : ChannelHistory
   pub found : find life_name name ls ≡ Some life
   pub is_open : IsOpen life o
 
-same_name : (name : List ℕ) (l : Life) (o : Open) (t : Bool) → IsOpen l o → has_name name o ≡ t → bytes_eq l.name name ≡ t
+same_name : (name : List ℕ) (l : ChannelHistory) (o : OpenChannel) (t : Bool) → IsOpen l o → has_name name o ≡ t → bytes_eq l.name name ≡ t
 same_name name l o t h e = ap (λ (n : List ℕ). bytes_eq n name) (sym h.name) ∙ e
 
-pub life_at : (name : List ℕ) (k : ℕ) (ls : List Life) (os : List Open) (o : Open) → StandsAt name k os → AllZip IsOpen ls os → o ≡ get_or os k o → IsOf name ls o
+pub life_at : (name : List ℕ) (k : ℕ) (ls : List ChannelHistory) (os : List OpenChannel) (o : OpenChannel) → StandsAt name k os →
+    AllZip IsOpen ls os → o ≡ get_or os k o → IsOf name ls o
 life_at name k [] [] o s h e = absurd s
 life_at name k [] (x ∷ os) o s h e = absurd h
 life_at name k (l ∷ ls) [] o s h e = absurd h
@@ -109,19 +112,21 @@ life_at name (suc k) (l ∷ ls) (x ∷ os) o s h e =
 
 -- ---- changes
 
-pub changed_at : (name : List ℕ) (k : ℕ) (f : Life → Life) (g : Open → Open) (ls : List Life) (os : List Open) (o : Open) → StandsAt name k os → AllZip IsOpen ls os →
-    o ≡ get_or os k o → ((l : Life) → find life_name name ls ≡ Some l → IsOpen l o → IsOpen (f l) (g o)) → AllZip IsOpen (change life_name name f ls) (update k g os)
+pub changed_at : (name : List ℕ) (k : ℕ) (f : ChannelHistory → ChannelHistory) (g : OpenChannel →
+    OpenChannel) (ls : List ChannelHistory) (os : List OpenChannel) (o : OpenChannel) → StandsAt name k os → AllZip IsOpen ls os →
+    o ≡ get_or os k o → ((l : ChannelHistory) → find life_name name ls ≡ Some l → IsOpen l o → IsOpen (f l) (g o)) →
+    AllZip IsOpen (change life_name name f ls) (update k g os)
 changed_at name k f g [] [] o s h e each = absurd s
 changed_at name k f g [] (x ∷ os) o s h e each = absurd h
 changed_at name k f g (l ∷ ls) [] o s h e each = absurd h
 changed_at name zero f g (l ∷ ls) (x ∷ os) o s h e each =
     let t = same_name name l x true h.0 s in
-    rw t (subst (λ (y : Open). IsOpen (f l) (g y)) e (each l (rw t refl) (subst (IsOpen l) (sym e) h.0)), h.1)
+    rw t (subst (λ (y : OpenChannel). IsOpen (f l) (g y)) e (each l (rw t refl) (subst (IsOpen l) (sym e) h.0)), h.1)
 changed_at name (suc k) f g (l ∷ ls) (x ∷ os) o s h e each =
     let t = same_name name l x false h.0 s.0 in
     rw t (h.0, changed_at name k f g ls os o s.1 h.1 e (λ y found. each y (rw t found)))
 
-pub removed_at : (name : List ℕ) (k : ℕ) (ls : List Life) (os : List Open) → StandsAt name k os → AllZip IsOpen ls os →
+pub removed_at : (name : List ℕ) (k : ℕ) (ls : List ChannelHistory) (os : List OpenChannel) → StandsAt name k os → AllZip IsOpen ls os →
     AllZip IsOpen (without life_name name ls) (remove os k)
 removed_at name k [] [] s h = absurd s
 removed_at name k [] (x ∷ os) s h = absurd h
@@ -131,11 +136,14 @@ removed_at name (suc k) (l ∷ ls) (x ∷ os) s h = rw (same_name name l x false
 
 -- ---- one more
 
-before_same : (l x : Life) (o y : Open) (t : Bool) → IsOpen l o → IsOpen x y → is_before o.name y ≡ t → stands_before life_name x l ≡ t
+before_same : (l x : ChannelHistory) (o y : OpenChannel) (t : Bool) → IsOpen l o → IsOpen x y → is_before o.name y ≡ t →
+    stands_before life_name x l ≡ t
 before_same l x o y t h k e =
-    ap (λ (n : List ℕ). is_lt (slice_cmp nat_cmp n l.name)) (sym k.name) ∙ ap (λ (n : List ℕ). is_lt (slice_cmp nat_cmp y.name n)) (sym h.name) ∙ e
+    ap (λ (n : List ℕ). is_lt (slice_cmp nat_cmp n l.name)) (sym k.name)
+    ∙ ap (λ (n : List ℕ). is_lt (slice_cmp nat_cmp y.name n)) (sym h.name) ∙ e
 
-pub inserted : (l : Life) (o : Open) (ls : List Life) (os : List Open) → IsOpen l o → AllZip IsOpen ls os →
+pub inserted : (l : ChannelHistory) (o : OpenChannel) (ls : List ChannelHistory) (os : List OpenChannel) → IsOpen l o →
+    AllZip IsOpen ls os →
     AllZip IsOpen (lists.insert life_name l ls) (insert os (place_for o.name os) o)
 inserted l o [] [] is h = (is, tt)
 inserted l o [] (y ∷ os) is h = absurd h

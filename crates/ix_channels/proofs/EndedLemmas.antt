@@ -1,5 +1,6 @@
 -- All channels in memory that end are those of the machine.
-use Rattle.std.proofs.Common.{◌≡◌, ℕ, ℤ, zero, suc, ◌+◌, ◌<◌, ◌≤◌, List, [], ◌∷◌, ◌++◌, map, refl, sym, ap, ◌∙◌, subst, length, take, get_or, append-nil, arith}
+use Rattle.std.proofs.Common.{◌≡◌, ℕ, ℤ, zero, suc, ◌+◌, ◌<◌, ◌≤◌, List, [], ◌∷◌, ◌++◌, map, refl, sym, ap, ◌∙◌, subst, length, take}
+use Rattle.std.proofs.Common.{get_or, append-nil, arith}
 use Rattle.std.specs.List.{All, AllZip, AllByRecursion, flat_map}
 use Rattle.std.proofs.lemmas.List.{map-append, take_more, take_all}
 use Rattle.std.proofs.lemmas.List.Concat.{flat_map-append}
@@ -9,38 +10,39 @@ use Rattle.ix_items.specs.Spelling.{HasSpelling}
 use Rattle.ix_items.specs.declared.items.Item.{Item}
 use Rattle.ix_items.specs.declared.items.Item.TheVariants as items
 use Rattle.ix_life.specs.declared.sets.LimitSet.{LimitSet}
-use Rattle.ix_machine.specs.Given.{Chooser}
-use Rattle.ix_machine.specs.State.{Life}
-use Rattle.ix_machine.specs.Step.{after}
-use Rattle.ix_machine.specs.declared.commands.Command.TheVariants.{Configure}
-use Rattle.ix_machine.specs.declared.commands.Config.{Config}
-use Rattle.ix_machine.specs.declared.commands.Order.{Order}
-use Rattle.ix_shelves.specs.Numbers.{HasRecord}
-use Rattle.ix_shelves.proofs.Updates.{all_push}
-use Rattle.ix_machine.specs.Said as said
-use Rattle.ix_kept.specs.Held.{IsOpen}
-use Rattle.ix_kept.specs.declared.held.Held.{Held}
-use Rattle.ix_kept.specs.declared.held.Open.{Open}
+use Rattle.ix_model.specs.Given.{Chooser}
+use Rattle.ix_model.specs.State.{ChannelHistory}
+use Rattle.ix_model.specs.Step.{state_after}
+use Rattle.ix_model.specs.declared.commands.Command.TheVariants.{Configure}
+use Rattle.ix_model.specs.declared.commands.Config.{Config}
+use Rattle.ix_model.specs.declared.commands.TimedCommand.{TimedCommand}
+use Rattle.ix_catalog.specs.Numbers.{HasRecord}
+use Rattle.ix_catalog.proofs.Updates.{all_push}
+use Rattle.ix_model.specs.Said as said
+use Rattle.ix_state.specs.Held.{IsOpen}
+use Rattle.ix_state.specs.declared.state.StoreState.{StoreState}
+use Rattle.ix_state.specs.declared.state.OpenChannel.{OpenChannel}
 use Rattle.ix_channels.specs.Ended.{ended_item, life_adds, HasShortName, AreEnded}
 use Rattle.ix_channels.specs.Taken.{Settles}
 use Rattle.ix_channels.specs.Working.{MayBeDone, IsWorked}
 use Rattle.ix_channels.specs.declared.change.ChannelChange.TheVariants as change
 use Rattle.ix_channels.specs.declared.endings.Endings.{Endings}
-use Rattle.ix_channels.specs.declared.working.Worked.{Worked}
+use Rattle.ix_channels.specs.declared.channel_effect.ChannelEffect.{ChannelEffect}
 use Rattle.ix_channels.proofs.Alike.{alike}
 use Rattle.ix_channels.proofs.TakenLemmas.{end_outcomes}
 
 -- ---- one more
 
 -- lives beside channels of which one is the last
-record Split (lives : List Life) (ended : List Open) (o : Open) : Type 0 where
-  front : List Life
-  life : Life
+record Split (lives : List ChannelHistory) (ended : List OpenChannel) (o : OpenChannel) : Type 0 where
+  front : List ChannelHistory
+  life : ChannelHistory
   are : lives ≡ front ++ life ∷ []
   before : AllZip IsOpen front ended
   is_open : IsOpen life o
 
-split : (lives : List Life) (ended : List Open) (o : Open) → AllZip IsOpen lives (ended ++ o ∷ []) → Split lives ended o
+split : (lives : List ChannelHistory) (ended : List OpenChannel) (o : OpenChannel) → AllZip IsOpen lives (ended ++ o ∷ []) →
+    Split lives ended o
 split [] [] o h = absurd h
 split [] (x ∷ ended) o h = absurd h
 split (l ∷ []) [] o h = record { front = []; life = l; are = refl; before = tt; is_open = h.0 }
@@ -50,16 +52,18 @@ split (l ∷ ls) (x ∷ ended) o h =
     record {
       front = l ∷ rest.front;
       life = rest.life;
-      are = ap (λ (xs : List Life). l ∷ xs) rest.are;
+      are = ap (λ (xs : List ChannelHistory). l ∷ xs) rest.are;
       before = (h.0, rest.before);
       is_open = rest.is_open;
     }
 
-one_adds : (life : Life) → flat_map life_adds (life ∷ []) ≡ life_adds life
+one_adds : (life : ChannelHistory) → flat_map life_adds (life ∷ []) ≡ life_adds life
 one_adds life = append-nil (life_adds life)
 
-pub ended_more : (set : LimitSet) (ended : List Open) (o : Open) (old new : Endings) (outcomes : List Routed) (item : Item) → AreEnded set ended old →
-    new.outcomes.items ≡ old.outcomes.items ++ outcomes → new.items.items ≡ old.items.items ++ item ∷ [] → Settles o.channel outcomes → item ≡ items.Ended o.name →
+pub ended_more : (set : LimitSet) (ended : List OpenChannel) (o : OpenChannel) (old new : Endings) (outcomes : List Routed) (item : Item) →
+    AreEnded set ended old →
+    new.outcomes.items ≡ old.outcomes.items ++ outcomes → new.items.items ≡ old.items.items ++ item ∷ [] → Settles o.channel outcomes →
+    item ≡ items.Ended o.name →
     HasSpelling item → All (HasRecord set) outcomes → AreEnded set (ended ++ o ∷ []) new
 ended_more set ended o old new outcomes item so_far outcomes_are items_are settles is proper small = record {
   proper = subst (AllByRecursion HasSpelling) (sym items_are) (all_push HasSpelling old.items.items item so_far.proper proper);
@@ -76,12 +80,13 @@ ended_more set ended o old new outcomes item so_far outcomes_are items_are settl
 
 -- ---- the channel at a place
 
-pub record HasLife (o : Open) (lives : List Life) : Type 0 where
-  pub life : Life
+pub record HasLife (o : OpenChannel) (lives : List ChannelHistory) : Type 0 where
+  pub life : ChannelHistory
   pub is_open : IsOpen life o
   pub short : HasShortName life
 
-pub life_of : (lives : List Life) (os : List Open) (k : ℕ) (o : Open) → AllZip IsOpen lives os → AllByRecursion HasShortName lives → k < length os → o ≡ get_or os k o → HasLife o lives
+pub life_of : (lives : List ChannelHistory) (os : List OpenChannel) (k : ℕ) (o : OpenChannel) → AllZip IsOpen lives os →
+    AllByRecursion HasShortName lives → k < length os → o ≡ get_or os k o → HasLife o lives
 life_of [] [] k o h s l e = absurd (omega arith)
 life_of [] (x ∷ os) k o h s l e = absurd h
 life_of (v ∷ lives) [] k o h s l e = absurd h
@@ -92,24 +97,26 @@ life_of (v ∷ lives) (x ∷ os) (suc k) o h s l e =
 
 -- ---- the command
 
-same_items : (lives : List Life) (os : List Open) → AllZip IsOpen lives os → map ended_item os ≡ map said.ended_item lives
+same_items : (lives : List ChannelHistory) (os : List OpenChannel) → AllZip IsOpen lives os → map ended_item os ≡ map said.ended_item lives
 same_items [] [] h = refl
 same_items [] (o ∷ os) h = absurd h
 same_items (l ∷ ls) [] h = absurd h
 same_items (l ∷ ls) (o ∷ os) h =
     ap (λ (n : List ℕ). items.Ended n ∷ map ended_item os) h.0.name ∙ ap (λ (xs : List Item). said.ended_item l ∷ xs) (same_items ls os h.1)
 
-pub end_all_works : (choose : Chooser) (history : List Order) (config : Config) (moment : ℤ) (held : Held) (endings : Endings) (worked : Worked) →
+pub end_all_works : (choose : Chooser) (history : List TimedCommand) (config : Config) (moment : ℤ) (held : StoreState) (endings : Endings)
+    (worked : ChannelEffect) →
     MayBeDone choose history (Configure config) moment held → AreEnded held.config.limits held.channels.items endings →
     worked.change ≡ change.AllEnded → worked.outcomes ≡ endings.outcomes.items → worked.items ≡ endings.items.items →
     IsWorked choose history (Configure config) moment held worked
 end_all_works choose history config moment held endings worked may ended change_is outcomes_are items_are =
-    alike choose history (Configure config) moment held worked (record { change = change.AllEnded; outcomes = endings.outcomes.items; items = endings.items.items })
+    alike choose history (Configure config) moment held worked
+    (record { change = change.AllEnded; outcomes = endings.outcomes.items; items = endings.items.items })
     change_is outcomes_are items_are (record {
       channels = tt;
       room = tt;
-      outcomes = ended.settles (after choose history).channels may.sees.channels;
-      items = ended.said ∙ same_items (after choose history).channels held.channels.items may.sees.channels;
+      outcomes = ended.settles (state_after choose history).channels may.sees.channels;
+      items = ended.said ∙ same_items (state_after choose history).channels held.channels.items may.sees.channels;
     })
 
 -- no channel ended yet
@@ -121,15 +128,18 @@ none_yet set endings outcomes items = record {
   settles = λ lives zip. outcomes ∙ none_settle lives zip;
 }
   where
-    none_settle : (lives : List Life) → AllZip IsOpen lives [] → [] ≡ flat_map life_adds lives
+    none_settle : (lives : List ChannelHistory) → AllZip IsOpen lives [] → [] ≡ flat_map life_adds lives
     none_settle [] zip = refl
     none_settle (l ∷ lives) zip = absurd zip
 
 -- a channel more of a list, and all of them
-pub ended_step : (set : LimitSet) (xs : List Open) (i : ℕ) (o : Open) (new : Endings) → i < length xs → o ≡ get_or xs i o → AreEnded set (take i xs ++ o ∷ []) new →
+pub ended_step : (set : LimitSet) (xs : List OpenChannel) (i : ℕ) (o : OpenChannel) (new : Endings) → i < length xs → o ≡ get_or xs i o →
+    AreEnded set (take i xs ++ o ∷ []) new →
     AreEnded set (take (i + 1) xs) new
 ended_step set xs i o new within is h =
-    subst (λ (l : List Open). AreEnded set l new) (sym (take_more xs i o within ∙ ap (λ (x : Open). take i xs ++ x ∷ []) (sym is))) h
+    subst (λ (l : List OpenChannel). AreEnded set l new)
+    (sym (take_more xs i o within ∙ ap (λ (x : OpenChannel). take i xs ++ x ∷ []) (sym is))) h
 
-pub ended_all : (set : LimitSet) (xs : List Open) (i : ℕ) (endings : Endings) → length xs ≤ i → AreEnded set (take i xs) endings → AreEnded set xs endings
-ended_all set xs i endings past h = subst (λ (l : List Open). AreEnded set l endings) (take_all i xs past) h
+pub ended_all : (set : LimitSet) (xs : List OpenChannel) (i : ℕ) (endings : Endings) → length xs ≤ i → AreEnded set (take i xs) endings →
+    AreEnded set xs endings
+ended_all set xs i endings past h = subst (λ (l : List OpenChannel). AreEnded set l endings) (take_all i xs past) h

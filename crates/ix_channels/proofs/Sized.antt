@@ -4,14 +4,14 @@ use Rattle.std.specs.Prelude.{true, Option, Some, None, bytes_eq}
 use Rattle.std.specs.List.{AllByRecursion, flat_map}
 use Rattle.std.proofs.lemmas.List.Concat.{flat_map-append}
 use Rattle.ix_base.specs.declared.events.ChannelMeta.{ChannelMeta}
-use Rattle.ix_fields.specs.Spelling.{byte, string, option, flag, IsShort, IsShortOption}
+use Rattle.ix_coding.specs.Spelling.{byte, string, option, flag, IsShort, IsShortOption}
 use Rattle.ix_items.specs.Spelling.{meta_bytes, kind_byte, field_bytes, item_bytes, body_bytes, IsMeta}
 use Rattle.ix_items.specs.declared.items.Item.{Item}
 use Rattle.ix_items.specs.declared.items.Item.TheVariants as items
-use Rattle.ix_machine.specs.Bounds.{bucket_items, entry_items, next_item, channel_item, sized_items, KeepsBounds}
-use Rattle.ix_machine.specs.State.{State, Life, life_name}
-use Rattle.ix_machine.proofs.Named.{by_test}
-use Rattle.ix_shelves.specs.Lists.{find}
+use Rattle.ix_model.specs.Bounds.{bucket_items, entry_items, next_item, channel_item, sized_items, KeepsBounds}
+use Rattle.ix_model.specs.State.{State, ChannelHistory, life_name}
+use Rattle.ix_model.proofs.Named.{by_test}
+use Rattle.ix_catalog.specs.Lists.{find}
 use Rattle.ix_channels.proofs.Carries.{length_string}
 
 none_some : {X : Type 0} {x : X} → None ≡ Some x → ⊥
@@ -49,7 +49,7 @@ meta_size meta =
       option_size meta.index,
     )
 
-channel_size : (life : Life) → length life.name + sizes life.meta ≤ length (item_bytes (channel_item life))
+channel_size : (life : ChannelHistory) → length life.name + sizes life.meta ≤ length (item_bytes (channel_item life))
 unfolding item_bytes field_bytes
 channel_size life =
     omega (
@@ -63,7 +63,7 @@ channel_size life =
 
 -- ---- among all
 
-among_size : (name : List ℕ) (life : Life) (ls : List Life) → find life_name name ls ≡ Some life →
+among_size : (name : List ℕ) (life : ChannelHistory) (ls : List ChannelHistory) → find life_name name ls ≡ Some life →
     length life.name + sizes life.meta ≤ length (body_bytes (map channel_item ls))
 among_size name life [] e = absurd (none_some e)
 among_size name life (l ∷ ls) e =
@@ -75,8 +75,8 @@ among_size name life (l ∷ ls) e =
     first : l ≡ life → length life.name + sizes life.meta ≤ length (body_bytes (map channel_item (l ∷ ls)))
     first is =
         let here = channel_size l in
-        let name_is : length l.name ≡ length life.name = ap (λ (x : Life). length x.name) is in
-        let sizes_are : sizes l.meta ≡ sizes life.meta = ap (λ (x : Life). sizes x.meta) is in
+        let name_is : length l.name ≡ length life.name = ap (λ (x : ChannelHistory). length x.name) is in
+        let sizes_are : sizes l.meta ≡ sizes life.meta = ap (λ (x : ChannelHistory). sizes x.meta) is in
         omega (arith, length-append (item_bytes (channel_item l)) (body_bytes (map channel_item ls)), here, name_is, sizes_are)
 
 behind_size : (front back : List Item) → length (body_bytes back) ≤ length (body_bytes (front ++ back))
@@ -88,7 +88,8 @@ short_option : (o : Option (List ℕ)) → size_of o < 2 ^ 32 → IsShortOption 
 short_option None h = tt
 short_option (Some text) h = h
 
-pub sized_short : (m : State) (name : List ℕ) (life : Life) → KeepsBounds m → find life_name name m.channels ≡ Some life → IsShort life.name × IsMeta life.meta
+pub sized_short : (m : State) (name : List ℕ) (life : ChannelHistory) → KeepsBounds m → find life_name name m.channels ≡ Some life →
+    IsShort life.name × IsMeta life.meta
 sized_short m name life bounds e =
     let within = among_size name life m.channels e in
     let front = items.Settings m.force ∷ flat_map bucket_items m.catalog.indexes ++ flat_map entry_items m.catalog.indexes
@@ -104,7 +105,8 @@ sized_short m name life bounds e =
       },
     )
 
-each_short : (n : ℕ) (ls : List Life) → n < 2 ^ 32 → length (body_bytes (map channel_item ls)) ≤ n → AllByRecursion (λ (life : Life). IsShort life.name) ls
+each_short : (n : ℕ) (ls : List ChannelHistory) → n < 2 ^ 32 → length (body_bytes (map channel_item ls)) ≤ n →
+    AllByRecursion (λ (life : ChannelHistory). IsShort life.name) ls
 each_short n [] b h = tt
 each_short n (l ∷ ls) b h =
     let all = length-append (item_bytes (channel_item l)) (body_bytes (map channel_item ls)) in
@@ -112,7 +114,7 @@ each_short n (l ∷ ls) b h =
     (omega (arith, all, here, h, b), each_short n ls b (omega (arith, all, h)))
 
 -- so have the names of all that are open
-pub names_short : (m : State) → KeepsBounds m → AllByRecursion (λ (life : Life). IsShort life.name) m.channels
+pub names_short : (m : State) → KeepsBounds m → AllByRecursion (λ (life : ChannelHistory). IsShort life.name) m.channels
 names_short m bounds =
     let front = items.Settings m.force ∷ flat_map bucket_items m.catalog.indexes ++ flat_map entry_items m.catalog.indexes
     ++ map items.Spot m.spots ++ map next_item m.catalog.indexes in

@@ -7,7 +7,7 @@ use Rattle.ix_parse.specs.declared.channel.Channel.{Channel}
 use Rattle.ix_props.specs.Settings.{AreSettings, AreUsable}
 use Rattle.ix_props.specs.declared.props.PropsEntry.{PropsEntry}
 use Rattle.ix_props.specs.declared.settings.Settings.{Settings}
-use Rattle.ix_kept.specs.declared.held.Open.{Open}
+use Rattle.ix_state.specs.declared.state.OpenChannel.{OpenChannel}
 
 -- the metadata with the index that holds
 abbrev pub resolved : LimitSet → ChannelMeta → ChannelMeta
@@ -26,7 +26,7 @@ pub record IsStarted (entries : List PropsEntry) (meta : ChannelMeta) (channel :
   pub stands : StandsFor settings meta [] channel
 
 -- such a channel is open under a name
-pub record IsBegun (entries : List PropsEntry) (name : List ℕ) (meta : ChannelMeta) (o : Open) : Type 0 where
+pub record IsBegun (entries : List PropsEntry) (name : List ℕ) (meta : ChannelMeta) (o : OpenChannel) : Type 0 where
   pub name_is : o.name ≡ name
   pub meta_is : o.meta ≡ meta
   pub started : IsStarted entries meta o.channel

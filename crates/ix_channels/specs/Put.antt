@@ -3,8 +3,8 @@ use Rattle.std.specs.Prelude.{◌≡◌, ℤ, List}
 use Rattle.std.specs.List.{AllZip}
 use Rattle.ix_base.specs.declared.events.Routed.{Routed}
 use Rattle.ix_life.specs.declared.sets.LimitSet.{LimitSet}
-use Rattle.ix_machine.specs.Step.{direct_event, direct_by}
-use Rattle.ix_machine.specs.declared.commands.Direct.{Direct}
+use Rattle.ix_model.specs.Step.{direct_event, direct_by}
+use Rattle.ix_model.specs.declared.commands.Direct.{Direct}
 use Rattle.ix_props.specs.Settings.{AreSettings}
 use Rattle.ix_props.specs.declared.props.PropsEntry.{PropsEntry}
 use Rattle.ix_props.specs.declared.settings.Settings.{Settings}

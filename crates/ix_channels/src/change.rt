@@ -1,13 +1,13 @@
-//! How a command changes the open channels in memory. It is worked out beside them, and the store makes the change once the command
-//! stands.
+//! How a command changes the open channels in memory. It is worked out beside them, and the store
+//! makes the change once the command stands.
 
 ghost use Rattle.std.specs.Prelude.{◌≡◌, ◌<◌, vec_len};
-ghost use Rattle.ix_shelves.specs.Lists.{update};
+ghost use Rattle.ix_catalog.specs.Lists.{update};
 ghost use Rattle.ix_channels.specs.Changes.{HasRoom, changed, with_channel};
 
-use crate::room::Room;
-use ix_kept::Open;
+use crate::reserved_insert::ReservedInsert;
 use ix_parse::Channel;
+use ix_state::OpenChannel;
 
 /// A change of the open channels.
 #[derive(Drop)]
@@ -15,7 +15,7 @@ pub enum ChannelChange {
     /// There is none.
     Same,
     /// One more is open.
-    Begun(Room<Open>),
+    Begun(ReservedInsert<OpenChannel>),
     /// The one at this place took bytes in.
     Fed { at: usize, channel: Channel },
     /// The one at this place ended.
@@ -25,7 +25,7 @@ pub enum ChannelChange {
 }
 
 /// Puts a channel that took bytes in into its place.
-fn replace(channels: &mut Vec<Open>, at: usize, channel: Channel)
+fn replace(channels: &mut Vec<OpenChannel>, at: usize, channel: Channel)
     requires { at < vec_len channels.old }
     ensures { channels.new.items ≡ update at (with_channel channel) channels.old.items }
 {
@@ -35,7 +35,7 @@ fn replace(channels: &mut Vec<Open>, at: usize, channel: Channel)
 
 impl ChannelChange {
     /// Makes the change. It takes no memory.
-    pub fn install(self, channels: &mut Vec<Open>)
+    pub fn install(self, channels: &mut Vec<OpenChannel>)
         requires { HasRoom self channels.old }
         ensures { channels.new.items ≡ changed self channels.old.items }
     {

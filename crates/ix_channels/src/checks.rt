@@ -1,16 +1,17 @@
-//! Whether items and outcomes are of a size that a log and a bucket take. It is asked of whatever was worked out, before it is said.
+//! Whether items and outcomes are of a size that a log and a bucket take. It is asked of whatever
+//! was worked out, before it is said.
 
 ghost use Rattle.std.specs.Prelude.{◌≡◌, ◌<◌, ◌↔◌, ◌^◌, ◌∷◌, [], IfOk, IfSome, IsTrue, IsErrOf, true, false};
 ghost use Rattle.std.specs.List.{All};
-ghost use Rattle.ix_fields.specs.Spelling.{IsShort as IsShortText};
+ghost use Rattle.ix_coding.specs.Spelling.{IsShort as IsShortText};
 ghost use Rattle.ix_items.specs.Spelling.{HasSpelling, IsMeta};
 ghost use Rattle.ix_items.specs.declared.items.Item.TheVariants as items;
 ghost use Rattle.ix_parse.specs.Limits.{IsSmall};
-ghost use Rattle.ix_shelves.specs.Numbers.{HasRecord};
+ghost use Rattle.ix_catalog.specs.Numbers.{HasRecord};
 ghost use Rattle.ix_channels.specs.Sizes.{AreBriefFields, IsBriefOutcome, HasBriefChance};
-ghost use Rattle.ix_channels.specs.declared.working.WorkFault.TheVariants as faults;
+ghost use Rattle.ix_channels.specs.declared.channel_effect.WorkFault.TheVariants as faults;
 
-use crate::working::WorkFault;
+use crate::channel_effect::WorkFault;
 use ix_base::{Bytes, ChannelMeta, Event, Routed};
 use ix_items::{Item, is_short, is_short_meta};
 use ix_life::LimitSet;

@@ -4,16 +4,16 @@ ghost use Rattle.std.specs.Prelude.{◌≡◌, ◌∷◌, [], ℕ, ℤ, List, If
 ghost use Rattle.std.specs.List.{All, AllByRecursion};
 ghost use Rattle.ix_base.specs.Stream.{Dated};
 ghost use Rattle.ix_base.specs.declared.events.ChannelMeta.{ChannelMeta as Stated};
-ghost use Rattle.ix_fields.specs.Spelling.{IsShort as IsShortText};
+ghost use Rattle.ix_coding.specs.Spelling.{IsShort as IsShortText};
 ghost use Rattle.ix_items.specs.Spelling.{HasSpelling};
 ghost use Rattle.ix_items.specs.declared.items.Item.TheVariants as items;
-ghost use Rattle.ix_machine.specs.Given.{Chooser};
-ghost use Rattle.ix_machine.specs.declared.commands.Command.TheVariants as commands;
-ghost use Rattle.ix_machine.specs.declared.commands.Order.{Order};
+ghost use Rattle.ix_model.specs.Given.{Chooser};
+ghost use Rattle.ix_model.specs.declared.commands.Command.TheVariants as commands;
+ghost use Rattle.ix_model.specs.declared.commands.TimedCommand.{TimedCommand};
 ghost use Rattle.ix_parse.specs.Limits.{KeepsLimits};
 ghost use Rattle.ix_parse.specs.Standing.{StandsFor};
 ghost use Rattle.ix_props.specs.declared.settings.Settings.{Settings as Chosen};
-ghost use Rattle.ix_shelves.specs.Numbers.{HasRecord};
+ghost use Rattle.ix_catalog.specs.Numbers.{HasRecord};
 ghost use Rattle.ix_channels.specs.Changes.{HasRoom};
 ghost use Rattle.ix_channels.specs.Sizes.{HasBriefChance};
 ghost use Rattle.ix_channels.specs.Taken.{Settles};
@@ -21,15 +21,15 @@ ghost use Rattle.ix_channels.specs.declared.change.ChannelChange.TheVariants as 
 ghost use Rattle.ix_channels.specs.Working.{MayBeDone, IsWorked, StaysWithin};
 
 use crate::change::ChannelChange;
+use crate::channel_effect::{ChannelEffect, WorkFault, nothing};
 use crate::checks::{ended_item, have_records};
 use crate::items::single;
 use crate::places::place_of;
-use crate::working::{WorkFault, Worked, nothing};
 use ix_base::{RoutedList, Sequence};
 use ix_items::Item;
-use ix_kept::{Held, Open};
 use ix_life::LimitSet;
 use ix_parse::Channel;
+use ix_state::{OpenChannel, StoreState};
 use std::alloc::Global;
 
 /// What the end of a channel makes of it: what it settles, and what the log says of it.
@@ -41,7 +41,7 @@ pub(crate) struct Ending {
 
 impl Ending {
     /// What it makes of the channel at this place.
-    fn worked(self, alloc: Global, at: usize) -> Result<Worked, WorkFault>
+    fn worked(self, alloc: Global, at: usize) -> Result<ChannelEffect, WorkFault>
         ensures change { IfOk result (λ worked. worked.change ≡ changes.Ended at) }
         ensures outcomes { IfOk result (λ worked. worked.outcomes ≡ self.outcomes) }
         ensures items { IfOk result (λ worked. worked.items ≡ self.item ∷ []) }
@@ -49,7 +49,7 @@ impl Ending {
     {
         let Ending { outcomes, item } = self;
         let items = single(alloc, item)?;
-        Ok(Worked {
+        Ok(ChannelEffect {
             change: ChannelChange::Ended { at },
             outcomes,
             items,
@@ -72,8 +72,9 @@ fn end_within(limits: &LimitSet, channel: &Channel) -> Result<RoutedList, WorkFa
     }
 }
 
-/// What the end of an open channel makes of it. It is `Full` where an event that it settles has no record, or its item no spelling.
-pub(crate) fn end_open(limits: &LimitSet, found: &Open) -> Result<Ending, WorkFault>
+/// What the end of an open channel makes of it. It is `Full` where an event that it settles has no
+/// record, or its item no spelling.
+pub(crate) fn end_open(limits: &LimitSet, found: &OpenChannel) -> Result<Ending, WorkFault>
     ensures settles { IfOk result (λ ending. Settles found.now.channel ending.outcomes) }
     ensures said { IfOk result (λ ending. ending.item ≡ items.Ended found.now.name) }
     ensures proper { IfOk result (λ ending. HasSpelling ending.item) }
@@ -86,17 +87,18 @@ pub(crate) fn end_open(limits: &LimitSet, found: &Open) -> Result<Ending, WorkFa
     Ok(Ending { outcomes, item })
 }
 
-/// What an End makes of the open channels: its channel is open no more, and what closing its stream settles is added. It is `Full` where
-/// its item has no spelling or an event no record, which the bounds rule out.
-pub fn end(alloc: Global, held: &Held, channel: &[u8]) -> Result<Worked, WorkFault>
-    ensures done { IfOk result (λ worked. (choose : Chooser) (history : List Order) (moment : ℤ) →
+/// What an End makes of the open channels: its channel is open no more, and what closing its stream
+/// settles is added. It is `Full` where its item has no spelling or an event no record, which the
+/// bounds rule out.
+pub fn end(alloc: Global, held: &StoreState, channel: &[u8]) -> Result<ChannelEffect, WorkFault>
+    ensures done { IfOk result (λ worked. (choose : Chooser) (history : List TimedCommand) (moment : ℤ) →
         MayBeDone choose history (commands.End channel.now) moment held.now →
         IsWorked choose history (commands.End channel.now) moment held.now worked) }
     // The change can be made without taking memory.
     ensures room { IfOk result (λ worked. HasRoom worked.change held.now.channels) }
     ensures proper { IfOk result (λ worked. AllByRecursion HasSpelling worked.items) }
     ensures small { IfOk result (λ worked. All (HasRecord held.now.config.limits) worked.outcomes) }
-    ensures full { IsErrOf result WorkFault.Full → (choose : Chooser) (history : List Order) (moment : ℤ) →
+    ensures full { IsErrOf result WorkFault.Full → (choose : Chooser) (history : List TimedCommand) (moment : ℤ) →
         MayBeDone choose history (commands.End channel.now) moment held.now →
         StaysWithin choose history (commands.End channel.now) moment → ⊥ }
 {

@@ -3,14 +3,14 @@
 ghost use Rattle.std.specs.Prelude.{◌≡◌, ◌∷◌, ◌++◌, [], ℕ, ℤ, List, OnOk, OnErr, IfOk, IsErrOf};
 ghost use Rattle.std.specs.List.{All, AllByRecursion, AllZip};
 ghost use Rattle.ix_items.specs.Spelling.{HasSpelling};
-ghost use Rattle.ix_machine.specs.Given.{Chooser};
-ghost use Rattle.ix_machine.specs.State.{Life};
-ghost use Rattle.ix_machine.specs.declared.commands.Command.TheVariants as commands;
-ghost use Rattle.ix_machine.specs.declared.commands.Config.{Config as Configured};
-ghost use Rattle.ix_machine.specs.declared.commands.Order.{Order};
-ghost use Rattle.ix_shelves.specs.Numbers.{HasRecord};
-ghost use Rattle.ix_kept.specs.Held.{IsOpen};
-ghost use Rattle.ix_kept.specs.declared.held.Open.{Open as OpenChannel};
+ghost use Rattle.ix_model.specs.Given.{Chooser};
+ghost use Rattle.ix_model.specs.State.{ChannelHistory};
+ghost use Rattle.ix_model.specs.declared.commands.Command.TheVariants as commands;
+ghost use Rattle.ix_model.specs.declared.commands.Config.{Config as Configured};
+ghost use Rattle.ix_model.specs.declared.commands.TimedCommand.{TimedCommand};
+ghost use Rattle.ix_catalog.specs.Numbers.{HasRecord};
+ghost use Rattle.ix_state.specs.Held.{IsOpen};
+ghost use Rattle.ix_state.specs.declared.state.OpenChannel.{OpenChannel};
 ghost use Rattle.ix_channels.specs.Changes.{HasRoom};
 ghost use Rattle.ix_channels.specs.Ended.{AreEnded, HasShortName};
 ghost use Rattle.ix_channels.specs.Sizes.{HasBriefChance};
@@ -18,12 +18,12 @@ ghost use Rattle.ix_channels.specs.declared.change.ChannelChange.TheVariants as 
 ghost use Rattle.ix_channels.specs.Working.{MayBeDone, IsWorked, StaysWithin};
 
 use crate::change::ChannelChange;
+use crate::channel_effect::{ChannelEffect, WorkFault};
 use crate::ending::{Ending, end_open};
-use crate::working::{WorkFault, Worked};
 use ix_base::{NoMemory, Routed, RoutedList, Sequence};
 use ix_items::Item;
-use ix_kept::{Held, Open};
 use ix_life::LimitSet;
+use ix_state::{OpenChannel, StoreState};
 use std::alloc::Global;
 
 /// What the ends of channels make of them, one behind the other.
@@ -54,13 +54,13 @@ impl Endings {
     }
 
     /// What they make of all channels.
-    fn worked(self) -> Worked
+    fn worked(self) -> ChannelEffect
         ensures change { result.change ≡ changes.AllEnded }
         ensures outcomes { result.outcomes ≡ self.outcomes.items }
         ensures items { result.items ≡ self.items.items }
     {
         let Endings { outcomes, items } = self;
-        Worked {
+        ChannelEffect {
             change: ChannelChange::AllEnded,
             outcomes: Sequence::from_vec(outcomes),
             items: Sequence::from_vec(items),
@@ -68,9 +68,11 @@ impl Endings {
     }
 
     /// Ends one channel more.
-    fn add(&mut self, limits: &LimitSet, found: &Open) -> Result<(), WorkFault>
-        ensures added { OnOk result ((ended : List OpenChannel) → AreEnded limits.now ended self.old → AreEnded limits.now (ended ++ found.now ∷ []) self.new) }
-        ensures full { IsErrOf result WorkFault.Full → HasBriefChance limits.now → (life : Life) → IsOpen life found.now → HasShortName life → ⊥ }
+    fn add(&mut self, limits: &LimitSet, found: &OpenChannel) -> Result<(), WorkFault>
+        ensures added { OnOk result ((ended : List OpenChannel) → AreEnded limits.now ended self.old →
+            AreEnded limits.now (ended ++ found.now ∷ []) self.new) }
+        ensures full { IsErrOf result WorkFault.Full → HasBriefChance limits.now → (life : ChannelHistory) → IsOpen life found.now →
+            HasShortName life → ⊥ }
     {
         let ending = end_open(limits, found)?;
         self.push(ending)?;
@@ -79,9 +81,14 @@ impl Endings {
 }
 
 /// Ends all channels of a list.
-fn end_each(alloc: Global, limits: &LimitSet, channels: &[Open]) -> Result<Endings, WorkFault>
+fn end_each(
+    alloc: Global,
+    limits: &LimitSet,
+    channels: &[OpenChannel],
+) -> Result<Endings, WorkFault>
     ensures ended { IfOk result (λ endings. AreEnded limits.now channels.now endings) }
-    ensures full { IsErrOf result WorkFault.Full → HasBriefChance limits.now → (lives : List Life) → AllZip IsOpen lives channels.now →
+    ensures full { IsErrOf result WorkFault.Full → HasBriefChance limits.now → (lives : List ChannelHistory) →
+        AllZip IsOpen lives channels.now →
         AllByRecursion HasShortName lives → ⊥ }
 {
     let mut endings = Endings {
@@ -94,17 +101,18 @@ fn end_each(alloc: Global, limits: &LimitSet, channels: &[Open]) -> Result<Endin
     Ok(endings)
 }
 
-/// What a Configure makes of the open channels: all of them end, and what closing their streams settles is added. It is `Full` where an
-/// item has no spelling or an event no record, which the bounds rule out.
-pub fn end_all(alloc: Global, held: &Held) -> Result<Worked, WorkFault>
-    ensures done { IfOk result (λ worked. (choose : Chooser) (history : List Order) (config : Configured) (moment : ℤ) →
+/// What a Configure makes of the open channels: all of them end, and what closing their streams
+/// settles is added. It is `Full` where an item has no spelling or an event no record, which the
+/// bounds rule out.
+pub fn end_all(alloc: Global, held: &StoreState) -> Result<ChannelEffect, WorkFault>
+    ensures done { IfOk result (λ worked. (choose : Chooser) (history : List TimedCommand) (config : Configured) (moment : ℤ) →
         MayBeDone choose history (commands.Configure config) moment held.now →
         IsWorked choose history (commands.Configure config) moment held.now worked) }
     // The change can be made without taking memory.
     ensures room { IfOk result (λ worked. HasRoom worked.change held.now.channels) }
     ensures proper { IfOk result (λ worked. AllByRecursion HasSpelling worked.items) }
     ensures small { IfOk result (λ worked. All (HasRecord held.now.config.limits) worked.outcomes) }
-    ensures full { IsErrOf result WorkFault.Full → (choose : Chooser) (history : List Order) (config : Configured) (moment : ℤ) →
+    ensures full { IsErrOf result WorkFault.Full → (choose : Chooser) (history : List TimedCommand) (config : Configured) (moment : ℤ) →
         MayBeDone choose history (commands.Configure config) moment held.now →
         StaysWithin choose history (commands.Configure config) moment → ⊥ }
 {

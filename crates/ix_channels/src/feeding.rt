@@ -6,16 +6,16 @@ ghost use Rattle.ix_base.specs.Clocks.{clamped};
 ghost use Rattle.ix_base.specs.Stream.{Dated, dated};
 ghost use Rattle.ix_base.specs.declared.events.ChannelMeta.{ChannelMeta as Stated};
 ghost use Rattle.ix_base.specs.declared.events.Spot.{Spot as Watched};
-ghost use Rattle.ix_fields.specs.Spelling.{IsShort as IsShortText};
+ghost use Rattle.ix_coding.specs.Spelling.{IsShort as IsShortText};
 ghost use Rattle.ix_items.specs.Spelling.{HasSpelling, IsMeta};
-ghost use Rattle.ix_machine.specs.Given.{Chooser};
-ghost use Rattle.ix_machine.specs.declared.commands.Command.TheVariants as commands;
-ghost use Rattle.ix_machine.specs.declared.commands.Order.{Order};
+ghost use Rattle.ix_model.specs.Given.{Chooser};
+ghost use Rattle.ix_model.specs.declared.commands.Command.TheVariants as commands;
+ghost use Rattle.ix_model.specs.declared.commands.TimedCommand.{TimedCommand};
 ghost use Rattle.ix_parse.specs.Carry.{HasMoments};
 ghost use Rattle.ix_parse.specs.Limits.{IsSmall, KeepsLimits};
 ghost use Rattle.ix_parse.specs.Standing.{StandsFor};
 ghost use Rattle.ix_props.specs.declared.settings.Settings.{Settings as Chosen};
-ghost use Rattle.ix_shelves.specs.Numbers.{HasRecord};
+ghost use Rattle.ix_catalog.specs.Numbers.{HasRecord};
 ghost use Rattle.ix_channels.specs.Changes.{HasRoom};
 ghost use Rattle.ix_channels.specs.Sizes.{HasBriefChance};
 ghost use Rattle.ix_channels.specs.declared.change.ChannelChange.TheVariants as changes;
@@ -23,20 +23,21 @@ ghost use Rattle.ix_channels.specs.Taken.{TakesIn, IsFed};
 ghost use Rattle.ix_channels.specs.Working.{MayBeDone, IsWorked, StaysWithin};
 
 use crate::change::ChannelChange;
+use crate::channel_effect::{ChannelEffect, WorkFault, nothing};
 use crate::checks::have_records;
 use crate::items::said_alone;
 use crate::places::place_of;
-use crate::working::{WorkFault, Worked, nothing};
 use ix_base::{NoMemory, RoutedList, Sequence, Steps};
 use ix_items::Item;
-use ix_kept::{Held, Open};
 use ix_life::LimitSet;
 use ix_parse::Channel;
+use ix_state::{OpenChannel, StoreState};
 use std::alloc::Global;
 use std::marker::Brand;
 use std::sync::ledger::{Blank, Ledger};
 
-/// What bytes make of a channel: the channel behind them, what they settle, and what the log says of it.
+/// What bytes make of a channel: the channel behind them, what they settle, and what the log says
+/// of it.
 #[derive(Drop)]
 struct Fed {
     channel: Channel,
@@ -46,7 +47,7 @@ struct Fed {
 
 impl Fed {
     /// What they make of the channel at this place.
-    fn worked(self, at: usize) -> Worked
+    fn worked(self, at: usize) -> ChannelEffect
         ensures change { result.change ≡ changes.Fed at self.channel }
         ensures outcomes { result.outcomes ≡ self.outcomes }
         ensures items { result.items ≡ self.items }
@@ -56,7 +57,7 @@ impl Fed {
             outcomes,
             items,
         } = self;
-        Worked {
+        ChannelEffect {
             change: ChannelChange::Fed { at, channel },
             outcomes,
             items,
@@ -64,7 +65,8 @@ impl Fed {
     }
 }
 
-/// The channel once these bytes have come, and what they settle, counted in the ledger that the blank one opens.
+/// The channel once these bytes have come, and what they settle, counted in the ledger that the
+/// blank one opens.
 fn counted_feed<L: Ledger>(
     channel: &Channel,
     bytes: &[u8],
@@ -94,7 +96,8 @@ fn feed(channel: &Channel, bytes: &[u8], moment: i64) -> Result<(Channel, Routed
     Ok(fed)
 }
 
-/// The channel once these bytes have come, and what they settle. It is `Full` where an event of these has no record.
+/// The channel once these bytes have come, and what they settle. It is `Full` where an event of
+/// these has no record.
 fn feed_within(
     limits: &LimitSet,
     channel: &Channel,
@@ -119,7 +122,7 @@ fn feed_within(
 fn feed_open(
     alloc: Global,
     limits: &LimitSet,
-    found: &Open,
+    found: &OpenChannel,
     bytes: &[u8],
     moment: i64,
 ) -> Result<Fed, WorkFault>
@@ -127,7 +130,8 @@ fn feed_open(
     ensures proper { IfOk result (λ worked. AllByRecursion HasSpelling worked.items) }
     ensures small { IfOk result (λ worked. All (HasRecord limits.now) worked.outcomes) }
     ensures full { IsErrOf result WorkFault.Full → HasBriefChance limits.now → (settings : Chosen) (meta : Stated) (stream : List Dated) →
-        StandsFor settings meta stream found.now.channel → KeepsLimits settings meta → HasMoments (stream ++ dated bytes.now (clamped moment)) →
+        StandsFor settings meta stream found.now.channel → KeepsLimits settings meta →
+        HasMoments (stream ++ dated bytes.now (clamped moment)) →
         IsShortText found.now.name → IsMeta found.now.meta → ⊥ }
 {
     let fed = feed_within(limits, &found.channel, bytes, moment)?;
@@ -139,23 +143,24 @@ fn feed_open(
     })
 }
 
-/// What a Block makes of the open channels: its channel takes the bytes in at this moment, and what they settle is added. It is `Full`
-/// where an item has no spelling or an event no record, which the bounds rule out.
+/// What a Block makes of the open channels: its channel takes the bytes in at this moment, and what
+/// they settle is added. It is `Full` where an item has no spelling or an event no record, which
+/// the bounds rule out.
 pub fn block(
     alloc: Global,
-    held: &Held,
+    held: &StoreState,
     channel: &[u8],
     bytes: &[u8],
     moment: i64,
-) -> Result<Worked, WorkFault>
-    ensures done { IfOk result (λ worked. (choose : Chooser) (history : List Order) (spot : Option Watched) →
+) -> Result<ChannelEffect, WorkFault>
+    ensures done { IfOk result (λ worked. (choose : Chooser) (history : List TimedCommand) (spot : Option Watched) →
         MayBeDone choose history (commands.Block channel.now bytes.now spot) moment held.now →
         IsWorked choose history (commands.Block channel.now bytes.now spot) moment held.now worked) }
     // The change can be made without taking memory.
     ensures room { IfOk result (λ worked. HasRoom worked.change held.now.channels) }
     ensures proper { IfOk result (λ worked. AllByRecursion HasSpelling worked.items) }
     ensures small { IfOk result (λ worked. All (HasRecord held.now.config.limits) worked.outcomes) }
-    ensures full { IsErrOf result WorkFault.Full → (choose : Chooser) (history : List Order) (spot : Option Watched) →
+    ensures full { IsErrOf result WorkFault.Full → (choose : Chooser) (history : List TimedCommand) (spot : Option Watched) →
         MayBeDone choose history (commands.Block channel.now bytes.now spot) moment held.now →
         StaysWithin choose history (commands.Block channel.now bytes.now spot) moment → ⊥ }
 {

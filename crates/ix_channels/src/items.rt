@@ -4,21 +4,22 @@ ghost use Rattle.std.specs.Prelude.{◌≡◌, List, [], ◌∷◌, IfOk, IsErrO
 ghost use Rattle.std.specs.List.{AllByRecursion};
 ghost use Rattle.ix_base.specs.Stream.{Dated};
 ghost use Rattle.ix_base.specs.declared.events.ChannelMeta.{ChannelMeta as Stated};
-ghost use Rattle.ix_fields.specs.Spelling.{IsShort as IsShortText};
+ghost use Rattle.ix_coding.specs.Spelling.{IsShort as IsShortText};
 ghost use Rattle.ix_items.specs.Spelling.{HasSpelling, IsMeta};
 ghost use Rattle.ix_parse.specs.Carry.{HasMoments};
 ghost use Rattle.ix_parse.specs.Standing.{StandsFor};
 ghost use Rattle.ix_props.specs.declared.settings.Settings.{Settings as Chosen};
 ghost use Rattle.ix_channels.specs.Taken.{item_of};
 
+use crate::channel_effect::WorkFault;
 use crate::checks::channel_item;
-use crate::working::WorkFault;
 use ix_base::{Bytes, ChannelMeta, Sequence};
 use ix_items::Item;
 use ix_parse::Channel;
 use std::alloc::Global;
 
-/// What is said of a channel: its name, its metadata and what is carried of its stream. It is `Full` where this has no spelling.
+/// What is said of a channel: its name, its metadata and what is carried of its stream. It is
+/// `Full` where this has no spelling.
 fn said(name: &Bytes, meta: &ChannelMeta, channel: &Channel) -> Result<Item, WorkFault>
     ensures said { IfOk result (λ item. (settings : Chosen) (stated : Stated) (stream : List Dated) →
         StandsFor settings stated stream channel.now → item ≡ item_of name.now meta.now settings stream) }

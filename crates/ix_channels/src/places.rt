@@ -2,15 +2,15 @@
 
 ghost use Rattle.std.specs.Prelude.{◌≡◌, ◌≤◌, ◌<◌, length, not, IfSome};
 ghost use Rattle.std.specs.List.{position};
-ghost use Rattle.ix_kept.specs.Causes.{has_name};
-ghost use Rattle.ix_kept.specs.declared.held.Open.{Open as OpenChannel};
+ghost use Rattle.ix_state.specs.Causes.{has_name};
+ghost use Rattle.ix_state.specs.declared.state.OpenChannel.{OpenChannel};
 ghost use Rattle.ix_channels.specs.Places as defs;
 
-use ix_kept::Open;
+use ix_state::OpenChannel;
 use std::cmp::Ordering;
 
 /// The place of the channel of this name.
-pub(crate) fn place_of(channels: &[Open], name: &[u8]) -> Option<usize>
+pub(crate) fn place_of(channels: &[OpenChannel], name: &[u8]) -> Option<usize>
     ensures value { result ≡ position (has_name name.now) channels.now }
     ensures within { IfSome result (λ k. k < length channels.now) }
 {
@@ -20,7 +20,7 @@ pub(crate) fn place_of(channels: &[Open], name: &[u8]) -> Option<usize>
 }
 
 /// Whether a channel stands before one of this name.
-fn is_before(channel: &Open, name: &[u8]) -> bool
+fn is_before(channel: &OpenChannel, name: &[u8]) -> bool
     ensures { result ≡ defs.is_before name.now channel.now }
 {
     match channel.name.as_slice().cmp(&name) {
@@ -31,7 +31,7 @@ fn is_before(channel: &Open, name: &[u8]) -> bool
 }
 
 /// The first place at which a channel stands that does not stand before one of this name.
-fn place_behind(channels: &[Open], name: &[u8]) -> Option<usize>
+fn place_behind(channels: &[OpenChannel], name: &[u8]) -> Option<usize>
     ensures value { result ≡ position (λ (o : OpenChannel). not (defs.is_before name.now o)) channels.now }
     ensures within { IfSome result (λ k. k < length channels.now) }
 {
@@ -41,7 +41,7 @@ fn place_behind(channels: &[Open], name: &[u8]) -> Option<usize>
 }
 
 /// The place at which a channel of this name is to stand.
-pub(crate) fn place_for(channels: &[Open], name: &[u8]) -> usize
+pub(crate) fn place_for(channels: &[OpenChannel], name: &[u8]) -> usize
     ensures value { result ≡ defs.place_for name.now channels.now }
     ensures within { result ≤ length channels.now }
 {

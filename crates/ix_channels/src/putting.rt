@@ -3,24 +3,24 @@
 ghost use Rattle.std.specs.Prelude.{◌≡◌, ℕ, ℤ, List, [], IfOk, IsErrOf, unwrap_or};
 ghost use Rattle.std.specs.List.{All, AllByRecursion, AllZip};
 ghost use Rattle.ix_items.specs.Spelling.{HasSpelling};
-ghost use Rattle.ix_machine.specs.Given.{Chooser};
-ghost use Rattle.ix_machine.specs.Step.{direct_event};
-ghost use Rattle.ix_machine.specs.declared.commands.Command.TheVariants as commands;
-ghost use Rattle.ix_machine.specs.declared.commands.Direct.{Direct as Given};
-ghost use Rattle.ix_machine.specs.declared.commands.Order.{Order};
-ghost use Rattle.ix_shelves.specs.Numbers.{HasRecord};
+ghost use Rattle.ix_model.specs.Given.{Chooser};
+ghost use Rattle.ix_model.specs.Step.{direct_event};
+ghost use Rattle.ix_model.specs.declared.commands.Command.TheVariants as commands;
+ghost use Rattle.ix_model.specs.declared.commands.Direct.{Direct as Given};
+ghost use Rattle.ix_model.specs.declared.commands.TimedCommand.{TimedCommand};
+ghost use Rattle.ix_catalog.specs.Numbers.{HasRecord};
 ghost use Rattle.ix_channels.specs.Changes.{HasRoom};
 ghost use Rattle.ix_channels.specs.Put.{IsPut, ArePut};
 ghost use Rattle.ix_channels.specs.Working.{MayBeDone, IsWorked, StaysWithin};
 
 use crate::beginning::resolved;
 use crate::change::ChannelChange;
+use crate::channel_effect::{ChannelEffect, WorkFault};
 use crate::checks::have_records;
-use crate::working::{WorkFault, Worked};
 use ix_base::{Bytes, ChannelMeta, Event, NoMemory, Routed, RoutedList, Sequence};
-use ix_kept::Held;
-use ix_machine::{Config, Direct, DirectList};
+use ix_model::{Config, Direct, DirectList};
 use ix_props::Settings;
+use ix_state::StoreState;
 use ix_transforms::apply;
 use std::alloc::Global;
 
@@ -92,28 +92,28 @@ fn put_all(
     Ok(outcomes)
 }
 
-/// What a Direct makes of the open channels, which is nothing, and what its events come to at this moment. It is `Full` where an event
-/// has no record, which the bounds rule out.
+/// What a Direct makes of the open channels, which is nothing, and what its events come to at this
+/// moment. It is `Full` where an event has no record, which the bounds rule out.
 pub fn direct(
     alloc: Global,
-    held: &Held,
+    held: &StoreState,
     moment: i64,
     events: DirectList,
-) -> Result<Worked, WorkFault>
-    ensures done { IfOk result (λ worked. (choose : Chooser) (history : List Order) →
+) -> Result<ChannelEffect, WorkFault>
+    ensures done { IfOk result (λ worked. (choose : Chooser) (history : List TimedCommand) →
         MayBeDone choose history (commands.Direct events) moment held.now →
         IsWorked choose history (commands.Direct events) moment held.now worked) }
     // The change can be made without taking memory.
     ensures room { IfOk result (λ worked. HasRoom worked.change held.now.channels) }
     ensures proper { IfOk result (λ worked. AllByRecursion HasSpelling worked.items) }
     ensures small { IfOk result (λ worked. All (HasRecord held.now.config.limits) worked.outcomes) }
-    ensures full { IsErrOf result WorkFault.Full → (choose : Chooser) (history : List Order) →
+    ensures full { IsErrOf result WorkFault.Full → (choose : Chooser) (history : List TimedCommand) →
         MayBeDone choose history (commands.Direct events) moment held.now →
         StaysWithin choose history (commands.Direct events) moment → ⊥ }
 {
     let outcomes = put_all(alloc, &held.config, moment, events)?;
     if have_records(&held.config.limits, outcomes.as_slice()) {
-        Ok(Worked {
+        Ok(ChannelEffect {
             change: ChannelChange::Same,
             outcomes,
             items: Sequence::new(alloc),

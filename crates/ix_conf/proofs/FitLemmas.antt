@@ -1,5 +1,6 @@
 -- Fitting from the front: a piece, and then whatever is asked of the rest of the name.
-use Rattle.std.proofs.Common.{◌≡◌, ◌≢◌, ℕ, ◌⊎◌, inl, inr, Bool, true, false, not, ◌&&◌, ◌||◌, List, [], ◌∷◌, ◌++◌, refl, sym, ap, ◌∙◌, subst, append_assoc}
+use Rattle.std.proofs.Common.{◌≡◌, ◌≢◌, ℕ, ◌⊎◌, inl, inr, Bool, true, false, not, ◌&&◌, ◌||◌, List, [], ◌∷◌, ◌++◌, refl, sym, ap, ◌∙◌}
+use Rattle.std.proofs.Common.{subst, append_assoc}
 use Rattle.std.specs.List.{AllByRecursion}
 use Rattle.std.proofs.lemmas.Bool.{true≢false, ne_eqb}
 use Rattle.std.proofs.lemmas.List.{append-nil}
@@ -64,7 +65,13 @@ passed_sound slash ask (c ∷ rest) h = elim (or_parts (ask (c ∷ rest)) (may_p
   | inr more ↦
       let parts = and_parts (may_pass slash c) (bytes_then slash ask rest) more in
       let found = passed_sound slash ask rest parts.1 in
-      record { front = c ∷ found.front; back = found.back; whole = ap (λ (t : List ℕ). c ∷ t) found.whole; all = (parts.0, found.all); asked = found.asked }
+      record {
+        front = c ∷ found.front;
+        back = found.back;
+        whole = ap (λ (t : List ℕ). c ∷ t) found.whole;
+        all = (parts.0, found.all);
+        asked = found.asked;
+      }
 ]
 
 passed_complete : (slash : Bool) (ask : Ask) (front back : List ℕ) → AllByRecursion (λ c. may_pass slash c ≡ true) front → ask back ≡ true

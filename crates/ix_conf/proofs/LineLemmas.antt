@@ -2,7 +2,8 @@
 use Rattle.std.proofs.Common.{◌≡◌, ℕ, ◌+◌, Bool, true, false, eqb, cond, List, [], ◌∷◌, ◌++◌, refl, sym, ap, ◌∙◌, append_assoc}
 use Rattle.std.specs.Prelude.{Option, Some, None}
 use Rattle.std.specs.Option.{option_map, unwrap_or}
-use Rattle.ix_conf.specs.Lines.{cut_at, before_last, stretches, onto_first, ended, physical_lines, Line, is_comment, joined, line_with, logical_lines}
+use Rattle.ix_conf.specs.Lines.{cut_at, before_last, stretches, onto_first, ended, physical_lines, Line, is_comment, joined, line_with}
+use Rattle.ix_conf.specs.Lines.{logical_lines}
 
 -- a text has at least one stretch
 pub stretches_more : (text : List ℕ) → (first : List ℕ) × (others : List (List ℕ)) × (stretches text ≡ first ∷ others)

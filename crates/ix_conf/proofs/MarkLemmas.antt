@@ -1,10 +1,12 @@
 -- Laws of the marks at the places of a name.
-use Rattle.std.proofs.Common.{◌≡◌, ℕ, zero, suc, ◌+◌, ◌-◌, ◌<◌, ◌≤◌, ◌⊎◌, inl, inr, Bool, true, false, ◌&&◌, ◌||◌, List, [], ◌∷◌, ◌++◌, length, drop, get_or, replicate, sym, ap, ◌∙◌, subst, arith}
+use Rattle.std.proofs.Common.{◌≡◌, ℕ, zero, suc, ◌+◌, ◌-◌, ◌<◌, ◌≤◌, ◌⊎◌, inl, inr, Bool, true, false, ◌&&◌, ◌||◌, List, [], ◌∷◌, ◌++◌}
+use Rattle.std.proofs.Common.{length, drop, get_or, replicate, sym, ap, ◌∙◌, subst, arith}
 use Rattle.std.proofs.lemmas.Bool.{cases_lt}
 use Rattle.std.proofs.lemmas.List.{drop_more, drop_all, get_or-replicate, length-replicate, length-append, get_or_append_left, get_or_at}
 use Rattle.ix_conf.specs.declared.names.Level.{Level}
 use Rattle.ix_conf.specs.Names.{same_byte}
-use Rattle.ix_conf.specs.Walk.{Ask, is_end, never, any_of, byte_then, bytes_then, may_pass, Lead, lead_with, close_step, bar_step, open_step, answer, Marks, MarksAll, EachLong, IsEither, IsBarred, IsOpened}
+use Rattle.ix_conf.specs.Walk.{Ask, is_end, never, any_of, byte_then, bytes_then, may_pass, Lead, lead_with, close_step, bar_step}
+use Rattle.ix_conf.specs.Walk.{open_step, answer, Marks, MarksAll, EachLong, IsEither, IsBarred, IsOpened}
 
 -- a place is within the name or at its end
 within_or_end : (name : List ℕ) (i : ℕ) → i ≤ length name → (i < length name) ⊎ (i ≡ length name)
@@ -29,7 +31,8 @@ marks_byte name fold b ask old new m long each last = record {
 }
 
 bytes_from : (name : List ℕ) (slash : Bool) (ask : Ask) (old new : List Bool) → Marks name ask old
-    → ((i : ℕ) → i < length name → get_or new i false ≡ (get_or old i false || (may_pass slash (get_or name i 0) && get_or new (i + 1) false)))
+    → ((i : ℕ) → i < length name → get_or new i false ≡ (get_or old i false ||
+    (may_pass slash (get_or name i 0) && get_or new (i + 1) false)))
     → get_or new (length name) false ≡ get_or old (length name) false
     → (k i : ℕ) → i + k ≡ length name → get_or new i false ≡ bytes_then slash ask (drop i name)
 bytes_from name slash ask old new m each last zero i h =
@@ -47,14 +50,16 @@ bytes_from name slash ask old new m each last (suc k) i h =
     ∙ sym (ap (bytes_then slash ask) more)
 
 pub marks_bytes : (name : List ℕ) (slash : Bool) (ask : Ask) (old new : List Bool) → Marks name ask old → length new ≡ length old
-    → ((i : ℕ) → i < length name → get_or new i false ≡ (get_or old i false || (may_pass slash (get_or name i 0) && get_or new (i + 1) false)))
+    → ((i : ℕ) → i < length name → get_or new i false ≡ (get_or old i false ||
+    (may_pass slash (get_or name i 0) && get_or new (i + 1) false)))
     → get_or new (length name) false ≡ get_or old (length name) false → Marks name (bytes_then slash ask) new
 marks_bytes name slash ask old new m long each last = record {
   long = long ∙ m.long;
   each = λ i h. bytes_from name slash ask old new m each last (length name - i) i (omega arith);
 }
 
-pub marks_either : (name : List ℕ) (f g : Ask) (a b new : List Bool) → Marks name f a → Marks name g b → IsEither a b new → Marks name (any_of f g) new
+pub marks_either : (name : List ℕ) (f g : Ask) (a b new : List Bool) → Marks name f a → Marks name g b → IsEither a b new →
+    Marks name (any_of f g) new
 marks_either name f g a b new m n is = record {
   long = is.long ∙ m.long;
   each = λ i h. is.each i (omega (arith, n.long))
@@ -82,8 +87,14 @@ pub level_changed : (name : List ℕ) (change : Ask → Ask) (top new : Level) (
     → ((ask : Ask) → Marks name ask top.leads.items → Marks name (change ask) new.leads.items) → new.others ≡ top.others
     → (xs : List Lead) → MarksAll name xs (top ∷ below) → MarksAll name (lead_with change xs) (new ∷ below)
 level_changed name change top new below turns same [] m = absurd m
-level_changed name change top new below turns same (x ∷ xs) m =
-    (record { leads = turns x.leads m.0.leads; others = marks_same name x.others top.others.items new.others.items (ap (λ v. v.items) same) m.0.others }, m.1)
+level_changed name change top new below turns same (x ∷ xs) m = (
+  record {
+    leads = turns x.leads m.0.leads;
+    others = marks_same name x.others top.others.items new.others.items (ap (λ v. v.items) same)
+        m.0.others;
+  },
+  m.1,
+)
 
 pub level_closed : (name : List ℕ) (top new : Level) (below after : List Level) → new.leads.items ≡ top.leads.items
     → new.others.items ≡ replicate (length top.leads.items) false → after ≡ top ∷ below
@@ -145,7 +156,8 @@ marks_end name n e = record {
     | inr end ↦
         let P : ℕ → Type 0 = λ k. get_or (replicate n false ++ true ∷ []) k false ≡ is_end (drop k name) in
         subst P (sym end)
-        (get_or_at (replicate n false) true [] false (length name) (omega (arith, length-replicate n false)) ∙ sym (ap is_end (at_end name)))
+        (get_or_at (replicate n false) true [] false (length name) (omega (arith, length-replicate n false))
+        ∙ sym (ap is_end (at_end name)))
   ];
 }
 
@@ -153,4 +165,5 @@ pub answer_marked : (name : List ℕ) (xs : List Lead) (top : Level) (below : Li
     → (get_or top.others.items 0 false || get_or top.leads.items 0 false) ≡ answer xs name
 answer_marked name [] top below m = absurd m
 answer_marked name (x ∷ xs) top below m =
-    ap (λ (t : Bool). t || get_or top.leads.items 0 false) (m.0.others.each 0 (omega arith)) ∙ ap (λ (t : Bool). x.others name || t) (m.0.leads.each 0 (omega arith))
+    ap (λ (t : Bool). t || get_or top.leads.items 0 false) (m.0.others.each 0 (omega arith))
+    ∙ ap (λ (t : Bool). x.others name || t) (m.0.leads.each 0 (omega arith))

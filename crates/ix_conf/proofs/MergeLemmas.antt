@@ -25,7 +25,8 @@ before_trans a b c h g = place_total.trans (place a) (place b) (place c) h g
 
 pub is_at_cmp : (stanza key : List ℕ) (e : MergedEntry) → is_at stanza key e ≡ is_eq (place_cmp (stanza, key) (place e))
 is_at_cmp stanza key e =
-    rw (← is_eq-slice_cmp stanza e.stanza, ← is_eq-slice_cmp key e.key) (by (slice_cmp nat_cmp stanza e.stanza) (slice_cmp nat_cmp key e.key))
+    rw (← is_eq-slice_cmp stanza e.stanza, ← is_eq-slice_cmp key e.key)
+    (by (slice_cmp nat_cmp stanza e.stanza) (slice_cmp nat_cmp key e.key))
   where
     by : (o p : Ordering) → (is_eq o && is_eq p) ≡ is_eq (ordering_then o p)
     by Less p = refl
@@ -43,7 +44,8 @@ not_behind stanza key e x here before =
     let same = eq_from_is_eq _ (sym (is_at_cmp stanza key e) ∙ here) in
     is_at_cmp stanza key x ∙ ap is_eq (place_total.congr (stanza, key) (place e) (place x) same ∙ before)
 
-pub absent_behind : (stanza key : List ℕ) (e : MergedEntry) (xs : List MergedEntry) → is_at stanza key e ≡ true → AllByRecursion (IsBefore e) xs
+pub absent_behind : (stanza key : List ℕ) (e : MergedEntry) (xs : List MergedEntry) → is_at stanza key e ≡ true →
+    AllByRecursion (IsBefore e) xs
     → entry_at stanza key xs ≡ None
 absent_behind stanza key e [] here before = refl
 absent_behind stanza key e (x ∷ xs) here before =
@@ -56,7 +58,8 @@ pub same_place : (stanza key : List ℕ) (a b : MergedEntry) → place_cmp (plac
 same_place stanza key a b same =
     let p : Place = (stanza, key) in
     let turned = ap ordering_reverse (place_total.congr (place a) (place b) p same) in
-    is_at_cmp stanza key a ∙ ap is_eq (place_total.antisymm p (place a) ∙ turned ∙ sym (place_total.antisymm p (place b))) ∙ sym (is_at_cmp stanza key b)
+    is_at_cmp stanza key a ∙ ap is_eq (place_total.antisymm p (place a) ∙ turned ∙ sym (place_total.antisymm p (place b)))
+    ∙ sym (is_at_cmp stanza key b)
 
 pub turned_before : (a b : MergedEntry) → place_cmp (place a) (place b) ≡ Greater → IsBefore b a
 turned_before a b h = place_total.antisymm (place b) (place a) ∙ ap ordering_reverse h
@@ -65,11 +68,13 @@ turned_before a b h = place_total.antisymm (place b) (place a) ∙ ap ordering_r
 pub before_alike : (a b x : MergedEntry) → place_cmp (place a) (place b) ≡ Equal → IsBefore b x → IsBefore a x
 before_alike a b x same before = place_total.congr (place a) (place b) (place x) same ∙ before
 
-pub all_before : (a b : MergedEntry) (xs : List MergedEntry) → IsBefore a b → AllByRecursion (IsBefore b) xs → AllByRecursion (IsBefore a) xs
+pub all_before : (a b : MergedEntry) (xs : List MergedEntry) → IsBefore a b → AllByRecursion (IsBefore b) xs →
+    AllByRecursion (IsBefore a) xs
 all_before a b [] h all = tt
 all_before a b (x ∷ xs) h all = (before_trans a b x h all.0, all_before a b xs h all.1)
 
-pub all_alike : (a b : MergedEntry) (xs : List MergedEntry) → place_cmp (place a) (place b) ≡ Equal → AllByRecursion (IsBefore b) xs → AllByRecursion (IsBefore a) xs
+pub all_alike : (a b : MergedEntry) (xs : List MergedEntry) → place_cmp (place a) (place b) ≡ Equal → AllByRecursion (IsBefore b) xs →
+    AllByRecursion (IsBefore a) xs
 all_alike a b [] h all = tt
 all_alike a b (x ∷ xs) h all = (before_alike a b x h all.0, all_alike a b xs h all.1)
 
@@ -100,7 +105,8 @@ pub record Merging (all high low : List MergedEntry) (found : List ℕ → List 
   pub high_ascending : IsAscending high
   pub low_ascending : IsAscending low
   pub before : AllByRecursion (IsBetween high low) all
-  pub entry : (stanza key : List ℕ) → option_or (entry_at stanza key all) (option_or (entry_at stanza key high) (entry_at stanza key low)) ≡ found stanza key
+  pub entry : (stanza key : List ℕ) → option_or (entry_at stanza key all)
+      (option_or (entry_at stanza key high) (entry_at stanza key low)) ≡ found stanza key
 
 -- the first of two lists, and what is left of them
 record IsFirst (high low : List MergedEntry) (e : MergedEntry) (high' low' : List MergedEntry) : Type 0 where
@@ -129,7 +135,8 @@ between_push high low e high' low' [] behind last before = (last, tt)
 between_push high low e high' low' (x ∷ xs) behind last before =
     ((behind x before.0).1, between_push high low e high' low' xs behind last before.1)
 
-merging_push : (all high low : List MergedEntry) (e : MergedEntry) (high' low' : List MergedEntry) (found : List ℕ → List ℕ → Option MergedEntry)
+merging_push : (all high low : List MergedEntry) (e : MergedEntry) (high' low' : List MergedEntry) (found : List ℕ → List ℕ →
+    Option MergedEntry)
     → Merging all high low found → IsFirst high low e high' low' → Merging (all ++ e ∷ []) high' low' found
 merging_push all high low e high' low' found m first = record {
   ascending = ascending_push high low e high' low' all first.behind m.before m.ascending;
@@ -175,7 +182,8 @@ first_low l hs ls high asc before = record {
   behind = λ a between. (between.1.0, (between.0, between.1.1));
   entry = λ stanza key.
       ap (option_or (entry_at stanza key hs)) (entry_head stanza key l ls)
-      ∙ or_swap (is_at stanza key l) l (entry_at stanza key hs) (entry_at stanza key ls) (λ here. absent_behind stanza key l hs here before);
+      ∙ or_swap (is_at stanza key l) l (entry_at stanza key hs) (entry_at stanza key ls)
+      (λ here. absent_behind stanza key l hs here before);
 }
 
 -- of two in one place the low one is gone
@@ -184,7 +192,8 @@ or_gone : (t : Bool) (h l : MergedEntry) (a b : Option MergedEntry)
 or_gone true h l a b = refl
 or_gone false h l a b = refl
 
-first_both : (h l : MergedEntry) (hs ls : List MergedEntry) → IsAscending (h ∷ hs) → IsAscending (l ∷ ls) → place_cmp (place h) (place l) ≡ Equal
+first_both : (h l : MergedEntry) (hs ls : List MergedEntry) → IsAscending (h ∷ hs) → IsAscending (l ∷ ls) →
+    place_cmp (place h) (place l) ≡ Equal
     → IsFirst (h ∷ hs) (l ∷ ls) h hs ls
 first_both h l hs ls high low same = record {
   high_ascending = high.1;
@@ -194,7 +203,8 @@ first_both h l hs ls high low same = record {
   entry = λ stanza key.
       ap (λ (o : Option MergedEntry). option_or o (entry_at stanza key (l ∷ ls))) (entry_head stanza key h hs)
       ∙ ap (option_or (option_or (entry_at stanza key (h ∷ [])) (entry_at stanza key hs))) (entry_head stanza key l ls)
-      ∙ ap (λ (t : Bool). option_or (option_or (entry_at stanza key (h ∷ [])) (entry_at stanza key hs)) (option_or (cond t (Some l) None) (entry_at stanza key ls)))
+      ∙ ap (λ (t : Bool). option_or (option_or (entry_at stanza key (h ∷ [])) (entry_at stanza key hs))
+      (option_or (cond t (Some l) None) (entry_at stanza key ls)))
       (sym (same_place stanza key h l same))
       ∙ or_gone (is_at stanza key h) h l (entry_at stanza key hs) (entry_at stanza key ls);
 }
@@ -208,7 +218,8 @@ moved all found h e hs high ls low p q r m =
     subst P p (subst Q q (subst R r m))
 
 -- one entry more is joined
-pub merging_step : (all hs ls : List MergedEntry) (found : List ℕ → List ℕ → Option MergedEntry) (e : MergedEntry) (high low : List MergedEntry)
+pub merging_step : (all hs ls : List MergedEntry) (found : List ℕ → List ℕ →
+    Option MergedEntry) (e : MergedEntry) (high low : List MergedEntry)
     → Merging all hs ls found → Takes (fronts_cmp hs ls) hs ls (Some e) high low → Merging (all ++ e ∷ []) high low found
 merging_step all [] [] found e high low m t = absurd (by t.0)
   where
@@ -241,7 +252,8 @@ merging_step all (h ∷ hs) (l ∷ ls) found e high low m t = by (place_cmp (pla
         none e = cc
     gone (Some x) h = tails l x ls low h
 
-    by : (o : Ordering) → place_cmp (place h) (place l) ≡ o → Takes o (h ∷ hs) (l ∷ ls) (Some e) high low → Merging (all ++ e ∷ []) high low found
+    by : (o : Ordering) → place_cmp (place h) (place l) ≡ o → Takes o (h ∷ hs) (l ∷ ls) (Some e) high low →
+        Merging (all ++ e ∷ []) high low found
     by Less c t =
         let p = parts h hs high t.0 in
         moved all found h e hs high (l ∷ ls) low p.0 p.1 (sym t.1)
@@ -277,11 +289,13 @@ pub merging_start : (hs ls : List MergedEntry) → IsAscending hs → IsAscendin
 merging_start hs ls high low =
     record { ascending = tt; high_ascending = high; low_ascending = low; before = tt; entry = λ stanza key. refl }
 
-pub merging_end : (all hs ls : List MergedEntry) (found : List ℕ → List ℕ → Option MergedEntry) → (hs ≡ []) × (ls ≡ []) → Merging all hs ls found
+pub merging_end : (all hs ls : List MergedEntry) (found : List ℕ → List ℕ → Option MergedEntry) → (hs ≡ []) × (ls ≡ []) →
+    Merging all hs ls found
     → (stanza key : List ℕ) → entry_at stanza key all ≡ found stanza key
 merging_end all hs ls found none m stanza key =
     sym (or_none (entry_at stanza key all))
-    ∙ ap (option_or (entry_at stanza key all)) (sym (ap (λ (xs : List MergedEntry). option_or (entry_at stanza key xs) (entry_at stanza key ls)) none.0
+    ∙ ap (option_or (entry_at stanza key all)) (sym (ap
+    (λ (xs : List MergedEntry). option_or (entry_at stanza key xs) (entry_at stanza key ls)) none.0
     ∙ ap (entry_at stanza key) none.1))
     ∙ m.entry stanza key
 

@@ -1,5 +1,6 @@
 -- Laws of a search among ascending entries.
-use Rattle.std.proofs.Common.{◌≡◌, ℕ, zero, suc, ◌+◌, ◌<◌, ◌≤◌, ◌⊎◌, inl, inr, false, List, [], ◌∷◌, length, get_or, refl, sym, ap, ◌∙◌, subst, arith}
+use Rattle.std.proofs.Common.{◌≡◌, ℕ, zero, suc, ◌+◌, ◌<◌, ◌≤◌, ◌⊎◌, inl, inr, false, List, [], ◌∷◌, length, get_or, refl, sym, ap, ◌∙◌}
+use Rattle.std.proofs.Common.{subst, arith}
 use Rattle.std.specs.Prelude.{None, slice_get}
 use Rattle.std.specs.List.{AllByRecursion}
 use Rattle.std.specs.declared.cmp.Ordering.TheVariants.{Less, Equal, Greater}
@@ -10,12 +11,14 @@ use Rattle.ix_conf.specs.declared.layers.MergedEntry.{MergedEntry}
 use Rattle.ix_conf.specs.Value.{Place, place, place_cmp, is_at, entry_at, IsBefore, IsAscending}
 use Rattle.ix_conf.proofs.MergeLemmas.{place_total, is_at_cmp}
 
-all_at : (x : MergedEntry) (xs : List MergedEntry) (j : ℕ) (d : MergedEntry) → AllByRecursion (IsBefore x) xs → j < length xs → IsBefore x (get_or xs j d)
+all_at : (x : MergedEntry) (xs : List MergedEntry) (j : ℕ) (d : MergedEntry) → AllByRecursion (IsBefore x) xs → j < length xs →
+    IsBefore x (get_or xs j d)
 all_at x [] j d all h = absurd (omega arith)
 all_at x (y ∷ ys) zero d all h = all.0
 all_at x (y ∷ ys) (suc j) d all h = all_at x ys j d all.1 (omega arith)
 
-pub in_order : (xs : List MergedEntry) → IsAscending xs → (i j : ℕ) (d e : MergedEntry) → i < j → j < length xs → IsBefore (get_or xs i d) (get_or xs j e)
+pub in_order : (xs : List MergedEntry) → IsAscending xs → (i j : ℕ) (d e : MergedEntry) → i < j → j < length xs →
+    IsBefore (get_or xs i d) (get_or xs j e)
 in_order [] asc i j d e h g = absurd (omega arith)
 in_order (x ∷ xs) asc i zero d e h g = absurd (omega arith)
 in_order (x ∷ xs) asc zero (suc j) d e h g = all_at x xs j e asc.0 (omega arith)
@@ -34,8 +37,10 @@ same_or_less : (i m : ℕ) → i < m + 1 → (i < m) ⊎ (i ≡ m)
 same_or_less i m h = elim (cases_lt i m) [ inl l ↦ inl l | inr l ↦ inr (omega arith) ]
 
 -- nothing from a later entry on is in the place
-pub above_middle : (stanza key : List ℕ) (xs : List MergedEntry) (m : ℕ) (e : MergedEntry) → IsAscending xs → m < length xs → e ≡ get_or xs m e
-    → place_cmp (stanza, key) (place e) ≡ Less → (i : ℕ) (d : MergedEntry) → m ≤ i → i < length xs → is_at stanza key (get_or xs i d) ≡ false
+pub above_middle : (stanza key : List ℕ) (xs : List MergedEntry) (m : ℕ) (e : MergedEntry) → IsAscending xs → m < length xs →
+    e ≡ get_or xs m e
+    → place_cmp (stanza, key) (place e) ≡ Less → (i : ℕ) (d : MergedEntry) → m ≤ i → i < length xs →
+    is_at stanza key (get_or xs i d) ≡ false
 above_middle stanza key xs m e asc within here less i d after inside = elim (same_or_less m i (omega arith)) [
   | inl more ↦
       let p : Place = (stanza, key) in
@@ -48,7 +53,8 @@ above_middle stanza key xs m e asc within here less i d after inside = elim (sam
 ]
 
 -- nothing up to an earlier entry is in the place
-pub below_middle : (stanza key : List ℕ) (xs : List MergedEntry) (m : ℕ) (e : MergedEntry) → IsAscending xs → m < length xs → e ≡ get_or xs m e
+pub below_middle : (stanza key : List ℕ) (xs : List MergedEntry) (m : ℕ) (e : MergedEntry) → IsAscending xs → m < length xs →
+    e ≡ get_or xs m e
     → place_cmp (stanza, key) (place e) ≡ Greater → (i : ℕ) (d : MergedEntry) → i < m + 1 → is_at stanza key (get_or xs i d) ≡ false
 below_middle stanza key xs m e asc within here greater i d before = elim (same_or_less i m before) [
   | inl less ↦
@@ -74,7 +80,8 @@ found_there stanza key (x ∷ xs) (suc m) d asc within here =
     let none : is_at stanza key x ≡ false = is_at_cmp stanza key x ∙ ap is_eq (place_total.congr p (place y) (place x) here ∙ less) in
     rw none (found_there stanza key xs m d asc.1 (omega arith) here)
 
-pub not_there : (stanza key : List ℕ) (xs : List MergedEntry) → ((i : ℕ) (d : MergedEntry) → i < length xs → is_at stanza key (get_or xs i d) ≡ false)
+pub not_there : (stanza key : List ℕ) (xs : List MergedEntry) →
+    ((i : ℕ) (d : MergedEntry) → i < length xs → is_at stanza key (get_or xs i d) ≡ false)
     → entry_at stanza key xs ≡ None
 not_there stanza key [] none = refl
 not_there stanza key (x ∷ xs) none =

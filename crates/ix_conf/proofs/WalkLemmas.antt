@@ -1,5 +1,7 @@
--- Walking the tokens of a pattern from the last to the first, with what is asked of the rest of the name.
-use Rattle.std.proofs.Common.{◌≡◌, ℕ, zero, suc, Bool, true, false, ◌||◌, ◌↔◌, List, [], ◌∷◌, ◌++◌, length, refl, sym, ap, ◌∙◌, subst, append_assoc, arith}
+-- Walking the tokens of a pattern from the last to the first, with what is asked of the rest of the
+-- name.
+use Rattle.std.proofs.Common.{◌≡◌, ℕ, zero, suc, Bool, true, false, ◌||◌, ◌↔◌, List, [], ◌∷◌, ◌++◌, length, refl, sym, ap, ◌∙◌, subst}
+use Rattle.std.proofs.Common.{append_assoc, arith}
 use Rattle.std.specs.Prelude.{Option, Some, None, IsTrue}
 use Rattle.std.specs.List.{AllByRecursion}
 use Rattle.ix_conf.specs.declared.tokens.Token.{Token}
@@ -83,7 +85,8 @@ walks fold (group p) =
     let inside = group_walks fold p (walks fold p).1 in
     (inside, λ is ask others below ls. as_whole fold (group p) ask others below ls (inside is ask others (lead ask below ∷ ls)))
 
-answer_is : (fold : Bool) (p : Piece) → IsSequence true p → (name : List ℕ) → answer (walk fold (spelled p) start) name ≡ then_ask fold p is_end name
+answer_is : (fold : Bool) (p : Piece) → IsSequence true p → (name : List ℕ) →
+    answer (walk fold (spelled p) start) name ≡ then_ask fold p is_end name
 answer_is fold p is name =
     let m = (walks fold p).1 is is_end never never [] in
     ap (λ (ls : List Lead). answer ls name) m.walked ∙ m.asked name
@@ -135,14 +138,16 @@ text_prepend a p (q ∷ qs) =
     ap (λ (t : List Token). t ++ Close ∷ text_of q qs) (spelled_prepend a p) ∙ append_assoc (spelled a) (spelled p) (Close ∷ text_of q qs)
 
 -- a token that is a piece by itself
-trees_with : (a : Piece) (t : Token) (tokens : List Token) (n : ℕ) → IsSequence false a → spelled a ≡ t ∷ [] → Trees tokens n → Trees (t ∷ tokens) n
+trees_with : (a : Piece) (t : Token) (tokens : List Token) (n : ℕ) → IsSequence false a → spelled a ≡ t ∷ [] → Trees tokens n →
+    Trees (t ∷ tokens) n
 trees_with a t tokens n is spells m = record {
   first = prepend a m.first;
   others = m.others;
   is_whole = prepend_whole a m.first is m.is_whole;
   are_whole = m.are_whole;
   count = m.count;
-  spells = text_prepend a m.first m.others ∙ ap (λ (x : List Token). x ++ text_of m.first m.others) spells ∙ ap (λ (x : List Token). t ∷ x) m.spells;
+  spells = text_prepend a m.first m.others ∙ ap (λ (x : List Token). x ++ text_of m.first m.others) spells
+      ∙ ap (λ (x : List Token). t ∷ x) m.spells;
 }
 
 trees_bar : (tokens : List Token) (n : ℕ) → Trees tokens n → Trees (Bar ∷ tokens) n
@@ -207,14 +212,16 @@ trees (Close ∷ tokens) n h =
     subst P (sym less.2) (trees_close tokens less.0 (trees tokens less.0 less.1))
 
 -- the answer at the front of a name is whether it fits
-pub fits_from_answer : (tokens : List Token) (fold : Bool) (name : List ℕ) → waiting tokens ≡ Some 0 → answer (walk fold tokens start) name ≡ true
+pub fits_from_answer : (tokens : List Token) (fold : Bool) (name : List ℕ) → waiting tokens ≡ Some 0 →
+    answer (walk fold tokens start) name ≡ true
     → FitsRule (record { tokens = tokens; fold = fold }) name
 fits_from_answer tokens fold name paired is_true = by m.first m.others m.is_whole m.count m.spells
   where
     m : Trees tokens 0
     m = trees tokens 0 paired
 
-    by : (p : Piece) (qs : List Piece) → IsSequence true p → length qs ≡ 0 → text_of p qs ≡ tokens → FitsRule (record { tokens = tokens; fold = fold }) name
+    by : (p : Piece) (qs : List Piece) → IsSequence true p → length qs ≡ 0 → text_of p qs ≡ tokens →
+        FitsRule (record { tokens = tokens; fold = fold }) name
     by p (q ∷ qs) is count spells = absurd (omega arith)
     by p [] is count spells =
         let found = sym (answer_is fold p is name) ∙ ap (λ (ts : List Token). answer (walk fold ts start) name) spells ∙ is_true in
@@ -226,7 +233,8 @@ answer_from_fits tokens fold name fits =
     ap (λ (ts : List Token). answer (walk fold ts start) name) (sym fits.spells)
     ∙ answer_is fold fits.tree fits.is_whole name ∙ whole_complete fold fits.tree name fits.fits
 
-pub fits_iff : (tokens : List Token) (fold : Bool) (name : List ℕ) (b : Bool) → waiting tokens ≡ Some 0 → b ≡ answer (walk fold tokens start) name
+pub fits_iff : (tokens : List Token) (fold : Bool) (name : List ℕ) (b : Bool) → waiting tokens ≡ Some 0 →
+    b ≡ answer (walk fold tokens start) name
     → IsTrue b ↔ FitsRule (record { tokens = tokens; fold = fold }) name
 fits_iff tokens fold name b paired is =
     (λ h. fits_from_answer tokens fold name paired (sym is ∙ h), λ f. is ∙ answer_from_fits tokens fold name f)

@@ -1,5 +1,7 @@
--- The entries of a .conf text. From Splunk's Admin Manual, "Configuration file structure and syntax".
-use Rattle.std.specs.Prelude.{◌≡◌, ◌==◌, ◌||◌, nat_lt, if◌then◌else◌, ℕ, false, List, [], ◌∷◌, ◌++◌, length, Option, Some, None, Result, Ok, Err, codes}
+-- The entries of a .conf text. From Splunk's Admin Manual, "Configuration file structure and
+-- syntax".
+use Rattle.std.specs.Prelude.{◌≡◌, ◌==◌, ◌||◌, nat_lt, if◌then◌else◌, ℕ, false, List, [], ◌∷◌, ◌++◌, length, Option, Some, None, Result}
+use Rattle.std.specs.Prelude.{Ok, Err, codes}
 use Rattle.std.specs.Str.Lossy.{utf8_valid_len}
 use Rattle.ix_conf.specs.Lines.{cut_at, before_last, trimmed, without_mark, physical_lines, Line, logical_lines}
 use Rattle.ix_conf.specs.declared.entries.Entry.{Entry}
@@ -38,7 +40,8 @@ abbrev pub behind : List Entry → Result (List Entry) ConfFault → Result (Lis
 behind front (Ok entries) = Ok (front ++ entries)
 behind front (Err fault) = Err fault
 
--- what a line of this number says in a stanza, and then the lines behind it, which are told their stanza
+-- what a line of this number says in a stanza, and then the lines behind it, which are told their
+-- stanza
 abbrev pub entries_with : ℕ → List ℕ → Said → (List ℕ → Result (List Entry) ConfFault) → Result (List Entry) ConfFault
 entries_with number stanza nothing lines = lines stanza
 entries_with number stanza (opens name) lines = behind (Stanza name ∷ []) (lines name)
@@ -55,8 +58,8 @@ entries_of stanza (line ∷ lines) = entries_with line.number stanza (said line.
 abbrev pub entries_of_text : List ℕ → Result (List Entry) ConfFault
 entries_of_text text = entries_of (codes "default") (logical_lines false 1 (physical_lines (without_mark text)))
 
--- The entries of a .conf text of at most 1,048,576 bytes. The place of a byte that is not UTF-8 is where the longest front
--- that is UTF-8 ends.
+-- The entries of a .conf text of at most 1,048,576 bytes. The place of a byte that is not UTF-8 is
+-- where the longest front that is UTF-8 ends.
 unfoldable pub pairs : List ℕ → Result (List Entry) ConfFault
 pairs bytes =
     if nat_lt 1048576 (length bytes) then Err TooLong

@@ -1,5 +1,6 @@
 -- The lines of a .conf text. From Splunk's Admin Manual, "Configuration file structure and syntax".
-use Rattle.std.specs.Prelude.{◌+◌, ◌==◌, ◌&&◌, ◌||◌, not, if◌then◌else◌, ℕ, Bool, true, false, List, [], ◌∷◌, ◌++◌, take, drop, reverse, Option, Some, None, bytes_eq}
+use Rattle.std.specs.Prelude.{◌+◌, ◌==◌, ◌&&◌, ◌||◌, not, if◌then◌else◌, ℕ, Bool, true, false, List, [], ◌∷◌, ◌++◌, take, drop, reverse}
+use Rattle.std.specs.Prelude.{Option, Some, None, bytes_eq}
 use Rattle.std.specs.Option.{option_map, unwrap_or}
 
 -- what stands before the first such byte, and what stands behind it
@@ -75,8 +76,9 @@ abbrev pub line_with : ℕ → List ℕ → (Bool → List Line) → Option (Lis
 line_with number line behind None = record { number = number; text = line } ∷ behind false
 line_with number line behind (Some front) = joined number front (behind true)
 
--- The lines of settings and stanzas among physical lines, the first of which has this number. A line that is begun here
--- and is a comment is dropped. A line whose last byte is a backslash goes on in the next one, without the backslash.
+-- The lines of settings and stanzas among physical lines, the first of which has this number. A
+-- line that is begun here and is a comment is dropped. A line whose last byte is a backslash goes
+-- on in the next one, without the backslash.
 abbrev pub logical_lines : Bool → ℕ → List (List ℕ) → List Line
 logical_lines goes_on number [] = []
 logical_lines goes_on number (line ∷ lines) =

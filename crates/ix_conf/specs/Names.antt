@@ -1,5 +1,7 @@
--- Patterns for names, as stanzas have them. From Splunk's Admin Manual, props.conf, "[source::<source>] and [host::<host>]".
-use Rattle.std.specs.Prelude.{◌≡◌, ◌≢◌, ◌==◌, ◌&&◌, ◌||◌, ◌⊎◌, not, if◌then◌else◌, ℕ, zero, suc, Bool, true, false, IsTrue, List, [], ◌∷◌, ◌++◌, Option, Some, None}
+-- Patterns for names, as stanzas have them. From Splunk's Admin Manual, props.conf,
+-- "[source::<source>] and [host::<host>]".
+use Rattle.std.specs.Prelude.{◌≡◌, ◌≢◌, ◌==◌, ◌&&◌, ◌||◌, ◌⊎◌, not, if◌then◌else◌, ℕ, zero, suc, Bool, true, false, IsTrue, List, [], ◌∷◌}
+use Rattle.std.specs.Prelude.{◌++◌, Option, Some, None}
 use Rattle.std.specs.Char.{eq_ignore_ascii_case}
 use Rattle.std.specs.List.{AllByRecursion}
 use Rattle.ix_conf.specs.declared.tokens.Token.{Token}
@@ -86,8 +88,8 @@ spelled (seq p q) = spelled p ++ spelled q
 spelled (either p q) = spelled p ++ Bar ∷ spelled q
 spelled (group p) = Open ∷ spelled p ++ Close ∷ []
 
--- `|` binds less than a sequence, so it stands at the top and in parentheses: the first says that of a tree that may stand
--- anywhere, the second of a whole pattern
+-- `|` binds less than a sequence, so it stands at the top and in parentheses: the first says that
+-- of a tree that may stand anywhere, the second of a whole pattern
 abbrev pub IsSequence : Bool → Piece → Type 0
 IsSequence whole nothing = Unit {0}
 IsSequence whole (byte b) = Unit {0}
@@ -125,7 +127,8 @@ pub record FitsRule (rule : NameRule) (name : List ℕ) : Type 0 where
   pub spells : spelled tree ≡ rule.tokens
   pub fits : Fits rule.fold tree name
 
--- a text is refused for its pattern only where it is none; want of memory may be answered at any time
+-- a text is refused for its pattern only where it is none; want of memory may be answered at any
+-- time
 abbrev pub RefusesName : NameFault → List Token → Type 0
 RefusesName NoMemory tokens = Unit {0}
 RefusesName BadPattern tokens = are_pattern tokens ≡ false

@@ -1,4 +1,5 @@
--- The value of a key over layers of files. From Splunk's Admin Manual, "Configuration file precedence".
+-- The value of a key over layers of files. From Splunk's Admin Manual, "Configuration file
+-- precedence".
 use Rattle.std.specs.Prelude.{◌≡◌, ◌&&◌, if◌then◌else◌, ℕ, Bool, List, [], ◌∷◌, Option, Some, None, bytes_eq}
 use Rattle.std.specs.Option.{option_map, option_or}
 use Rattle.std.specs.List.{AllByRecursion}
@@ -15,7 +16,8 @@ use Rattle.ix_conf.specs.declared.layers.MergedEntry.{MergedEntry}
 abbrev pub own : List ℕ → MergedEntry
 own stanza = record { stanza = stanza; key = []; value = []; layer = [] }
 
--- what an entry of a file says, in the layer of this name: its stanza is there, and a key of at least one byte has a value
+-- what an entry of a file says, in the layer of this name: its stanza is there, and a key of at
+-- least one byte has a value
 abbrev pub said_by : List ℕ → Entry → List MergedEntry
 said_by layer (Stanza name) = own name ∷ []
 said_by layer (Pair stanza [] value) = own stanza ∷ []

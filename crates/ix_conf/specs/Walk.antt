@@ -1,5 +1,5 @@
--- How a name is held against a pattern: from the pattern's last token to its first, with what is asked of the rest of the
--- name at each place.
+-- How a name is held against a pattern: from the pattern's last token to its first, with what is
+-- asked of the rest of the name at each place.
 use Rattle.std.specs.Prelude.{◌≡◌, ◌<◌, ◌≤◌, ◌+◌, ◌==◌, ◌&&◌, ◌||◌, not, ℕ, Bool, true, false, List, [], ◌∷◌, length, drop, get_or}
 use Rattle.ix_conf.specs.declared.tokens.Token.{Token}
 use Rattle.ix_conf.specs.declared.tokens.Token.TheVariants.{Byte, Star, Dots, Bar, Open, Close}
@@ -33,7 +33,8 @@ abbrev pub bytes_then : Bool → Ask → Ask
 bytes_then slash ask [] = ask []
 bytes_then slash ask (c ∷ rest) = ask (c ∷ rest) || (may_pass slash c && bytes_then slash ask rest)
 
--- in one pair of parentheses: what is asked where the present alternative begins, and where one behind it does
+-- in one pair of parentheses: what is asked where the present alternative begins, and where one
+-- behind it does
 pub record Lead : Type 0 where
   pub leads : Ask
   pub others : Ask
@@ -109,4 +110,5 @@ IsBarred top (outer ∷ below) new = (new.leads.items ≡ outer.leads.items) × 
 
 abbrev pub IsOpened : Level → List Level → Level → List Level → Type 0
 IsOpened top [] new below = (new ≡ top) × (below ≡ [])
-IsOpened top (outer ∷ outers) new below = (new.others ≡ outer.others) × IsEither top.others.items top.leads.items new.leads.items × (below ≡ outers)
+IsOpened top (outer ∷ outers) new below = (new.others ≡ outer.others) × IsEither top.others.items top.leads.items new.leads.items
+    × (below ≡ outers)

@@ -1,5 +1,5 @@
-//! Settings files: the grammar of a .conf text, the layers in which files stand over one another, and the patterns
-//! that stanzas have for names.
+//! Settings files: the grammar of a .conf text, the layers in which files stand over one another,
+//! and the patterns that stanzas have for names.
 #![tactic(auto)]
 
 mod cuts;

@@ -48,7 +48,8 @@ fn add_piece(line: &mut Bytes, piece: &[u8]) -> Result<bool, NoMemory>
     }
 }
 
-/// Adds what goes on with a line at the front of a text. It tells how many physical lines that took, and the text behind them.
+/// Adds what goes on with a line at the front of a text. It tells how many physical lines that
+/// took, and the text behind them.
 fn join<'a>(line: &mut Bytes, text: &'a [u8]) -> Result<(u32, Option<&'a [u8]>), NoMemory>
     requires { length text.now < 2 ^ 31 }
     ensures joined { IfOk result (λ found. (number at : ℕ) →
@@ -70,13 +71,14 @@ fn join<'a>(line: &mut Bytes, text: &'a [u8]) -> Result<(u32, Option<&'a [u8]>),
     }
 }
 
-/// Reads the first line of a setting or stanza into `line`, which is left empty where a comment stands there. It tells how
-/// many physical lines that took, and the text behind them.
+/// Reads the first line of a setting or stanza into `line`, which is left empty where a comment
+/// stands there. It tells how many physical lines that took, and the text behind them.
 pub fn read_line<'a>(line: &mut Bytes, text: &'a [u8]) -> Result<(u32, Option<&'a [u8]>), NoMemory>
     requires { length text.now < 2 ^ 31 }
     ensures entries { IfOk result (λ found. (stanza : List ℕ) (number : ℕ) →
         entries_of stanza (logical_lines false number (physical_lines text.now))
-        ≡ entries_of stanza (record { number = number; text = line.new } ∷ logical_lines false (number + found.0) (lines_behind (option_copied found.1)))) }
+        ≡ entries_of stanza (record { number = number; text = line.new }
+        ∷ logical_lines false (number + found.0) (lines_behind (option_copied found.1)))) }
     ensures size { IfOk result (λ found. size_behind (option_copied found.1) + found.0 ≤ length text.now + 1) }
     ensures progress { IfOk result (λ found. 0 < found.0) }
 {

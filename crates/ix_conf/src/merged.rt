@@ -31,8 +31,9 @@ pub struct Item<'a> {
     pub layer: &'a [u8],
 }
 
-/// The settings of all layers of a file. Contracts see them as the list of their entries, in the order of the bytes of their
-/// stanza, and then of their key. Each stanza has an entry of its own, which stands before those of its keys.
+/// The settings of all layers of a file. Contracts see them as the list of their entries, in the
+/// order of the bytes of their stanza, and then of their key. Each stanza has an entry of its own,
+/// which stands before those of its keys.
 #[derive(Drop)]
 pub struct Merged {
     entries: Vec<MergedEntry>,
@@ -50,8 +51,8 @@ impl Model for Merged {
     ghost invariant = { λ m. IsAscending m.entries.items };
 }
 
-/// Merges the layers of a file: per stanza and key the value of the first layer that defines it, and within one file the last
-/// one. An empty value is a value like any other.
+/// Merges the layers of a file: per stanza and key the value of the first layer that defines it,
+/// and within one file the last one. An empty value is a value like any other.
 ///
 /// A pair with an empty key, which `parse` never gives, says no more than that its stanza is there.
 pub fn merge(alloc: Global, layers: &Layers) -> Result<Merged, NoMemory>
@@ -133,7 +134,8 @@ impl Merged {
         })
     }
 
-    /// The entry of this number, from 0; `None` exactly where there are no more. It takes no memory.
+    /// The entry of this number, from 0; `None` exactly where there are no more. It takes no
+    /// memory.
     pub fn item(&self, at: usize) -> Option<Item<'_>>
         ensures { option_map (λ item. item_entry item) result ≡ slice_get self.now at }
     {
@@ -146,7 +148,8 @@ impl Merged {
         })
     }
 
-    /// The listing: a line `[stanza]` for each stanza, and behind it a line `layer key=value` for each of its keys.
+    /// The listing: a line `[stanza]` for each stanza, and behind it a line `layer key=value` for
+    /// each of its keys.
     pub fn list(&self, alloc: Global) -> Result<Bytes, NoMemory>
         ensures { IfOk result (λ text. text ≡ listing self.now) }
     {

@@ -15,7 +15,8 @@ use std::collections::VecDeque;
 /// Entries that are taken from the front.
 type Entries = VecDeque<MergedEntry>;
 
-/// How a stanza and key stand to those of an entry: by the bytes of the stanza, and then by those of the key.
+/// How a stanza and key stand to those of an entry: by the bytes of the stanza, and then by those
+/// of the key.
 pub fn compare(stanza: &[u8], key: &[u8], entry: &MergedEntry) -> Ordering
     ensures { result ≡ place_cmp (stanza.now, key.now) (place entry.now) }
 {
@@ -52,7 +53,8 @@ fn compare_fronts(high: &Entries, low: &Entries) -> Ordering
     }
 }
 
-/// Takes the earlier of the two first entries. Of two in one place it takes the high one, and drops the other.
+/// Takes the earlier of the two first entries. Of two in one place it takes the high one, and drops
+/// the other.
 fn take_first(high: &mut Entries, low: &mut Entries) -> Option<MergedEntry>
     ensures { Takes (fronts_cmp high.old.items low.old.items) high.old.items low.old.items result high.new.items low.new.items }
 {

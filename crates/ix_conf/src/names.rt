@@ -1,8 +1,10 @@
 //! Patterns for names.
 
-ghost use Rattle.std.specs.Prelude.{◌≡◌, ◌+◌, ◌<◌, ◌≤◌, ◌∷◌, ◌&&◌, ◌||◌, ◌↔◌, ℕ, true, false, IsTrue, List, [], length, replicate, slice_index, slice_index_or, IfOk, IfErr};
+ghost use Rattle.std.specs.Prelude.{◌≡◌, ◌+◌, ◌<◌, ◌≤◌, ◌∷◌, ◌&&◌, ◌||◌, ◌↔◌, ℕ, true, false, IsTrue, List, [], length, replicate};
+ghost use Rattle.std.specs.Prelude.{slice_index, slice_index_or, IfOk, IfErr};
 ghost use Rattle.ix_conf.specs.Names.{same_byte, tokens, are_pattern, FitsRule, NameRule, RefusesName};
-ghost use Rattle.ix_conf.specs.Walk.{may_pass, IsEither, IsBarred, IsOpened, EachLong, Ask, byte_then, bytes_then, Marks, MarksAll, MarksLead, Lead, is_end, never, walk, step, start, answer};
+ghost use Rattle.ix_conf.specs.Walk.{may_pass, IsEither, IsBarred, IsOpened, EachLong, Ask, byte_then, bytes_then, Marks, MarksAll};
+ghost use Rattle.ix_conf.specs.Walk.{MarksLead, Lead, is_end, never, walk, step, start, answer};
 
 use crate::tokens::{NameFault, Token, are_pattern, read_tokens};
 use ix_base::NoMemory;
@@ -10,7 +12,8 @@ use std::alloc::Global;
 use std::collections::VecDeque;
 use std::marker::Model;
 
-/// In one pair of parentheses: at which places of the name the present alternative, and one behind it, leads to the end.
+/// In one pair of parentheses: at which places of the name the present alternative, and one behind
+/// it, leads to the end.
 #[derive(Drop)]
 pub struct Level {
     leads: Vec<bool>,
@@ -30,7 +33,8 @@ fn same_byte(fold: bool, byte: u8, other: u8) -> bool
 /// Asks for a byte before what was asked at each place.
 pub(crate) fn ask_byte(marks: &mut [bool], name: &[u8], fold: bool, byte: u8)
     requires { length marks.old ≡ length name.now + 1 }
-    ensures each { (i : ℕ) → i < length name.now → slice_index_or marks.new i false ≡ (same_byte fold byte (slice_index name.now i) && slice_index_or marks.old (i + 1) false) }
+    ensures each { (i : ℕ) → i < length name.now → slice_index_or marks.new i
+        false ≡ (same_byte fold byte (slice_index name.now i) && slice_index_or marks.old (i + 1) false) }
     ensures last { slice_index_or marks.new (length name.now) false ≡ false }
 {
     for i in 0..name.len() {
@@ -62,7 +66,8 @@ pub(crate) fn ask_bytes(marks: &mut [bool], name: &[u8], slash: bool)
 /// Where the one or the other was asked.
 fn ask_either(marks: &mut [bool], others: &[bool])
     requires { length others.now ≡ length marks.old }
-    ensures each { (i : ℕ) → i < length others.now → slice_index_or marks.new i false ≡ (slice_index_or marks.old i false || slice_index_or others.now i false) }
+    ensures each { (i : ℕ) → i < length others.now → slice_index_or marks.new i
+        false ≡ (slice_index_or marks.old i false || slice_index_or others.now i false) }
 {
     for i in 0..others.len() {
         marks[i] = marks[i] || others[i];
@@ -79,7 +84,8 @@ fn either(level: Level) -> Vec<bool>
     others
 }
 
-/// A `|` before the present alternative: another one begins, which leads to what is behind the parentheses.
+/// A `|` before the present alternative: another one begins, which leads to what is behind the
+/// parentheses.
 fn bar(alloc: Global, top: Level, below: &VecDeque<Level>) -> Result<Level, NoMemory>
     requires { length top.leads.items ≡ length top.others.items }
     ensures { IfOk result (λ level. IsBarred top below.now.items level) }
@@ -94,7 +100,8 @@ fn bar(alloc: Global, top: Level, below: &VecDeque<Level>) -> Result<Level, NoMe
     }
 }
 
-/// A `(` before the present alternative: the level is done, and each of its alternatives leads on in the one around it.
+/// A `(` before the present alternative: the level is done, and each of its alternatives leads on
+/// in the one around it.
 fn open(top: Level, below: &mut VecDeque<Level>) -> Level
     requires { length top.leads.items ≡ length top.others.items }
     ensures { IsOpened top below.old.items result below.new.items }
@@ -212,8 +219,9 @@ fn leads_to_end(alloc: Global, tokens: &[Token], fold: bool, name: &[u8]) -> Res
 
 /// A pattern for names, as `[host::..]` and `[source::..]` stanzas have it.
 ///
-/// `...` fits any bytes, `*` any bytes but `/`, `|` stands between alternatives, `( )` groups them, `\\\\` fits one backslash,
-/// and every other byte fits itself. Contracts see a pattern as its tokens, and whether case is folded.
+/// `...` fits any bytes, `*` any bytes but `/`, `|` stands between alternatives, `( )` groups them,
+/// `\\\\` fits one backslash, and every other byte fits itself. Contracts see a pattern as its
+/// tokens, and whether case is folded.
 #[derive(Drop)]
 pub struct NamePattern {
     tokens: Vec<Token>,
@@ -236,7 +244,8 @@ impl NamePattern {
     ///
     /// `BadPattern` comes exactly where parentheses do not pair, or a `(` is followed by `?`.
     pub fn read(alloc: Global, text: &[u8], fold: bool) -> Result<NamePattern, NameFault>
-        ensures ok { IfOk result (λ pattern. (pattern ≡ record { tokens = tokens text.now; fold = fold }) × IsTrue (are_pattern (tokens text.now))) }
+        ensures ok { IfOk result (λ pattern. (pattern ≡ record { tokens = tokens text.now; fold = fold })
+            × IsTrue (are_pattern (tokens text.now))) }
         ensures err { IfErr result (λ fault. RefusesName fault (tokens text.now)) }
     {
         let tokens = read_tokens(alloc, text)?;
@@ -249,8 +258,9 @@ impl NamePattern {
 
     /// Whether the whole name fits.
     ///
-    /// Each token of the pattern is held once against each place of the name, so the work grows with the product of both
-    /// lengths, and the memory with that of the name and the deepest nest of parentheses.
+    /// Each token of the pattern is held once against each place of the name, so the work grows
+    /// with the product of both lengths, and the memory with that of the name and the deepest nest
+    /// of parentheses.
     pub fn fits(&self, alloc: Global, name: &[u8]) -> Result<bool, NoMemory>
         ensures { IfOk result (λ fits. IsTrue fits ↔ FitsRule self.now name.now) }
     {

@@ -109,12 +109,13 @@ fn read_text(alloc: Global, text: &[u8]) -> Result<ConfFile, ConfFault>
 
 /// Reads a .conf text: the entries in the order in which they stand there.
 ///
-/// The text is UTF-8, at most 1,048,576 bytes, with or without a byte order mark. Its lines are `[name]`, which opens a
-/// stanza, and `key = value`; empty lines and lines that begin with `#` say nothing; a line that ends with a backslash goes on
-/// in the next one. Settings before any stanza belong to `default`.
+/// The text is UTF-8, at most 1,048,576 bytes, with or without a byte order mark. Its lines are
+/// `[name]`, which opens a stanza, and `key = value`; empty lines and lines that begin with `#` say
+/// nothing; a line that ends with a backslash goes on in the next one. Settings before any stanza
+/// belong to `default`.
 ///
-/// `TooLong` comes exactly where the text has more bytes, then `NotUtf8` exactly where it is not UTF-8, and then the fault
-/// of the first bad line. Want of memory may come at any time.
+/// `TooLong` comes exactly where the text has more bytes, then `NotUtf8` exactly where it is not
+/// UTF-8, and then the fault of the first bad line. Want of memory may come at any time.
 pub fn parse(alloc: Global, bytes: &[u8]) -> Result<ConfFile, ConfFault>
     ensures { Gives result (pairs bytes.now) }
 {

@@ -86,7 +86,8 @@ pub fn read_tokens(alloc: Global, text: &[u8]) -> Result<Vec<Token>, NoMemory>
     Ok(found)
 }
 
-/// How many closing parentheses wait for an opening one before them; `None` where an opening one has no closing one.
+/// How many closing parentheses wait for an opening one before them; `None` where an opening one
+/// has no closing one.
 fn waiting(tokens: &[Token]) -> Option<usize>
     ensures { result ≡ waiting tokens.now }
 {

@@ -41,8 +41,8 @@ fn add_zones(alloc: Global, file: &mut ConfFile) -> Result<(), NoMemory>
     add_zone(alloc, file, b"Europe/Berlin", b"CET-1CEST,M3.5.0,M10.5.0/3")
 }
 
-/// The zones that are known without any file, as entries of a zones.conf: a stanza for each name, with its POSIX rule as
-/// `RULE`. They are the lowest layer of zones.
+/// The zones that are known without any file, as entries of a zones.conf: a stanza for each name,
+/// with its POSIX rule as `RULE`. They are the lowest layer of zones.
 pub fn built_in_zones(alloc: Global) -> Result<ConfFile, NoMemory>
     ensures { IfOk result (λ file. file ≡ zone_entries zones) }
 {

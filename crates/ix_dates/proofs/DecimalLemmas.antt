@@ -1,5 +1,6 @@
 -- A number is what its digits come to.
-use Rattle.std.proofs.Common.{◌≡◌, ℕ, ◌+◌, ◌-◌, ◌*◌, ◌^◌, ◌≤◌, ◌<◌, true, false, cond, List, [], ◌∷◌, ◌++◌, length, Some, None, refl, sym, ap, ◌∙◌, mul_assoc, add-mul, pow-suc, subst, arith}
+use Rattle.std.proofs.Common.{◌≡◌, ℕ, ◌+◌, ◌-◌, ◌*◌, ◌^◌, ◌≤◌, ◌<◌, true, false, cond, List, [], ◌∷◌, ◌++◌, length, Some, None, refl, sym}
+use Rattle.std.proofs.Common.{ap, ◌∙◌, mul_assoc, add-mul, pow-suc, subst, arith}
 use Rattle.std.proofs.lemmas.Bool.{and_parts}
 use Rattle.std.proofs.lemmas.Bool.Decides.{nat_tests}
 use Rattle.std.specs.Prelude.{◌&&◌, nat_le, nat_lt, MatchOption}
@@ -26,7 +27,8 @@ one_digit value x p rest =
     let swapped : 10 * p ≡ p * 10 = omega arith in
     rw (parts, turned, swapped) (omega arith)
 
-goes_one : (most value count b : ℕ) (rest : List ℕ) (d : ℕ × ℕ × List ℕ) → is_ascii_digit b ≡ true → count < most → Goes most (value * 10 + (b - 48)) (count + 1) rest d → Goes most value count (b ∷ rest) d
+goes_one : (most value count b : ℕ) (rest : List ℕ) (d : ℕ × ℕ × List ℕ) → is_ascii_digit b ≡ true → count < most →
+    Goes most (value * 10 + (b - 48)) (count + 1) rest d → Goes most value count (b ∷ rest) d
 unfolding decimal
 goes_one most value count b rest d digit room g = record {
   ds = b ∷ g.ds;
@@ -39,7 +41,8 @@ goes_one most value count b rest d digit room g = record {
 }
 
 -- where no more are taken
-goes_none : (most value count b : ℕ) (rest : List ℕ) → (is_ascii_digit b && nat_lt count most) ≡ false → Goes most value count (b ∷ rest) (value, count, b ∷ rest)
+goes_none : (most value count b : ℕ) (rest : List ℕ) → (is_ascii_digit b && nat_lt count most) ≡ false →
+    Goes most value count (b ∷ rest) (value, count, b ∷ rest)
 unfolding decimal
 goes_none most value count b rest shut = record {
   ds = [];
@@ -56,15 +59,26 @@ goes_none most value count b rest shut = record {
 
 digits_go : (most value count : ℕ) (text : List ℕ) → Goes most value count text (digits most value count text)
 unfolding digits decimal
-digits_go most value count [] = record { ds = []; whole = refl; all = tt; counted = omega arith; few = λ low. low; stops = λ room. refl; comes = omega arith }
+digits_go most value count [] = record {
+  ds = [];
+  whole = refl;
+  all = tt;
+  counted = omega arith;
+  few = λ low. low;
+  stops = λ room. refl;
+  comes = omega arith;
+}
 digits_go most value count (b ∷ rest) =
-    elim (is_ascii_digit b && nat_lt count most) as (λ t. (is_ascii_digit b && nat_lt count most) ≡ t → Goes most value count (b ∷ rest) (cond t (digits most (value * 10 + (b - 48)) (count + 1) rest) (value, count, b ∷ rest))) [
-      | true ↦ λ e. let parts = and_parts _ _ e in goes_one most value count b rest _ parts.0 (grind (arith, nat_tests, parts.1)) (digits_go most (value * 10 + (b - 48)) (count + 1) rest)
+    elim (is_ascii_digit b && nat_lt count most) as (λ t. (is_ascii_digit b && nat_lt count most) ≡ t →
+    Goes most value count (b ∷ rest) (cond t (digits most (value * 10 + (b - 48)) (count + 1) rest) (value, count, b ∷ rest))) [
+      | true ↦ λ e. let parts = and_parts _ _ e in goes_one most value count b rest _ parts.0 (grind (arith, nat_tests, parts.1))
+          (digits_go most (value * 10 + (b - 48)) (count + 1) rest)
       | false ↦ λ e. goes_none most value count b rest e
     ] refl
 
 -- no more digits stand there than are taken
-longest : (most value count : ℕ) (ds rest : List ℕ) → AllByRecursion IsDigit ds → count + length ds ≤ most → count + length ds ≤ (digits most value count (ds ++ rest)).1
+longest : (most value count : ℕ) (ds rest : List ℕ) → AllByRecursion IsDigit ds → count + length ds ≤ most →
+    count + length ds ≤ (digits most value count (ds ++ rest)).1
 unfolding digits
 longest most value count [] rest all low =
     let g = digits_go most value count rest in
@@ -76,7 +90,8 @@ longest most value count (b ∷ ds) rest all low =
     rw (all.0, room) (omega arith)
 
 -- numbers are what the law says
-number_reads : (least most : ℕ) (text : List ℕ) (d : ℕ × ℕ × List ℕ) → Goes most 0 0 text d → nat_le least d.1 ≡ true → Numbers least most text d.0 d.2
+number_reads : (least most : ℕ) (text : List ℕ) (d : ℕ × ℕ × List ℕ) → Goes most 0 0 text d → nat_le least d.1 ≡ true →
+    Numbers least most text d.0 d.2
 number_reads least most text d g many = record {
   digits = g.ds;
   whole = g.whole;
@@ -90,13 +105,16 @@ number_reads least most text d g many = record {
 pub numbers : NumbersAreDecimal
 unfolding number
 numbers least most text =
-    elim (nat_le least (digits most 0 0 text).1) as (λ t. nat_le least (digits most 0 0 text).1 ≡ t → MatchOption {T = ℕ × List ℕ} (cond t (Some ((digits most 0 0 text).0, (digits most 0 0 text).2)) None) ((value : ℕ) (rest : List ℕ) → Numbers least most text value rest → ⊥) (λ p. Numbers least most text p.0 p.1)) [
+    elim (nat_le least (digits most 0 0 text).1) as (λ t. nat_le least (digits most 0 0 text).1 ≡ t →
+    MatchOption {T = ℕ × List ℕ} (cond t (Some ((digits most 0 0 text).0, (digits most 0 0 text).2)) None)
+    ((value : ℕ) (rest : List ℕ) → Numbers least most text value rest → ⊥) (λ p. Numbers least most text p.0 p.1)) [
       | true ↦ λ e. number_reads least most text (digits most 0 0 text) (digits_go most 0 0 text) e
       | false ↦ λ e value rest n.
           let low = n.few in
           let enough = n.enough in
           let long = longest most 0 0 n.digits rest n.all (omega arith) in
-          let same : 0 + length n.digits ≤ (digits most 0 0 text).1 = subst (λ t. 0 + length n.digits ≤ (digits most 0 0 t).1) (sym n.whole) long in
+          let same : 0 + length n.digits ≤ (digits most 0 0 text).1 =
+          subst (λ t. 0 + length n.digits ≤ (digits most 0 0 t).1) (sym n.whole) long in
           let short : (digits most 0 0 text).1 < least = grind (arith, nat_tests) in
           absurd (omega arith)
     ] refl

@@ -1,13 +1,14 @@
 -- Where the short test is false, no format reads.
-use Rattle.std.proofs.Common.{◌≡◌, inl, inr, ℕ, zero, suc, ◌+◌, ◌-◌, ◌*◌, ◌≤◌, ◌<◌, Bool, true, false, cond, List, [], ◌∷◌, drop, Option, Some, None, refl, subst, sym, add-zero, arith}
+use Rattle.std.proofs.Common.{◌≡◌, inl, inr, ℕ, zero, suc, ◌+◌, ◌-◌, ◌*◌, ◌≤◌, ◌<◌, Bool, true, false, cond, List, [], ◌∷◌, drop, Option}
+use Rattle.std.proofs.Common.{Some, None, refl, subst, sym, add-zero, arith}
 use Rattle.std.proofs.lemmas.Bool.{or_parts}
 use Rattle.std.proofs.lemmas.Bool.Decides.{nat_tests, leb_tells}
 use Rattle.std.proofs.lemmas.List.{get_or-drop}
 use Rattle.std.specs.Prelude.{◌==◌, ◌&&◌, ◌||◌, nat_le, nat_lt, option_map, option_and_then}
 use Rattle.std.specs.List.{list_any}
 use Rattle.std.specs.Char.{is_ascii_digit, to_ascii_lowercase}
-use Rattle.ix_values.specs.declared.formats.Directive.{Directive}
-use Rattle.ix_values.specs.declared.formats.Directive.TheVariants as piece
+use Rattle.ix_conf_values.specs.declared.formats.Directive.{Directive}
+use Rattle.ix_conf_values.specs.declared.formats.Directive.TheVariants as piece
 use Rattle.ix_dates.specs.declared.fields.Field.{Field}
 use Rattle.ix_dates.specs.declared.fields.Fields.{Fields}
 use Rattle.ix_dates.specs.declared.known.KnownFormat.{KnownFormat}
@@ -29,12 +30,15 @@ not_behind-at : (byte k : ℕ) (text : List ℕ) → stands byte k text ≡ fals
 not_behind-at byte k text other = not_behind byte (drop k text) (rw (get_or-drop k text 0 0, add-zero k) other)
 
 -- the digits of a number are the front of the text
-rest_of_digits : (most value count : ℕ) (text : List ℕ) → (k : ℕ) × ((digits most value count text).1 ≡ count + k) × ((digits most value count text).2 ≡ drop k text)
+rest_of_digits : (most value count : ℕ) (text : List ℕ) → (k : ℕ) × ((digits most value count text).1 ≡ count + k)
+    × ((digits most value count text).2 ≡ drop k text)
 unfolding digits
 rest_of_digits most value count [] = (0, omega arith, refl)
 rest_of_digits most value count (b ∷ rest) =
     let more = rest_of_digits most (value * 10 + (b - 48)) (count + 1) rest in
-    elim (is_ascii_digit b && nat_lt count most) as (λ t. (k : ℕ) × ((cond t (digits most (value * 10 + (b - 48)) (count + 1) rest) (value, count, b ∷ rest)).1 ≡ count + k) × ((cond t (digits most (value * 10 + (b - 48)) (count + 1) rest) (value, count, b ∷ rest)).2 ≡ drop k (b ∷ rest))) [
+    elim (is_ascii_digit b && nat_lt count most) as (λ t. (k : ℕ)
+    × ((cond t (digits most (value * 10 + (b - 48)) (count + 1) rest) (value, count, b ∷ rest)).1 ≡ count + k)
+    × ((cond t (digits most (value * 10 + (b - 48)) (count + 1) rest) (value, count, b ∷ rest)).2 ≡ drop k (b ∷ rest))) [
       | true ↦ (suc (more.0), (let e = more.1 in omega arith), more.2)
       | false ↦ (0, omega arith, refl)
     ]
@@ -43,7 +47,8 @@ few_digits : (most value count : ℕ) (text : List ℕ) → count ≤ most → (
 unfolding digits
 few_digits most value count [] few = few
 few_digits most value count (b ∷ rest) few =
-    elim (is_ascii_digit b && nat_lt count most) as (λ t. (is_ascii_digit b && nat_lt count most) ≡ t → (cond t (digits most (value * 10 + (b - 48)) (count + 1) rest) (value, count, b ∷ rest)).1 ≤ most) [
+    elim (is_ascii_digit b && nat_lt count most) as (λ t. (is_ascii_digit b && nat_lt count most) ≡ t →
+    (cond t (digits most (value * 10 + (b - 48)) (count + 1) rest) (value, count, b ∷ rest)).1 ≤ most) [
       | true ↦ λ e. few_digits most (value * 10 + (b - 48)) (count + 1) rest (grind (arith, nat_tests))
       | false ↦ λ e. few
     ] refl
@@ -56,7 +61,9 @@ number_then least most low high text f nothing =
     let d = digits most 0 0 text in
     let front = rest_of_digits most 0 0 text in
     let few : d.1 ≤ most = few_digits most 0 0 text (omega arith) in
-    elim (nat_le least d.1) as (λ t. nat_le least d.1 ≡ t → option_and_then f (option_and_then (λ p. cond (nat_le low p.0 && nat_le p.0 high) (Some p) None) (cond t (Some (d.0, d.2)) None)) ≡ None) [
+    elim (nat_le least d.1) as (λ t. nat_le least d.1 ≡ t →
+    option_and_then f (option_and_then (λ p. cond (nat_le low p.0 && nat_le p.0 high) (Some p) None)
+    (cond t (Some (d.0, d.2)) None)) ≡ None) [
       | true ↦ λ e. elim (nat_le low d.0 && nat_le d.0 high) as (λ t. option_and_then f (cond t (Some (d.0, d.2)) None) ≡ None) [
         | true ↦
             let many : least ≤ front.0 = let count = front.1 in grind (arith, nat_tests) in
@@ -68,16 +75,19 @@ number_then least most low high text f nothing =
     ] refl
 
 -- nor where no digit stands
-no_number : (least most low high a : ℕ) (rest : List ℕ) → nat_le least 0 ≡ false → is_ascii_digit a ≡ false → within least most low high (a ∷ rest) ≡ None
+no_number : (least most low high a : ℕ) (rest : List ℕ) → nat_le least 0 ≡ false → is_ascii_digit a ≡ false →
+    within least most low high (a ∷ rest) ≡ None
 unfolding within number digits
 no_number least most low high a rest some other = rw (other, some) refl
 
 -- a field that is a number, and what follows it
 field_then : {B : Type 0} → (least most low high : ℕ) (text : List ℕ) (make : ℕ → Field) (f : Field × List ℕ → Option B) →
-    ((k n : ℕ) → least ≤ k → k ≤ most → f (make n, drop k text) ≡ None) → option_and_then f (option_map (λ p. (make p.0, p.1)) (within least most low high text)) ≡ None
+    ((k n : ℕ) → least ≤ k → k ≤ most → f (make n, drop k text) ≡ None) →
+    option_and_then f (option_map (λ p. (make p.0, p.1)) (within least most low high text)) ≡ None
 field_then least most low high text make f nothing =
     let same = number_then least most low high text (λ p. f (make p.0, p.1)) nothing in
-    elim (within least most low high text) as (λ o. option_and_then (λ p. f (make p.0, p.1)) o ≡ None → option_and_then f (option_map (λ p. (make p.0, p.1)) o) ≡ None) [
+    elim (within least most low high text) as (λ o. option_and_then (λ p. f (make p.0, p.1)) o ≡ None →
+    option_and_then f (option_map (λ p. (make p.0, p.1)) o) ≡ None) [
       | None ↦ λ h. refl
       | Some p ↦ λ h. h
     ] same
@@ -91,12 +101,14 @@ one_or_two k p low high one two =
     ]
 
 -- a day or a month by its number, and a slash
-no_slash-day : (ds : List Directive) (f : Fields) (text : List ℕ) → stands 47 1 text ≡ false → stands 47 2 text ≡ false → read_all (piece.Day ∷ piece.Byte 47 ∷ ds) f text ≡ None
+no_slash-day : (ds : List Directive) (f : Fields) (text : List ℕ) → stands 47 1 text ≡ false → stands 47 2 text ≡ false →
+    read_all (piece.Day ∷ piece.Byte 47 ∷ ds) f text ≡ None
 unfolding read_all read_one
 no_slash-day ds f text one two =
     field_then 1 2 1 31 text _ _ (λ k n low high. rw (not_behind-at 47 k text (one_or_two k (λ j. stands 47 j text) low high one two)) refl)
 
-no_slash-month : (ds : List Directive) (f : Fields) (text : List ℕ) → stands 47 1 text ≡ false → stands 47 2 text ≡ false → read_all (piece.Month ∷ piece.Byte 47 ∷ ds) f text ≡ None
+no_slash-month : (ds : List Directive) (f : Fields) (text : List ℕ) → stands 47 1 text ≡ false → stands 47 2 text ≡ false →
+    read_all (piece.Month ∷ piece.Byte 47 ∷ ds) f text ≡ None
 unfolding read_all read_one
 no_slash-month ds f text one two =
     field_then 1 2 1 12 text _ _ (λ k n low high. rw (not_behind-at 47 k text (one_or_two k (λ j. stands 47 j text) low high one two)) refl)
@@ -105,7 +117,8 @@ no_slash-month ds f text one two =
 no_date : (text : List ℕ) → stands 45 4 text ≡ false → date text ≡ None
 unfolding date two_behind
 no_date text none =
-    number_then 4 4 0 9999 text _ (λ k n low high. let same : 4 ≡ k = omega arith in rw (not_behind-at 45 k text (subst (λ j. stands 45 j text ≡ false) same none)) refl)
+    number_then 4 4 0 9999 text _ (λ k n low high. let same : 4 ≡ k = omega arith in
+    rw (not_behind-at 45 k text (subst (λ j. stands 45 j text ≡ false) same none)) refl)
 
 no_hyphen : (text : List ℕ) → stands 45 4 text ≡ false → iso text ≡ None
 unfolding iso
@@ -116,11 +129,13 @@ no_digit-iso : (a : ℕ) (rest : List ℕ) → is_ascii_digit a ≡ false → is
 unfolding iso date
 no_digit-iso a rest other = rw (no_number 4 4 0 9999 a rest refl other) refl
 
-no_digit-day : (ds : List Directive) (f : Fields) (a : ℕ) (rest : List ℕ) → is_ascii_digit a ≡ false → read_all (piece.Day ∷ ds) f (a ∷ rest) ≡ None
+no_digit-day : (ds : List Directive) (f : Fields) (a : ℕ) (rest : List ℕ) → is_ascii_digit a ≡ false →
+    read_all (piece.Day ∷ ds) f (a ∷ rest) ≡ None
 unfolding read_all read_one
 no_digit-day ds f a rest other = rw (no_number 1 2 1 31 a rest refl other) refl
 
-no_digit-month : (ds : List Directive) (f : Fields) (a : ℕ) (rest : List ℕ) → is_ascii_digit a ≡ false → read_all (piece.Month ∷ ds) f (a ∷ rest) ≡ None
+no_digit-month : (ds : List Directive) (f : Fields) (a : ℕ) (rest : List ℕ) → is_ascii_digit a ≡ false →
+    read_all (piece.Month ∷ ds) f (a ∷ rest) ≡ None
 unfolding read_all read_one
 no_digit-month ds f a rest other = rw (no_number 1 2 1 12 a rest refl other) refl
 
@@ -141,19 +156,26 @@ AllLong [] = Unit {0}
 AllLong (name ∷ names) = Long name × AllLong names
 
 -- other letters than its first three
-other_letters : (x y z : ℕ) (more : List ℕ) (a b c : ℕ) (rest : List ℕ) → begins_with (to_ascii_lowercase a) (to_ascii_lowercase b) (to_ascii_lowercase c) (x ∷ y ∷ z ∷ more) ≡ false → behind_either (x ∷ y ∷ z ∷ more) (a ∷ b ∷ c ∷ rest) ≡ None
+other_letters : (x y z : ℕ) (more : List ℕ) (a b c : ℕ) (rest : List ℕ) →
+    begins_with (to_ascii_lowercase a) (to_ascii_lowercase b) (to_ascii_lowercase c) (x ∷ y ∷ z ∷ more) ≡ false →
+    behind_either (x ∷ y ∷ z ∷ more) (a ∷ b ∷ c ∷ rest) ≡ None
 unfolding behind_either behind_name
 other_letters x y z more a b c rest =
     let third : (n : List ℕ) → Option (List ℕ) = λ n. cond (to_ascii_lowercase c == z) (behind_name n rest) None in
-    elim (to_ascii_lowercase a == x) as (λ t. (t && ((to_ascii_lowercase b == y) && (to_ascii_lowercase c == z))) ≡ false → or_else (cond t (cond (to_ascii_lowercase b == y) (third more) None) None) (cond t (cond (to_ascii_lowercase b == y) (third []) None) None) ≡ None) [
-      | true ↦ elim (to_ascii_lowercase b == y) as (λ t. (t && (to_ascii_lowercase c == z)) ≡ false → or_else (cond t (third more) None) (cond t (third []) None) ≡ None) [
-        | true ↦ λ e. rw e refl
-        | false ↦ λ e. refl
-      ]
+    elim (to_ascii_lowercase a == x) as (λ t. (t && ((to_ascii_lowercase b == y) && (to_ascii_lowercase c == z))) ≡ false →
+    or_else (cond t (cond (to_ascii_lowercase b == y) (third more) None) None)
+    (cond t (cond (to_ascii_lowercase b == y) (third []) None) None) ≡ None) [
+      | true ↦ elim (to_ascii_lowercase b == y) as (λ t. (t && (to_ascii_lowercase c == z)) ≡ false →
+          or_else (cond t (third more) None) (cond t (third []) None) ≡ None) [
+            | true ↦ λ e. rw e refl
+            | false ↦ λ e. refl
+          ]
       | false ↦ λ e. refl
     ]
 
-no_name : (names : List (List ℕ)) (place a b c : ℕ) (rest : List ℕ) → AllLong names → list_any (λ name. begins_with (to_ascii_lowercase a) (to_ascii_lowercase b) (to_ascii_lowercase c) name) names ≡ false → first_name names place (a ∷ b ∷ c ∷ rest) ≡ None
+no_name : (names : List (List ℕ)) (place a b c : ℕ) (rest : List ℕ) → AllLong names →
+    list_any (λ name. begins_with (to_ascii_lowercase a) (to_ascii_lowercase b) (to_ascii_lowercase c) name) names ≡ false →
+    first_name names place (a ∷ b ∷ c ∷ rest) ≡ None
 unfolding first_name Long AllLong
 no_name [] place a b c rest long none = refl
 no_name ([] ∷ names) place a b c rest long none = absurd (long.0)
@@ -171,7 +193,8 @@ one_byte ([] ∷ names) place a long = absurd (long.0)
 one_byte ((x ∷ []) ∷ names) place a long = absurd (long.0)
 one_byte ((x ∷ y ∷ []) ∷ names) place a long = absurd (long.0)
 one_byte ((x ∷ y ∷ z ∷ more) ∷ names) place a long =
-    elim (to_ascii_lowercase a == x) as (λ t. match_some (or_else (cond t None None) (cond t None None)) (first_name names (place + 1) (a ∷ [])) (λ rest. Some (place, rest)) ≡ None) [
+    elim (to_ascii_lowercase a == x) as (λ t. match_some (or_else (cond t None None) (cond t None None))
+    (first_name names (place + 1) (a ∷ [])) (λ rest. Some (place, rest)) ≡ None) [
       | true ↦ one_byte names (place + 1) a long.1
       | false ↦ one_byte names (place + 1) a long.1
     ]
@@ -183,11 +206,15 @@ two_bytes ([] ∷ names) place a b long = absurd (long.0)
 two_bytes ((x ∷ []) ∷ names) place a b long = absurd (long.0)
 two_bytes ((x ∷ y ∷ []) ∷ names) place a b long = absurd (long.0)
 two_bytes ((x ∷ y ∷ z ∷ more) ∷ names) place a b long =
-    elim (to_ascii_lowercase a == x) as (λ t. match_some (or_else (cond t (cond (to_ascii_lowercase b == y) None None) None) (cond t (cond (to_ascii_lowercase b == y) None None) None)) (first_name names (place + 1) (a ∷ b ∷ [])) (λ rest. Some (place, rest)) ≡ None) [
-      | true ↦ elim (to_ascii_lowercase b == y) as (λ t. match_some (or_else (cond t None None) (cond t None None)) (first_name names (place + 1) (a ∷ b ∷ [])) (λ rest. Some (place, rest)) ≡ None) [
-        | true ↦ two_bytes names (place + 1) a b long.1
-        | false ↦ two_bytes names (place + 1) a b long.1
-      ]
+    elim (to_ascii_lowercase a == x) as (λ t. match_some
+    (or_else (cond t (cond (to_ascii_lowercase b == y) None None) None) (cond t (cond (to_ascii_lowercase b == y) None None) None))
+    (first_name names (place + 1) (a ∷ b ∷ [])) (λ rest. Some (place, rest)) ≡ None) [
+      | true ↦ elim (to_ascii_lowercase b == y) as (λ t.
+          match_some (or_else (cond t None None) (cond t None None)) (first_name names (place + 1) (a ∷ b ∷ []))
+          (λ rest. Some (place, rest)) ≡ None) [
+            | true ↦ two_bytes names (place + 1) a b long.1
+            | false ↦ two_bytes names (place + 1) a b long.1
+          ]
       | false ↦ two_bytes names (place + 1) a b long.1
     ]
 
@@ -213,7 +240,16 @@ no_letter a x digit letter = grind (arith, nat_tests)
 
 digit_no_month : (a b c : ℕ) → is_ascii_digit a ≡ true → is_month (to_ascii_lowercase a) b c ≡ false
 digit_no_month a b c digit =
-    rw (no_letter a 106 digit (omega arith), no_letter a 102 digit (omega arith), no_letter a 109 digit (omega arith), no_letter a 97 digit (omega arith), no_letter a 115 digit (omega arith), no_letter a 111 digit (omega arith), no_letter a 110 digit (omega arith), no_letter a 100 digit (omega arith)) refl
+    rw (
+      no_letter a 106 digit (omega arith),
+      no_letter a 102 digit (omega arith),
+      no_letter a 109 digit (omega arith),
+      no_letter a 97 digit (omega arith),
+      no_letter a 115 digit (omega arith),
+      no_letter a 111 digit (omega arith),
+      no_letter a 110 digit (omega arith),
+      no_letter a 100 digit (omega arith),
+    ) refl
 
 digit_has_no_month : (a : ℕ) (rest : List ℕ) → is_ascii_digit a ≡ true → has_month (a ∷ rest) ≡ false
 unfolding has_month
@@ -222,7 +258,8 @@ digit_has_no_month a (b ∷ []) digit = refl
 digit_has_no_month a (b ∷ c ∷ rest) digit = digit_no_month a (to_ascii_lowercase b) (to_ascii_lowercase c) digit
 
 -- where no number and no month may begin, no format reads
-by_digit : (a : ℕ) (rest : List ℕ) → is_ascii_digit a ≡ true → (has_slash (a ∷ rest) || has_hyphen (a ∷ rest)) ≡ false → ReadsNothing (a ∷ rest)
+by_digit : (a : ℕ) (rest : List ℕ) → is_ascii_digit a ≡ true → (has_slash (a ∷ rest) || has_hyphen (a ∷ rest)) ≡ false →
+    ReadsNothing (a ∷ rest)
 by_digit a rest digit none Iso = let parts = or_parts _ _ none in other_front Iso (a ∷ rest) parts.1
 by_digit a rest digit none Syslog = other_front Syslog (a ∷ rest) (digit_has_no_month a rest digit)
 by_digit a rest digit none Access = let parts = or_parts _ _ none in other_front Access (a ∷ rest) parts.0
@@ -238,13 +275,15 @@ by_letter a rest other none American = no_digit-month _ _ a rest other
 reads_nothing : (a : ℕ) (rest : List ℕ) → may_begin (a ∷ rest) ≡ false → ReadsNothing (a ∷ rest)
 unfolding may_begin
 reads_nothing a rest none =
-    elim (is_ascii_digit a) as (λ t. is_ascii_digit a ≡ t → cond t (has_slash (a ∷ rest) || has_hyphen (a ∷ rest)) (has_month (a ∷ rest)) ≡ false → ReadsNothing (a ∷ rest)) [
+    elim (is_ascii_digit a) as (λ t. is_ascii_digit a ≡ t →
+    cond t (has_slash (a ∷ rest) || has_hyphen (a ∷ rest)) (has_month (a ∷ rest)) ≡ false → ReadsNothing (a ∷ rest)) [
       | true ↦ λ digit quiet. by_digit a rest digit quiet
       | false ↦ λ other quiet. by_letter a rest other quiet
     ] refl none
 
 -- one place more that is passed over
-quiet_later : (b : ℕ) (rest : List ℕ) (n : ℕ) → ReadsNothing (b ∷ rest) → ((i : ℕ) → i < n → ReadsNothing (drop i rest)) → (i : ℕ) → i < suc n → ReadsNothing (drop i (b ∷ rest))
+quiet_later : (b : ℕ) (rest : List ℕ) (n : ℕ) → ReadsNothing (b ∷ rest) → ((i : ℕ) → i < n → ReadsNothing (drop i rest)) → (i : ℕ) →
+    i < suc n → ReadsNothing (drop i (b ∷ rest))
 quiet_later b rest n nothing quiet zero low = nothing
 quiet_later b rest n nothing quiet (suc i) low = quiet i (omega arith)
 
@@ -256,5 +295,9 @@ passes_over (b ∷ rest) =
     let more = passes_over rest in
     elim (may_begin (b ∷ rest)) as (λ t. may_begin (b ∷ rest) ≡ t → PassesOver (b ∷ rest) (cond t (b ∷ rest) (skip_quiet rest))) [
       | true ↦ λ e. record { count = 0; left = refl; quiet = λ i low. absurd (omega arith) }
-      | false ↦ λ e. record { count = suc (more.count); left = more.left; quiet = quiet_later b rest more.count (reads_nothing b rest e) more.quiet }
+      | false ↦ λ e. record {
+        count = suc (more.count);
+        left = more.left;
+        quiet = quiet_later b rest more.count (reads_nothing b rest e) more.quiet;
+      }
     ] refl

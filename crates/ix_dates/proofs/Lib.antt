@@ -3,3 +3,5 @@ pub mod NumberLemmas
 pub mod NameLemmas
 pub mod FormatLemmas
 pub mod FrontLemmas
+pub mod ChoiceLemmas
+pub mod YearLemmas

@@ -12,6 +12,7 @@ none_left names i place text past = rw (drop_of_length-le names past) refl
 
 -- the first name that is left
 pub one_left : (names : List (List ℕ)) (i place : ℕ) (text : List ℕ) → i < length names →
-    first_name (drop i names) place text ≡ match_some (behind_either (get_or names i []) text) (first_name (drop (i + 1) names) (place + 1) text) (λ rest. Some (place, rest))
+    first_name (drop i names) place text ≡ match_some (behind_either (get_or names i []) text)
+    (first_name (drop (i + 1) names) (place + 1) text) (λ rest. Some (place, rest))
 unfolding first_name
 one_left names i place text here = rw (drop-cons names i [], add-one i) refl

@@ -20,7 +20,8 @@ fits value count small few = power_grows value count 11 small few
 pub filled_up : (value count : ℕ) → value < 10 ^ count → count ≤ 9 → value * 10 ^ (9 - count) < 1_000_000_000
 filled_up value count small few =
     let whole : count + (9 - count) ≡ 9 = omega arith in
-    let parts : 10 ^ 9 ≡ 10 ^ count * 10 ^ (9 - count) = subst (λ n. 10 ^ n ≡ 10 ^ count * 10 ^ (9 - count)) whole (pow-add 10 count (9 - count)) in
+    let parts : 10 ^ 9 ≡ 10 ^ count * 10 ^ (9 - count) =
+    subst (λ n. 10 ^ n ≡ 10 ^ count * 10 ^ (9 - count)) whole (pow-add 10 count (9 - count)) in
     let some = one-le-pow (9 - count) 10 (omega arith) in
     let more = mul-le-mul_right (10 ^ (9 - count)) small in
     let next = suc-mul value (10 ^ (9 - count)) in

@@ -1,8 +1,9 @@
--- What a format reads: one directive behind the other, without going back. From Splunk's Admin Manual, "Configure timestamp recognition", and
--- the strptime of POSIX.
-use Rattle.std.specs.Prelude.{ℕ, pos, neg_ℤ, ◌+◌, ◌*◌, ◌==◌, true, false, nat_lt, min, codes, List, [], ◌∷◌, Option, Some, None, option_map, if◌then◌else◌}
-use Rattle.ix_values.specs.declared.formats.Directive.{Directive}
-use Rattle.ix_values.specs.declared.formats.Directive.TheVariants as piece
+-- What a format reads: one directive behind the other, without going back. From Splunk's Admin
+-- Manual, "Configure timestamp recognition", and the strptime of POSIX.
+use Rattle.std.specs.Prelude.{ℕ, pos, neg_ℤ, ◌+◌, ◌*◌, ◌==◌, true, false, nat_lt, min, codes, List, [], ◌∷◌, Option, Some, None}
+use Rattle.std.specs.Prelude.{option_map, if◌then◌else◌}
+use Rattle.ix_conf_values.specs.declared.formats.Directive.{Directive}
+use Rattle.ix_conf_values.specs.declared.formats.Directive.TheVariants as piece
 use Rattle.ix_dates.specs.declared.fields.Field.{Field}
 use Rattle.ix_dates.specs.declared.fields.Field.TheVariants as field
 use Rattle.ix_dates.specs.declared.fields.Fields.{Fields}

@@ -1,7 +1,8 @@
 -- The formats that are tried where none is set.
 use Rattle.std.specs.Prelude.{◌≡◌, ◌<◌, ℕ, List, [], ◌∷◌, None, drop}
-use Rattle.ix_values.specs.declared.formats.Directive.{Directive}
-use Rattle.ix_values.specs.declared.formats.Directive.TheVariants.{Year, Month, Day, PaddedDay, Hour, Minute, Second, ShortMonthName, Offset, Space, Byte}
+use Rattle.ix_conf_values.specs.declared.formats.Directive.{Directive}
+use Rattle.ix_conf_values.specs.declared.formats.Directive.TheVariants.{Year, Month, Day, PaddedDay, Hour, Minute, Second, ShortMonthName}
+use Rattle.ix_conf_values.specs.declared.formats.Directive.TheVariants.{Offset, Space, Byte}
 use Rattle.ix_dates.specs.declared.fields.Fields.{Fields}
 use Rattle.ix_dates.specs.declared.known.KnownFormat.{KnownFormat}
 use Rattle.ix_dates.specs.declared.known.KnownFormat.TheVariants.{Iso, Syslog, Access, American}

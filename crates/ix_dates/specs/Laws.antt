@@ -16,7 +16,8 @@ abbrev pub begins_with_digit : List ℕ → Bool
 begins_with_digit [] = false
 begins_with_digit (b ∷ rest) = is_ascii_digit b
 
--- a text is some digits and a rest; there are that many of them at the least and at the most, and no more stand there
+-- a text is some digits and a rest; there are that many of them at the least and at the most, and
+-- no more stand there
 pub record Numbers (least most : ℕ) (text : List ℕ) (value : ℕ) (rest : List ℕ) : Type 0 where
   pub digits : List ℕ
   pub whole : text ≡ digits ++ rest
@@ -29,4 +30,5 @@ pub record Numbers (least most : ℕ) (text : List ℕ) (value : ℕ) (rest : Li
 -- A number is read of exactly such texts, and it is what its digits come to in the decimal system.
 abbrev pub NumbersAreDecimal : Type 0
 NumbersAreDecimal = (least most : ℕ) (text : List ℕ) →
-    MatchOption (number least most text) ((value : ℕ) (rest : List ℕ) → Numbers least most text value rest → ⊥) (λ p. Numbers least most text p.0 p.1)
+    MatchOption (number least most text) ((value : ℕ) (rest : List ℕ) → Numbers least most text value rest →
+    ⊥) (λ p. Numbers least most text p.0 p.1)

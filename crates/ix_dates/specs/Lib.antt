@@ -6,3 +6,8 @@ pub mod Known
 pub mod Laws
 pub mod Names
 pub mod Text
+pub mod Civil
+pub mod Instant
+pub mod ClockLaws
+pub mod Year
+pub mod Zone

@@ -1,5 +1,6 @@
 -- What stands at the front of a text.
-use Rattle.std.specs.Prelude.{ℕ, ◌+◌, ◌-◌, ◌*◌, ◌/◌, ◌^◌, ◌==◌, ◌||◌, nat_le, nat_lt, ◌&&◌, Bool, List, [], ◌∷◌, Option, Some, None, option_map, option_and_then, if◌then◌else◌}
+use Rattle.std.specs.Prelude.{ℕ, ◌+◌, ◌-◌, ◌*◌, ◌/◌, ◌^◌, ◌==◌, ◌||◌, nat_le, nat_lt, ◌&&◌, Bool, List, [], ◌∷◌, Option, Some, None}
+use Rattle.std.specs.Prelude.{option_map, option_and_then, if◌then◌else◌}
 use Rattle.std.specs.Char.{is_ascii_digit}
 use Rattle.std.specs.Borrow.{Bor}
 
@@ -40,8 +41,8 @@ unfoldable pub skip_space : List ℕ → List ℕ
 skip_space [] = []
 skip_space (b ∷ rest) = if is_space b then skip_space rest else b ∷ rest
 
--- Digits that go on a number, as many as there are, until they are so many: what the number comes to, how many digits it has, and the text
--- behind them.
+-- Digits that go on a number, as many as there are, until they are so many: what the number comes
+-- to, how many digits it has, and the text behind them.
 unfoldable pub digits : ℕ → ℕ → ℕ → List ℕ → ℕ × ℕ × List ℕ
 digits most value count [] = (value, count, [])
 digits most value count (b ∷ rest) =
@@ -60,6 +61,7 @@ unfoldable pub within : ℕ → ℕ → ℕ → ℕ → List ℕ → Read ℕ
 within least most low high text =
     number least most text >>= (λ p. if nat_le low p.0 && nat_le p.0 high then Some p else None)
 
--- A fraction of a second of at least and at most so many digits, in microseconds. Filled up with zeros to nine digits it counts nanoseconds.
+-- A fraction of a second of at least and at most so many digits, in microseconds. Filled up with
+-- zeros to nine digits it counts nanoseconds.
 unfoldable pub fraction : ℕ → ℕ → List ℕ → Read ℕ
 fraction least most text = if_enough least (digits most 0 0 text) (λ value count. value * 10 ^ (9 - count) / 1000)

@@ -27,7 +27,8 @@ pub(crate) fn skip_space(s: &[u8]) -> &[u8]
     rest
 }
 
-/// The number of the digits at the front, as many as there are up to `most`, how many they are, and the text behind them.
+/// The number of the digits at the front, as many as there are up to `most`, how many they are, and
+/// the text behind them.
 #[tactic(auto, using(crate::proofs::NumberLemmas::one_more, crate::proofs::NumberLemmas::fits), unfolding(crate::specs::Text::digits))]
 fn digits(most: u8, s: &[u8]) -> (u64, u8, &[u8])
     requires { most ≤ 11 }

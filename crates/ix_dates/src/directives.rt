@@ -1,4 +1,5 @@
-//! What the directives of a time format read. Formats that are set are read by them, and three of those that are tried where none is set.
+//! What the directives of a time format read. Formats that are set are read by them, and three of
+//! those that are tried where none is set.
 
 ghost use Rattle.std.specs.Prelude.{◌≡◌, ◌<◌, ◌≤◌, IfSome, min};
 ghost use Rattle.ix_dates.specs.declared.fields.Field.TheVariants as field;
@@ -11,9 +12,10 @@ ghost use Rattle.ix_dates.specs.Directives as Directives;
 use crate::digits::{behind, fraction, number, skip_space, within};
 use crate::fields::{Field, Fields, Hour};
 use crate::names::{behind_name, month, weekday};
-use ix_values::Directive;
+use ix_conf_values::Directive;
 
-/// What one directive reads at the front of a text, and the text behind it. `None` where it reads nothing there.
+/// What one directive reads at the front of a text, and the text behind it. `None` where it reads
+/// nothing there.
 #[tactic(auto, unfolding(crate::specs::Directives::read_one))]
 fn read_one(directive: Directive, s: &[u8]) -> Option<(Field, &[u8])>
     ensures { read_view result ≡ Directives.read_one directive s.now }
@@ -43,7 +45,8 @@ fn read_one(directive: Directive, s: &[u8]) -> Option<(Field, &[u8])>
     }
 }
 
-/// What directives read at the front of a text, one behind the other, over the fields so far, and the text behind it.
+/// What directives read at the front of a text, one behind the other, over the fields so far, and
+/// the text behind it.
 pub fn read_all<'a>(
     directives: &[Directive],
     fields: Fields,

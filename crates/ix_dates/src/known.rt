@@ -9,12 +9,13 @@ use crate::directives::read_all;
 use crate::fields::Fields;
 use crate::front::{has_hyphen, has_month, has_slash};
 use crate::iso::iso;
-use ix_values::Directive;
+use ix_conf_values::Directive;
 
 /// One of the formats that are tried where none is set.
 #[derive(Clone, Copy, Debug, PartialEq, Eq)]
 pub enum KnownFormat {
-    /// `2023-11-14T22:13:20`, with a space for the `T` too, and then a fraction and a zone where they stand.
+    /// `2023-11-14T22:13:20`, with a space for the `T` too, and then a fraction and a zone where
+    /// they stand.
     Iso,
     /// `%b %e %H:%M:%S`, as syslog writes it.
     Syslog,

@@ -1,5 +1,6 @@
 -- Files that are copied one by one.
-use Rattle.std.proofs.Common.{◌≡◌, ◌+◌, ◌<◌, ℕ, List, [], ◌∷◌, ◌++◌, length, take, get_or, Bool, if◌then◌else◌, Option, refl, sym, ◌∙◌, ap, subst}
+use Rattle.std.proofs.Common.{◌≡◌, ◌+◌, ◌<◌, ℕ, List, [], ◌∷◌, ◌++◌, length, take, get_or, Bool, if◌then◌else◌, Option, refl, sym, ◌∙◌, ap}
+use Rattle.std.proofs.Common.{subst}
 use Rattle.std.proofs.lemmas.List.{take_more}
 use Rattle.ix_base.specs.declared.files.File.{File}
 use Rattle.ix_disk.specs.Files.{is_same}
@@ -19,13 +20,15 @@ AreLeft torn [] (o ∷ old) = ⊥
 AreLeft torn (n ∷ new) [] = ⊥
 AreLeft torn (n ∷ new) (o ∷ old) = IsLeft torn n o × AreLeft torn new old
 
-left_push : (torn : Bool) (new old : List Held) (n o : Held) → AreLeft torn new old → IsLeft torn n o → AreLeft torn (new ++ n ∷ []) (old ++ o ∷ [])
+left_push : (torn : Bool) (new old : List Held) (n o : Held) → AreLeft torn new old → IsLeft torn n o →
+    AreLeft torn (new ++ n ∷ []) (old ++ o ∷ [])
 left_push torn [] [] n o are is = (is, tt)
 left_push torn [] (h ∷ old) n o are is = absurd are
 left_push torn (h ∷ new) [] n o are is = absurd are
 left_push torn (h ∷ new) (g ∷ old) n o are is = (are.0, left_push torn new old n o are.1 is)
 
-pub left_more : (torn : Bool) (new now old : List Held) (i : ℕ) (n o : Held) → i < length old → AreLeft torn new (take i old) → now ≡ new ++ n ∷ [] → o ≡ get_or old i o → IsLeft torn n o → AreLeft torn now (take (i + 1) old)
+pub left_more : (torn : Bool) (new now old : List Held) (i : ℕ) (n o : Held) → i < length old → AreLeft torn new (take i old) → now ≡ new
+    ++ n ∷ [] → o ≡ get_or old i o → IsLeft torn n o → AreLeft torn now (take (i + 1) old)
 left_more torn new now old i n o lt are pushed at is =
     subst (λ (l : List Held). AreLeft torn l (take (i + 1) old)) (sym pushed)
     (subst (λ (l : List Held). AreLeft torn (new ++ n ∷ []) l) (sym (take_more old i o lt))

@@ -6,7 +6,8 @@ use Rattle.ix_disk.specs.Image.{Image, MayWrite, Writes, MayRemove, Removes, Apa
 use Rattle.ix_disk.proofs.Apart.{told_apart}
 
 -- a write that succeeded, and one that was begun
-pub apart_written : (file : File) (at : ℕ) (bytes : List ℕ) (old new : Option Image) → Told (Writes file at bytes) old new → Told (Apart file) old new
+pub apart_written : (file : File) (at : ℕ) (bytes : List ℕ) (old new : Option Image) → Told (Writes file at bytes) old new →
+    Told (Apart file) old new
 apart_written file at bytes old new told = told_apart file (Writes file at bytes) old new (λ a b step. step.others) told
 
 pub apart_begun : (file : File) (at n : ℕ) (old new : Option Image) → Told (MayWrite file at n) old new → Told (Apart file) old new
@@ -28,7 +29,8 @@ pub apart_same : (file : File) (old new : Option Image) → new ≡ old → Told
 apart_same file old new same = subst (λ (now : Option Image). Told (Apart file) old now) (sym same) (apart_alike file old)
 
 -- calls one behind the other
-pub apart_on : (file : File) (old mid new : Option Image) → Told (Apart file) old mid → Told (Apart file) mid new → Told (Apart file) old new
+pub apart_on : (file : File) (old mid new : Option Image) → Told (Apart file) old mid → Told (Apart file) mid new →
+    Told (Apart file) old new
 apart_on file None None None first second = tt
 apart_on file None None (Some new) first second = absurd second
 apart_on file None (Some mid) new first second = absurd first

@@ -1,5 +1,6 @@
 -- Where a file stands among those in memory.
-use Rattle.std.proofs.Common.{◌≡◌, ◌<◌, ◌≤◌, ◌+◌, ℕ, zero, suc, nat_lt, cond, not, IfSome, IfNone, List, [], ◌∷◌, ◌++◌, length, get_or, set, Bool, true, false, if◌then◌else◌, Option, None, Some, refl, sym, ◌∙◌, ap, arith, position}
+use Rattle.std.proofs.Common.{◌≡◌, ◌<◌, ◌≤◌, ◌+◌, ℕ, zero, suc, nat_lt, cond, not, IfSome, IfNone, List, [], ◌∷◌, ◌++◌, length, get_or}
+use Rattle.std.proofs.Common.{set, Bool, true, false, if◌then◌else◌, Option, None, Some, refl, sym, ◌∙◌, ap, arith, position}
 use Rattle.std.specs.List.{position_or_len}
 use Rattle.std.proofs.lemmas.Bool.Decides.{nat_tests}
 use Rattle.std.proofs.lemmas.List.Quantifiers.{position-Some}
@@ -12,9 +13,13 @@ first_by : (held : List Held) (file : File) (i : ℕ) (d : Held) → i < length 
     → ((k : ℕ) → k < i → is_same file (get_or held k d).file ≡ false) → IsFirst held file i
 first_by [] file i d lt is not = absurd (omega arith)
 first_by (h ∷ held) file zero d lt is not = is
-first_by (h ∷ held) file (suc i) d lt is not = (not 0 (omega arith), first_by held file i d (omega arith) is (λ k less. not (suc k) (omega arith)))
+first_by (h ∷ held) file (suc i) d lt is not = (
+  not 0 (omega arith),
+  first_by held file i d (omega arith) is (λ k less. not (suc k) (omega arith)),
+)
 
-pub first_found : (held : List Held) (file : File) (i : ℕ) (d : Held) → position (λ (h : Held). is_same file h.file) held ≡ Some i → IsFirst held file i
+pub first_found : (held : List Held) (file : File) (i : ℕ) (d : Held) → position (λ (h : Held). is_same file h.file) held ≡ Some i →
+    IsFirst held file i
 first_found held file i d at =
     let p = position-Some (λ (h : Held). is_same file h.file) held i d at in
     first_by held file i d p.0 p.1 p.2
@@ -24,7 +29,8 @@ first_lt [] file i is = absurd is
 first_lt (h ∷ held) file zero is = omega arith
 first_lt (h ∷ held) file (suc i) is = omega (arith, first_lt held file i is.1)
 
-pub push_first : (held : List Held) (h : Held) (file : File) → h.file ≡ file → IsAbsent held file → IsFirst (held ++ h ∷ []) file (length held)
+pub push_first : (held : List Held) (h : Held) (file : File) → h.file ≡ file → IsAbsent held file →
+    IsFirst (held ++ h ∷ []) file (length held)
 push_first [] h file same is = told_same file h.file (sym same)
 push_first (g ∷ held) h file same is = (is.0, push_first held h file same is.1)
 
@@ -50,7 +56,8 @@ module _ (view : Held → Option (List ℕ)) where
       go false = sym none
   push_same (g ∷ held) h f none = ap (λ (o : Option (List ℕ)). if is_same f g.file then view g else o) (push_same held h f none)
 
-  pub set_first : (held : List Held) (file : File) (i : ℕ) (d new : Held) (change : Option (List ℕ) → Option (List ℕ)) → IsFirst held file i → new.file ≡ (get_or held i d).file → view new ≡ change (view (get_or held i d))
+  pub set_first : (held : List Held) (file : File) (i : ℕ) (d new : Held) (change : Option (List ℕ) → Option (List ℕ)) →
+      IsFirst held file i → new.file ≡ (get_or held i d).file → view new ≡ change (view (get_or held i d))
       → (f : File) → find view (set held i new) f ≡ changed file change f (find view held f)
   set_first [] file i d new change is same so f = absurd is
   set_first (h ∷ held) file zero d new change is same so f = go (is_same f file) refl
@@ -67,10 +74,12 @@ module _ (view : Held → Option (List ℕ)) where
       now : (told : Bool) → is_same f file ≡ told → find view (new ∷ held) f ≡ (if told then view new else find view held f)
       now told is = ap (λ (b : Bool). if b then view new else find view held f) (told_new ∙ is)
 
-      go : (told : Bool) → is_same f file ≡ told → find view (new ∷ held) f ≡ (if told then change (find view (h ∷ held) f) else find view (h ∷ held) f)
+      go : (told : Bool) → is_same f file ≡ told → find view (new
+          ∷ held) f ≡ (if told then change (find view (h ∷ held) f) else find view (h ∷ held) f)
       go true told = now true told ∙ so ∙ ap change (sym (old true told))
       go false told = now false told ∙ sym (old false told)
-  set_first (h ∷ held) file (suc i) d new change is same so f = go (set_first held file i d new change is.1 same so f) (is_same f h.file) refl
+  set_first (h ∷ held) file (suc i) d new change is same so f =
+      go (set_first held file i d new change is.1 same so f) (is_same f h.file) refl
     where
       apart : is_same f h.file ≡ true → is_same f file ≡ false
       apart told = told_other f file (λ e. other_file file h.file is.0 (sym e ∙ same_file f h.file told))
@@ -81,7 +90,8 @@ module _ (view : Held → Option (List ℕ)) where
       go rest false told = rest
 
   -- an entry whose view stays
-  pub set_same : (held : List Held) (file : File) (i : ℕ) (d new : Held) → IsFirst held file i → new.file ≡ (get_or held i d).file → view new ≡ view (get_or held i d)
+  pub set_same : (held : List Held) (file : File) (i : ℕ) (d new : Held) → IsFirst held file i → new.file ≡ (get_or held i d).file →
+      view new ≡ view (get_or held i d)
       → (f : File) → find view (set held i new) f ≡ find view held f
   set_same held file i d new is same so f = set_first held file i d new (λ o. o) is same so f ∙ go (is_same f file)
     where
@@ -90,7 +100,9 @@ module _ (view : Held → Option (List ℕ)) where
       go false = refl
 
   -- the same, behind a step that leaves the view too
-  pub set_same_after : (before held : List Held) (file : File) (i : ℕ) (d new : Held) → ((f : File) → find view held f ≡ find view before f) → IsFirst held file i → new.file ≡ (get_or held i d).file → view new ≡ view (get_or held i d)
+  pub set_same_after : (before held : List Held) (file : File) (i : ℕ) (d new : Held) →
+      ((f : File) → find view held f ≡ find view before f) → IsFirst held file i → new.file ≡ (get_or held i d).file →
+      view new ≡ view (get_or held i d)
       → (f : File) → find view (set held i new) f ≡ find view before f
   set_same_after before held file i d new earlier is same so f = set_same held file i d new is same so f ∙ earlier f
 
@@ -108,27 +120,34 @@ module _ (view : Held → Option (List ℕ)) where
 -- what `position` tells
 absent_by : (held : List Held) (file : File) → length held ≤ position_or_len (λ (h : Held). is_same file h.file) held → IsAbsent held file
 absent_by [] file le = tt
-absent_by (h ∷ held) file le = go (λ (less : length held ≤ position_or_len (λ (h : Held). is_same file h.file) held). absent_by held file less) (is_same file h.file) refl le
+absent_by (h ∷ held) file le = go (λ (less : length held ≤ position_or_len (λ (h : Held). is_same file h.file) held).
+    absent_by held file less) (is_same file h.file) refl le
   where
-    go : (length held ≤ position_or_len (λ (h : Held). is_same file h.file) held → IsAbsent held file) → (told : Bool) → is_same file h.file ≡ told
-        → suc (length held) ≤ cond (not told) (1 + position_or_len (λ (h : Held). is_same file h.file) held) 0 → (is_same file h.file ≡ false) × IsAbsent held file
+    go : (length held ≤ position_or_len (λ (h : Held). is_same file h.file) held → IsAbsent held file) → (told : Bool) →
+        is_same file h.file ≡ told
+        → suc (length held) ≤ cond (not told) (1 + position_or_len (λ (h : Held). is_same file h.file) held) 0 →
+        (is_same file h.file ≡ false) × IsAbsent held file
     go rest true told le = absurd (omega (arith, le))
     go rest false told le = (told, rest (omega (arith, le)))
 
-pub place_found : (held : List Held) (file : File) (d : Held) (place : Option ℕ) → place ≡ position (λ (h : Held). is_same file h.file) held → IfSome place (λ i. IsFirst held file i)
+pub place_found : (held : List Held) (file : File) (d : Held) (place : Option ℕ) →
+    place ≡ position (λ (h : Held). is_same file h.file) held → IfSome place (λ i. IsFirst held file i)
 place_found held file d None is = tt
 place_found held file d (Some i) is = first_found held file i d (sym is)
 
-pub place_within : (held : List Held) (file : File) (d : Held) (place : Option ℕ) → place ≡ position (λ (h : Held). is_same file h.file) held → IfSome place (λ i. i < length held)
+pub place_within : (held : List Held) (file : File) (d : Held) (place : Option ℕ) →
+    place ≡ position (λ (h : Held). is_same file h.file) held → IfSome place (λ i. i < length held)
 place_within held file d None is = tt
 place_within held file d (Some i) is = first_lt held file i (first_found held file i d (sym is))
 
-pub place_missing : (held : List Held) (file : File) (place : Option ℕ) → place ≡ position (λ (h : Held). is_same file h.file) held → IfNone place (IsAbsent held file)
+pub place_missing : (held : List Held) (file : File) (place : Option ℕ) → place ≡ position (λ (h : Held). is_same file h.file) held →
+    IfNone place (IsAbsent held file)
 place_missing held file None is = go (nat_lt (position_or_len (λ (h : Held). is_same file h.file) held) (length held)) refl
   where
     go : (less : Bool) → nat_lt (position_or_len (λ (h : Held). is_same file h.file) held) (length held) ≡ less → IsAbsent held file
     go true less =
-        let some : position (λ (h : Held). is_same file h.file) held ≡ Some (position_or_len (λ (h : Held). is_same file h.file) held) = ap (λ (b : Bool). cond b (Some (position_or_len (λ (h : Held). is_same file h.file) held)) None) less in
+        let some : position (λ (h : Held). is_same file h.file) held ≡ Some (position_or_len (λ (h : Held). is_same file h.file) held) =
+        ap (λ (b : Bool). cond b (Some (position_or_len (λ (h : Held). is_same file h.file) held)) None) less in
         let none : None ≡ Some (position_or_len (λ (h : Held). is_same file h.file) held) = is ∙ some in
         absurd (cc none)
     go false less = absent_by held file (grind (arith, nat_tests))

@@ -1,6 +1,7 @@
--- Files in memory: the bytes that a list of them gives to each file, what the worst crash leaves of each, and what a
--- change makes of the bytes of one.
-use Rattle.std.specs.Prelude.{◌≡◌, ◌+◌, ◌-◌, ℕ, zero, suc, min, List, [], ◌∷◌, ◌++◌, length, take, drop, replicate, Bool, true, false, if◌then◌else◌, Option, None, Some}
+-- Files in memory: the bytes that a list of them gives to each file, what the worst crash leaves of
+-- each, and what a change makes of the bytes of one.
+use Rattle.std.specs.Prelude.{◌≡◌, ◌+◌, ◌-◌, ℕ, zero, suc, min, List, [], ◌∷◌, ◌++◌, length, take, drop, replicate, Bool, true, false}
+use Rattle.std.specs.Prelude.{if◌then◌else◌, Option, None, Some}
 use Rattle.ix_base.specs.declared.files.File.{File}
 use Rattle.ix_disk.specs.Files.{is_same}
 use Rattle.ix_disk.specs.Image.{Image, content, overwritten}

@@ -23,8 +23,8 @@ nothing file = None
 abbrev pub Apart : File → Image → Image → Type 0
 Apart file old new = (other : File) → other ≢ file → new other ≡ old other
 
--- What a write of n bytes that was begun may make of a file: any bytes in the range and past the old end, the same
--- elsewhere, and an end anywhere from the old one to that of the write.
+-- What a write of n bytes that was begun may make of a file: any bytes in the range and past the
+-- old end, the same elsewhere, and an end anywhere from the old one to that of the write.
 pub record Torn (at n : ℕ) (old new : List ℕ) : Type 0 where
   pub before : take at new ≡ take at old
   pub after : drop (at + n) new ≡ drop (at + n) old
@@ -64,10 +64,12 @@ Stays old new = new ≡ old
 abbrev pub Reached : (Image → Type 0) → (Image → Image → Type 0) → Image → Type 0
 Reached images step image = (before : Image) × images before × step before image
 
--- From old to new the images have gone through the step: what a crash now may leave, and what one at a moment in between
--- might have left, is an image of old after the step.
-pub record Passes {D : Type 0} (may_leave : D → Image → Type 0) (moment : D → ℕ) (left_since : D → ℕ → Image → Type 0) (old new : D) (step : Image → Image → Type 0) : Type 0 where
+-- From old to new the images have gone through the step: what a crash now may leave, and what one
+-- at a moment in between might have left, is an image of old after the step.
+pub record Passes {D : Type 0} (may_leave : D → Image → Type 0) (moment : D → ℕ) (left_since : D → ℕ → Image →
+    Type 0) (old new : D) (step : Image → Image → Type 0) : Type 0 where
   pub later : moment old ≤ moment new
   pub now : (image : Image) → may_leave new image → Reached (may_leave old) step image
-  pub since : (t : ℕ) (image : Image) → t ≤ moment old → left_since new t image → left_since old t image ⊎ Reached (may_leave old) step image
+  pub since : (t : ℕ) (image : Image) → t ≤ moment old → left_since new t image → left_since old t image
+      ⊎ Reached (may_leave old) step image
   pub keeps : (t : ℕ) (image : Image) → t ≤ moment old → left_since old t image → left_since new t image

@@ -1,5 +1,6 @@
 -- A disk in memory: what its record of calls says of each file, and what a crash may leave of it.
-use Rattle.std.specs.Prelude.{◌≡◌, ◌≢◌, ◌⊎◌, ◌≤◌, ◌+◌, ◌-◌, ℕ, List, [], ◌∷◌, ◌++◌, length, take, drop, Bool, true, false, if◌then◌else◌, Option, None, Some, nat_le, refl}
+use Rattle.std.specs.Prelude.{◌≡◌, ◌≢◌, ◌⊎◌, ◌≤◌, ◌+◌, ◌-◌, ℕ, List, [], ◌∷◌, ◌++◌, length, take, drop, Bool, true, false, if◌then◌else◌}
+use Rattle.std.specs.Prelude.{Option, None, Some, nat_le, refl}
 use Rattle.std.proofs.Common.{inl, inr, ⊎_elim, sym, ◌∙◌, ap, subst, arith, append_assoc, length-append, length-take, length-drop}
 use Rattle.std.proofs.lemmas.Bool.Decides.{nat_tests}
 use Rattle.std.proofs.lemmas.List.{take_all, take_at, drop_at}
@@ -29,7 +30,8 @@ pub record Tears (at n : ℕ) (old new : Option (List ℕ)) : Type 0 where
   pub torn : Torn at n (content old) (content new)
   pub missing : new ≡ None → old ≡ None
 
--- what a crash may leave of a file after a call, where it might have left old before; seen is what a read gave before
+-- what a crash may leave of a file after a call, where it might have left old before; seen is what
+-- a read gave before
 abbrev pub Leaves : Call → File → Option (List ℕ) → Option (List ℕ) → Option (List ℕ) → Type 0
 Leaves (Made contents) f seen old new = new ≡ present contents.files.items f
 Leaves (Wrote file at bytes done) f seen old new = ((f ≡ file) × Tears at (length bytes) old new) ⊎ ((f ≢ file) × (new ≡ old))
@@ -40,10 +42,12 @@ Leaves (Asked file) f seen old new = new ≡ old
 
 abbrev pub left_all : List Call → File → Option (List ℕ) → (Option (List ℕ) → Type 0) → Option (List ℕ) → Type 0
 left_all [] f seen images new = images new
-left_all (call ∷ calls) f seen images new = left_all calls f (see call f seen) (λ next. (old : Option (List ℕ)) × images old × Leaves call f seen old next) new
+left_all (call ∷ calls) f seen images new = left_all calls f (see call f seen) (λ next. (old : Option (List ℕ)) × images old
+    × Leaves call f seen old next) new
 
--- A crash that leaves as little as it may of each file: what its last sync settled, as long as it was then, with the
--- bytes that were written since, also by a call that failed, as 1. A removal since then is undone.
+-- A crash that leaves as little as it may of each file: what its last sync settled, as long as it
+-- was then, with the bytes that were written since, also by a call that failed, as 1. A removal
+-- since then is undone.
 abbrev pub tear : Call → File → Option (List ℕ) → Option (List ℕ) → Option (List ℕ)
 tear (Made contents) f seen torn = present contents.files.items f
 tear (Wrote file at bytes done) f seen torn = changed file (ones_in at (length bytes)) f torn
@@ -96,8 +100,10 @@ Torn-whole at bytes old le =
     let size : length (overwritten at bytes old) ≡ at + length bytes + (length old - (at + length bytes)) =
     omega (arith, length-append (take at old ++ bytes) (drop (at + length bytes) old), length-append (take at old) bytes, front, behind) in
     record {
-      before = ap (λ (l : List ℕ). take at l) (append_assoc (take at old) bytes (drop (at + length bytes) old)) ∙ take_at (take at old) (bytes ++ drop (at + length bytes) old) at front;
-      after = drop_at (take at old ++ bytes) (drop (at + length bytes) old) (at + length bytes) (omega (arith, length-append (take at old) bytes, front));
+      before = ap (λ (l : List ℕ). take at l) (append_assoc (take at old) bytes (drop (at + length bytes) old))
+          ∙ take_at (take at old) (bytes ++ drop (at + length bytes) old) at front;
+      after = drop_at (take at old ++ bytes) (drop (at + length bytes) old) (at + length bytes)
+          (omega (arith, length-append (take at old) bytes, front));
       no_shorter = omega (arith, size);
       no_longer = omega (arith, size);
     }
@@ -107,12 +113,20 @@ sees_a_leaving : (call : Call) (f : File) (seen : Option (List ℕ)) → Leaves 
 sees_a_leaving (Made contents) f seen = refl
 sees_a_leaving (Wrote file at bytes true) f seen = go (is_same f file) refl (nat_le at (length (content seen))) refl
   where
-    go : (told : Bool) → is_same f file ≡ told → (fits : Bool) → nat_le at (length (content seen)) ≡ fits → Leaves (Wrote file at bytes true) f seen seen (if fits then (if told then over at bytes seen else seen) else seen)
-    go true is true fits = inl (same_file f file is, record { torn = Torn-whole at bytes (content seen) (grind (arith, nat_tests)); missing = λ e. absurd (cc e) })
+    go : (told : Bool) → is_same f file ≡ told → (fits : Bool) → nat_le at (length (content seen)) ≡ fits →
+        Leaves (Wrote file at bytes true) f seen seen (if fits then (if told then over at bytes seen else seen) else seen)
+    go true is true fits = inl (
+      same_file f file is,
+      record {
+        torn = Torn-whole at bytes (content seen) (grind (arith, nat_tests));
+        missing = λ e. absurd (cc e);
+      },
+    )
     go true is false fits = inl (same_file f file is, record { torn = Torn-refl at (length bytes) (content seen); missing = λ e. e })
     go false is true why = inr (other_file f file is, refl)
     go false is false why = inr (other_file f file is, refl)
-sees_a_leaving (Wrote file at bytes false) f seen = ⊎_elim (λ is. inl (is, record { torn = Torn-refl at (length bytes) (content seen); missing = λ e. e })) (λ ne. inr (ne, refl)) (is_it f file)
+sees_a_leaving (Wrote file at bytes false) f seen = ⊎_elim
+    (λ is. inl (is, record { torn = Torn-refl at (length bytes) (content seen); missing = λ e. e })) (λ ne. inr (ne, refl)) (is_it f file)
 sees_a_leaving (Settled file true) f seen = ⊎_elim (λ is. inl (is, refl)) (λ ne. inr (ne, refl)) (is_it f file)
 sees_a_leaving (Settled file false) f seen = refl
 sees_a_leaving (Removed file true) f seen = go (is_same f file) refl
@@ -123,7 +137,8 @@ sees_a_leaving (Removed file true) f seen = go (is_same f file) refl
 sees_a_leaving (Removed file false) f seen = ⊎_elim (λ is. inl (is, inl refl)) (λ ne. inr (ne, refl)) (is_it f file)
 sees_a_leaving (Asked file) f seen = refl
 
-pub seen_all : (calls : List Call) (f : File) (seen : Option (List ℕ)) (images : Option (List ℕ) → Type 0) → images seen → left_all calls f seen images (see_all calls f seen)
+pub seen_all : (calls : List Call) (f : File) (seen : Option (List ℕ)) (images : Option (List ℕ) → Type 0) → images seen →
+    left_all calls f seen images (see_all calls f seen)
 seen_all [] f seen images is = is
 seen_all (call ∷ calls) f seen images is = seen_all calls f (see call f seen) _ (seen, is, sees_a_leaving call f seen)
 
@@ -133,7 +148,12 @@ memory_seen_stays calls image is f =
     subst (λ (i : Image). left_all calls f None (λ old. old ≡ None) (i f)) same (seen_all calls f None (λ old. old ≡ None) refl)
 
 pub memory_counts_now : (calls : List Call) (t : ℕ) (image : Image) → t ≤ length calls → LeftBy calls image → LeftSince calls t image
-memory_counts_now calls t image le left = (length calls, le, omega arith, subst (λ (cs : List Call). LeftBy cs image) (sym (take_all (length calls) calls (omega arith))) left)
+memory_counts_now calls t image le left = (
+  length calls,
+  le,
+  omega arith,
+  subst (λ (cs : List Call). LeftBy cs image) (sym (take_all (length calls) calls (omega arith))) left,
+)
 
 pub memory_only_now : (calls : List Call) (image : Image) → LeftSince calls (length calls) image → LeftBy calls image
 memory_only_now calls image since = subst (λ (cs : List Call). LeftBy cs image) (take_all since.0 calls since.1) since.3

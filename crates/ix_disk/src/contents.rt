@@ -2,7 +2,8 @@
 
 ghost use Rattle.std.specs.Prelude.{◌≡◌, ◌≤◌, ◌<◌, [], length, Some, None, OnOk, OnErr, IfOk, IfSome, IfNone, position};
 ghost use Rattle.ix_disk.specs.Files.{is_same};
-ghost use Rattle.ix_disk.specs.Contents.{seen_of, torn_of, left_of, find, present, torn_in, IsFirst, IsAbsent, changed, over, ones_in, become};
+ghost use Rattle.ix_disk.specs.Contents.{seen_of, torn_of, left_of, find, present, torn_in, IsFirst, IsAbsent, changed, over, ones_in};
+ghost use Rattle.ix_disk.specs.Contents.{become};
 ghost use Rattle.ix_disk.specs.Image.{content, bytes_in};
 
 use crate::held::Held;
@@ -47,8 +48,8 @@ impl Contents {
         }
     }
 
-    /// New files as a crash leaves these where it tears them, or else as a read gives them. A crash of the new ones leaves
-    /// what a read of them gives.
+    /// New files as a crash leaves these where it tears them, or else as a read gives them. A crash
+    /// of the new ones leaves what a read of them gives.
     pub fn left(&self, torn: bool) -> Result<Self, NoMemory>
         ensures seen { IfOk result (λ left. (f : File) → present left.files.items f ≡ find (left_of torn) self.now.files.items f) }
         ensures torn { IfOk result (λ left. (f : File) → torn_in left.files.items f ≡ find (left_of torn) self.now.files.items f) }
@@ -98,12 +99,14 @@ impl Contents {
         self.files[place].bytes()
     }
 
-    /// Writes bytes over those of the file, and past its end. It makes a missing file. The worst crash leaves 1 for each of
-    /// them, as far as it leaves any.
+    /// Writes bytes over those of the file, and past its end. It makes a missing file. The worst
+    /// crash leaves 1 for each of them, as far as it leaves any.
     pub fn write(&mut self, file: File, at: usize, bytes: &[u8]) -> Result<(), NoMemory>
         requires { at ≤ length (bytes_in (present self.old.files.items) file) }
-        ensures seen { OnOk result ((f : File) → present self.new.files.items f ≡ changed file (over at bytes.now) f (present self.old.files.items f)) }
-        ensures torn { OnOk result ((f : File) → torn_in self.new.files.items f ≡ changed file (ones_in at (length bytes.now)) f (torn_in self.old.files.items f)) }
+        ensures seen { OnOk result ((f : File) → present self.new.files.items f ≡ changed file (over at bytes.now) f
+            (present self.old.files.items f)) }
+        ensures torn { OnOk result ((f : File) → torn_in self.new.files.items f ≡ changed file (ones_in at (length bytes.now)) f
+            (torn_in self.old.files.items f)) }
         ensures same_seen { OnErr result ((f : File) → present self.new.files.items f ≡ present self.old.files.items f) }
         ensures same_torn { OnErr result ((f : File) → torn_in self.new.files.items f ≡ torn_in self.old.files.items f) }
     {
@@ -115,7 +118,8 @@ impl Contents {
     /// Sets bytes to 1 of what the worst crash leaves of the file, as far as it goes.
     pub fn mark(&mut self, file: File, at: usize, count: usize) -> Result<(), NoMemory>
         ensures seen { (f : File) → present self.new.files.items f ≡ present self.old.files.items f }
-        ensures torn { OnOk result ((f : File) → torn_in self.new.files.items f ≡ changed file (ones_in at count) f (torn_in self.old.files.items f)) }
+        ensures torn { OnOk result ((f : File) → torn_in self.new.files.items f ≡ changed file (ones_in at count) f
+            (torn_in self.old.files.items f)) }
         ensures same_torn { OnErr result ((f : File) → torn_in self.new.files.items f ≡ torn_in self.old.files.items f) }
     {
         let Some(place) = self.place(file) else {
@@ -128,7 +132,8 @@ impl Contents {
     /// From now on a crash leaves of the file what a read gives.
     pub fn settle(&mut self, file: File)
         ensures seen { (f : File) → present self.new.files.items f ≡ present self.old.files.items f }
-        ensures torn { (f : File) → torn_in self.new.files.items f ≡ changed file (become (present self.old.files.items file)) f (torn_in self.old.files.items f) }
+        ensures torn { (f : File) → torn_in self.new.files.items f ≡ changed file (become (present self.old.files.items file)) f
+            (torn_in self.old.files.items f) }
     {
         let Some(place) = self.place(file) else {
             return;
@@ -138,7 +143,8 @@ impl Contents {
 
     /// Removes the file. The worst crash brings it back.
     pub fn remove(&mut self, file: File) -> Result<(), NoMemory>
-        ensures seen { OnOk result ((f : File) → present self.new.files.items f ≡ changed file (become None) f (present self.old.files.items f)) }
+        ensures seen { OnOk result ((f : File) → present self.new.files.items f ≡ changed file (become None) f
+            (present self.old.files.items f)) }
         ensures same_seen { OnErr result ((f : File) → present self.new.files.items f ≡ present self.old.files.items f) }
         ensures torn { (f : File) → torn_in self.new.files.items f ≡ torn_in self.old.files.items f }
     {

@@ -36,8 +36,8 @@ fn number_of(area: Area) -> usize
     }
 }
 
-/// Makes a folder where it is missing, with the same mode under any mask of the process, and notes that a name has come
-/// into the folder above it.
+/// Makes a folder where it is missing, with the same mode under any mask of the process, and notes
+/// that a name has come into the folder above it.
 fn make_folder<R: Files>(rt: &R, path: &str, changed: &mut bool) -> Result<(), Reason> {
     let mut how = DirBuilder::new();
     how.mode(FOLDER_MODE);

@@ -6,8 +6,8 @@ ghost use Rattle.ix_disk.specs.Image.{content};
 use ix_base::{Bytes, File, NoMemory};
 use std::alloc::Global;
 
-/// A file, or one that is missing. What the worst crash leaves of it begins as the file does, up to a place, so that only
-/// what it leaves behind that place is kept beside it.
+/// A file, or one that is missing. What the worst crash leaves of it begins as the file does, up to
+/// a place, so that only what it leaves behind that place is kept beside it.
 pub struct Held {
     pub file: File,
     /// What a read gives.
@@ -127,7 +127,8 @@ impl Held {
         Ok(Some(whole))
     }
 
-    /// Keeps beside the file what the worst crash leaves from this place on, so that the file may change there.
+    /// Keeps beside the file what the worst crash leaves from this place on, so that the file may
+    /// change there.
     fn part(&mut self, alloc: Global, at: usize) -> Result<(), NoMemory>
         ensures file { self.new.file ≡ self.old.file }
         ensures seen { self.new.bytes ≡ self.old.bytes }
@@ -186,8 +187,8 @@ impl Held {
         Ok(())
     }
 
-    /// Writes bytes over those from a place on, and past the end. A missing file is there then. The worst crash leaves 1
-    /// for each of them, as far as it leaves any.
+    /// Writes bytes over those from a place on, and past the end. A missing file is there then. The
+    /// worst crash leaves 1 for each of them, as far as it leaves any.
     pub fn write(&mut self, alloc: Global, at: usize, bytes: &[u8]) -> Result<(), NoMemory>
         requires { at ≤ length (content self.old.bytes) }
         ensures file { self.new.file ≡ self.old.file }

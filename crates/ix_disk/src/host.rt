@@ -16,16 +16,19 @@ use std::io::{ErrorKind, Read, Seek, SeekFrom, Write};
 use std::os::unix::fs::{MetadataExt, OpenOptionsExt, PermissionsExt};
 use std::rt::Files;
 
-/// The disk over the files `var/<area>/<number>` of the current folder. A folder that is missing is made with the first
-/// file in it. It tells nothing of what the files hold. It counts each call of the system that failed in the end, and
-/// remembers why the first one did. It takes no memory. Only the user that the program runs as can read what it makes.
+/// The disk over the files `var/<area>/<number>` of the current folder. A folder that is missing is
+/// made with the first file in it. It tells nothing of what the files hold. It counts each call of
+/// the system that failed in the end, and remembers why the first one did. It takes no memory. Only
+/// the user that the program runs as can read what it makes.
 ///
-/// The file that was written last stays open until another is written, so that a sync goes to the handle that was written
-/// and learns of each error of its writes. Once the system could not sync, or a file was cut, replaced or removed behind
-/// the disk's back, no sync here answers `Ok` any more.
+/// The file that was written last stays open until another is written, so that a sync goes to the
+/// handle that was written and learns of each error of its writes. Once the system could not sync,
+/// or a file was cut, replaced or removed behind the disk's back, no sync here answers `Ok` any
+/// more.
 ///
-/// Its lock is that of the file `var/lock`, which is never removed. The lock ends with the disk, and so with the program.
-/// A call that finds it not taken takes it first, and fails where another program has it.
+/// Its lock is that of the file `var/lock`, which is never removed. The lock ends with the disk,
+/// and so with the program. A call that finds it not taken takes it first, and fails where another
+/// program has it.
 #[derive(Drop)]
 pub struct HostDisk<R: LockFiles + Drop> {
     rt: R,
@@ -37,7 +40,8 @@ pub struct HostDisk<R: LockFiles + Drop> {
     written: Option<Written<R::File>>,
     known: Known,
     folders: Folders,
-    /// A sync of the system failed, or a file is not as it was written, so that bytes may be lost which a read still gives.
+    /// A sync of the system failed, or a file is not as it was written, so that bytes may be lost
+    /// which a read still gives.
     lost: bool,
 }
 
@@ -140,7 +144,8 @@ fn open_there<R: Files>(rt: &R, path: &str) -> Result<R::File, Reason> {
     done(how.open(rt, path))
 }
 
-/// Makes a file with the same mode under any mask of the process, and opens it for writing, where its folder is there.
+/// Makes a file with the same mode under any mask of the process, and opens it for writing, where
+/// its folder is there.
 fn open_made<R: Files>(rt: &R, path: &str) -> Result<Option<R::File>, Reason> {
     let mut how = OpenOptions::new();
     how.write(true).create_new(true).mode(FILE_MODE);
@@ -260,8 +265,8 @@ impl<R: LockFiles + Drop> HostDisk<R> {
         Err(Reason::Found("another program has the store"))
     }
 
-    /// What the system knows of a file, where it is there. It fails where the file is not as this disk has left it, and
-    /// then bytes are lost.
+    /// What the system knows of a file, where it is there. It fails where the file is not as this
+    /// disk has left it, and then bytes are lost.
     fn look(&mut self, file: File) -> Result<Option<Found>, Reason>
         ensures faults { self.new.faults ≡ self.old.faults }
         ensures refused { self.new.refused ≡ self.old.refused }
@@ -362,7 +367,8 @@ impl<R: LockFiles + Drop> HostDisk<R> {
         Ok(())
     }
 
-    /// Syncs the file, where it is there, and the folders that lead to it, where names in them changed.
+    /// Syncs the file, where it is there, and the folders that lead to it, where names in them
+    /// changed.
     fn sync_file(&mut self, file: File) -> Result<(), Reason>
         ensures faults { self.new.faults ≡ self.old.faults }
         ensures refused { self.new.refused ≡ self.old.refused }

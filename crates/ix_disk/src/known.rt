@@ -1,4 +1,5 @@
-//! What the disk of the machine has written, to tell a file that was cut, replaced or removed behind its back.
+//! What the disk of the machine has written, to tell a file that was cut, replaced or removed
+//! behind its back.
 
 use crate::machine::Reason;
 use ix_base::File;

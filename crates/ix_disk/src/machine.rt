@@ -10,8 +10,8 @@ use std::rt::{Files, LibcRuntime};
 
 /// The files of a machine, and the lock on an open one.
 pub trait LockFiles: Files {
-    /// Takes the lock of an open file for this program alone, until the file is closed, and tells whether it could. It
-    /// does not wait for another program that has it.
+    /// Takes the lock of an open file for this program alone, until the file is closed, and tells
+    /// whether it could. It does not wait for another program that has it.
     fn try_lock(&self, open: &Self::File) -> io::Result<bool>;
 }
 
@@ -65,7 +65,8 @@ pub fn if_there<T: Drop>(found: io::Result<T>) -> Result<Option<T>, Reason> {
     }
 }
 
-/// The first fault of a disk: the file that the call was on, or none where it was the lock, and why it failed.
+/// The first fault of a disk: the file that the call was on, or none where it was the lock, and why
+/// it failed.
 #[derive(Clone, Copy)]
 pub struct FirstFault {
     pub file: Option<File>,

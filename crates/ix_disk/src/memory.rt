@@ -1,6 +1,7 @@
 //! A disk in memory, which can crash.
 
-ghost use Rattle.std.specs.Prelude.{◌≡◌, ◌≤◌, ◌<◌, ◌-◌, ◌+◌, ◌^◌, ◌++◌, [], ◌∷◌, ℕ, List, ◌⊎◌, length, take, drop, min, Option, Some, None, true, false, ◌≢◌, ◌↔◌, IfOk, OnOk, OnErr, IsErr, IsErrOf, IsTrue, count_by};
+ghost use Rattle.std.specs.Prelude.{◌≡◌, ◌≤◌, ◌<◌, ◌-◌, ◌+◌, ◌^◌, ◌++◌, [], ◌∷◌, ℕ, List, ◌⊎◌, length, take, drop, min, Option, Some, None};
+ghost use Rattle.std.specs.Prelude.{true, false, ◌≢◌, ◌↔◌, IfOk, OnOk, OnErr, IsErr, IsErrOf, IsTrue, count_by};
 ghost use Rattle.std.proofs.Props.{props};
 ghost use Rattle.ix_base.specs.Faults.{HasCause, Rose};
 ghost use Rattle.ix_base.specs.Told.{Told};
@@ -16,8 +17,9 @@ use crate::{Disk, LockFault};
 use ix_base::{Bytes, FailPlan, Failed, File, NoMemory};
 use std::alloc::Global;
 
-/// A disk in memory. It keeps a record of all its calls, by which it tells the images of each moment, and the files as
-/// they stand. A call for which it finds no room fails, and is not in the record.
+/// A disk in memory. It keeps a record of all its calls, by which it tells the images of each
+/// moment, and the files as they stand. A call for which it finds no room fails, and is not in the
+/// record.
 pub struct MemDisk {
     alloc: Global,
     /// The record of its calls, and which are to fail.
@@ -130,14 +132,17 @@ impl MemDisk {
         self.past.shortages
     }
 
-    /// A new disk as a crash now may leave this one, with no calls that are to fail. Where `torn` is false it holds what a
-    /// read gives. Where it is true each file ends where it did at its last sync, the bytes before that end which were
-    /// written since, also by a call that failed, are 1, and each removal since then is undone. It fails where there is no
-    /// room for the new disk.
+    /// A new disk as a crash now may leave this one, with no calls that are to fail. Where `torn`
+    /// is false it holds what a read gives. Where it is true each file ends where it did at its
+    /// last sync, the bytes before that end which were written since, also by a call that failed,
+    /// are 1, and each removal since then is undone. It fails where there is no room for the new
+    /// disk.
     pub fn crash(&self, torn: bool) -> Result<MemDisk, NoMemory>
         ensures seen { IfOk result (λ disk. ⟦<MemDisk as Disk>⟧.seen disk ≡ Some (crashed torn self.now.past.calls.items)) }
-        ensures one { IfOk result (λ disk. (image : Image) → ⟦<MemDisk as Disk>⟧.may_leave disk image → ⟦<MemDisk as Disk>⟧.seen disk ≡ Some image) }
-        ensures left { IfOk result (λ disk. (image : Image) → ⟦<MemDisk as Disk>⟧.may_leave disk image → ⟦<MemDisk as Disk>⟧.may_leave self.now image) }
+        ensures one { IfOk result (λ disk. (image : Image) → ⟦<MemDisk as Disk>⟧.may_leave disk image →
+            ⟦<MemDisk as Disk>⟧.seen disk ≡ Some image) }
+        ensures left { IfOk result (λ disk. (image : Image) → ⟦<MemDisk as Disk>⟧.may_leave disk image →
+            ⟦<MemDisk as Disk>⟧.may_leave self.now image) }
         ensures plan { IfOk result (λ disk. (disk.past.plan.calls ≡ 0) × (disk.past.plan.failing.items ≡ [])) }
         ensures faults { IfOk result (λ disk. ⟦<MemDisk as Disk>⟧.faults disk ≡ 0) }
         ensures free { IfOk result (λ disk. ⟦<MemDisk as Disk>⟧.in_use disk ≡ Some false) }
@@ -150,7 +155,8 @@ impl MemDisk {
     /// A disk with these files and no calls that are to fail.
     fn made(alloc: Global, contents: Contents) -> Result<MemDisk, NoMemory>
         ensures seen { IfOk result (λ disk. (file : File) → seen_after disk.past.calls.items file ≡ present contents.files.items file) }
-        ensures one { IfOk result (λ disk. (image : Image) → LeftBy disk.past.calls.items image → (file : File) → image file ≡ present contents.files.items file) }
+        ensures one { IfOk result (λ disk. (image : Image) → LeftBy disk.past.calls.items image → (file : File) →
+            image file ≡ present contents.files.items file) }
         ensures plan { IfOk result (λ disk. (disk.past.plan.calls ≡ 0) × (disk.past.plan.failing.items ≡ [])) }
         ensures faults { IfOk result (λ disk. disk.past.plan.faults ≡ 0) }
         ensures free { IfOk result (λ disk. disk.in_use ≡ false) }
@@ -251,8 +257,8 @@ impl Disk for MemDisk {
 
     ghost only_now = { λ d image left. memory_only_now d.past.calls.items image left };
 
-    /// It is not in the record, which has the calls on files. Where no other program has the disk, it fails where the call
-    /// is due to fail.
+    /// It is not in the record, which has the calls on files. Where no other program has the disk,
+    /// it fails where the call is due to fail.
     fn lock(&mut self) -> Result<(), LockFault>
         ensures taken { Some self.old.in_use ≡ Some true → IsErrOf result InUse }
         ensures free { IsErrOf result InUse → Some self.old.in_use ≢ Some false }
@@ -274,15 +280,18 @@ impl Disk for MemDisk {
         Ok(())
     }
 
-    /// It fails where the call is due to fail, where it finds no room, and where the file has 2^63 bytes.
+    /// It fails where the call is due to fail, where it finds no room, and where the file has 2^63
+    /// bytes.
     fn length(&mut self, file: File) -> Result<u64, Failed>
-        ensures length { IfOk result (λ n. (image : Image) → Some (seen_after self.old.past.calls.items) ≡ Some image → n ≡ length (bytes_in image file)) }
+        ensures length { IfOk result (λ n. (image : Image) → Some (seen_after self.old.past.calls.items) ≡ Some image →
+            n ≡ length (bytes_in image file)) }
         ensures bounded { IfOk result (λ n. n < 2 ^ 63) }
         ensures same { Some (seen_after self.new.past.calls.items) ≡ Some (seen_after self.old.past.calls.items) }
         ensures images { Grows self.old.past.calls.items self.new.past.calls.items Stays }
         ensures cause { HasCause self.old.past.plan.faults self.new.past.plan.faults result }
         ensures lock { KeepsLock (Some self.old.in_use) (Some self.new.in_use) self.old.refused self.new.refused }
-        ensures recorded { Recorded self.old.past self.new.past (Asked file) (Asked file) (2 ^ 63 ≤ length (bytes_in (seen_after self.old.past.calls.items) file)) result }
+        ensures recorded { Recorded self.old.past self.new.past (Asked file) (Asked file)
+            (2 ^ 63 ≤ length (bytes_in (seen_after self.old.past.calls.items) file)) result }
         ensures counted { CountsCall self.old.past.plan self.new.past.plan }
     {
         self.past.ask(file)?;
@@ -310,16 +319,20 @@ impl Disk for MemDisk {
         Ok(copy_from(self.files.bytes(file), at, buf))
     }
 
-    /// It fails where the call is due to fail, where it finds no room, and where the file would come to 2^63 bytes.
+    /// It fails where the call is due to fail, where it finds no room, and where the file would
+    /// come to 2^63 bytes.
     fn write_at(&mut self, file: File, at: u64, bytes: &[u8]) -> Result<(), Failed>
         requires { (image : Image) → Some (seen_after self.old.past.calls.items) ≡ Some image → at ≤ length (bytes_in image file) }
-        ensures written { OnOk result (Told (Writes file at bytes.now) (Some (seen_after self.old.past.calls.items)) (Some (seen_after self.new.past.calls.items))) }
-        ensures begun { OnErr result (Told (MayWrite file at (length bytes.now)) (Some (seen_after self.old.past.calls.items)) (Some (seen_after self.new.past.calls.items))) }
+        ensures written { OnOk result (Told (Writes file at bytes.now) (Some (seen_after self.old.past.calls.items))
+            (Some (seen_after self.new.past.calls.items))) }
+        ensures begun { OnErr result (Told (MayWrite file at (length bytes.now)) (Some (seen_after self.old.past.calls.items))
+            (Some (seen_after self.new.past.calls.items))) }
         ensures bounded { OnOk result (at + length bytes.now < 2 ^ 63) }
         ensures images { Grows self.old.past.calls.items self.new.past.calls.items (MayWrite file at (length bytes.now)) }
         ensures cause { HasCause self.old.past.plan.faults self.new.past.plan.faults result }
         ensures lock { KeepsLock (Some self.old.in_use) (Some self.new.in_use) self.old.refused self.new.refused }
-        ensures recorded { Recorded self.old.past self.new.past (Wrote file at bytes.now true) (Wrote file at bytes.now false) (2 ^ 63 ≤ at + length bytes.now) result }
+        ensures recorded { Recorded self.old.past self.new.past (Wrote file at bytes.now true) (Wrote file at bytes.now false)
+            (2 ^ 63 ≤ at + length bytes.now) result }
         ensures counted { CountsCall self.old.past.plan self.new.past.plan }
     {
         let due = self.past.begin()?;
@@ -335,7 +348,8 @@ impl Disk for MemDisk {
 
     /// It fails where the call is due to fail, and where it finds no room.
     fn sync(&mut self, file: File) -> Result<(), Failed>
-        ensures settled { OnOk result ((image : Image) → LeftBy self.new.past.calls.items image → (read : Image) × (Some (seen_after self.new.past.calls.items) ≡ Some read) × (image file ≡ read file)) }
+        ensures settled { OnOk result ((image : Image) → LeftBy self.new.past.calls.items image → (read : Image)
+            × (Some (seen_after self.new.past.calls.items) ≡ Some read) × (image file ≡ read file)) }
         ensures same { Some (seen_after self.new.past.calls.items) ≡ Some (seen_after self.old.past.calls.items) }
         ensures images { Grows self.old.past.calls.items self.new.past.calls.items Stays }
         ensures cause { HasCause self.old.past.plan.faults self.new.past.plan.faults result }
@@ -355,8 +369,10 @@ impl Disk for MemDisk {
 
     /// It fails where the call is due to fail, and where it finds no room.
     fn remove(&mut self, file: File) -> Result<(), Failed>
-        ensures removed { OnOk result (Told (Removes file) (Some (seen_after self.old.past.calls.items)) (Some (seen_after self.new.past.calls.items))) }
-        ensures begun { OnErr result (Told (MayRemove file) (Some (seen_after self.old.past.calls.items)) (Some (seen_after self.new.past.calls.items))) }
+        ensures removed { OnOk result (Told (Removes file) (Some (seen_after self.old.past.calls.items))
+            (Some (seen_after self.new.past.calls.items))) }
+        ensures begun { OnErr result (Told (MayRemove file) (Some (seen_after self.old.past.calls.items))
+            (Some (seen_after self.new.past.calls.items))) }
         ensures images { Grows self.old.past.calls.items self.new.past.calls.items (MayRemove file) }
         ensures cause { HasCause self.old.past.plan.faults self.new.past.plan.faults result }
         ensures lock { KeepsLock (Some self.old.in_use) (Some self.new.in_use) self.old.refused self.new.refused }

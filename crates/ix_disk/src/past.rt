@@ -102,8 +102,8 @@ impl Past {
         let _ = self.calls.push(call);
     }
 
-    /// Keeps a call that asks for the length or the bytes of a file. It fails where the plan says so, and where there is no
-    /// room.
+    /// Keeps a call that asks for the length or the bytes of a file. It fails where the plan says
+    /// so, and where there is no room.
     pub fn ask(&mut self, file: File) -> Result<(), Failed>
         ensures recorded { Recorded self.old self.new (Asked file) (Asked file) ⊥ result }
         ensures kept { (self.new.calls.items ≡ self.old.calls.items ++ Asked file ∷ []) ⊎ (self.new.calls.items ≡ self.old.calls.items) }

@@ -1,6 +1,7 @@
 //! A disk that stops.
 
-ghost use Rattle.std.specs.Prelude.{◌≡◌, ◌≤◌, ◌<◌, ◌+◌, ◌-◌, ◌^◌, ◌++◌, length, take, drop, min, true, false, Some, ◌≢◌, IfOk, OnOk, OnErr, IsErrOf};
+ghost use Rattle.std.specs.Prelude.{◌≡◌, ◌≤◌, ◌<◌, ◌+◌, ◌-◌, ◌^◌, ◌++◌, length, take, drop, min, true, false, Some, ◌≢◌, IfOk, OnOk, OnErr};
+ghost use Rattle.std.specs.Prelude.{IsErrOf};
 ghost use Rattle.ix_base.specs.Faults.{HasCause};
 ghost use Rattle.ix_base.specs.Told.{Told};
 ghost use Rattle.ix_disk.specs.Image.{Image, bytes_in, MayWrite, Writes, MayRemove, Removes, Stays, Passes};
@@ -11,8 +12,9 @@ ghost use Rattle.ix_disk.specs.declared.disk.LockFault.TheVariants.{InUse};
 use crate::{Disk, LockFault};
 use ix_base::{Failed, File};
 
-/// A disk that passes some calls on to the disk inside and then fails every call, as if the machine had stopped. What
-/// it tells is what the disk inside tells: a call that it fails does not reach that one.
+/// A disk that passes some calls on to the disk inside and then fails every call, as if the machine
+/// had stopped. What it tells is what the disk inside tells: a call that it fails does not reach
+/// that one.
 #[derive(Drop)]
 pub struct StopDisk<D: Disk + Drop> {
     /// The disk inside.
@@ -87,7 +89,8 @@ impl<D: Disk + Drop> Disk for StopDisk<D> {
         ensures use_stays { unknown ≡ unknown }
         ensures same { D.Disk.seen self.new.inner ≡ D.Disk.seen self.old.inner }
         ensures images { Passes D.Disk.may_leave D.Disk.moment D.Disk.left_since self.old.inner self.new.inner Stays }
-        ensures cause { HasLockCause (D.Disk.faults self.old.inner + self.old.faults) (D.Disk.faults self.new.inner + self.new.faults) (D.Disk.refused self.old.inner) (D.Disk.refused self.new.inner) result }
+        ensures cause { HasLockCause (D.Disk.faults self.old.inner + self.old.faults) (D.Disk.faults self.new.inner + self.new.faults)
+            (D.Disk.refused self.old.inner) (D.Disk.refused self.new.inner) result }
         ensures stops { LockStops D.Disk.faults D.Disk.refused self.old.left self.new.left self.old.inner self.new.inner result }
     {
         pass(&mut self.left, &mut self.faults)?;
@@ -127,7 +130,8 @@ impl<D: Disk + Drop> Disk for StopDisk<D> {
         ensures written { OnOk result (Told (Writes file at bytes.now) (D.Disk.seen self.old.inner) (D.Disk.seen self.new.inner)) }
         ensures begun { OnErr result (Told (MayWrite file at (length bytes.now)) (D.Disk.seen self.old.inner) (D.Disk.seen self.new.inner)) }
         ensures bounded { OnOk result (at + length bytes.now < 2 ^ 63) }
-        ensures images { Passes D.Disk.may_leave D.Disk.moment D.Disk.left_since self.old.inner self.new.inner (MayWrite file at (length bytes.now)) }
+        ensures images { Passes D.Disk.may_leave D.Disk.moment D.Disk.left_since self.old.inner self.new.inner
+            (MayWrite file at (length bytes.now)) }
         ensures cause { HasCause (D.Disk.faults self.old.inner + self.old.faults) (D.Disk.faults self.new.inner + self.new.faults) result }
         ensures lock { KeepsLock unknown unknown (D.Disk.refused self.old.inner) (D.Disk.refused self.new.inner) }
         ensures stops { Stops D.Disk.faults self.old.left self.new.left self.old.inner self.new.inner result }
@@ -137,7 +141,8 @@ impl<D: Disk + Drop> Disk for StopDisk<D> {
     }
 
     fn sync(&mut self, file: File) -> Result<(), Failed>
-        ensures settled { OnOk result ((image : Image) → D.Disk.may_leave self.new.inner image → (read : Image) × (D.Disk.seen self.new.inner ≡ Some read) × (image file ≡ read file)) }
+        ensures settled { OnOk result ((image : Image) → D.Disk.may_leave self.new.inner image → (read : Image)
+            × (D.Disk.seen self.new.inner ≡ Some read) × (image file ≡ read file)) }
         ensures same { D.Disk.seen self.new.inner ≡ D.Disk.seen self.old.inner }
         ensures images { Passes D.Disk.may_leave D.Disk.moment D.Disk.left_since self.old.inner self.new.inner Stays }
         ensures cause { HasCause (D.Disk.faults self.old.inner + self.old.faults) (D.Disk.faults self.new.inner + self.new.faults) result }

@@ -2,3 +2,5 @@ pub mod RecordLists
 pub mod LineLemmas
 pub mod BucketLists
 pub mod Progress
+pub mod FieldLemmas
+pub mod TextLineLemmas

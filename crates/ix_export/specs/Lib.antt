@@ -3,3 +3,4 @@ pub mod Stored
 pub mod Faults
 pub mod Stops
 pub mod Steps
+pub mod EventLine

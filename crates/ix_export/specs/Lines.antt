@@ -1,7 +1,7 @@
 -- The lines that an export writes, and their number.
 use Rattle.std.specs.Prelude.{◌≡◌, ◌+◌, ◌-◌, ◌^◌, ◌*ℤ◌, ◌&&◌, ℕ, ℤ, pos, min, Bool, true, int_le, int_lt, List, length, Option, None, Some}
 use Rattle.std.specs.List.{filter}
-use Rattle.ix_text.specs.EventLine.{lines}
+use Rattle.ix_export.specs.EventLine.{lines}
 use Rattle.ix_base.specs.Told.{HasWritten}
 use Rattle.ix_base.specs.declared.events.Event.{Event}
 use Rattle.ix_base.specs.declared.events.Range.{Range}
@@ -40,8 +40,9 @@ capped n = min n (2 ^ 64 - 1)
 abbrev pub number : Range → List Event → ℕ
 number range events = capped (length (within range events))
 
--- The lines of the events within the range were written, behind what stood there, and counted, whatever number was counted
--- before.
-pub record HasExported (range : Range) (events : List Event) (given : Option (List ℕ)) (count : ℕ) (given' : Option (List ℕ)) (count' : ℕ) : Type 0 where
+-- The lines of the events within the range were written, behind what stood there, and counted,
+-- whatever number was counted before.
+pub record HasExported (range : Range) (events : List Event) (given : Option (List ℕ)) (count : ℕ) (given' : Option (List ℕ))
+    (count' : ℕ) : Type 0 where
   pub written : HasWritten (text range events) given given'
   pub counted : (n : ℕ) → count ≡ capped n → count' ≡ capped (n + length (within range events))

@@ -7,7 +7,8 @@ use Rattle.ix_bucket.specs.Count.{HasRecords}
 use Rattle.ix_disk.specs.Image.{Image, bytes_in}
 use Rattle.ix_items.specs.declared.items.Bucket.{Bucket}
 
--- The bytes of the bucket that count are the records of these events. What its file holds behind them means nothing.
+-- The bytes of the bucket that count are the records of these events. What its file holds behind
+-- them means nothing.
 abbrev pub HasEvents : Image → Bucket → List Event → Type 0
 HasEvents image bucket events = HasRecords events bucket.bytes (bytes_in image bucket.file)
 
@@ -24,7 +25,8 @@ pub record AreWhole (image : Image) (buckets : List Bucket) : Type 0 where
 abbrev pub joined : List (List Event) → List Event
 joined all = flat_map (λ (events : List Event). events) all
 
--- Behind the records of these events no record ends within the bytes of the bucket that count, though there are more of them.
+-- Behind the records of these events no record ends within the bytes of the bucket that count,
+-- though there are more of them.
 pub record IsDamaged (image : Image) (bucket : Bucket) (at : ℕ) (events : List Event) : Type 0 where
   pub read : HasRecords events at (bytes_in image bucket.file)
   pub within : at < bucket.bytes

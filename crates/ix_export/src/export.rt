@@ -1,4 +1,5 @@
-//! The events of a bucket are read from its file and exported, one record behind the other. An export of buckets calls it.
+//! The events of a bucket are read from its file and exported, one record behind the other. An
+//! export of buckets calls it.
 
 ghost use Rattle.std.specs.Prelude.{◌≡◌, ◌≤◌, ◌<◌, ◌-◌, ℕ, List, drop, Some, IfOk, IfErr, IsErrOf, OnOk, OnErr};
 ghost use Rattle.ix_base.specs.Faults.{Rose};
@@ -7,7 +8,7 @@ ghost use Rattle.ix_base.specs.declared.events.Event.{Event};
 ghost use Rattle.ix_bucket.specs.Ahead.{HoldsNothing, IsCurrent, HasNoRecord};
 ghost use Rattle.ix_bucket.specs.Count.{HasRecords};
 ghost use Rattle.ix_disk.specs.Image.{Image, bytes_in, Stays};
-ghost use Rattle.ix_disk.specs.Moments.{Goes};
+ghost use Rattle.ix_disk.specs.Moments.{ImagesStep};
 ghost use Rattle.ix_export.specs.Lines.{text};
 ghost use Rattle.ix_export.specs.Steps.{TakesEvent, TakesBucket};
 ghost use Rattle.ix_export.specs.Stored.{HasEvents};
@@ -52,13 +53,18 @@ impl Export {
     ) -> Result<u64, BucketFault>
         requires { at < bucket.now.bytes }
         ensures after { IfOk result (λ next. (at < next) × (next ≤ bucket.now.bytes)) }
-        ensures taken { IfOk result (λ next. (image : Image) → D.Disk.seen disk.old ≡ Some image → IsCurrent D.Disk self.old.reader disk.old →
-            TakesEvent self.old.writer.range at next (bytes_in image bucket.now.file) (W.given out.old) self.old.writer.count (W.given out.new) self.new.writer.count) }
-        ensures begun { OnErr result ((image : Image) (events : List Event) → D.Disk.seen disk.old ≡ Some image → IsCurrent D.Disk self.old.reader disk.old →
-            HasRecords events (bucket.now.bytes - at) (drop at (bytes_in image bucket.now.file)) → HasBegun (text self.old.writer.range events) (W.given out.old) (W.given out.new)) }
+        ensures taken { IfOk result (λ next. (image : Image) → D.Disk.seen disk.old ≡ Some image →
+            IsCurrent D.Disk self.old.reader disk.old →
+            TakesEvent self.old.writer.range at next (bytes_in image bucket.now.file) (W.given out.old) self.old.writer.count
+            (W.given out.new) self.new.writer.count) }
+        ensures begun { OnErr result ((image : Image) (events : List Event) → D.Disk.seen disk.old ≡ Some image →
+            IsCurrent D.Disk self.old.reader disk.old →
+            HasRecords events (bucket.now.bytes - at) (drop at (bytes_in image bucket.now.file)) →
+            HasBegun (text self.old.writer.range events) (W.given out.old) (W.given out.new)) }
         ensures named { IfErr result (λ fault. OnDamaged fault (λ file place. (file ≡ bucket.now.file) × (place ≡ at))) }
         ensures unwritten { IfErr result (λ fault. OnDamaged fault (λ file place. W.given out.new ≡ W.given out.old)) }
-        ensures bad { IfErr result (λ fault. OnDamaged fault (λ file place. (image : Image) → D.Disk.seen disk.old ≡ Some image → IsCurrent D.Disk self.old.reader disk.old →
+        ensures bad { IfErr result (λ fault. OnDamaged fault (λ file place. (image : Image) → D.Disk.seen disk.old ≡ Some image →
+            IsCurrent D.Disk self.old.reader disk.old →
             HasNoRecord at bucket.now.bytes (bytes_in image bucket.now.file))) }
         ensures range { self.new.writer.range ≡ self.old.writer.range }
         ensures current { IsCurrent D.Disk self.old.reader disk.old → IsCurrent D.Disk self.new.reader disk.new }
@@ -67,7 +73,7 @@ impl Export {
         ensures later { D.Disk.faults disk.old ≤ D.Disk.faults disk.new }
         ensures grown { W.faults out.old ≤ W.faults out.new }
         ensures same { D.Disk.seen disk.new ≡ D.Disk.seen disk.old }
-        ensures images { Goes D.Disk disk.old disk.new Stays }
+        ensures images { ImagesStep D.Disk disk.old disk.new Stays }
     {
         match self.reader.next(disk, bucket.file, at, bucket.bytes) {
             Ok(Some((event, next))) => match self.writer.put(&event, out) {
@@ -87,11 +93,14 @@ impl Export {
         out: &mut W,
     ) -> Result<(), BucketFault>
         ensures taken { OnOk result ((image : Image) → D.Disk.seen disk.old ≡ Some image → IsCurrent D.Disk self.old.reader disk.old →
-            TakesBucket self.old.writer.range image bucket.now (W.given out.old) self.old.writer.count (W.given out.new) self.new.writer.count) }
-        ensures begun { OnErr result ((image : Image) (events : List Event) → D.Disk.seen disk.old ≡ Some image → IsCurrent D.Disk self.old.reader disk.old →
+            TakesBucket self.old.writer.range image bucket.now (W.given out.old) self.old.writer.count (W.given out.new)
+            self.new.writer.count) }
+        ensures begun { OnErr result ((image : Image) (events : List Event) → D.Disk.seen disk.old ≡ Some image →
+            IsCurrent D.Disk self.old.reader disk.old →
             HasEvents image bucket.now events → HasBegun (text self.old.writer.range events) (W.given out.old) (W.given out.new)) }
         ensures named { IfErr result (λ fault. OnDamaged fault (λ file place. (file ≡ bucket.now.file) × (place < bucket.now.bytes))) }
-        ensures damaged { IfErr result (λ fault. OnDamaged fault (λ file place. (image : Image) → D.Disk.seen disk.old ≡ Some image → IsCurrent D.Disk self.old.reader disk.old →
+        ensures damaged { IfErr result (λ fault. OnDamaged fault (λ file place. (image : Image) → D.Disk.seen disk.old ≡ Some image →
+            IsCurrent D.Disk self.old.reader disk.old →
             StopsIn self.old.writer.range image bucket.now place (W.given out.old) (W.given out.new))) }
         ensures range { self.new.writer.range ≡ self.old.writer.range }
         ensures current { IsCurrent D.Disk self.old.reader disk.old → IsCurrent D.Disk self.new.reader disk.new }
@@ -100,7 +109,7 @@ impl Export {
         ensures later { D.Disk.faults disk.old ≤ D.Disk.faults disk.new }
         ensures grown { W.faults out.old ≤ W.faults out.new }
         ensures same { D.Disk.seen disk.new ≡ D.Disk.seen disk.old }
-        ensures images { Goes D.Disk disk.old disk.new Stays }
+        ensures images { ImagesStep D.Disk disk.old disk.new Stays }
     {
         let mut at = 0;
         while at < bucket.bytes {

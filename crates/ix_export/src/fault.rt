@@ -13,7 +13,8 @@ pub enum BucketFault {
     /// The disk has failed.
     #[error("the disk failed")]
     Disk,
-    /// A bucket's file has at this place no record that ends within the bytes of the bucket that count.
+    /// A bucket's file has at this place no record that ends within the bytes of the bucket that
+    /// count.
     #[error("the file {file:?} of a bucket is damaged at byte {at}")]
     Damaged { file: File, at: u64 },
     /// What the lines are written to has failed. A front of a line may be written.

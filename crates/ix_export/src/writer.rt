@@ -1,15 +1,16 @@
 //! The lines of events within a range are written, and counted. An export calls it for each event.
 
 ghost use Rattle.std.specs.Prelude.{◌≡◌, ◌∷◌, [], OnOk, OnErr};
-ghost use Rattle.ix_text.specs.EventLine.{line};
+ghost use Rattle.ix_export.specs.EventLine.{line};
 ghost use Rattle.ix_base.specs.Faults.{HasCause};
 ghost use Rattle.ix_base.specs.Lent.{lent_event};
 ghost use Rattle.ix_base.specs.Told.{HasWritten, HasBegun};
 ghost use Rattle.ix_export.specs.Lines.{text, HasExported};
 
 use crate::in_range::is_within;
+use crate::line_writer::LineWriter;
+use crate::lines::write_line;
 use ix_base::{EventRef, FailPlan, Failed, MemSink, Range, Sink};
-use ix_text::{LineWriter, write_line};
 use std::alloc::Global;
 
 /// Writes the events within a range as lines, each in one piece, and counts these.
@@ -38,7 +39,8 @@ impl RangeWriter {
         }
     }
 
-    /// Writes the event as a line. Where there is no room to lay it out, it is written in several pieces.
+    /// Writes the event as a line. Where there is no room to lay it out, it is written in several
+    /// pieces.
     fn write<W: Sink>(&mut self, event: &EventRef, out: &mut W) -> Result<(), Failed>
         ensures written { OnOk result (HasWritten (line (lent_event event.now)) (W.given out.old) (W.given out.new)) }
         ensures begun { OnErr result (HasBegun (line (lent_event event.now)) (W.given out.old) (W.given out.new)) }
@@ -55,7 +57,8 @@ impl RangeWriter {
 
     /// Writes the event as a line where it is within the range.
     pub fn put<W: Sink>(&mut self, event: &EventRef, out: &mut W) -> Result<(), Failed>
-        ensures exported { OnOk result (HasExported self.old.range (lent_event event.now ∷ []) (W.given out.old) self.old.count (W.given out.new) self.new.count) }
+        ensures exported { OnOk result (HasExported self.old.range (lent_event event.now
+            ∷ []) (W.given out.old) self.old.count (W.given out.new) self.new.count) }
         ensures begun { OnErr result (HasBegun (text self.old.range (lent_event event.now ∷ [])) (W.given out.old) (W.given out.new)) }
         ensures cause { HasCause (W.faults out.old) (W.faults out.new) result }
         ensures range { self.new.range ≡ self.old.range }

@@ -17,7 +17,8 @@ has_at (b ∷ path) zero l is = rw is refl
 has_at (b ∷ path) (suc k) l is = or_true (b == 47) (has_slash path) (has_at path k (omega (arith, l)) is)
 
 -- behind a slash that has none behind it
-pub behind_slash : (path : List ℕ) (k : ℕ) → k < length path → get_or path k 0 ≡ 47 → has_slash (drop (suc k) path) ≡ false → segment_at path ≡ suc k
+pub behind_slash : (path : List ℕ) (k : ℕ) → k < length path → get_or path k 0 ≡ 47 → has_slash (drop (suc k) path) ≡ false →
+    segment_at path ≡ suc k
 behind_slash [] k l is rest = absurd (omega (arith, l))
 behind_slash (b ∷ path) zero l is rest = rw (has_at (b ∷ path) zero l is) (ap suc (none_behind path rest))
 behind_slash (b ∷ path) (suc k) l is rest = rw (has_at (b ∷ path) (suc k) l is) (ap suc (behind_slash path k (omega (arith, l)) is rest))

@@ -1,9 +1,10 @@
 -- Which files a pass visits, in the order in which it visits them.
-use Rattle.std.specs.Prelude.{◌==◌, ◌&&◌, nat_le, not, ℕ, Bool, if◌then◌else◌, List, [], ◌∷◌, ◌++◌, length, map, filter, is_some, unwrap_or, bytes_eq}
+use Rattle.std.specs.Prelude.{◌==◌, ◌&&◌, nat_le, not, ℕ, Bool, if◌then◌else◌, List, [], ◌∷◌, ◌++◌, length, map, filter, is_some}
+use Rattle.std.specs.Prelude.{unwrap_or, bytes_eq}
 use Rattle.std.specs.List.{list_any}
 use Rattle.ix_conf.specs.Stars.{fits_stars}
-use Rattle.ix_tree.specs.declared.trees.TreeFile.{TreeFile}
-use Rattle.ix_tree.specs.Trees.{bytes_at, names_in}
+use Rattle.ix_fs.specs.declared.trees.TreeFile.{TreeFile}
+use Rattle.ix_fs.specs.Trees.{bytes_at, names_in}
 use Rattle.ix_monitor.specs.declared.inputs.Input.{Input}
 use Rattle.ix_monitor.specs.declared.watched.Watched.{Watched}
 use Rattle.ix_files.specs.Paths.{front_of, segment_of, folder_of}

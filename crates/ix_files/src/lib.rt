@@ -1,4 +1,5 @@
-//! Which files the inputs have watched. Whoever makes a pass asks for them, and has `ix_pass` visit them.
+//! Which files the inputs have watched. Whoever makes a pass asks for them, and has `ix_pass` visit
+//! them.
 #![tactic(auto)]
 
 mod paths;

@@ -3,13 +3,13 @@
 ghost use Rattle.std.specs.Prelude.{◌≡◌, ◌++◌, [], ◌∷◌, IfOk, IfErr, IfSome, OnOk, unwrap_or};
 ghost use Rattle.std.specs.List.{list_any};
 ghost use Rattle.ix_files.specs.Sought as defs;
-ghost use Rattle.ix_tree.specs.Trees.{HasTreeCause};
+ghost use Rattle.ix_fs.specs.Trees.{HasTreeCause};
 
 use crate::paths::{folder_of, has_star, split};
 use ix_base::{Bytes, ChannelMeta, Names, NoMemory, Sequence};
 use ix_conf::fits_stars;
+use ix_fs::{Tree, TreeFault};
 use ix_monitor::{Input, Watched};
-use ix_tree::{Tree, TreeFault};
 use std::alloc::Global;
 
 /// The most bytes that the path of a file has. Files with longer ones are passed over.
@@ -108,7 +108,8 @@ impl Seeker<'_> {
         path: &[u8],
         files: &mut Sequence<Watched>,
     ) -> Result<(), TreeFault>
-        ensures added { OnOk result (IfSome (T.files tree.old) (λ all. files.new ≡ files.old ++ defs.sought_at all self.entry.earlier.now self.entry.input.now (path.now ∷ []))) }
+        ensures added { OnOk result (IfSome (T.files tree.old) (λ all. files.new ≡ files.old
+            ++ defs.sought_at all self.entry.earlier.now self.entry.input.now (path.now ∷ []))) }
         ensures there { IfErr result (λ fault. fault ≡ TreeFault.Missing → ⊥) }
         ensures same { T.files tree.new ≡ T.files tree.old }
         ensures cause { HasTreeCause (T.faults tree.old) (T.faults tree.new) (T.missing tree.old) (T.missing tree.new) result }
@@ -187,7 +188,8 @@ impl Seeker<'_> {
         tree: &mut T,
         files: &mut Sequence<Watched>,
     ) -> Result<(), TreeFault>
-        ensures added { OnOk result (IfSome (T.files tree.old) (λ all. files.new ≡ files.old ++ defs.sought_in all self.entry.earlier.now self.entry.input.now)) }
+        ensures added { OnOk result (IfSome (T.files tree.old) (λ all. files.new ≡ files.old
+            ++ defs.sought_in all self.entry.earlier.now self.entry.input.now)) }
         ensures there { IfErr result (λ fault. fault ≡ TreeFault.Missing → ⊥) }
         ensures same { T.files tree.new ≡ T.files tree.old }
         ensures cause { HasTreeCause (T.faults tree.old) (T.faults tree.new) (T.missing tree.old) (T.missing tree.new) result }
@@ -201,9 +203,11 @@ impl Seeker<'_> {
     }
 }
 
-/// The files that inputs have watched, in the order of a pass: input by input, and those of an input in the order of the bytes of their names. A file
-/// that the tree has and that several inputs have is the first one's alone. A path of more than 4,096 bytes is passed over. The path of an input without
-/// a `*` is there also where the tree has no such file, and the folder of one with a `*` may be missing.
+/// The files that inputs have watched, in the order of a pass: input by input, and those of an
+/// input in the order of the bytes of their names. A file that the tree has and that several inputs
+/// have is the first one's alone. A path of more than 4,096 bytes is passed over. The path of an
+/// input without a `*` is there also where the tree has no such file, and the folder of one with a
+/// `*` may be missing.
 pub fn watched_files<T: Tree>(
     alloc: Global,
     tree: &mut T,

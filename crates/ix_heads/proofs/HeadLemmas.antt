@@ -1,5 +1,6 @@
 -- What was taken of a link, and what it is.
-use Rattle.std.proofs.Common.{◌≡◌, ℕ, ◌<◌, ◌≤◌, ◌⊎◌, List, [], ◌∷◌, ◌++◌, length, take, drop, false, refl, sym, ap, ◌∙◌, subst, inl, inr, arith, append_assoc}
+use Rattle.std.proofs.Common.{◌≡◌, ℕ, ◌<◌, ◌≤◌, ◌⊎◌, List, [], ◌∷◌, ◌++◌, length, take, drop, false, refl, sym, ap, ◌∙◌, subst, inl, inr}
+use Rattle.std.proofs.Common.{arith, append_assoc}
 use Rattle.std.proofs.lemmas.List.{append-nil, drop_all}
 use Rattle.std.proofs.Math.Seq.{take-append_seam}
 use Rattle.std.specs.Prelude.{Option, Some, None, Result, Ok, Err}
@@ -23,18 +24,21 @@ took_nothing None = tt
 took_nothing (Some x) = refl
 
 -- a byte behind what was taken
-pub took_byte : (part more : List ℕ) (b : ℕ) (old mid new : List ℕ) → more ≡ part ++ b ∷ [] → Took part old mid → mid ≡ b ∷ new → Took more old new
+pub took_byte : (part more : List ℕ) (b : ℕ) (old mid new : List ℕ) → more ≡ part ++ b ∷ [] → Took part old mid → mid ≡ b ∷ new →
+    Took more old new
 took_byte part more b old mid new is took next =
     took ∙ ap (λ t. part ++ t) next ∙ sym (append_assoc part (b ∷ []) new) ∙ ap (λ t. t ++ new) (sym is)
 
 -- bytes that are no head, with bytes behind them: a head would be longer
-pub longer_head : (part old new : List ℕ) → HasNoRequest part → Took part old new → (h : RequestHead) (rest : List ℕ) → ReadsRequest old h rest → length part < length (print_request h)
+pub longer_head : (part old new : List ℕ) → HasNoRequest part → Took part old new → (h : RequestHead) (rest : List ℕ) →
+    ReadsRequest old h rest → length part < length (print_request h)
 longer_head part old new none took h rest reads =
     let P : List ℕ → Type 0 = λ t. HasNoRequest t in
     longer_than_front old (length part) (subst P (sym (ap (take (length part)) took ∙ take-append_seam part new)) none) h rest reads
 
 -- what was refused, where nothing makes it a head
-pub never_headless : (part old new : List ℕ) → length part ≤ max_head → NeverHasRequest part → IsSoon part → Took part old new → IsHeadless old new
+pub never_headless : (part old new : List ℕ) → length part ≤ max_head → NeverHasRequest part → IsSoon part → Took part old new →
+    IsHeadless old new
 never_headless part old new size never soon took = record {
   refused = part;
   before = took;
@@ -45,17 +49,20 @@ never_headless part old new size never soon took = record {
 }
 
 -- what was refused, where it is as long as a head may be
-pub full_headless : (part old new : List ℕ) → length part ≡ max_head → HasNoRequest part → IsSoon part → Took part old new → IsHeadless old new
+pub full_headless : (part old new : List ℕ) → length part ≡ max_head → HasNoRequest part → IsSoon part → Took part old new →
+    IsHeadless old new
 full_headless part old new size none soon took = record {
   refused = part;
   before = took;
   size = omega (arith, size);
-  none = λ h rest has. let longer = longer_head part old new none took h rest has.reads in let fits = has.size in omega (arith, longer, fits, size);
+  none = λ h rest has. let longer = longer_head part old new none took h rest has.reads in let fits = has.size in
+      omega (arith, longer, fits, size);
   settled = inl size;
   soon = soon;
 }
 
-pub end_fits : (bytes : List ℕ) (headers : List HeaderSpan) (result : Result HeadRead LinkFault) (part old mid new : List ℕ) → length part ≤ max_head → HasNoRequest part → IsSoon part
+pub end_fits : (bytes : List ℕ) (headers : List HeaderSpan) (result : Result HeadRead LinkFault) (part old mid new : List ℕ) →
+    length part ≤ max_head → HasNoRequest part → IsSoon part
     → FitsEnd part result → Took part old mid → (mid ≡ []) × (new ≡ []) → FitsHead bytes headers result old new
 end_fits bytes headers (Ok Ended) part old mid new size none soon fits took end = (took ∙ ap (λ t. t ++ mid) fits ∙ end.0, end.1)
 end_fits bytes headers (Ok Bad) part old mid new size none soon fits took end = inl (by fits)
@@ -84,11 +91,13 @@ bad_fits part old new size soon (inr found) took =
     let len = ap length is in
     inr (found.0, record { reads = (found.1.0, took ∙ ap (λ t. t ++ new) is); size = omega (arith, len, size) }, found.2)
 
-pub whole_fits : (part bytes : List ℕ) (headers : List HeaderSpan) (spans : RequestSpans) (old new : List ℕ) → length part ≤ max_head → take spans.len bytes ≡ part
+pub whole_fits : (part bytes : List ℕ) (headers : List HeaderSpan) (spans : RequestSpans) (old new : List ℕ) → length part ≤ max_head →
+    take spans.len bytes ≡ part
     → IsHeadAt part headers spans → Took part old new → IsWhole (take spans.len bytes) headers spans old new
 whole_fits part bytes headers spans old new size is head took =
     let none : drop spans.len part ≡ [] = drop_all spans.len part (omega (arith, head.len)) in
-    let text : part ≡ print_request head.head = head.at.reads.1 ∙ ap (λ t. print_request head.head ++ t) none ∙ append-nil (print_request head.head) in
+    let text : part ≡ print_request head.head = head.at.reads.1 ∙ ap (λ t. print_request head.head ++ t) none
+    ∙ append-nil (print_request head.head) in
     let len = ap length text in
     let P : List ℕ → Type 0 = λ t. IsRequestAt t headers spans head.head in
     record {
@@ -97,5 +106,6 @@ whole_fits part bytes headers spans old new size is head took =
       at = subst P (sym is) head.at;
     }
 
-pub memory_fits : (bytes : List ℕ) (headers : List HeaderSpan) (part old new : List ℕ) → OnlyCrowded part → Took part old new → FitsHead bytes headers (Err (NoMemory false)) old new
+pub memory_fits : (bytes : List ℕ) (headers : List HeaderSpan) (part old new : List ℕ) → OnlyCrowded part → Took part old new →
+    FitsHead bytes headers (Err (NoMemory false)) old new
 memory_fits bytes headers part old new only took = (refl, (part, took, only))

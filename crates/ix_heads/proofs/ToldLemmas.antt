@@ -10,7 +10,8 @@ told_map f (Some a) None t = absurd t
 told_map f (Some a) (Some b) t = f a b t
 
 -- one step behind another
-pub told_join : {A : Type 0} {R S T : A → A → Type 0} → ((a b c : A) → R a b → S b c → T a c) → (x y z : Option A) → Told R x y → Told S y z → Told T x z
+pub told_join : {A : Type 0} {R S T : A → A → Type 0} → ((a b c : A) → R a b → S b c → T a c) → (x y z : Option A) → Told R x y →
+    Told S y z → Told T x z
 told_join f None None None t u = tt
 told_join f None None (Some c) t u = absurd u
 told_join f None (Some b) z t u = absurd t

@@ -1,11 +1,13 @@
 -- What a scan says of the bytes that it has read: which part of a head they end in.
 use Rattle.std.specs.Prelude.{◌≡◌, ◌⊎◌, ◌<◌, ◌≤◌, ℕ, List, [], ◌∷◌, ◌++◌, length, take, true, codes}
 use Rattle.std.specs.Str.{IsAscii}
-use Rattle.httparse.specs.Grammar.{is_uri_byte, is_value_byte, is_token_byte, AllPass, IsToken, print_version, HasNoRequest, MayBecomeRequest}
+use Rattle.httparse.specs.Grammar.{is_uri_byte, is_value_byte, is_token_byte, AllPass, IsToken, print_version, HasNoRequest}
+use Rattle.httparse.specs.Grammar.{MayBecomeRequest}
 use Rattle.httparse.specs.Pieces as pieces
 use Rattle.httparse.specs.Pieces.{Piece, Then, BlankLines, FieldLines, RequestStart, Word}
 use Rattle.ix_heads.specs.declared.scan.Part.{Part}
-use Rattle.ix_heads.specs.declared.scan.Part.TheVariants.{Blank, BlankReturn, Method, TargetStart, Target, WideTarget, Version, VersionEnd, VersionReturn, LineStart, LineReturn, Name, Value, ValueReturn, Stray}
+use Rattle.ix_heads.specs.declared.scan.Part.TheVariants.{Blank, BlankReturn, Method, TargetStart, Target, WideTarget, Version, VersionEnd}
+use Rattle.ix_heads.specs.declared.scan.Part.TheVariants.{VersionReturn, LineStart, LineReturn, Name, Value, ValueReturn, Stray}
 use Rattle.ix_heads.specs.declared.scan.Scan.{Scan}
 
 -- the bytes are such a piece, and then the rest
@@ -32,8 +34,8 @@ ToValue = Led (Then RequestStart (Then FieldLines (Word is_token_byte 58)))
 abbrev pub IsTarget : List ℕ → Type 0
 IsTarget target = (0 < length target) × AllPass is_uri_byte target
 
--- The bytes end in this part of a head. Behind the end of a line they may be a whole head, and behind a stray byte a parse has to tell that
--- they may become one.
+-- The bytes end in this part of a head. Behind the end of a line they may be a whole head, and
+-- behind a stray byte a parse has to tell that they may become one.
 abbrev pub Fronts : Part → List ℕ → Type 0
 Fronts Blank bytes = Led BlankLines bytes []
 Fronts BlankReturn bytes = Led BlankLines bytes (13 ∷ [])
@@ -55,8 +57,8 @@ Fronts Stray bytes = MayBecomeRequest bytes
 abbrev pub IsBlank : Part → Type 0
 IsBlank part = (part ≡ Blank) ⊎ (part ≡ BlankReturn)
 
--- Bytes that are no head and end in this part end in the scan's part with one byte more, if a parse says that they may become a head where the
--- scan asks for one.
+-- Bytes that are no head and end in this part end in the scan's part with one byte more, if a parse
+-- says that they may become a head where the scan asks for one.
 pub record Grows (part : Part) (byte : ℕ) (scan : Scan) : Type 0 where
   pub grown : (bytes : List ℕ) → HasNoRequest bytes → Fronts part bytes → (scan.due ≡ true → MayBecomeRequest (bytes ++ byte ∷ []))
       → Fronts scan.part (bytes ++ byte ∷ [])

@@ -32,8 +32,8 @@ LacksHead bytes = (h : RequestHead) (rest : List ℕ) → ¬ (HasHead bytes h re
 abbrev pub IsSoon : List ℕ → Type 0
 IsSoon bytes = (front : List ℕ) (last : ℕ) → bytes ≡ front ++ last ∷ [] → MayBecomeRequest front
 
--- No head stands there, and some bytes are refused: all that a head may have, or so many that no continuation makes
--- a head. Before the last of them one still might.
+-- No head stands there, and some bytes are refused: all that a head may have, or so many that no
+-- continuation makes a head. Before the last of them one still might.
 pub record IsHeadless (bytes rest : List ℕ) : Type 0 where
   pub refused : List ℕ
   pub before : bytes ≡ refused ++ rest
@@ -57,7 +57,8 @@ IsCrowded bytes rest = (h : RequestHead) × HasHead bytes h rest × (max_lines <
 abbrev pub TakesSome : List ℕ → List ℕ → Type 0
 TakesSome old new = (taken : List ℕ) × (old ≡ taken ++ new)
 
--- some bytes were taken, and if they are a head with something behind it, it has too many header lines
+-- some bytes were taken, and if they are a head with something behind it, it has too many header
+-- lines
 abbrev pub TakesNoGood : List ℕ → List ℕ → Type 0
 TakesNoGood old new =
     (taken : List ℕ) × (old ≡ taken ++ new)
@@ -92,5 +93,6 @@ abbrev pub KeepsWithin : List ℕ → List HeaderSpan → Result HeadRead LinkFa
 KeepsWithin bytes headers (Ok Ended) = Unit {0}
 KeepsWithin bytes headers (Ok Bad) = Unit {0}
 KeepsWithin bytes headers (Ok (Whole spans)) =
-    (spans.len ≤ length bytes) × IsRequestWithin (take spans.len bytes) headers spans × IsUtf8 (span_bytes (take spans.len bytes) spans.path)
+    (spans.len ≤ length bytes) × IsRequestWithin (take spans.len bytes) headers spans
+    × IsUtf8 (span_bytes (take spans.len bytes) spans.path)
 KeepsWithin bytes headers (Err fault) = Unit {0}

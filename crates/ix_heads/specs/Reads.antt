@@ -1,12 +1,12 @@
 -- What calls that only read leave of a link.
 use Rattle.std.specs.Prelude.{◌≡◌, ◌≤◌, ℕ, List, [], ◌∷◌, Option, Some, None, Result, Ok, Err}
 use Rattle.ix_base.specs.declared.faults.Failed.{Failed}
-use Rattle.ix_link.specs.Links.{Standing, Goes}
+use Rattle.ix_net.specs.Links.{Standing, LinkStep}
 
 -- Nothing is written on it, and no count falls.
 pub record OnlyReads (text text' : Option (List ℕ)) (standing standing' : Standing) (faults faults' : ℕ) : Type 0 where
   pub given : text' ≡ text
-  pub goes : Goes standing standing'
+  pub goes : LinkStep standing standing'
   pub later : faults ≤ faults'
 
 -- the next byte was taken; the end takes nothing, and neither does a failure

@@ -102,9 +102,9 @@ fn parse(alloc: Global, bytes: &[u8], headers: &mut [HeaderSpan]) -> Result<Judg
     }
 }
 
-/// What bytes are of which all but the last one are no head. A head ends in an empty line behind another line, so only there
-/// they are parsed, and where the scan tells that they are no front of a head: judging all of a head costs no more than its
-/// bytes.
+/// What bytes are of which all but the last one are no head. A head ends in an empty line behind
+/// another line, so only there they are parsed, and where the scan tells that they are no front of
+/// a head: judging all of a head costs no more than its bytes.
 pub(crate) fn judge(
     alloc: Global,
     bytes: &[u8],

@@ -1,4 +1,5 @@
-//! The heads of requests: a head is read from a link, and its header lines are looked up. `ix_http` judges what they say.
+//! The heads of requests: a head is read from a link, and its header lines are looked up. `ix_http`
+//! judges what they say.
 #![tactic(auto)]
 
 mod bytes;

@@ -13,7 +13,7 @@ use crate::judging::{Judged, Look, judge, may_go_on};
 use crate::scan::Scan;
 use httparse::spans::{HeaderSpan, RequestSpans};
 use ix_base::NoMemory;
-use ix_link::Link;
+use ix_net::Link;
 use std::alloc::Global;
 
 /// The most bytes that a head may have.
@@ -50,8 +50,8 @@ fn at_end(alloc: Global, bytes: &[u8], headers: &mut [HeaderSpan]) -> Result<Hea
     }
 }
 
-/// Reads the head at the front of a link's bytes, and takes just its bytes. The places are those of the front of `bytes`, of
-/// as many bytes as the head has.
+/// Reads the head at the front of a link's bytes, and takes just its bytes. The places are those of
+/// the front of `bytes`, of as many bytes as the head has.
 pub fn read_head<K: Link>(
     alloc: Global,
     link: &mut K,
@@ -62,7 +62,8 @@ pub fn read_head<K: Link>(
     requires headers { length headers.old ≡ 64 }
     ensures read { Told (FitsHead bytes.new headers.new result) (K.left link.old) (K.left link.new) }
     ensures within { KeepsWithin bytes.new headers.new result }
-    ensures reads { OnlyReads (K.given link.old) (K.given link.new) (K.standing link.old) (K.standing link.new) (K.faults link.old) (K.faults link.new) }
+    ensures reads { OnlyReads (K.given link.old) (K.given link.new) (K.standing link.old) (K.standing link.new) (K.faults link.old)
+        (K.faults link.new) }
     ensures failed { result ≡ Err LinkFault.Failed → Rose (K.faults link.old) (K.faults link.new) }
 {
     let mut scan = Scan::new();

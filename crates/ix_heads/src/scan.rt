@@ -1,4 +1,5 @@
-//! Where in a head its last byte stands. `judge` asks it of each byte, so that the whole is parsed only where it may be decided.
+//! Where in a head its last byte stands. `judge` asks it of each byte, so that the whole is parsed
+//! only where it may be decided.
 
 ghost use Rattle.std.specs.Prelude.{◌≡◌, ◌==◌, true, []};
 ghost use Rattle.std.specs.List.{list_any};
@@ -299,7 +300,8 @@ impl Scan {
         matches!(self.part, Part::Blank | Part::BlankReturn)
     }
 
-    /// Whether the bytes so far are to be parsed: the last one is one too many, or the end of a target that may be no UTF-8.
+    /// Whether the bytes so far are to be parsed: the last one is one too many, or the end of a
+    /// target that may be no UTF-8.
     pub(crate) fn is_due(&self) -> bool
         ensures { result ≡ self.now.due }
     {

@@ -15,11 +15,13 @@ use Rattle.ix_http.specs.declared.kinds.HttpFault.{HttpFault}
 use Rattle.ix_http.specs.declared.kinds.Ask.{Ask}
 use Rattle.ix_http.specs.declared.kinds.Ask.TheVariants as asks
 
-some_map : {A B : Type 0} (o : Option A) (f : A → B) (P : A → Type 0) (Q : B → Type 0) → IfSome o P → ((a : A) → P a → Q (f a)) → IfSome (option_map f o) Q
+some_map : {A B : Type 0} (o : Option A) (f : A → B) (P : A → Type 0) (Q : B → Type 0) → IfSome o P → ((a : A) → P a → Q (f a)) →
+    IfSome (option_map f o) Q
 some_map None f P Q is so = tt
 some_map (Some a) f P Q is so = so a is
 
-some_then : {A B : Type 0} (o : Option A) (f : A → Option B) (P : A → Type 0) (Q : B → Type 0) → IfSome o P → ((a : A) → P a → IfSome (f a) Q) → IfSome (option_and_then f o) Q
+some_then : {A B : Type 0} (o : Option A) (f : A → Option B) (P : A → Type 0) (Q : B → Type 0) → IfSome o P →
+    ((a : A) → P a → IfSome (f a) Q) → IfSome (option_and_then f o) Q
 some_then None f P Q is so = tt
 some_then (Some a) f P Q is so = so a is
 
@@ -49,7 +51,8 @@ brief_is : (s : List ℕ) → (nat_le 1 (length s) && nat_le (length s) 1024) �
 brief_is s is = let b = both (nat_le 1 (length s)) (nat_le (length s) 1024) is in (low_is (length s) b.0, high_is (length s) b.1)
 
 short_is : (d : Data) → IfSome (short_text d) IsBrief
-short_is d = some_then (as_str d) (λ (s : List ℕ). cond (nat_le 1 (length s) && nat_le (length s) 1024) (Some s) None) (λ s. Unit {0}) IsBrief (some_any (as_str d))
+short_is d = some_then (as_str d) (λ (s : List ℕ). cond (nat_le 1 (length s) && nat_le (length s) 1024) (Some s) None) (λ s. Unit {0})
+    IsBrief (some_any (as_str d))
     (λ s _. brief_if (nat_le 1 (length s) && nat_le (length s) 1024) s (brief_is s))
 
 wanted_is : (o : Option Data) → IfSome (wanted o) (λ t. IfSome t IsBrief)
@@ -70,10 +73,16 @@ meta_is d =
     let T = wanted (get (codes "sourcetype") d) in
     let I = wanted (get (codes "index") d) in
     some_if (is_object_of is_meta_name d) _ IsBriefMeta
-    (some_then H (λ (host : List ℕ). option_and_then (λ (source : List ℕ). option_and_then (λ (sourcetype : Option (List ℕ)). option_map (λ (index : Option (List ℕ)). made host source sourcetype index) I) T) S) IsBrief IsBriefMeta (needed_is (get (codes "host") d)) (λ host h.
-    some_then S (λ (source : List ℕ). option_and_then (λ (sourcetype : Option (List ℕ)). option_map (λ (index : Option (List ℕ)). made host source sourcetype index) I) T) IsBrief IsBriefMeta (needed_is (get (codes "source") d)) (λ source s.
-    some_then T (λ (sourcetype : Option (List ℕ)). option_map (λ (index : Option (List ℕ)). made host source sourcetype index) I) (λ t. IfSome t IsBrief) IsBriefMeta (wanted_is (get (codes "sourcetype") d)) (λ sourcetype t.
-    some_map I (λ (index : Option (List ℕ)). made host source sourcetype index) (λ i. IfSome i IsBrief) IsBriefMeta (wanted_is (get (codes "index") d)) (λ index i.
+    (some_then H (λ (host : List ℕ). option_and_then (λ (source : List ℕ).
+    option_and_then (λ (sourcetype : Option (List ℕ)). option_map (λ (index : Option (List ℕ)). made host source sourcetype index) I) T)
+    S) IsBrief IsBriefMeta (needed_is (get (codes "host") d)) (λ host h.
+    some_then S (λ (source : List ℕ). option_and_then (λ (sourcetype : Option (List ℕ)).
+    option_map (λ (index : Option (List ℕ)). made host source sourcetype index) I) T) IsBrief IsBriefMeta
+    (needed_is (get (codes "source") d)) (λ source s.
+    some_then T (λ (sourcetype : Option (List ℕ)). option_map (λ (index : Option (List ℕ)). made host source sourcetype index) I)
+    (λ t. IfSome t IsBrief) IsBriefMeta (wanted_is (get (codes "sourcetype") d)) (λ sourcetype t.
+    some_map I (λ (index : Option (List ℕ)). made host source sourcetype index) (λ i. IfSome i IsBrief) IsBriefMeta
+    (wanted_is (get (codes "index") d)) (λ index i.
     record { host = h; source = s; sourcetype = t; index = i })))))
 
 or_within : (fault : HttpFault) (o : Option Ask) → IfSome o KeepsLimits → IsWithin (or_refused fault o)
@@ -90,7 +99,9 @@ asked_within (blocks name) query body named few = (named, few)
 asked_within (end name) query body named few = named
 asked_within acks query body named few =
     let A = option_and_then acks_of (json_of body) in
-    or_within _ (option_map (λ (a : ℕ × List ℕ). asks.Acks a.0 a.1) A) (some_map A (λ (a : ℕ × List ℕ). asks.Acks a.0 a.1) (λ a. Unit {0}) KeepsLimits (some_any A) (λ a _. tt))
+    or_within _ (option_map (λ (a : ℕ × List ℕ). asks.Acks a.0 a.1) A)
+    (some_map A (λ (a : ℕ × List ℕ). asks.Acks a.0 a.1) (λ a. Unit {0}) KeepsLimits (some_any A) (λ a _. tt))
 asked_within buckets query body named few = tt
 asked_within (events name) query body named few =
-    or_within _ (option_map (λ range. asks.Events name range) (range_of query)) (some_map (range_of query) (λ range. asks.Events name range) (λ r. Unit {0}) KeepsLimits (some_any (range_of query)) (λ r _. tt))
+    or_within _ (option_map (λ range. asks.Events name range) (range_of query))
+    (some_map (range_of query) (λ range. asks.Events name range) (λ r. Unit {0}) KeepsLimits (some_any (range_of query)) (λ r _. tt))

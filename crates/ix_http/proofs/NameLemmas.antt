@@ -8,7 +8,8 @@ use Rattle.serde_json.specs.View.{members_view}
 use Rattle.serde_json.proofs.Views.{Entry}
 use Rattle.ix_http.specs.Bodies.{names_pass, is_object_of}
 
-pub names_pass-keys : (test : List ℕ → Bool) (es : List Entry) → names_pass test (members_view es) ≡ list_all (λ k. test (string_bytes k)) (keys_of es)
+pub names_pass-keys : (test : List ℕ → Bool) (es : List Entry) →
+    names_pass test (members_view es) ≡ list_all (λ k. test (string_bytes k)) (keys_of es)
 names_pass-keys test [] = refl
 names_pass-keys test (e ∷ es) = ap (λ b. test (string_bytes e.0) && b) (names_pass-keys test es)
 

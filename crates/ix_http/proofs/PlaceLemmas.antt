@@ -1,5 +1,7 @@
 -- What the router finds is the route of the path.
-use Rattle.std.proofs.Common.{rules, ◌≡◌, ◌≢◌, ◌⊎◌, inl, inr, ℕ, suc, ◌+◌, ◌-◌, ◌<◌, ◌≤◌, List, [], ◌∷◌, ◌++◌, length, get_or, take, drop, Option, Some, None, Bool, true, false, cond, refl, sym, ap, ap₂, ◌∙◌, arith, codes, append_assoc, subst, IsUtf8, ◌&&◌, ◌||◌, Bor}
+use Rattle.std.proofs.Common.{rules, ◌≡◌, ◌≢◌, ◌⊎◌, inl, inr, ℕ, suc, ◌+◌, ◌-◌, ◌<◌, ◌≤◌, List, [], ◌∷◌, ◌++◌, length, get_or, take, drop}
+use Rattle.std.proofs.Common.{Option, Some, None, Bool, true, false, cond, refl, sym, ap, ap₂, ◌∙◌, arith, codes, append_assoc, subst}
+use Rattle.std.proofs.Common.{IsUtf8, ◌&&◌, ◌||◌, Bor}
 use Rattle.std.specs.Prelude.{◌==◌, not, nat_le, nat_lt, option_map, unwrap_or, MatchOption}
 use Rattle.std.proofs.lemmas.Bool.Decides.{nat_tests}
 use Rattle.std.specs.List.{list_all, list_any, position_or_len}
@@ -12,12 +14,15 @@ use Rattle.matchit.specs.Level.{IsText}
 use Rattle.matchit.specs.Params.{walk, named, AllText}
 use Rattle.ix_http.specs.declared.router.Form.{Form}
 use Rattle.ix_http.specs.declared.router.Form.TheVariants as form
-use Rattle.ix_http.specs.Routes.{Route, channel, blocks, end, acks, buckets, events, is_name_byte, is_channel_name, is_segment, behind, before, route_of, path_text, IsNamed}
+use Rattle.ix_http.specs.Routes.{Route, channel, blocks, end, acks, buckets, events, is_name_byte, is_channel_name, is_segment, behind}
+use Rattle.ix_http.specs.Routes.{before, route_of, path_text, IsNamed}
 use Rattle.ix_http.specs.Table.{table, text_of, IsSegment, IsNameOf, IsFound, named_route}
-use Rattle.ix_http.proofs.RouteLemmas.{routes-are-exact, name_bytes, none-where, true_false, both, under, before-from, before-to, other_end, channels}
+use Rattle.ix_http.proofs.RouteLemmas.{routes-are-exact, name_bytes, none-where, true_false, both, under, before-from, before-to}
+use Rattle.ix_http.proofs.RouteLemmas.{other_end, channels}
 use Rattle.ix_http.proofs.SearchLemmas.{text_behind, text_front}
 use Rattle.ix_http.proofs.TableLemmas.{row, row_of, Spelled, found_to, found_from}
-use Rattle.ix_http.proofs.ParamLemmas.{OneName, walked, walked_channel, walked_blocks, walked_end, walked_events, text_behind as utf8_behind, text_before as utf8_before}
+use Rattle.ix_http.proofs.ParamLemmas.{OneName, walked, walked_channel, walked_blocks, walked_end, walked_events}
+use Rattle.ix_http.proofs.ParamLemmas.{text_behind as utf8_behind, text_before as utf8_before}
 
 -- each byte fits
 pub is_bytes : (bs : List ℕ) → ((i : ℕ) → get_or bs i 0 < 256) → IsText bs
@@ -28,7 +33,8 @@ is_bytes (b ∷ bs) f = (f 0, is_bytes bs (λ i. f (suc i)))
 
 no_slash : (name : List ℕ) → list_any (λ b. b == 47) name ≡ has_slash name
 no_slash [] = refl
-no_slash (b ∷ name) = elim (b == 47) as (λ v. ◌||◌ v (list_any (λ b. b == 47) name) ≡ cond v true (has_slash name)) [ true ↦ refl | false ↦ no_slash name ]
+no_slash (b ∷ name) = elim (b == 47) as (λ v. ◌||◌ v (list_any (λ b. b == 47) name) ≡ cond v true (has_slash name))
+    [ true ↦ refl | false ↦ no_slash name ]
 
 not_slash : (b : ℕ) → is_name_byte b ≡ true → (b == slash) ≡ false
 not_slash b e = by (b == slash) refl
@@ -90,13 +96,16 @@ one_text name utf8 = (name_text, utf8, tt)
 texts_are : (f : Form) (path name : List ℕ) → IsUtf8 path → path ≡ text_of f name → AllText (pairs f name)
 texts_are form.Channel path name utf8 is = one_text name (behind_channels name (subst IsUtf8 is utf8))
 texts_are form.Blocks path name utf8 is =
-    one_text name (utf8_before name (codes "/blocks") (search rules) (behind_channels (name ++ codes "/blocks") (subst IsUtf8 (is ∙ append_assoc (codes "/channels/") name (codes "/blocks")) utf8)))
+    one_text name (utf8_before name (codes "/blocks") (search rules)
+    (behind_channels (name ++ codes "/blocks") (subst IsUtf8 (is ∙ append_assoc (codes "/channels/") name (codes "/blocks")) utf8)))
 texts_are form.End path name utf8 is =
-    one_text name (utf8_before name (codes "/end") (search rules) (behind_channels (name ++ codes "/end") (subst IsUtf8 (is ∙ append_assoc (codes "/channels/") name (codes "/end")) utf8)))
+    one_text name (utf8_before name (codes "/end") (search rules)
+    (behind_channels (name ++ codes "/end") (subst IsUtf8 (is ∙ append_assoc (codes "/channels/") name (codes "/end")) utf8)))
 texts_are form.Acks path name utf8 is = tt
 texts_are form.Buckets path name utf8 is = tt
 texts_are form.Events path name utf8 is =
-    one_text name (utf8_before name (codes "/events") (search rules) (behind_indexes (name ++ codes "/events") (subst IsUtf8 (is ∙ append_assoc (codes "/indexes/") name (codes "/events")) utf8)))
+    one_text name (utf8_before name (codes "/events") (search rules)
+    (behind_indexes (name ++ codes "/events") (subst IsUtf8 (is ∙ append_assoc (codes "/indexes/") name (codes "/events")) utf8)))
 
 -- what `get` gives, and no text where it gives none
 named_is : (f : Form) (name : List ℕ) → IsNameOf f name → unwrap_or (named (codes "name") (pairs f name)) [] ≡ name
@@ -124,15 +133,18 @@ pub parts_text : (path : List ℕ) (k : RouteOf Form) → IsUtf8 path → Spelle
 parts_text path k utf8 s =
     subst AllText (sym (ap (λ k. parts k path) s.kept ∙ walked_is s.form path s.name s.taken s.is)) (texts_are s.form path s.name utf8 s.is)
 
-pub found_is : (path : List ℕ) (k : RouteOf Form) → Spelled path k → IsFound path (Some (k.value, unwrap_or (named (codes "name") (parts k path)) []))
+pub found_is : (path : List ℕ) (k : RouteOf Form) → Spelled path k →
+    IsFound path (Some (k.value, unwrap_or (named (codes "name") (parts k path)) []))
 found_is path k s =
     let value = ap (λ (k : RouteOf Form). k.value) s.kept ∙ value_is s.form in
-    let name = ap (λ l. unwrap_or (named (codes "name") l) []) (ap (λ k. parts k path) s.kept ∙ walked_is s.form path s.name s.taken s.is) ∙ named_is s.form s.name s.taken in
+    let name = ap (λ l. unwrap_or (named (codes "name") l) []) (ap (λ k. parts k path) s.kept ∙ walked_is s.form path s.name s.taken s.is)
+    ∙ named_is s.form s.name s.taken in
     subst (λ found. IsFound path (Some found)) (sym (ap₂ (λ a b. (a, b)) value name)) (s.taken, s.is)
 
 name_bytes_of : (f : Form) (name : List ℕ) → IsNameOf f name → IsText (text_of f name) → IsText name
 name_bytes_of form.Channel name t text = text_behind (codes "/channels/") name text
-name_bytes_of form.Blocks name t text = text_behind (codes "/channels/") name (text_front (codes "/channels/" ++ name) (codes "/blocks") text)
+name_bytes_of form.Blocks name t text = text_behind (codes "/channels/") name
+    (text_front (codes "/channels/" ++ name) (codes "/blocks") text)
 name_bytes_of form.End name t text = text_behind (codes "/channels/") name (text_front (codes "/channels/" ++ name) (codes "/end") text)
 name_bytes_of form.Acks name t text = subst IsText (sym t) tt
 name_bytes_of form.Buckets name t text = subst IsText (sym t) tt
@@ -146,7 +158,8 @@ none_is path text e f name t is =
     some_none : {K : Type 0} {k : K} → Some k ≡ None → ⊥
     some_none q = cc
 
-pub shown_name : (o : Option (Bor (List ℕ))) (d : Bor (List ℕ)) (l : Option (List ℕ)) → MatchOption o (l ≡ None) (λ v. l ≡ Some v.now) → d.now ≡ []
+pub shown_name : (o : Option (Bor (List ℕ))) (d : Bor (List ℕ)) (l : Option (List ℕ)) → MatchOption o (l ≡ None) (λ v. l ≡ Some v.now) →
+    d.now ≡ []
     → (unwrap_or o d).now ≡ unwrap_or l []
 shown_name None d l e n = n ∙ sym (ap (λ l. unwrap_or l []) e)
 shown_name (Some v) d l e n = sym (ap (λ l. unwrap_or l []) e)
@@ -155,7 +168,8 @@ shown_name (Some v) d l e n = sym (ap (λ l. unwrap_or l []) e)
 
 slash_within : (x t : List ℕ) → has_slash (x ++ slash ∷ t) ≡ true
 slash_within [] t = refl
-slash_within (b ∷ x) t = elim (b == slash) as (λ v. cond v true (has_slash (x ++ slash ∷ t)) ≡ true) [ true ↦ refl | false ↦ slash_within x t ]
+slash_within (b ∷ x) t = elim (b == slash) as (λ v. cond v true (has_slash (x ++ slash ∷ t)) ≡ true)
+    [ true ↦ refl | false ↦ slash_within x t ]
 
 no_end : (name t : List ℕ) → has_slash name ≡ false → before (slash ∷ t) name ≡ None
 no_end name t free =
@@ -171,7 +185,8 @@ blocks_is name =
 
 end_is : (name : List ℕ) → route_of (codes "/channels/" ++ name ++ codes "/end") ≡ named_route form.End name
 end_is name =
-    let none = none-where (before (codes "/blocks") (name ++ codes "/end")) (λ x e. other_end x name (before-to (codes "/blocks") (name ++ codes "/end") x e)) in
+    let none = none-where (before (codes "/blocks") (name ++ codes "/end"))
+    (λ x e. other_end x name (before-to (codes "/blocks") (name ++ codes "/end") x e)) in
     ap route_of (append_assoc (codes "/channels/") name (codes "/end")) ∙ channels (name ++ codes "/end")
     ∙ under (name ++ codes "/end") None (Some name) none (before-from (codes "/end") (name ++ codes "/end") name refl)
 

@@ -1,5 +1,6 @@
 -- A path has a route exactly where it is the path of that route.
-use Rattle.std.proofs.Common.{◌≡◌, ℕ, ◌-◌, List, [], ◌∷◌, ◌++◌, length, take, drop, get_or, Bool, true, false, cond, ◌&&◌, refl, sym, ap, ◌∙◌, subst, arith, append_assoc, length-append, codes}
+use Rattle.std.proofs.Common.{◌≡◌, ℕ, ◌-◌, List, [], ◌∷◌, ◌++◌, length, take, drop, get_or, Bool, true, false, cond, ◌&&◌, refl, sym, ap}
+use Rattle.std.proofs.Common.{◌∙◌, subst, arith, append_assoc, length-append, codes}
 use Rattle.std.specs.Prelude.{Option, Some, None, ◌==◌}
 use Rattle.std.specs.Cmp.{unsigned_Decides}
 use Rattle.std.specs.List.{list_all}
@@ -8,7 +9,9 @@ use Rattle.std.proofs.lemmas.Slice.Eq.{bytes_eq-Decides}
 use Rattle.std.proofs.lemmas.List.{take-append-drop, same_from_push}
 use Rattle.std.proofs.lemmas.List.Folds.{list_all-append}
 use Rattle.std.proofs.Math.Seq.{take-append_seam, drop-append_seam}
-use Rattle.ix_http.specs.Routes.{Route, channel, blocks, end, acks, buckets, events, is_name_byte, is_channel_name, is_segment, behind, before, named, under_channels, channel_route, under_indexes, index_route, by_front, route_of, path_text, IsNamed, RoutesAreExact}
+use Rattle.ix_http.specs.Routes.{Route, channel, blocks, end, acks, buckets, events, is_name_byte, is_channel_name, is_segment, behind}
+use Rattle.ix_http.specs.Routes.{before, named, under_channels, channel_route, under_indexes, index_route, by_front, route_of, path_text}
+use Rattle.ix_http.specs.Routes.{IsNamed, RoutesAreExact}
 
 -- ---- choices
 
@@ -25,7 +28,8 @@ some-if : {A : Type 0} (b : Bool) (x y : A) → cond b (Some x) None ≡ Some y 
 some-if true x y e = (refl, cc)
 some-if false x y e = cc
 
-named-to : (test : List ℕ → Bool) (f : List ℕ → Route) (name : List ℕ) (r : Route) → named test f name ≡ Some r → (test name ≡ true) × (f name ≡ r)
+named-to : (test : List ℕ → Bool) (f : List ℕ → Route) (name : List ℕ) (r : Route) → named test f name ≡ Some r → (test name ≡ true)
+    × (f name ≡ r)
 named-to test f name r e = some-if (test name) (f name) r e
 
 pub named-from : (test : List ℕ → Bool) (f : List ℕ → Route) (name : List ℕ) → test name ≡ true → named test f name ≡ Some (f name)
@@ -106,33 +110,41 @@ channel-to rest r e = by (before (codes "/blocks") rest) refl (before (codes "/e
         → under_channels b c rest ≡ Some r → IsNamed r × (codes "/channels/" ++ rest ≡ path_text r)
     by (Some name) eb c ec g =
         let n = named-to is_channel_name blocks name r g in
-        let text = ap (λ t. codes "/channels/" ++ t) (before-to (codes "/blocks") rest name eb) ∙ sym (append_assoc (codes "/channels/") name (codes "/blocks")) in
+        let text = ap (λ t. codes "/channels/" ++ t) (before-to (codes "/blocks") rest name eb)
+        ∙ sym (append_assoc (codes "/channels/") name (codes "/blocks")) in
         subst (λ r. IsNamed r × (codes "/channels/" ++ rest ≡ path_text r)) n.1 (n.0, text)
     by None eb (Some name) ec g =
         let n = named-to is_channel_name end name r g in
-        let text = ap (λ t. codes "/channels/" ++ t) (before-to (codes "/end") rest name ec) ∙ sym (append_assoc (codes "/channels/") name (codes "/end")) in
+        let text = ap (λ t. codes "/channels/" ++ t) (before-to (codes "/end") rest name ec)
+        ∙ sym (append_assoc (codes "/channels/") name (codes "/end")) in
         subst (λ r. IsNamed r × (codes "/channels/" ++ rest ≡ path_text r)) n.1 (n.0, text)
     by None eb None ec g =
         let n = named-to is_channel_name channel rest r g in
         subst (λ r. IsNamed r × (codes "/channels/" ++ rest ≡ path_text r)) n.1 (n.0, refl)
 
-pub under : (rest : List ℕ) (b c : Option (List ℕ)) → before (codes "/blocks") rest ≡ b → before (codes "/end") rest ≡ c → channel_route rest ≡ under_channels b c rest
+pub under : (rest : List ℕ) (b c : Option (List ℕ)) → before (codes "/blocks") rest ≡ b → before (codes "/end") rest ≡ c →
+    channel_route rest ≡ under_channels b c rest
 unfolding channel_route
 under rest b c eb ec = ap (λ b. under_channels b (before (codes "/end") rest) rest) eb ∙ ap (λ c. under_channels b c rest) ec
 
 blocks-from : (name : List ℕ) → is_channel_name name ≡ true → channel_route (name ++ codes "/blocks") ≡ Some (blocks name)
 blocks-from name is =
-    under (name ++ codes "/blocks") (Some name) _ (before-from (codes "/blocks") (name ++ codes "/blocks") name refl) refl ∙ named-from is_channel_name blocks name is
+    under (name ++ codes "/blocks") (Some name) _ (before-from (codes "/blocks") (name ++ codes "/blocks") name refl) refl
+    ∙ named-from is_channel_name blocks name is
 
 end-from : (name : List ℕ) → is_channel_name name ≡ true → channel_route (name ++ codes "/end") ≡ Some (end name)
 end-from name is =
-    let none = none-where (before (codes "/blocks") (name ++ codes "/end")) (λ x e. other_end x name (before-to (codes "/blocks") (name ++ codes "/end") x e)) in
-    under (name ++ codes "/end") None (Some name) none (before-from (codes "/end") (name ++ codes "/end") name refl) ∙ named-from is_channel_name end name is
+    let none = none-where (before (codes "/blocks") (name ++ codes "/end"))
+    (λ x e. other_end x name (before-to (codes "/blocks") (name ++ codes "/end") x e)) in
+    under (name ++ codes "/end") None (Some name) none (before-from (codes "/end") (name ++ codes "/end") name refl)
+    ∙ named-from is_channel_name end name is
 
 channel-from : (name : List ℕ) → is_channel_name name ≡ true → channel_route name ≡ Some (channel name)
 channel-from name is =
-    let no_blocks = none-where (before (codes "/blocks") name) (λ x e. no_slash_end name x (codes "/blocks") is refl (before-to (codes "/blocks") name x e)) in
-    let no_end = none-where (before (codes "/end") name) (λ x e. no_slash_end name x (codes "/end") is refl (before-to (codes "/end") name x e)) in
+    let no_blocks = none-where (before (codes "/blocks") name)
+    (λ x e. no_slash_end name x (codes "/blocks") is refl (before-to (codes "/blocks") name x e)) in
+    let no_end = none-where (before (codes "/end") name)
+    (λ x e. no_slash_end name x (codes "/end") is refl (before-to (codes "/end") name x e)) in
     under name None None no_blocks no_end ∙ named-from is_channel_name channel name is
 
 -- ---- indexes
@@ -141,16 +153,19 @@ pub index-to : (rest : List ℕ) (r : Route) → index_route rest ≡ Some r →
 unfolding index_route
 index-to rest r e = by (before (codes "/events") rest) refl e
   where
-    by : (b : Option (List ℕ)) → before (codes "/events") rest ≡ b → under_indexes b ≡ Some r → IsNamed r × (codes "/indexes/" ++ rest ≡ path_text r)
+    by : (b : Option (List ℕ)) → before (codes "/events") rest ≡ b → under_indexes b ≡ Some r → IsNamed r
+        × (codes "/indexes/" ++ rest ≡ path_text r)
     by (Some name) eb g =
         let n = named-to is_segment events name r g in
-        let text = ap (λ t. codes "/indexes/" ++ t) (before-to (codes "/events") rest name eb) ∙ sym (append_assoc (codes "/indexes/") name (codes "/events")) in
+        let text = ap (λ t. codes "/indexes/" ++ t) (before-to (codes "/events") rest name eb)
+        ∙ sym (append_assoc (codes "/indexes/") name (codes "/events")) in
         subst (λ r. IsNamed r × (codes "/indexes/" ++ rest ≡ path_text r)) n.1 (n.0, text)
     by None eb g = cc
 
 events-from : (name : List ℕ) → is_segment name ≡ true → index_route (name ++ codes "/events") ≡ Some (events name)
 unfolding index_route
-events-from name is = ap under_indexes (before-from (codes "/events") (name ++ codes "/events") name refl) ∙ named-from is_segment events name is
+events-from name is = ap under_indexes (before-from (codes "/events") (name ++ codes "/events") name refl)
+    ∙ named-from is_segment events name is
 
 -- ---- paths
 
@@ -158,7 +173,8 @@ route-to : (path : List ℕ) (r : Route) → route_of path ≡ Some r → IsName
 unfolding route_of
 route-to path r e = by (bytes_eq path (codes "/acks")) refl (bytes_eq path (codes "/buckets")) refl e
   where
-    front : (b c : Option (List ℕ)) → behind (codes "/channels/") path ≡ b → behind (codes "/indexes/") path ≡ c → by_front b c ≡ Some r → IsNamed r × (path ≡ path_text r)
+    front : (b c : Option (List ℕ)) → behind (codes "/channels/") path ≡ b → behind (codes "/indexes/") path ≡ c → by_front b c ≡ Some r →
+        IsNamed r × (path ≡ path_text r)
     front (Some rest) c eb ec g = let n = channel-to rest r g in (n.0, behind-to (codes "/channels/") path rest eb ∙ n.1)
     front None (Some rest) eb ec g = let n = index-to rest r g in (n.0, behind-to (codes "/indexes/") path rest ec ∙ n.1)
     front None None eb ec g = cc
@@ -167,21 +183,27 @@ route-to path r e = by (bytes_eq path (codes "/acks")) refl (bytes_eq path (code
     some_inj x y e = cc
 
     by : (a : Bool) → bytes_eq path (codes "/acks") ≡ a → (b : Bool) → bytes_eq path (codes "/buckets") ≡ b
-        → cond a (Some acks) (cond b (Some buckets) (by_front (behind (codes "/channels/") path) (behind (codes "/indexes/") path))) ≡ Some r → IsNamed r × (path ≡ path_text r)
+        → cond a (Some acks) (cond b (Some buckets) (by_front (behind (codes "/channels/") path) (behind (codes "/indexes/") path))) ≡ Some
+        r → IsNamed r × (path ≡ path_text r)
     by true ea b eb g = subst (λ r. IsNamed r × (path ≡ path_text r)) (some_inj acks r g) (tt, (bytes_eq-Decides path (codes "/acks")).0 ea)
-    by false ea true eb g = subst (λ r. IsNamed r × (path ≡ path_text r)) (some_inj buckets r g) (tt, (bytes_eq-Decides path (codes "/buckets")).0 eb)
+    by false ea true eb g = subst (λ r. IsNamed r × (path ≡ path_text r)) (some_inj buckets r g) (
+      tt,
+      (bytes_eq-Decides path (codes "/buckets")).0 eb,
+    )
     by false ea false eb g = front _ _ refl refl g
 
 -- the route of a path that begins so
 pub channels : (rest : List ℕ) → route_of (codes "/channels/" ++ rest) ≡ channel_route rest
 unfolding route_of
 channels rest =
-    ap (λ b. by_front b (behind (codes "/indexes/") (codes "/channels/" ++ rest))) (behind-from (codes "/channels/") (codes "/channels/" ++ rest) rest refl)
+    ap (λ b. by_front b (behind (codes "/indexes/") (codes "/channels/" ++ rest)))
+    (behind-from (codes "/channels/") (codes "/channels/" ++ rest) rest refl)
 
 pub indexes : (rest : List ℕ) → route_of (codes "/indexes/" ++ rest) ≡ index_route rest
 unfolding route_of
 indexes rest =
-    let none = none-where (behind (codes "/channels/") (codes "/indexes/" ++ rest)) (λ x e. other rest x (behind-to (codes "/channels/") (codes "/indexes/" ++ rest) x e)) in
+    let none = none-where (behind (codes "/channels/") (codes "/indexes/" ++ rest))
+    (λ x e. other rest x (behind-to (codes "/channels/") (codes "/indexes/" ++ rest) x e)) in
     ap (λ b. by_front b (behind (codes "/indexes/") (codes "/indexes/" ++ rest))) none
     ∙ ap (λ c. by_front None c) (behind-from (codes "/indexes/") (codes "/indexes/" ++ rest) rest refl)
   where
@@ -191,11 +213,14 @@ indexes rest =
 route-from : (r : Route) → IsNamed r → route_of (path_text r) ≡ Some r
 unfolding route_of
 route-from (channel name) is = channels name ∙ channel-from name is
-route-from (blocks name) is = ap route_of (append_assoc (codes "/channels/") name (codes "/blocks")) ∙ channels (name ++ codes "/blocks") ∙ blocks-from name is
-route-from (end name) is = ap route_of (append_assoc (codes "/channels/") name (codes "/end")) ∙ channels (name ++ codes "/end") ∙ end-from name is
+route-from (blocks name) is = ap route_of (append_assoc (codes "/channels/") name (codes "/blocks")) ∙ channels (name ++ codes "/blocks")
+    ∙ blocks-from name is
+route-from (end name) is = ap route_of (append_assoc (codes "/channels/") name (codes "/end")) ∙ channels (name ++ codes "/end")
+    ∙ end-from name is
 route-from acks is = refl
 route-from buckets is = refl
-route-from (events name) is = ap route_of (append_assoc (codes "/indexes/") name (codes "/events")) ∙ indexes (name ++ codes "/events") ∙ events-from name is
+route-from (events name) is = ap route_of (append_assoc (codes "/indexes/") name (codes "/events")) ∙ indexes (name ++ codes "/events")
+    ∙ events-from name is
 
 pub routes-are-exact : RoutesAreExact
 routes-are-exact path route = (λ e. route-to path route e, λ n. ap route_of n.1 ∙ route-from route n.0)

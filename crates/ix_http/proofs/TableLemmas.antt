@@ -1,5 +1,6 @@
 -- The table finds a route for just the paths that are spelled as the route says.
-use Rattle.std.proofs.Common.{◌≡◌, ◌≢◌, ◌⊎◌, inl, inr, ℕ, ◌+◌, ◌-◌, ◌<◌, ◌≤◌, List, [], ◌∷◌, ◌++◌, length, Option, Some, None, Result, Ok, Err, Bool, true, false, cond, refl, sym, ap, ap₂, ◌∙◌, arith, codes, append_assoc, subst}
+use Rattle.std.proofs.Common.{◌≡◌, ◌≢◌, ◌⊎◌, inl, inr, ℕ, ◌+◌, ◌-◌, ◌<◌, ◌≤◌, List, [], ◌∷◌, ◌++◌, length, Option, Some, None, Result, Ok}
+use Rattle.std.proofs.Common.{Err, Bool, true, false, cond, refl, sym, ap, ap₂, ◌∙◌, arith, codes, append_assoc, subst}
 use Rattle.std.specs.Prelude.{option_map}
 use Rattle.matchit.specs.Rows.{RowsOf, param_token}
 use Rattle.matchit.specs.Route.{Scan, scan, parse_route}
@@ -10,7 +11,9 @@ use Rattle.matchit.specs.declared.error.InsertError.{InsertError}
 use Rattle.ix_http.specs.Table.{Table, with_scan, with_route, table, text_of, IsSegment, IsNameOf}
 use Rattle.ix_http.specs.declared.router.Form.{Form}
 use Rattle.ix_http.specs.declared.router.Form.TheVariants.{Channel, Blocks, End, Acks, Buckets, Events}
-use Rattle.ix_http.proofs.SearchLemmas.{under, Behind, under_to, under_hit, fan, lit_miss, seek_none, EndsInSlash, TakesAll, TakesFront, param_to, param_hit_all, param_hit_front, text_to, text_hit, or_to, nothing_to, is_text, text_behind, text_front}
+use Rattle.ix_http.proofs.SearchLemmas.{under, Behind, under_to, under_hit, fan, lit_miss, seek_none, EndsInSlash, TakesAll, TakesFront}
+use Rattle.ix_http.proofs.SearchLemmas.{param_to, param_hit_all, param_hit_front, text_to, text_hit, or_to, nothing_to, is_text}
+use Rattle.ix_http.proofs.SearchLemmas.{text_behind, text_front}
 
 -- ---- the rows
 
@@ -73,8 +76,10 @@ each_group : (p : List ℕ) → first behind_slash p
     ≡ or_else (first acks_rows p) (or_else (first buckets_rows p) (or_else (first channel_rows p) (first index_rows p)))
 each_group p =
     fan 97 (codes "cks") (leaf (row Acks)) (buckets_rows ++ (channel_rows ++ index_rows)) p (omega arith) refl refl refl
-    ∙ ap (or_else (first acks_rows p)) (fan 98 (codes "uckets") (leaf (row Buckets)) (channel_rows ++ index_rows) p (omega arith) refl refl refl
-    ∙ ap (or_else (first buckets_rows p)) (fan 99 (codes "hannels/") (under (param_token ∷ []) channel_tails) index_rows p (omega arith) refl refl refl))
+    ∙ ap (or_else (first acks_rows p)) (fan 98 (codes "uckets") (leaf (row Buckets)) (channel_rows
+    ++ index_rows) p (omega arith) refl refl refl
+    ∙ ap (or_else (first buckets_rows p)) (fan 99 (codes "hannels/") (under (param_token ∷ []) channel_tails) index_rows p (omega arith)
+    refl refl refl))
 
 -- ---- how paths are spelled
 
@@ -107,35 +112,61 @@ blocks_end = under (slash ∷ []) (under (codes "blocks") (leaf (row Blocks)) ++
 abbrev events_end : Rows
 events_end = under (codes "/events") (leaf (row Events))
 
-channel_to : (rest : List ℕ) (k : RouteOf Form) → IsText rest → first (under (param_token ∷ []) channel_tails) rest ≡ Some k → Spelled (codes "/channels/" ++ rest) k
+channel_to : (rest : List ℕ) (k : RouteOf Form) → IsText rest → first (under (param_token ∷ []) channel_tails) rest ≡ Some k →
+    Spelled (codes "/channels/" ++ rest) k
 channel_to rest k text e = by (param_to channel_tails rest k ends_channel text e)
   where
-    ending : (t : TakesFront channel_tails rest k) (b : Behind (slash ∷ []) (under (codes "blocks") (leaf (row Blocks)) ++ under (codes "end") (leaf (row End))) (slash ∷ t.more) k)
-        → (first (under (codes "blocks") (leaf (row Blocks))) b.0 ≡ Some k) ⊎ (first (under (codes "end") (leaf (row End))) b.0 ≡ Some k) → Spelled (codes "/channels/" ++ rest) k
+    ending : (t : TakesFront channel_tails rest k) (b : Behind (slash ∷ []) (under (codes "blocks") (leaf (row Blocks))
+        ++ under (codes "end") (leaf (row End))) (slash ∷ t.more) k)
+        → (first (under (codes "blocks") (leaf (row Blocks))) b.0 ≡ Some k) ⊎ (first (under (codes "end") (leaf (row End))) b.0 ≡ Some k) →
+        Spelled (codes "/channels/" ++ rest) k
     ending t b (inl e) =
         let l = text_to (codes "blocks") (row Blocks) b.0 k (is_text (codes "blocks") refl) e in
         let tail = b.1 ∙ ap (λ p. slash ∷ p) l.0 in
-        record { form = Blocks; name = t.name; taken = (t.some, t.free); is = ap (λ r. codes "/channels/" ++ r) (t.is ∙ ap (λ m. t.name ++ m) tail) ∙ sym (append_assoc (codes "/channels/") t.name (codes "/blocks")); kept = l.1 }
+        record {
+          form = Blocks;
+          name = t.name;
+          taken = (t.some, t.free);
+          is = ap (λ r. codes "/channels/" ++ r) (t.is ∙ ap (λ m. t.name ++ m) tail)
+              ∙ sym (append_assoc (codes "/channels/") t.name (codes "/blocks"));
+          kept = l.1;
+        }
     ending t b (inr e) =
         let l = text_to (codes "end") (row End) b.0 k (is_text (codes "end") refl) e in
         let tail = b.1 ∙ ap (λ p. slash ∷ p) l.0 in
-        record { form = End; name = t.name; taken = (t.some, t.free); is = ap (λ r. codes "/channels/" ++ r) (t.is ∙ ap (λ m. t.name ++ m) tail) ∙ sym (append_assoc (codes "/channels/") t.name (codes "/end")); kept = l.1 }
+        record {
+          form = End;
+          name = t.name;
+          taken = (t.some, t.free);
+          is = ap (λ r. codes "/channels/" ++ r) (t.is ∙ ap (λ m. t.name ++ m) tail)
+              ∙ sym (append_assoc (codes "/channels/") t.name (codes "/end"));
+          kept = l.1;
+        }
 
     by : TakesAll channel_tails rest k ⊎ TakesFront channel_tails rest k → Spelled (codes "/channels/" ++ rest) k
     by (inl t) = record { form = Channel; name = rest; taken = (t.some, t.free); is = refl; kept = let f = t.found in cc }
     by (inr t) =
-        let b = under_to (slash ∷ []) (under (codes "blocks") (leaf (row Blocks)) ++ under (codes "end") (leaf (row End))) (slash ∷ t.more) k (is_text (slash ∷ []) refl) t.found in
+        let b = under_to (slash ∷ []) (under (codes "blocks") (leaf (row Blocks)) ++ under (codes "end") (leaf (row End))) (slash
+        ∷ t.more) k (is_text (slash ∷ []) refl) t.found in
         let apart = fan 98 (codes "locks") (leaf (row Blocks)) (under (codes "end") (leaf (row End))) b.0 (omega arith) refl refl refl in
         ending t b (or_to _ _ k (sym apart ∙ b.2))
 
-index_to : (rest : List ℕ) (k : RouteOf Form) → IsText rest → first (under (param_token ∷ []) index_tails) rest ≡ Some k → Spelled (codes "/indexes/" ++ rest) k
+index_to : (rest : List ℕ) (k : RouteOf Form) → IsText rest → first (under (param_token ∷ []) index_tails) rest ≡ Some k →
+    Spelled (codes "/indexes/" ++ rest) k
 index_to rest k text e = by (param_to index_tails rest k ends_index text e)
   where
     by : TakesAll index_tails rest k ⊎ TakesFront index_tails rest k → Spelled (codes "/indexes/" ++ rest) k
     by (inl t) = let f = t.found in cc
     by (inr t) =
         let l = text_to (codes "/events") (row Events) (slash ∷ t.more) k (is_text (codes "/events") refl) t.found in
-        record { form = Events; name = t.name; taken = (t.some, t.free); is = ap (λ r. codes "/indexes/" ++ r) (t.is ∙ ap (λ m. t.name ++ m) l.0) ∙ sym (append_assoc (codes "/indexes/") t.name (codes "/events")); kept = l.1 }
+        record {
+          form = Events;
+          name = t.name;
+          taken = (t.some, t.free);
+          is = ap (λ r. codes "/indexes/" ++ r) (t.is ∙ ap (λ m. t.name ++ m) l.0)
+              ∙ sym (append_assoc (codes "/indexes/") t.name (codes "/events"));
+          kept = l.1;
+        }
 
 spelled_as : (path other : List ℕ) (k : RouteOf Form) → path ≡ other → Spelled other k → Spelled path k
 spelled_as path other k e s = record { form = s.form; name = s.name; taken = s.taken; is = e ∙ s.is; kept = s.kept }
@@ -161,14 +192,16 @@ found_to path k text e =
     channels p is t (inl f) = channel p is t f
     channels p is t (inr f) = index p is t f
 
-    buckets : (p : List ℕ) → path ≡ slash ∷ p → IsText p → (first buckets_rows p ≡ Some k) ⊎ (or_else (first channel_rows p) (first index_rows p) ≡ Some k) → Spelled path k
+    buckets : (p : List ℕ) → path ≡ slash ∷ p → IsText p → (first buckets_rows p ≡ Some k)
+        ⊎ (or_else (first channel_rows p) (first index_rows p) ≡ Some k) → Spelled path k
     buckets p is t (inl f) =
         let l = text_to (codes "buckets") (row Buckets) p k (is_text (codes "buckets") refl) f in
         record { form = Buckets; name = []; taken = refl; is = is ∙ ap (λ q. slash ∷ q) l.0; kept = l.1 }
     buckets p is t (inr f) = channels p is t (or_to _ _ k f)
 
     acks : (p : List ℕ) → path ≡ slash ∷ p → IsText p
-        → (first acks_rows p ≡ Some k) ⊎ (or_else (first buckets_rows p) (or_else (first channel_rows p) (first index_rows p)) ≡ Some k) → Spelled path k
+        → (first acks_rows p ≡ Some k) ⊎ (or_else (first buckets_rows p) (or_else (first channel_rows p) (first index_rows p)) ≡ Some k) →
+        Spelled path k
     acks p is t (inl f) =
         let l = text_to (codes "acks") (row Acks) p k (is_text (codes "acks") refl) f in
         record { form = Acks; name = []; taken = refl; is = is ∙ ap (λ q. slash ∷ q) l.0; kept = l.1 }
@@ -193,43 +226,57 @@ in_table : (p : List ℕ) → first table (slash ∷ p)
     ≡ or_else (first acks_rows p) (or_else (first buckets_rows p) (or_else (first channel_rows p) (first index_rows p)))
 in_table p = ap (λ t. first t (slash ∷ p)) is_grouped ∙ under_hit (slash ∷ []) behind_slash p (is_text (slash ∷ []) refl) ∙ each_group p
 
-in_channels : (rest : List ℕ) (k : RouteOf Form) → first (under (param_token ∷ []) channel_tails) rest ≡ Some k → first table (codes "/channels/" ++ rest) ≡ Some k
+in_channels : (rest : List ℕ) (k : RouteOf Form) → first (under (param_token ∷ []) channel_tails) rest ≡ Some k →
+    first table (codes "/channels/" ++ rest) ≡ Some k
 in_channels rest k e =
     let hit = under_hit (codes "channels/") (under (param_token ∷ []) channel_tails) rest (is_text (codes "channels/") refl) ∙ e in
     in_table (codes "channels/" ++ rest)
     ∙ simp (acks_miss 99 (codes "hannels/" ++ rest) (λ q. omega arith), buckets_miss 99 (codes "hannels/" ++ rest) (λ q. omega arith), hit)
 
-in_indexes : (rest : List ℕ) (k : RouteOf Form) → first (under (param_token ∷ []) index_tails) rest ≡ Some k → first table (codes "/indexes/" ++ rest) ≡ Some k
+in_indexes : (rest : List ℕ) (k : RouteOf Form) → first (under (param_token ∷ []) index_tails) rest ≡ Some k →
+    first table (codes "/indexes/" ++ rest) ≡ Some k
 in_indexes rest k e =
     let hit = under_hit (codes "indexes/") (under (param_token ∷ []) index_tails) rest (is_text (codes "indexes/") refl) ∙ e in
     in_table (codes "indexes/" ++ rest)
-    ∙ simp (acks_miss 105 (codes "ndexes/" ++ rest) (λ q. omega arith), buckets_miss 105 (codes "ndexes/" ++ rest) (λ q. omega arith), channel_miss 105 (codes "ndexes/" ++ rest) (λ q. omega arith), hit)
+    ∙ simp (
+      acks_miss 105 (codes "ndexes/" ++ rest) (λ q. omega arith),
+      buckets_miss 105 (codes "ndexes/" ++ rest) (λ q. omega arith),
+      channel_miss 105 (codes "ndexes/" ++ rest) (λ q. omega arith),
+      hit,
+    )
 
 blocks_hit : first blocks_end (codes "/blocks") ≡ Some (row Blocks)
 blocks_hit =
     under_hit (slash ∷ []) _ (codes "blocks") (is_text (slash ∷ []) refl)
     ∙ fan 98 (codes "locks") (leaf (row Blocks)) (under (codes "end") (leaf (row End))) (codes "blocks") (omega arith) refl refl refl
-    ∙ ap (λ o. or_else o (first (under (codes "end") (leaf (row End))) (codes "blocks"))) (text_hit (codes "blocks") (row Blocks) (is_text (codes "blocks") refl))
+    ∙ ap (λ o. or_else o (first (under (codes "end") (leaf (row End))) (codes "blocks")))
+    (text_hit (codes "blocks") (row Blocks) (is_text (codes "blocks") refl))
 
 end_hit : first blocks_end (codes "/end") ≡ Some (row End)
 end_hit =
     under_hit (slash ∷ []) _ (codes "end") (is_text (slash ∷ []) refl)
     ∙ fan 98 (codes "locks") (leaf (row Blocks)) (under (codes "end") (leaf (row End))) (codes "end") (omega arith) refl refl refl
-    ∙ ap₂ or_else (lit_miss 98 (codes "locks") (leaf (row Blocks)) 101 (codes "nd") (omega arith) (λ q. omega arith)) (text_hit (codes "end") (row End) (is_text (codes "end") refl))
+    ∙ ap₂ or_else (lit_miss 98 (codes "locks") (leaf (row Blocks)) 101 (codes "nd") (omega arith) (λ q. omega arith))
+    (text_hit (codes "end") (row End) (is_text (codes "end") refl))
 
 -- What is spelled as a route says finds just that route.
 pub found_from : (form : Form) (name : List ℕ) → IsText name → IsNameOf form name → first table (text_of form name) ≡ Some (row form)
 found_from Channel name text t = in_channels name (row Channel) (param_hit_all channel_tails name ends_channel text t.0 t.1)
 found_from Blocks name text t =
     ap (first table) (append_assoc (codes "/channels/") name (codes "/blocks"))
-    ∙ in_channels (name ++ codes "/blocks") (row Blocks) (param_hit_front channel_tails name (codes "blocks") ends_channel text t.0 t.1 ∙ blocks_hit)
+    ∙ in_channels (name ++ codes "/blocks") (row Blocks) (param_hit_front channel_tails name (codes "blocks") ends_channel text t.0 t.1
+    ∙ blocks_hit)
 found_from End name text t =
     ap (first table) (append_assoc (codes "/channels/") name (codes "/end"))
     ∙ in_channels (name ++ codes "/end") (row End) (param_hit_front channel_tails name (codes "end") ends_channel text t.0 t.1 ∙ end_hit)
 found_from Acks name text t =
     in_table (codes "acks") ∙ simp (text_hit (codes "acks") (row Acks) (is_text (codes "acks") refl))
 found_from Buckets name text t =
-    in_table (codes "buckets") ∙ simp (acks_miss 98 (codes "uckets") (λ q. omega arith), text_hit (codes "buckets") (row Buckets) (is_text (codes "buckets") refl))
+    in_table (codes "buckets") ∙ simp (
+      acks_miss 98 (codes "uckets") (λ q. omega arith),
+      text_hit (codes "buckets") (row Buckets) (is_text (codes "buckets") refl),
+    )
 found_from Events name text t =
     ap (first table) (append_assoc (codes "/indexes/") name (codes "/events"))
-    ∙ in_indexes (name ++ codes "/events") (row Events) (param_hit_front index_tails name (codes "events") ends_index text t.0 t.1 ∙ text_hit (codes "/events") (row Events) (is_text (codes "/events") refl))
+    ∙ in_indexes (name ++ codes "/events") (row Events) (param_hit_front index_tails name (codes "events") ends_index text t.0 t.1
+    ∙ text_hit (codes "/events") (row Events) (is_text (codes "/events") refl))

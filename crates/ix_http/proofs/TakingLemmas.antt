@@ -1,5 +1,6 @@
 -- What is taken behind a head, piece by piece.
-use Rattle.std.proofs.Common.{◌≡◌, ℕ, ◌+◌, ◌-◌, ◌<◌, ◌≤◌, List, [], ◌++◌, length, take, drop, refl, sym, ap, ◌∙◌, arith, append_assoc, length-append}
+use Rattle.std.proofs.Common.{◌≡◌, ℕ, ◌+◌, ◌-◌, ◌<◌, ◌≤◌, List, [], ◌++◌, length, take, drop, refl, sym, ap, ◌∙◌, arith, append_assoc}
+use Rattle.std.proofs.Common.{length-append}
 use Rattle.std.proofs.lemmas.List.{append-nil, length-take-le}
 use Rattle.std.specs.Prelude.{Option, Some, None, IfSome}
 use Rattle.std.proofs.lemmas.List.{take-append-drop, take-append-le}
@@ -14,7 +15,8 @@ part_nothing n None = tt
 part_nothing n (Some x) = ([], refl, omega arith)
 
 -- one more piece
-pub part_more : (n rest k : ℕ) (piece : List ℕ) → k ≤ length piece → k ≤ rest → (old mid new : List ℕ) → TakesPart n rest old mid → Took (take k piece) mid new → TakesPart n (rest - k) old new
+pub part_more : (n rest k : ℕ) (piece : List ℕ) → k ≤ length piece → k ≤ rest → (old mid new : List ℕ) → TakesPart n rest old mid →
+    Took (take k piece) mid new → TakesPart n (rest - k) old new
 part_more n rest k piece inside fits old mid new part took =
     let size = length-append part.0 (take k piece) in
     let len = length-take-le k piece inside in (
@@ -30,7 +32,8 @@ pub part_some : (n rest : ℕ) (old new : List ℕ) → TakesPart n rest old new
 part_some n rest old new part = (part.0, part.1)
 
 -- the link ended behind what was taken
-pub part_cut : (n rest : ℕ) → 0 < rest → (x y z : Option (List ℕ)) → Told (TakesPart n rest) x y → IfSome y (λ bytes. bytes ≡ []) → Told (Took []) y z → Told (EndsBefore n) x z
+pub part_cut : (n rest : ℕ) → 0 < rest → (x y z : Option (List ℕ)) → Told (TakesPart n rest) x y → IfSome y (λ bytes. bytes ≡ []) →
+    Told (Took []) y z → Told (EndsBefore n) x z
 part_cut n rest some None None None p q r = tt
 part_cut n rest some None None (Some z) p q r = absurd r
 part_cut n rest some None (Some y) z p q r = absurd p
@@ -41,7 +44,8 @@ part_cut n rest some (Some x) (Some y) (Some z) p q r =
     (omega (arith, len, p.2, some), sym r ∙ q)
 
 -- the same of a buffer
-pub fill_cut : (part : List ℕ) (n : ℕ) → length part < n → (x y z : Option (List ℕ)) → Told (Took part) x y → IfSome y (λ bytes. bytes ≡ []) → Told (Took []) y z → Told (EndsBefore n) x z
+pub fill_cut : (part : List ℕ) (n : ℕ) → length part < n → (x y z : Option (List ℕ)) → Told (Took part) x y →
+    IfSome y (λ bytes. bytes ≡ []) → Told (Took []) y z → Told (EndsBefore n) x z
 fill_cut part n less None None None p q r = tt
 fill_cut part n less None None (Some z) p q r = absurd r
 fill_cut part n less None (Some y) z p q r = absurd p
@@ -60,14 +64,16 @@ took_some part old new took = (part, took)
 
 -- ---- a part of a buffer that was read into: `whole` is the buffer behind that
 
-part_len : (a : ℕ) (xs ys whole : List ℕ) → a ≤ length xs → take (a + length ys) whole ≡ take a xs ++ ys → length (take (a + length ys) whole) ≡ a + length ys
+part_len : (a : ℕ) (xs ys whole : List ℕ) → a ≤ length xs → take (a + length ys) whole ≡ take a xs ++ ys →
+    length (take (a + length ys) whole) ≡ a + length ys
 part_len a xs ys whole inside is =
     let text = ap length is in
     let size = length-append (take a xs) ys in
     let front = length-take-le a xs inside in
     omega (arith, text, size, front)
 
-pub filled : (a k : ℕ) (xs ys whole : List ℕ) → a ≤ length xs → k ≤ length ys → take (a + length ys) whole ≡ take a xs ++ ys → take (a + k) whole ≡ take a xs ++ take k ys
+pub filled : (a k : ℕ) (xs ys whole : List ℕ) → a ≤ length xs → k ≤ length ys → take (a + length ys) whole ≡ take a xs ++ ys →
+    take (a + k) whole ≡ take a xs ++ take k ys
 filled a k xs ys whole inside fits is =
     let m : ℕ = a + length ys in
     let front = length-take-le a xs inside in
@@ -78,7 +84,8 @@ filled a k xs ys whole inside fits is =
     ∙ take_over (take a xs) ys (a + k) (omega (arith, front))
     ∙ ap (λ n. take a xs ++ take n ys) (omega (arith, front))
 
-pub fill_inside : (a k : ℕ) (xs ys whole : List ℕ) → a ≤ length xs → k ≤ length ys → take (a + length ys) whole ≡ take a xs ++ ys → a + k ≤ length whole
+pub fill_inside : (a k : ℕ) (xs ys whole : List ℕ) → a ≤ length xs → k ≤ length ys → take (a + length ys) whole ≡ take a xs ++ ys →
+    a + k ≤ length whole
 fill_inside a k xs ys whole inside fits is =
     let len = part_len a xs ys whole inside is in
     let size = length-append (take (a + length ys) whole) (drop (a + length ys) whole) in

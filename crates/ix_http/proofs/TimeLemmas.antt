@@ -57,7 +57,8 @@ parses text h =
     let same = sign_is text h in
     let size = ap (digits_value 10) same in (
       rw same ((le_from 1 (length (digits_in text)) some.0, all)),
-      fits_signed_from_abs w64 _ (rw (abs_sign (starts_with_minus text) (digits_value 10 (without_leading_sign text))) (omega (arith, size, value))),
+      fits_signed_from_abs w64 _ (rw (abs_sign (starts_with_minus text) (digits_value 10 (without_leading_sign text)))
+          (omega (arith, size, value))),
     )
   where
     le_from : (m n : ℕ) → nat_le m n ≡ true → m ≤ n

@@ -9,7 +9,8 @@ use Rattle.ix_heads.specs.Lengths.{declared_length}
 use Rattle.ix_http.specs.declared.kinds.HttpFault.{HttpFault}
 use Rattle.ix_http.specs.declared.kinds.HttpFault.TheVariants.{BadHead, WrongMethod, NoLength, Encoded, TooLong}
 use Rattle.ix_http.specs.Routes.{Route, channel, blocks, end, acks, buckets, events, route_of, path_of}
-use Rattle.ix_http.specs.Verdicts.{method_of, limit_of, needs_length, is_missing, body_length, is_good, is_chunked, delimited_length, route_fault, head_fault}
+use Rattle.ix_http.specs.Verdicts.{method_of, limit_of, needs_length, is_missing, body_length, is_good, is_chunked, delimited_length}
+use Rattle.ix_http.specs.Verdicts.{route_fault, head_fault}
 
 without : (b : Bool) (x : Option HttpFault) (f : HttpFault) → cond b (Some f) x ≡ None → (b ≡ false) × (x ≡ None)
 without true x f h = cc
@@ -55,4 +56,5 @@ open_faulty h unsaid none = by (route_of (path_of h.target)) good.1
         let encoded = without (has_other (codes "content-encoding") (codes "identity") h.lines) _ Encoded length.1 in
         let size = without (nat_lt (limit_of r) (body_length h)) _ TooLong encoded.1 in
         closed (is_good h) (is_chunked h) (nat_le (body_length h) 1048576) (body_length h) (not_false (is_good h) good.0)
-        (or_false (is_chunked h) (needs_length r && is_missing (declared_length h.lines)) length.0) (within (body_length h) (limit_of r) (limit_most r) size.0) unsaid
+        (or_false (is_chunked h) (needs_length r && is_missing (declared_length h.lines)) length.0)
+        (within (body_length h) (limit_of r) (limit_most r) size.0) unsaid

@@ -1,5 +1,6 @@
 -- What is asked by the bytes at the front of a link, and how many of them that takes.
-use Rattle.std.specs.Prelude.{◌≡◌, ◌<◌, ◌⊎◌, ℕ, List, [], ◌++◌, length, true, false, Option, Some, None, Result, Ok, Err, option_map, option_and_then}
+use Rattle.std.specs.Prelude.{◌≡◌, ◌<◌, ◌⊎◌, ℕ, List, [], ◌++◌, length, true, false, Option, Some, None, Result, Ok, Err, option_map}
+use Rattle.std.specs.Prelude.{option_and_then}
 use Rattle.httparse.specs.Grammar.{RequestHead}
 use Rattle.ix_heads.specs.Heads.{Heading, heading, HasHead, IsHeadless, IsCut, TakesSome}
 use Rattle.ix_heads.specs.declared.faults.LinkFault.{LinkFault}
@@ -24,7 +25,8 @@ or_refused fault (Some ask) = Asked ask
 
 -- what a request without a fault of its head asks, by its route, its query and its body
 unfoldable pub asked_of : Route → List ℕ → List ℕ → Incoming
-asked_of (routes.channel name) query body = or_refused BadBody (option_map (λ meta. Begin name meta) (option_and_then meta_of (json_of body)))
+asked_of (routes.channel name) query body = or_refused BadBody
+    (option_map (λ meta. Begin name meta) (option_and_then meta_of (json_of body)))
 asked_of (routes.blocks name) query body = Asked (Block name body)
 asked_of (routes.end name) query body = Asked (End name)
 asked_of routes.acks query body = or_refused BadBody (option_map (λ a. Acks a.0 a.1) (option_and_then acks_of (json_of body)))
@@ -49,8 +51,8 @@ judged h body = by_fault (head_fault h) (route_of (path_of h.target)) (query_of 
 abbrev pub TakesBody : ℕ → List ℕ → List ℕ → List ℕ → Type 0
 TakesBody n body old new = (old ≡ body ++ new) × (length body ≡ n)
 
--- what a head and the bytes behind it come to: a request whose end is not known is refused behind its head, and
--- one whose end is known is judged with its whole body
+-- what a head and the bytes behind it come to: a request whose end is not known is refused behind
+-- its head, and one whose end is known is judged with its whole body
 abbrev pub Follows : Option ℕ → Heading → Incoming → List ℕ → List ℕ → Type 0
 Follows None h incoming old new =
     (fault : HttpFault) × (head_fault h ≡ Some fault) × (incoming ≡ Refused fault false) × (new ≡ old)

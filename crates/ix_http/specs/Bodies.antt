@@ -1,5 +1,6 @@
 -- What the bodies of requests say, over the values that `serde_json` reads of them.
-use Rattle.std.specs.Prelude.{◌≡◌, ℕ, ◌&&◌, ◌||◌, Bool, true, false, List, [], ◌∷◌, length, Option, Some, None, codes, if◌then◌else◌, nat_le, option_map, option_and_then}
+use Rattle.std.specs.Prelude.{◌≡◌, ℕ, ◌&&◌, ◌||◌, Bool, true, false, List, [], ◌∷◌, length, Option, Some, None, codes, if◌then◌else◌}
+use Rattle.std.specs.Prelude.{nat_le, option_map, option_and_then}
 use Rattle.std.specs.Str.{bytes_eq, IsUtf8, is_utf8}
 use Rattle.serde_json.specs.Data.{Data, null, boolean, number, string, array, object, Items, no_items, item, Members, no_members, member}
 use Rattle.serde_json.specs.Find.{get, as_str, as_u64, as_number, as_array}
@@ -36,7 +37,8 @@ abbrev pub short_text : Data → Option (List ℕ)
 short_text d =
     option_and_then (λ s. if nat_le 1 (length s) && nat_le (length s) 1024 then Some s else None) (as_str d)
 
--- a member that may be absent: the text, or none; the whole is none where the member is no such text
+-- a member that may be absent: the text, or none; the whole is none where the member is no such
+-- text
 abbrev pub wanted : Option Data → Option (Option (List ℕ))
 wanted None = Some None
 wanted (Some d) = option_map (λ s. Some s) (short_text d)

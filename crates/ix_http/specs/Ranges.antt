@@ -1,5 +1,6 @@
 -- The range that a query names, over the pairs that `form_urlencoded` reads of it.
-use Rattle.std.specs.Prelude.{ℕ, ℤ, ◌&&◌, Bool, List, [], ◌∷◌, length, drop, map, Option, Some, None, is_some, codes, if◌then◌else◌, nat_le, option_map, option_and_then}
+use Rattle.std.specs.Prelude.{ℕ, ℤ, ◌&&◌, Bool, List, [], ◌∷◌, length, drop, map, Option, Some, None, is_some, codes, if◌then◌else◌}
+use Rattle.std.specs.Prelude.{nat_le, option_map, option_and_then}
 use Rattle.std.specs.List.{list_all}
 use Rattle.std.specs.Char.{is_ascii_digit}
 use Rattle.std.specs.Str.{bytes_eq}

@@ -1,5 +1,6 @@
 -- The routes of the service: the path of a target, and what it names.
-use Rattle.std.specs.Prelude.{◌≡◌, ◌-◌, ◌&&◌, ◌||◌, ◌==◌, ℕ, Bool, true, not, nat_le, List, ◌++◌, length, take, drop, Option, Some, None, codes, if◌then◌else◌, ◌↔◌, ⊤}
+use Rattle.std.specs.Prelude.{◌≡◌, ◌-◌, ◌&&◌, ◌||◌, ◌==◌, ℕ, Bool, true, not, nat_le, List, ◌++◌, length, take, drop, Option, Some, None}
+use Rattle.std.specs.Prelude.{codes, if◌then◌else◌, ◌↔◌, ⊤}
 use Rattle.std.specs.List.{list_all, list_any, before_first, after_first}
 use Rattle.std.specs.Char.{is_ascii_alphanumeric}
 use Rattle.std.specs.Str.{bytes_eq}

@@ -5,7 +5,8 @@ ghost use Rattle.std.specs.List.{list_all};
 ghost use Rattle.std.specs.BTreeMap.{keys};
 ghost use Rattle.serde_json.specs.Find.{as_object};
 ghost use Rattle.serde_json.specs.View.{view, items_view};
-ghost use Rattle.ix_http.specs.Bodies.{json_of, short_text, wanted, is_meta_name, is_acks_name, is_object_of, meta_of, acks_of, acks_parts, IsJson, u64_of, numbers_in, numbers_of};
+ghost use Rattle.ix_http.specs.Bodies.{json_of, short_text, wanted, is_meta_name, is_acks_name, is_object_of, meta_of, acks_of, acks_parts};
+ghost use Rattle.ix_http.specs.Bodies.{IsJson, u64_of, numbers_in, numbers_of};
 ghost use Rattle.ix_http.specs.Texts.{texts_meta};
 
 use ix_base::{Bytes, ChannelMeta, NoMemory, NumberList};

@@ -1,12 +1,13 @@
-//! A link that gathers what is written to it, so that a short reply goes out at once. `write_reply` makes one.
+//! A link that gathers what is written to it, so that a short reply goes out at once. `write_reply`
+//! makes one.
 
 ghost use Rattle.std.specs.Prelude.{◌≡◌, ◌≤◌, ℕ, List, [], Option, Some, None};
 ghost use Rattle.ix_base.specs.Faults.{Rose};
-ghost use Rattle.ix_link.specs.Links.{Standing};
+ghost use Rattle.ix_net.specs.Links.{Standing};
 
 use arrayvec::ArrayVec;
 use ix_base::Failed;
-use ix_link::Link;
+use ix_net::Link;
 
 /// How many bytes are gathered at the most.
 const ROOM: usize = 1024;

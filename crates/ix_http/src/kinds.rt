@@ -7,11 +7,12 @@ use ix_base::{Bytes, ChannelMeta, NumberList, Range};
 use std::fmt;
 use thiserror::Error;
 
-/// Why a request is refused. Where several causes stand together, the first one in this order is answered.
+/// Why a request is refused. Where several causes stand together, the first one in this order is
+/// answered.
 #[derive(Clone, Copy, Debug, PartialEq, Eq, Error)]
 pub enum HttpFault {
-    /// No head of HTTP/1.0 or 1.1, more than 64 header lines, two `Content-Length` lines, or one that is not 1 to 10
-    /// digits.
+    /// No head of HTTP/1.0 or 1.1, more than 64 header lines, two `Content-Length` lines, or one
+    /// that is not 1 to 10 digits.
     BadHead,
     /// The path names nothing.
     NoRoute,
@@ -23,7 +24,8 @@ pub enum HttpFault {
     Encoded,
     /// The body is longer than the path allows.
     TooLong,
-    /// The query has a name other than `earliest` and `latest`, one of them twice, or a value that is no time.
+    /// The query has a name other than `earliest` and `latest`, one of them twice, or a value that
+    /// is no time.
     BadQuery,
     /// The body is no JSON, or not of the form.
     BadBody,
@@ -114,7 +116,8 @@ pub enum Incoming {
     Refused {
         /// Why.
         fault: HttpFault,
-        /// Whether it is known where the request ends. Then all of it was read, and another one may follow.
+        /// Whether it is known where the request ends. Then all of it was read, and another one may
+        /// follow.
         delimited: bool,
     },
 }

@@ -1,5 +1,5 @@
-//! Requests and replies: a request is read from a link and judged, and a reply is written to it. Whoever serves a store
-//! over links calls these two.
+//! Requests and replies: a request is read from a link and judged, and a reply is written to it.
+//! Whoever serves a store over links calls these two.
 #![tactic(auto)]
 
 mod asks;
@@ -8,7 +8,7 @@ mod gather;
 mod kinds;
 mod places;
 mod ranges;
-#[tactic(auto, using(ix_link::proofs::GoesLemmas::goings))]
+#[tactic(auto, using(ix_net::proofs::GoesLemmas::goings))]
 mod replies;
 mod requests;
 mod router;

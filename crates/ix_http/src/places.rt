@@ -98,8 +98,9 @@ pub(crate) fn place_of<'b>(routes: &Routes, path: &'b str) -> Option<Place<'b>>
     }
 }
 
-/// A law of the routes: a path names a channel, its blocks or its end, the acknowledgements, the buckets or the events of an
-/// index exactly where it is spelled as the manual says, with a name of the form.
+/// A law of the routes: a path names a channel, its blocks or its end, the acknowledgements, the
+/// buckets or the events of an index exactly where it is spelled as the manual says, with a name of
+/// the form.
 pub fn routes_are_exact()
     ensures { RoutesAreExact }
 {}

@@ -3,7 +3,7 @@
 ghost use Rattle.std.specs.Prelude.{◌≡◌, ◌≤◌, ◌<◌, ℕ, [], ◌++◌, length, OnOk, OnErr, decimal, option_map};
 ghost use Rattle.ix_base.specs.Faults.{HasCause, Rose};
 ghost use Rattle.ix_base.specs.Told.{HasWritten, HasBegun};
-ghost use Rattle.ix_link.specs.Links.{Goes};
+ghost use Rattle.ix_net.specs.Links.{LinkStep};
 ghost use Rattle.ix_http.specs.Replies.{reason_of, phrase_of, type_of, status_line, header_lines, reply_text};
 
 use crate::gather::Gather;
@@ -11,7 +11,7 @@ use crate::kinds::Kind;
 use http::StatusCode;
 use itoa::Buffer;
 use ix_base::Failed;
-use ix_link::Link;
+use ix_net::Link;
 
 /// The canonical phrase of a status, where it has one.
 #[tactic(auto, using(std::proofs::lemmas::Bool::Decides::nat_tests), unfolding(crate::specs::Replies::reason_of))]
@@ -48,7 +48,7 @@ fn put_number<K: Link>(link: &mut K, number: u64) -> Result<(), Failed>
     ensures written { OnOk result (HasWritten (decimal number) (K.given link.old) (K.given link.new)) }
     ensures begun { OnErr result (HasBegun (decimal number) (K.given link.old) (K.given link.new)) }
     ensures left { K.left link.new ≡ K.left link.old }
-    ensures goes { Goes (K.standing link.old) (K.standing link.new) }
+    ensures goes { LinkStep (K.standing link.old) (K.standing link.new) }
     ensures side { OnErr result (Rose (K.standing link.old).writing (K.standing link.new).writing) }
     ensures cause { HasCause (K.faults link.old) (K.faults link.new) result }
 {
@@ -61,7 +61,7 @@ fn put_code<K: Link>(link: &mut K, status: u16) -> Result<(), Failed>
     ensures written { OnOk result (HasWritten (decimal status) (K.given link.old) (K.given link.new)) }
     ensures begun { OnErr result (HasBegun (decimal status) (K.given link.old) (K.given link.new)) }
     ensures left { K.left link.new ≡ K.left link.old }
-    ensures goes { Goes (K.standing link.old) (K.standing link.new) }
+    ensures goes { LinkStep (K.standing link.old) (K.standing link.new) }
     ensures side { OnErr result (Rose (K.standing link.old).writing (K.standing link.new).writing) }
     ensures cause { HasCause (K.faults link.old) (K.faults link.new) result }
 {
@@ -74,7 +74,7 @@ fn put_phrase<K: Link>(link: &mut K, status: u16) -> Result<(), Failed>
     ensures written { OnOk result (HasWritten (phrase_of status) (K.given link.old) (K.given link.new)) }
     ensures begun { OnErr result (HasBegun (phrase_of status) (K.given link.old) (K.given link.new)) }
     ensures left { K.left link.new ≡ K.left link.old }
-    ensures goes { Goes (K.standing link.old) (K.standing link.new) }
+    ensures goes { LinkStep (K.standing link.old) (K.standing link.new) }
     ensures side { OnErr result (Rose (K.standing link.old).writing (K.standing link.new).writing) }
     ensures cause { HasCause (K.faults link.old) (K.faults link.new) result }
 {
@@ -86,7 +86,7 @@ fn put_type<K: Link>(link: &mut K, kind: Kind) -> Result<(), Failed>
     ensures written { OnOk result (HasWritten (type_of kind) (K.given link.old) (K.given link.new)) }
     ensures begun { OnErr result (HasBegun (type_of kind) (K.given link.old) (K.given link.new)) }
     ensures left { K.left link.new ≡ K.left link.old }
-    ensures goes { Goes (K.standing link.old) (K.standing link.new) }
+    ensures goes { LinkStep (K.standing link.old) (K.standing link.new) }
     ensures side { OnErr result (Rose (K.standing link.old).writing (K.standing link.new).writing) }
     ensures cause { HasCause (K.faults link.old) (K.faults link.new) result }
 {
@@ -98,7 +98,7 @@ fn put_status<K: Link>(link: &mut K, status: u16) -> Result<(), Failed>
     ensures written { OnOk result (HasWritten (status_line status) (K.given link.old) (K.given link.new)) }
     ensures begun { OnErr result (HasBegun (status_line status) (K.given link.old) (K.given link.new)) }
     ensures left { K.left link.new ≡ K.left link.old }
-    ensures goes { Goes (K.standing link.old) (K.standing link.new) }
+    ensures goes { LinkStep (K.standing link.old) (K.standing link.new) }
     ensures side { OnErr result (Rose (K.standing link.old).writing (K.standing link.new).writing) }
     ensures cause { HasCause (K.faults link.old) (K.faults link.new) result }
 {
@@ -114,7 +114,7 @@ fn put_headers<K: Link>(link: &mut K, length: usize, kind: Kind) -> Result<(), F
     ensures written { OnOk result (HasWritten (header_lines length kind) (K.given link.old) (K.given link.new)) }
     ensures begun { OnErr result (HasBegun (header_lines length kind) (K.given link.old) (K.given link.new)) }
     ensures left { K.left link.new ≡ K.left link.old }
-    ensures goes { Goes (K.standing link.old) (K.standing link.new) }
+    ensures goes { LinkStep (K.standing link.old) (K.standing link.new) }
     ensures side { OnErr result (Rose (K.standing link.old).writing (K.standing link.new).writing) }
     ensures cause { HasCause (K.faults link.old) (K.faults link.new) result }
 {
@@ -131,7 +131,7 @@ fn put_reply<K: Link>(link: &mut K, status: u16, kind: Kind, body: &[u8]) -> Res
     ensures written { OnOk result (HasWritten (reply_text status kind body.now) (K.given link.old) (K.given link.new)) }
     ensures begun { OnErr result (HasBegun (reply_text status kind body.now) (K.given link.old) (K.given link.new)) }
     ensures left { K.left link.new ≡ K.left link.old }
-    ensures goes { Goes (K.standing link.old) (K.standing link.new) }
+    ensures goes { LinkStep (K.standing link.old) (K.standing link.new) }
     ensures side { OnErr result (Rose (K.standing link.old).writing (K.standing link.new).writing) }
     ensures cause { HasCause (K.faults link.old) (K.faults link.new) result }
 {
@@ -141,8 +141,9 @@ fn put_reply<K: Link>(link: &mut K, status: u16, kind: Kind, body: &[u8]) -> Res
     Ok(())
 }
 
-/// Writes a reply: the status line with the phrase of the status, the length and the type of the body, `Connection: close`, and
-/// the body. A short one is one piece. Where the link fails, a front of it is written. It takes no memory.
+/// Writes a reply: the status line with the phrase of the status, the length and the type of the
+/// body, `Connection: close`, and the body. A short one is one piece. Where the link fails, a front
+/// of it is written. It takes no memory.
 pub fn write_reply<K: Link>(
     link: &mut K,
     status: u16,
@@ -152,7 +153,7 @@ pub fn write_reply<K: Link>(
     ensures written { OnOk result (HasWritten (reply_text status kind body.now) (K.given link.old) (K.given link.new)) }
     ensures begun { OnErr result (HasBegun (reply_text status kind body.now) (K.given link.old) (K.given link.new)) }
     ensures left { K.left link.new ≡ K.left link.old }
-    ensures goes { Goes (K.standing link.old) (K.standing link.new) }
+    ensures goes { LinkStep (K.standing link.old) (K.standing link.new) }
     ensures side { OnErr result (Rose (K.standing link.old).writing (K.standing link.new).writing) }
     ensures cause { HasCause (K.faults link.old) (K.faults link.new) result }
 {

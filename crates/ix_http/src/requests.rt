@@ -17,7 +17,7 @@ use crate::taking::{read_body, skip};
 use crate::verdicts::{delimited_length, head_fault, unread_fault};
 use ix_base::NoMemory;
 use ix_heads::{EMPTY_HEADER_SPAN, Head, HeadRead, LinkFault, MAX_HEAD, MAX_LINES, read_head};
-use ix_link::Link;
+use ix_net::Link;
 use std::alloc::Global;
 
 /// Reads the body of a request whose head has no fault, and what it asks.
@@ -32,7 +32,8 @@ fn read_asked<K: Link>(
     requires bound { count ≤ 1048576 }
     ensures read { Told (FitsAsked count head.now result) (K.left link.old) (K.left link.new) }
     ensures within { IfOk result IsWithin }
-    ensures reads { OnlyReads (K.given link.old) (K.given link.new) (K.standing link.old) (K.standing link.new) (K.faults link.old) (K.faults link.new) }
+    ensures reads { OnlyReads (K.given link.old) (K.given link.new) (K.standing link.old) (K.standing link.new) (K.faults link.old)
+        (K.faults link.new) }
     ensures failed { result ≡ Err LinkFault.Failed → Rose (K.faults link.old) (K.faults link.new) }
 {
     let body = read_body(alloc, link, count)?;
@@ -59,7 +60,8 @@ fn read_refused<K: Link>(
     requires { head_fault head.now ≡ Some fault }
     ensures read { Told (FitsAsked count head.now result) (K.left link.old) (K.left link.new) }
     ensures within { IfOk result IsWithin }
-    ensures reads { OnlyReads (K.given link.old) (K.given link.new) (K.standing link.old) (K.standing link.new) (K.faults link.old) (K.faults link.new) }
+    ensures reads { OnlyReads (K.given link.old) (K.given link.new) (K.standing link.old) (K.standing link.new) (K.faults link.old)
+        (K.faults link.new) }
     ensures failed { result ≡ Err LinkFault.Failed → Rose (K.faults link.old) (K.faults link.new) }
 {
     skip(link, count)?;
@@ -79,7 +81,8 @@ fn read_behind<K: Link>(
     requires { length head.now.lines ≤ 64 }
     ensures read { Told (FitsBehind head.now result) (K.left link.old) (K.left link.new) }
     ensures within { IfOk result IsWithin }
-    ensures reads { OnlyReads (K.given link.old) (K.given link.new) (K.standing link.old) (K.standing link.new) (K.faults link.old) (K.faults link.new) }
+    ensures reads { OnlyReads (K.given link.old) (K.given link.new) (K.standing link.old) (K.standing link.new) (K.faults link.old)
+        (K.faults link.new) }
     ensures failed { result ≡ Err LinkFault.Failed → Rose (K.faults link.old) (K.faults link.new) }
 {
     let Some(count) = delimited_length(head) else {
@@ -94,9 +97,10 @@ fn read_behind<K: Link>(
     }
 }
 
-/// Reads one request from a link, and takes just its bytes: the rest is left unread. Where it is known where a request
-/// ends, its body is read before it is judged. The faults are judged in the order of `HttpFault`. `Failed` comes only where
-/// the link failed, `Cut` exactly where it ended inside a request. What is asked keeps its limits, whatever the link tells.
+/// Reads one request from a link, and takes just its bytes: the rest is left unread. Where it is
+/// known where a request ends, its body is read before it is judged. The faults are judged in the
+/// order of `HttpFault`. `Failed` comes only where the link failed, `Cut` exactly where it ended
+/// inside a request. What is asked keeps its limits, whatever the link tells.
 pub fn read_request<K: Link>(
     alloc: Global,
     routes: &Routes,
@@ -104,7 +108,8 @@ pub fn read_request<K: Link>(
 ) -> Result<Incoming, LinkFault>
     ensures read { Told (Fits result) (K.left link.old) (K.left link.new) }
     ensures within { IfOk result IsWithin }
-    ensures reads { OnlyReads (K.given link.old) (K.given link.new) (K.standing link.old) (K.standing link.new) (K.faults link.old) (K.faults link.new) }
+    ensures reads { OnlyReads (K.given link.old) (K.given link.new) (K.standing link.old) (K.standing link.new) (K.faults link.old)
+        (K.faults link.new) }
     ensures failed { result ≡ Err LinkFault.Failed → Rose (K.faults link.old) (K.faults link.new) }
 {
     let mut bytes = [0u8; MAX_HEAD];

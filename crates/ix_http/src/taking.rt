@@ -8,7 +8,7 @@ ghost use Rattle.ix_http.specs.Behind.{FitsSkip, FitsFill, FitsBody};
 
 use ix_base::Bytes;
 use ix_heads::LinkFault;
-use ix_link::Link;
+use ix_net::Link;
 use std::alloc::Global;
 
 /// How many bytes are read over at once.
@@ -17,7 +17,8 @@ const PIECE: usize = 4096;
 /// Reads over so many bytes.
 pub(crate) fn skip<K: Link>(link: &mut K, count: usize) -> Result<(), LinkFault>
     ensures read { Told (FitsSkip count result) (K.left link.old) (K.left link.new) }
-    ensures reads { OnlyReads (K.given link.old) (K.given link.new) (K.standing link.old) (K.standing link.new) (K.faults link.old) (K.faults link.new) }
+    ensures reads { OnlyReads (K.given link.old) (K.given link.new) (K.standing link.old) (K.standing link.new) (K.faults link.old)
+        (K.faults link.new) }
     ensures failed { result ≡ Err LinkFault.Failed → Rose (K.faults link.old) (K.faults link.new) }
 {
     let mut piece = [0u8; PIECE];
@@ -36,7 +37,8 @@ pub(crate) fn skip<K: Link>(link: &mut K, count: usize) -> Result<(), LinkFault>
 /// Reads as many bytes as the buffer has room for.
 fn fill<K: Link>(link: &mut K, buffer: &mut [u8]) -> Result<(), LinkFault>
     ensures read { Told (FitsFill buffer.new result) (K.left link.old) (K.left link.new) }
-    ensures reads { OnlyReads (K.given link.old) (K.given link.new) (K.standing link.old) (K.standing link.new) (K.faults link.old) (K.faults link.new) }
+    ensures reads { OnlyReads (K.given link.old) (K.given link.new) (K.standing link.old) (K.standing link.new) (K.faults link.old)
+        (K.faults link.new) }
     ensures failed { result ≡ Err LinkFault.Failed → Rose (K.faults link.old) (K.faults link.new) }
 {
     let mut at = 0;
@@ -58,7 +60,8 @@ pub(crate) fn read_body<K: Link>(
 ) -> Result<Bytes, LinkFault>
     ensures read { Told (FitsBody count result) (K.left link.old) (K.left link.new) }
     ensures sized { IfOk result (λ body. length body ≡ count) }
-    ensures reads { OnlyReads (K.given link.old) (K.given link.new) (K.standing link.old) (K.standing link.new) (K.faults link.old) (K.faults link.new) }
+    ensures reads { OnlyReads (K.given link.old) (K.given link.new) (K.standing link.old) (K.standing link.new) (K.faults link.old)
+        (K.faults link.new) }
     ensures failed { result ≡ Err LinkFault.Failed → Rose (K.faults link.old) (K.faults link.new) }
 {
     let Ok(mut body) = vec![in alloc; 0u8; count] else {

@@ -3,7 +3,8 @@
 ghost use Rattle.std.specs.Prelude.{◌≡◌, ◌≤◌, ◌&&◌, length, Some, None, IfSome, bytes_eq};
 ghost use Rattle.ix_http.specs.Routes.{seen};
 ghost use Rattle.ix_heads.specs.Lengths.{declared_length};
-ghost use Rattle.ix_http.specs.Verdicts.{method_of, limit_of, needs_length, length_of, is_missing, is_wrong, is_good, is_chunked, delimited_length, route_fault, head_fault};
+ghost use Rattle.ix_http.specs.Verdicts.{method_of, limit_of, needs_length, length_of, is_missing, is_wrong, is_good, is_chunked};
+ghost use Rattle.ix_http.specs.Verdicts.{delimited_length, route_fault, head_fault};
 
 use crate::kinds::HttpFault;
 use crate::places::{Place, path_of, place_of};

@@ -1,6 +1,6 @@
 -- Reading from left to right: a value and the bytes after it, or nothing.
 use Rattle.std.specs.Prelude.{◌≡◌, ℕ, ℤ, zero, suc, List, [], ◌∷◌, Option, Some, None, Result, Ok, Err, nat_le, ◌==◌, ◌&&◌, if◌then◌else◌}
-use Rattle.ix_fields.specs.Reading.{◌>>=◌, byte_at, four_at, eight_at, signed_at, string_at, option_at}
+use Rattle.ix_coding.specs.Reading.{◌>>=◌, byte_at, four_at, eight_at, signed_at, string_at, option_at}
 use Rattle.ix_base.specs.declared.files.Area.{Area}
 use Rattle.ix_base.specs.declared.files.Area.TheVariants.{Meta, Home, Cold, Frozen, Thawed}
 use Rattle.ix_base.specs.declared.files.File.{File}
@@ -128,7 +128,20 @@ bucket_at bytes = do
   span ← span_at place.1
   used ← eight_at span.1
   touched ← signed_at used.1
-  Some (record { id = place.0.0; state = place.0.1; file = place.0.2; bytes = place.0.3; count = span.0.0; newest = span.0.1; oldest = span.0.2; used = used.0; touched = touched.0 }, touched.1)
+  Some (
+    record {
+      id = place.0.0;
+      state = place.0.1;
+      file = place.0.2;
+      bytes = place.0.3;
+      count = span.0.0;
+      newest = span.0.1;
+      oldest = span.0.2;
+      used = used.0;
+      touched = touched.0;
+    },
+    touched.1,
+  )
 
 unfoldable pub archive_of : ℕ → Option ℕ
 archive_of n = if n == 0 then None else Some n
@@ -148,7 +161,20 @@ entry_at bytes = do
   span ← span_at frozen.1
   size ← eight_at span.1
   archive ← eight_at size.1
-  Some (record { index = index.0; id = frozen.0.0; rule = frozen.0.1; moment = frozen.0.2; count = span.0.0; newest = span.0.1; oldest = span.0.2; bytes = size.0; archive = archive_of archive.0 }, archive.1)
+  Some (
+    record {
+      index = index.0;
+      id = frozen.0.0;
+      rule = frozen.0.1;
+      moment = frozen.0.2;
+      count = span.0.0;
+      newest = span.0.1;
+      oldest = span.0.2;
+      bytes = size.0;
+      archive = archive_of archive.0;
+    },
+    archive.1,
+  )
 
 unfoldable pub spot_at : List ℕ → Option (Spot × List ℕ)
 spot_at bytes = do

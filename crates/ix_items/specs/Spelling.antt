@@ -1,7 +1,7 @@
 -- The bytes of an item. Each value has one spelling.
 use Rattle.std.specs.Prelude.{◌≡◌, ◌≢◌, ℕ, ◌≤◌, List, ◌++◌, length, Option, Some, None}
 use Rattle.std.specs.List.{flat_map, AllByRecursion}
-use Rattle.ix_fields.specs.Spelling.{byte, four, eight, signed, string, option, IsShort, IsShortOption, Is64, IsSigned64}
+use Rattle.ix_coding.specs.Spelling.{byte, four, eight, signed, string, option, IsShort, IsShortOption, Is64, IsSigned64}
 use Rattle.ix_base.specs.declared.files.Area.{Area}
 use Rattle.ix_base.specs.declared.files.Area.TheVariants.{Meta, Home, Cold, Frozen, Thawed}
 use Rattle.ix_base.specs.declared.files.File.{File}
@@ -127,7 +127,8 @@ pub record IsMeta (meta : ChannelMeta) : Type 0 where
   pub sourcetype : IsShortOption meta.sourcetype
   pub index : IsShortOption meta.index
 
--- Each string and list is short, the file of each setting is 1 to 4, and no archive has the number 0.
+-- Each string and list is short, the file of each setting is 1 to 4, and no archive has the number
+-- 0.
 abbrev pub IsWritable : Item → Type 0
 IsWritable (items.Settings kept) = IsShort kept × AllByRecursion IsKept kept
 IsWritable (items.Run run) = Unit {0}

@@ -1,4 +1,5 @@
-//! Copies of what owns memory: entries of the ledger, and settings. Each fails for want of memory alone.
+//! Copies of what owns memory: entries of the ledger, and settings. Each fails for want of memory
+//! alone.
 
 ghost use Rattle.std.specs.Prelude.{◌≡◌, IfOk};
 

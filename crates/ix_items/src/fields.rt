@@ -1,14 +1,16 @@
 //! The parts of items at the front of bytes: each reader gives the value and the bytes after it.
 
 ghost use Rattle.std.specs.Prelude.{◌≡◌, ◌≢◌, ◌≤◌, ◌++◌, IfOk, IfSome, Some};
-ghost use Rattle.ix_fields.specs.Spelling.{byte, eight, signed, string, option, IsShort, IsShortOption, Is64, IsSigned64};
-ghost use Rattle.ix_fields.specs.Reading.{string_at, option_at};
-ghost use Rattle.ix_items.specs.Spelling.{area_byte, state_byte, rule_byte, archive_number, file_bytes, kept_bytes, meta_bytes, bucket_bytes, entry_bytes, spot_bytes, IsKept, IsMeta, BucketInRange, EntryInRange};
-ghost use Rattle.ix_items.specs.Reading.{Gives, area_of, state_of, rule_of, archive_of, coded_at, file_at, file_number_at, kept_at, meta_at, span_at, place_at, bucket_at, frozen_at, entry_at, spot_at};
+ghost use Rattle.ix_coding.specs.Spelling.{byte, eight, signed, string, option, IsShort, IsShortOption, Is64, IsSigned64};
+ghost use Rattle.ix_coding.specs.Reading.{string_at, option_at};
+ghost use Rattle.ix_items.specs.Spelling.{area_byte, state_byte, rule_byte, archive_number, file_bytes, kept_bytes, meta_bytes};
+ghost use Rattle.ix_items.specs.Spelling.{bucket_bytes, entry_bytes, spot_bytes, IsKept, IsMeta, BucketInRange, EntryInRange};
+ghost use Rattle.ix_items.specs.Reading.{Gives, area_of, state_of, rule_of, archive_of, coded_at, file_at, file_number_at, kept_at};
+ghost use Rattle.ix_items.specs.Reading.{meta_at, span_at, place_at, bucket_at, frozen_at, entry_at, spot_at};
 
 use crate::items::{Bucket, Entry, ItemFault, Kept, Rule, State};
 use ix_base::{Area, Bytes, ChannelMeta, File, Spot};
-use ix_fields::{read_byte, read_i64, read_option, read_string, read_u64};
+use ix_coding::{read_byte, read_i64, read_option, read_string, read_u64};
 use std::alloc::Global;
 
 /// Reads a string, and copies it.

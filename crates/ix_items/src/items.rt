@@ -4,11 +4,11 @@ ghost use Rattle.std.specs.Prelude.{◌≡◌};
 ghost use Rattle.ix_items.specs.declared.items.ItemFault.TheVariants as faults;
 
 use ix_base::{Bytes, ChannelMeta, File, NoMemory as OutOfMemory, Sequence, Spot};
-use ix_fields::BadField;
+use ix_coding::BadField;
 use thiserror::Error;
 
-/// What a bucket does: a hot one and a quarantine take events, a warm one and a cold one are kept, a thawed one was
-/// brought back from its archive.
+/// What a bucket does: a hot one and a quarantine take events, a warm one and a cold one are kept,
+/// a thawed one was brought back from its archive.
 #[derive(Clone, Copy, Debug, PartialEq, Eq)]
 pub enum State {
     Hot,
@@ -18,7 +18,8 @@ pub enum State {
     Thawed,
 }
 
-/// A bucket: a file that begins with records of events. Times are microseconds since 1970-01-01T00:00:00Z.
+/// A bucket: a file that begins with records of events. Times are microseconds since
+/// 1970-01-01T00:00:00Z.
 #[derive(Clone, Copy, Debug, PartialEq, Eq)]
 pub struct Bucket {
     /// Its number in its index.
@@ -40,7 +41,8 @@ pub struct Bucket {
     pub touched: i64,
 }
 
-/// Why a bucket was frozen: the age of its events, the bytes of the cold buckets, or the bytes of all buckets.
+/// Why a bucket was frozen: the age of its events, the bytes of the cold buckets, or the bytes of
+/// all buckets.
 #[derive(Clone, Copy, Debug, PartialEq, Eq)]
 pub enum Rule {
     Age,
@@ -63,7 +65,8 @@ pub struct Entry {
     pub oldest: i64,
     /// How many bytes its records had.
     pub bytes: u64,
-    /// The number of the archive's file, or `None` where the bucket was deleted. No archive has the number 0.
+    /// The number of the archive's file, or `None` where the bucket was deleted. No archive has the
+    /// number 0.
     pub archive: Option<u64>,
 }
 
@@ -94,7 +97,8 @@ pub enum Item {
     Run {
         run: u64,
     },
-    /// The moments of the last command and of the last Tick, in microseconds since 1970-01-01T00:00:00Z.
+    /// The moments of the last command and of the last Tick, in microseconds since
+    /// 1970-01-01T00:00:00Z.
     Moments {
         last: i64,
         tick: i64,

@@ -2,8 +2,8 @@
 
 ghost use Rattle.ix_items.specs.Spelling.{HaveOneItem, HaveOneList};
 
-/// No item is a proper prefix of another, and no two items have the same bytes: bytes have at most one item at their
-/// front.
+/// No item is a proper prefix of another, and no two items have the same bytes: bytes have at most
+/// one item at their front.
 pub fn one_item()
     ensures { HaveOneItem }
 {}

@@ -1,14 +1,15 @@
-//! The fields of items, put behind what stands in a list of bytes. Where there is no room, a part of the field may
-//! stand there.
+//! The fields of items, put behind what stands in a list of bytes. Where there is no room, a part
+//! of the field may stand there.
 
 ghost use Rattle.std.specs.Prelude.{◌≡◌, ◌++◌, OnOk};
-ghost use Rattle.ix_fields.specs.Spelling.{byte, eight, signed, string, IsShort};
-ghost use Rattle.ix_fields.specs.Writing.{Extends};
-ghost use Rattle.ix_items.specs.Spelling.{area_byte, state_byte, rule_byte, archive_number, file_bytes, kept_bytes, meta_bytes, bucket_bytes, entry_bytes, spot_bytes, IsKept, IsMeta};
+ghost use Rattle.ix_coding.specs.Spelling.{byte, eight, signed, string, IsShort};
+ghost use Rattle.ix_coding.specs.Writing.{Extends};
+ghost use Rattle.ix_items.specs.Spelling.{area_byte, state_byte, rule_byte, archive_number, file_bytes, kept_bytes, meta_bytes};
+ghost use Rattle.ix_items.specs.Spelling.{bucket_bytes, entry_bytes, spot_bytes, IsKept, IsMeta};
 
 use crate::items::{Bucket, Entry, Kept, Rule, State};
 use ix_base::{Area, Bytes, ChannelMeta, File, NoMemory, Spot};
-use ix_fields::{put_byte, put_i64, put_option, put_string, put_u64};
+use ix_coding::{put_byte, put_i64, put_option, put_string, put_u64};
 
 fn byte_of_area(area: Area) -> u8
     ensures { result ≡ area_byte area }
@@ -85,7 +86,8 @@ pub fn put_meta(meta: &ChannelMeta, out: &mut Bytes) -> Result<(), NoMemory>
 }
 
 fn put_bucket_size(bucket: &Bucket, out: &mut Bytes) -> Result<(), NoMemory>
-    ensures ok { OnOk result (out.new ≡ out.old ++ (eight bucket.now.id ++ byte (state_byte bucket.now.state) ++ file_bytes bucket.now.file ++ eight bucket.now.bytes ++ eight bucket.now.count)) }
+    ensures ok { OnOk result (out.new ≡ out.old ++ (eight bucket.now.id ++ byte (state_byte bucket.now.state) ++ file_bytes bucket.now.file
+        ++ eight bucket.now.bytes ++ eight bucket.now.count)) }
     ensures begun { Extends out.old out.new }
 {
     put_u64(bucket.id, out)?;
@@ -97,7 +99,8 @@ fn put_bucket_size(bucket: &Bucket, out: &mut Bytes) -> Result<(), NoMemory>
 }
 
 fn put_bucket_times(bucket: &Bucket, out: &mut Bytes) -> Result<(), NoMemory>
-    ensures ok { OnOk result (out.new ≡ out.old ++ (signed bucket.now.newest ++ signed bucket.now.oldest ++ eight bucket.now.used ++ signed bucket.now.touched)) }
+    ensures ok { OnOk result (out.new ≡ out.old ++ (signed bucket.now.newest ++ signed bucket.now.oldest ++ eight bucket.now.used
+        ++ signed bucket.now.touched)) }
     ensures begun { Extends out.old out.new }
 {
     put_i64(bucket.newest, out)?;
@@ -119,7 +122,8 @@ pub fn put_bucket(bucket: &Bucket, out: &mut Bytes) -> Result<(), NoMemory>
 
 fn put_entry_name(entry: &Entry, out: &mut Bytes) -> Result<(), NoMemory>
     requires { IsShort entry.now.index }
-    ensures ok { OnOk result (out.new ≡ out.old ++ (string entry.now.index ++ eight entry.now.id ++ byte (rule_byte entry.now.rule) ++ signed entry.now.moment)) }
+    ensures ok { OnOk result (out.new ≡ out.old ++ (string entry.now.index ++ eight entry.now.id ++ byte (rule_byte entry.now.rule)
+        ++ signed entry.now.moment)) }
     ensures begun { Extends out.old out.new }
 {
     put_string(entry.index.as_slice(), out)?;
@@ -130,7 +134,8 @@ fn put_entry_name(entry: &Entry, out: &mut Bytes) -> Result<(), NoMemory>
 }
 
 fn put_entry_size(entry: &Entry, out: &mut Bytes) -> Result<(), NoMemory>
-    ensures ok { OnOk result (out.new ≡ out.old ++ (eight entry.now.count ++ signed entry.now.newest ++ signed entry.now.oldest ++ eight entry.now.bytes ++ eight (archive_number entry.now.archive))) }
+    ensures ok { OnOk result (out.new ≡ out.old ++ (eight entry.now.count ++ signed entry.now.newest ++ signed entry.now.oldest
+        ++ eight entry.now.bytes ++ eight (archive_number entry.now.archive))) }
     ensures begun { Extends out.old out.new }
 {
     put_u64(entry.count, out)?;

@@ -1,19 +1,21 @@
 //! Reading items.
 
 ghost use Rattle.std.specs.Prelude.{◌≡◌, ◌≢◌, ℕ, ◌<◌, ◌≤◌, ◌++◌, List, length, take, IfOk, Err};
-ghost use Rattle.ix_fields.specs.Spelling.{eight, string, IsShort, Is64};
+ghost use Rattle.ix_coding.specs.Spelling.{eight, string, IsShort, Is64};
 ghost use Rattle.std.specs.List.{flat_map, AllByRecursion};
 ghost use Rattle.ix_items.specs.declared.items.Item.{Item};
 ghost use Rattle.ix_items.specs.declared.items.ItemFault.{ItemFault};
-ghost use Rattle.ix_items.specs.Spelling.{item_bytes, kind_byte, field_bytes, file_bytes, kept_bytes, settings_bytes, files_bytes, IsWritable, IsKept, HasSpelling, IsInRange};
-ghost use Rattle.ix_items.specs.Reading.{Gives, settings_at, files_at, moments_at, channel_at, counts_at, in_index_at, named_at, fields_at, item_at, list_at, kept_at, file_at};
+ghost use Rattle.ix_items.specs.Spelling.{item_bytes, kind_byte, field_bytes, file_bytes, kept_bytes, settings_bytes, files_bytes};
+ghost use Rattle.ix_items.specs.Spelling.{IsWritable, IsKept, HasSpelling, IsInRange};
+ghost use Rattle.ix_items.specs.Reading.{Gives, settings_at, files_at, moments_at, channel_at, counts_at, in_index_at, named_at, fields_at};
+ghost use Rattle.ix_items.specs.Reading.{item_at, list_at, kept_at, file_at};
 
 use crate::fields::{
     copy_string, read_bucket, read_entry, read_file, read_kept, read_meta, read_spot,
 };
 use crate::items::{FileList, Item, ItemFault, KeptList};
 use ix_base::{Bytes, Sequence};
-use ix_fields::{read_byte, read_i64, read_u32, read_u64};
+use ix_coding::{read_byte, read_i64, read_u32, read_u64};
 use std::alloc::Global;
 
 fn read_kept_list(alloc: Global, count: u32, bytes: &[u8]) -> Result<(KeptList, &[u8]), ItemFault>
@@ -194,16 +196,17 @@ fn read_front(alloc: Global, bytes: &[u8]) -> Result<(Item, &[u8]), ItemFault>
     Ok((item, rest))
 }
 
-/// Reads the item at the front of the bytes, and how many bytes it takes. Any bytes may stand behind it. It fails with
-/// `BadItem` exactly where no prefix of the bytes is an item. Beside the copies of its strings it takes memory for the
-/// values of its list alone.
+/// Reads the item at the front of the bytes, and how many bytes it takes. Any bytes may stand
+/// behind it. It fails with `BadItem` exactly where no prefix of the bytes is an item. Beside the
+/// copies of its strings it takes memory for the values of its list alone.
 pub fn read_item(alloc: Global, bytes: &[u8]) -> Result<(Item, usize), ItemFault>
     // So many bytes are the item's.
     ensures found { IfOk result (λ x. (0 < x.1) × (x.1 ≤ length bytes.now) × (take x.1 bytes.now ≡ item_bytes x.0) × HasSpelling x.0) }
     // No prefix is an item.
     ensures none { result ≡ Err ItemFault.BadItem → (item : Item) (rest : List ℕ) → HasSpelling item → bytes.now ≢ item_bytes item ++ rest }
     // The item that stands at the front is read, whatever follows it.
-    ensures again { (item : Item) (rest : List ℕ) → HasSpelling item → bytes.now ≡ item_bytes item ++ rest → IfOk result (λ x. (x.0 ≡ item) × (x.1 ≡ length (item_bytes item))) }
+    ensures again { (item : Item) (rest : List ℕ) → HasSpelling item → bytes.now ≡ item_bytes item ++ rest →
+        IfOk result (λ x. (x.0 ≡ item) × (x.1 ≡ length (item_bytes item))) }
 {
     let (item, rest) = read_front(alloc, bytes)?;
     Ok((item, bytes.len() - rest.len()))

@@ -1,9 +1,10 @@
-//! Whether items can be written: no text or list in them is too long for the four bytes of its length, and the numbers of files and archives
-//! are such as a log has. Who makes items of what callers send asks these calls first, since `write_item` takes none that cannot be written.
+//! Whether items can be written: no text or list in them is too long for the four bytes of its
+//! length, and the numbers of files and archives are such as a log has. Who makes items of what
+//! callers send asks these calls first, since `write_item` takes none that cannot be written.
 
 ghost use Rattle.std.specs.Prelude.{◌≡◌, ◌≢◌, ◌↔◌, All, IsTrue, Some};
 ghost use Rattle.std.specs.List.{AllByRecursion};
-ghost use Rattle.ix_fields.specs.Spelling.{IsShort as IsShortText, IsShortOption};
+ghost use Rattle.ix_coding.specs.Spelling.{IsShort as IsShortText, IsShortOption};
 ghost use Rattle.ix_items.specs.Spelling.{IsKept, IsMeta, IsWritable};
 ghost use Rattle.ix_items.specs.declared.items.Item.TheVariants as items;
 

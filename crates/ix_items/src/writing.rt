@@ -1,15 +1,16 @@
 //! Writing items.
 
 ghost use Rattle.std.specs.Prelude.{◌≡◌, ◌++◌, OnOk, OnErr};
-ghost use Rattle.ix_fields.specs.Spelling.{eight, signed, string, IsShort};
-ghost use Rattle.ix_fields.specs.Writing.{Extends};
+ghost use Rattle.ix_coding.specs.Spelling.{eight, signed, string, IsShort};
+ghost use Rattle.ix_coding.specs.Writing.{Extends};
 ghost use Rattle.std.specs.List.{AllByRecursion};
-ghost use Rattle.ix_items.specs.Spelling.{item_bytes, kind_byte, field_bytes, meta_bytes, bucket_bytes, IsMeta, settings_bytes, files_bytes, IsWritable, IsKept};
+ghost use Rattle.ix_items.specs.Spelling.{item_bytes, kind_byte, field_bytes, meta_bytes, bucket_bytes, IsMeta, settings_bytes};
+ghost use Rattle.ix_items.specs.Spelling.{files_bytes, IsWritable, IsKept};
 
 use crate::items::{Bucket, FileList, Item, KeptList};
 use crate::puts::{put_bucket, put_entry, put_file, put_kept, put_meta, put_spot};
 use ix_base::{Bytes, ChannelMeta, NoMemory};
-use ix_fields::{put_byte, put_i64, put_string, put_u32, put_u64};
+use ix_coding::{put_byte, put_i64, put_string, put_u32, put_u64};
 
 #[tactic(auto, unfolding(crate::specs::Spelling::settings_bytes))]
 fn put_settings(list: &KeptList, out: &mut Bytes) -> Result<(), NoMemory>

@@ -1,5 +1,6 @@
 -- Entries are taken one after the other.
-use Rattle.std.proofs.Common.{◌≡◌, ℕ, zero, suc, ◌+◌, List, [], ◌∷◌, ◌++◌, refl, sym, ap, ◌∙◌, drop, Option, Some, None, append_assoc, arith}
+use Rattle.std.proofs.Common.{◌≡◌, ℕ, zero, suc, ◌+◌, List, [], ◌∷◌, ◌++◌, refl, sym, ap, ◌∙◌, drop, Option, Some, None, append_assoc}
+use Rattle.std.proofs.Common.{arith}
 use Rattle.std.specs.Prelude.{slice_get}
 use Rattle.std.specs.List.{flat_map}
 use Rattle.std.proofs.lemmas.List.{append-nil}
@@ -19,7 +20,8 @@ drop_past (y ∷ ys) (suc i) e = drop_past ys i e
 
 -- ---- lists that are made of entries
 
-pub list_more : {A B : Type 0} (f : A → List B) (xs : List A) (i : ℕ) (x : A) (list list' whole : List B) → slice_get xs i ≡ Some x → list' ≡ list ++ f x
+pub list_more : {A B : Type 0} (f : A → List B) (xs : List A) (i : ℕ) (x : A) (list list' whole : List B) → slice_get xs i ≡ Some x →
+    list' ≡ list ++ f x
     → list ++ flat_map f (drop i xs) ≡ whole → list' ++ flat_map f (drop (i + 1) xs) ≡ whole
 list_more f xs i x list list' whole e more known =
     ap (λ l. l ++ flat_map f (drop (i + 1) xs)) more ∙ append_assoc list (f x) (flat_map f (drop (i + 1) xs))

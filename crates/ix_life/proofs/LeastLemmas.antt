@@ -21,7 +21,8 @@ three key a b c true false e f = refl
 three key a b c false true e f = rw (sym f) (rw (sym e) refl)
 three key a b c false false e f = rw (stays_behind (key a) (key b) (key c) e f) (rw (sym f) refl)
 
-none_behind : {A : Type 0} (key : A → ℕ) (a b : A) (p : Bool) → lesser key (if p then Some a else Some b) None ≡ (if p then Some a else Some b)
+none_behind : {A : Type 0} (key : A → ℕ) (a b : A) (p : Bool) →
+    lesser key (if p then Some a else Some b) None ≡ (if p then Some a else Some b)
 none_behind key a b true = refl
 none_behind key a b false = refl
 
@@ -36,19 +37,23 @@ lesser-None key None = refl
 lesser-None key (Some a) = refl
 
 -- the best so far, and one element more
-more : {A : Type 0} (test : ℕ × A → Bool) (key : ℕ × A → ℕ) (best : Option (ℕ × A)) (xs : List A) (i : ℕ) (d : A) → i < length xs → (b : Bool) → b ≡ test (i, get_or xs i d)
+more : {A : Type 0} (test : ℕ × A → Bool) (key : ℕ × A → ℕ) (best : Option (ℕ × A)) (xs : List A) (i : ℕ) (d : A) → i < length xs →
+    (b : Bool) → b ≡ test (i, get_or xs i d)
     → lesser key (lesser key best (if b then Some (i, get_or xs i d) else None)) (least test key (enumerate_from (i + 1) (drop (i + 1) xs)))
     ≡ lesser key best (least test key (enumerate_from i (drop i xs)))
 more test key best xs i d l b e =
     lesser-assoc key best (if b then Some (i, get_or xs i d) else None) (least test key (enumerate_from (i + 1) (drop (i + 1) xs)))
     ∙ rw (drop_more xs i d l) (rw (sym e) refl)
 
-pub passed : {A : Type 0} (test : ℕ × A → Bool) (key : ℕ × A → ℕ) (best : Option (ℕ × A)) (xs : List A) (i : ℕ) (d : A) → i < length xs → test (i, get_or xs i d) ≡ true
-    → (next : ℕ × A) → Some next ≡ lesser key best (Some (i, get_or xs i d)) → (whole : Option (ℕ × A)) → lesser key best (least test key (enumerate_from i (drop i xs))) ≡ whole
+pub passed : {A : Type 0} (test : ℕ × A → Bool) (key : ℕ × A → ℕ) (best : Option (ℕ × A)) (xs : List A) (i : ℕ) (d : A) → i < length xs →
+    test (i, get_or xs i d) ≡ true
+    → (next : ℕ × A) → Some next ≡ lesser key best (Some (i, get_or xs i d)) → (whole : Option (ℕ × A)) →
+    lesser key best (least test key (enumerate_from i (drop i xs))) ≡ whole
     → lesser key (Some next) (least test key (enumerate_from (i + 1) (drop (i + 1) xs))) ≡ whole
 passed test key best xs i d l e next is whole known = rw is (more test key best xs i d l true (sym e) ∙ known)
 
-pub failed : {A : Type 0} (test : ℕ × A → Bool) (key : ℕ × A → ℕ) (best : Option (ℕ × A)) (xs : List A) (i : ℕ) (d : A) → i < length xs → test (i, get_or xs i d) ≡ false
+pub failed : {A : Type 0} (test : ℕ × A → Bool) (key : ℕ × A → ℕ) (best : Option (ℕ × A)) (xs : List A) (i : ℕ) (d : A) → i < length xs →
+    test (i, get_or xs i d) ≡ false
     → (whole : Option (ℕ × A)) → lesser key best (least test key (enumerate_from i (drop i xs))) ≡ whole
     → lesser key best (least test key (enumerate_from (i + 1) (drop (i + 1) xs))) ≡ whole
 failed test key best xs i d l e whole known =
@@ -58,4 +63,5 @@ failed test key best xs i d l e whole known =
 pub at_end : {A : Type 0} (test : ℕ × A → Bool) (key : ℕ × A → ℕ) (best : Option (ℕ × A)) (xs : List A) (i : ℕ) → length xs ≤ i
     → (whole : Option (ℕ × A)) → lesser key best (least test key (enumerate_from i (drop i xs))) ≡ whole → best ≡ whole
 at_end test key best xs i l whole known =
-    sym (lesser-None key best) ∙ (let e : lesser key best None ≡ lesser key best (least test key (enumerate_from i (drop i xs))) = rw (drop_of_length-le xs {i = i} l) refl in e) ∙ known
+    sym (lesser-None key best) ∙ (let e : lesser key best None ≡ lesser key best
+    (least test key (enumerate_from i (drop i xs))) = rw (drop_of_length-le xs {i = i} l) refl in e) ∙ known

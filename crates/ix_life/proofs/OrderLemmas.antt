@@ -1,5 +1,6 @@
 -- A stable sort is the list in order.
-use Rattle.std.proofs.Common.{◌≡◌, ℕ, ℤ, zero, suc, ◌<◌, ◌≤◌, Bool, true, false, cond, not, ◌&&◌, List, [], ◌∷◌, length, get_or, filter, refl, sym, ap, ◌∙◌, inl, inr, suc-le-suc, zero-le}
+use Rattle.std.proofs.Common.{◌≡◌, ℕ, ℤ, zero, suc, ◌<◌, ◌≤◌, Bool, true, false, cond, not, ◌&&◌, List, [], ◌∷◌, length, get_or, filter}
+use Rattle.std.proofs.Common.{refl, sym, ap, ◌∙◌, inl, inr, suc-le-suc, zero-le}
 use Rattle.std.proofs.lemmas.Bool.{cond-true, cond-false, cases_Bool, and_parts, not-true, false≢true}
 use Rattle.std.proofs.lemmas.Cmp.{then_total, on_total, int_cmp_total, nat_cmp_total}
 use Rattle.std.proofs.lemmas.List.Sorted.{sorted_far, ranks_by}
@@ -28,11 +29,13 @@ abbrev Rises : {X : Type 0} → (X → X → Bool) → List X → Type 0
 Rises lt [] = Unit {0}
 Rises lt (y ∷ ys) = NoneBefore lt y ys × Rises lt ys
 
-NoneBefore-at : {X : Type 0} (lt : X → X → Bool) (x : X) (ys : List X) → ((j : ℕ) → j < length ys → lt (get_or ys j x) x ≡ false) → NoneBefore lt x ys
+NoneBefore-at : {X : Type 0} (lt : X → X → Bool) (x : X) (ys : List X) → ((j : ℕ) → j < length ys → lt (get_or ys j x) x ≡ false) →
+    NoneBefore lt x ys
 NoneBefore-at lt x [] h = tt
 NoneBefore-at lt x (y ∷ ys) h = (h zero (suc-le-suc zero-le), NoneBefore-at lt x ys (λ j l. h (suc j) (suc-le-suc l)))
 
-rises_far : {X : Type 0} (lt : X → X → Bool) (ys : List X) → ((i j : ℕ) (d : X) → i ≤ j → j < length ys → lt (get_or ys j d) (get_or ys i d) ≡ false) → Rises lt ys
+rises_far : {X : Type 0} (lt : X → X → Bool) (ys : List X) →
+    ((i j : ℕ) (d : X) → i ≤ j → j < length ys → lt (get_or ys j d) (get_or ys i d) ≡ false) → Rises lt ys
 rises_far lt [] h = tt
 rises_far lt (y ∷ ys) h = (
   NoneBefore-at lt y ys (λ j l. h zero (suc j) y zero-le (suc-le-suc l)),
@@ -133,7 +136,8 @@ module _ {X : Type 0} (lt : X → X → Bool) (o : IsStrictWeakOrder lt) where
   -- what a stable sort ensures fixes the list
   pub sorted_by-from_sort : (xs ys : List X) → IsSortedBy lt ys → IsStableBy lt xs ys → ys ≡ sorted_by lt xs
   sorted_by-from_sort xs ys sorted stable =
-      same_list ys (sorted_by lt xs) (rises_far lt ys (sorted_far lt o ys sorted)) (rises_sorted_by xs) (λ x. stable x ∙ sym (filter-sorted_by x xs))
+      same_list ys (sorted_by lt xs) (rises_far lt ys (sorted_far lt o ys sorted)) (rises_sorted_by xs) (λ x. stable x
+      ∙ sym (filter-sorted_by x xs))
 
 -- the order of buckets compares any two of them
 pub buckets_ranked : IsStrictWeakOrder is_before

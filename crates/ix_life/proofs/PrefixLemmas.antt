@@ -17,8 +17,13 @@ least_at : {A : Type 0} (p : List A → Bool) (x : A) (xs : List A) (n : ℕ) �
 least_at p x xs n e h zero l = e
 least_at p x xs n e h (suc m) l = h m (omega (arith, l))
 
-one_more : {A : Type 0} (p : List A → Bool) (x : A) (xs : List A) (n : ℕ) → p (x ∷ xs) ≡ false → IsShortest p xs n → IsShortest p (x ∷ xs) (suc n)
-one_more p x xs n e h = record { within = omega (arith, h.within); met = λ l. h.met (omega (arith, l)); least = least_at p x xs n e h.least }
+one_more : {A : Type 0} (p : List A → Bool) (x : A) (xs : List A) (n : ℕ) → p (x ∷ xs) ≡ false → IsShortest p xs n →
+    IsShortest p (x ∷ xs) (suc n)
+one_more p x xs n e h = record {
+  within = omega (arith, h.within);
+  met = λ l. h.met (omega (arith, l));
+  least = least_at p x xs n e h.least;
+}
 
 none_below : {A : Type 0} (p : List A → Bool) (xs : List A) (m : ℕ) → m < 0 → p (drop m xs) ≡ false
 none_below p xs m l = elim l [ ]
@@ -26,7 +31,8 @@ none_below p xs m l = elim l [ ]
 at_once : {A : Type 0} (p : List A → Bool) (xs : List A) → p xs ≡ true → IsShortest p xs 0
 at_once p xs e = record { within = omega arith; met = λ l. e; least = none_below p xs }
 
-is_at : {A : Type 0} (p : List A → Bool) (x : A) (xs : List A) (b : Bool) → p (x ∷ xs) ≡ b → IsShortest p xs (shortest p xs) → IsShortest p (x ∷ xs) (shortest p (x ∷ xs))
+is_at : {A : Type 0} (p : List A → Bool) (x : A) (xs : List A) (b : Bool) → p (x ∷ xs) ≡ b → IsShortest p xs (shortest p xs) →
+    IsShortest p (x ∷ xs) (shortest p (x ∷ xs))
 is_at p x xs true e h = rw e (at_once p (x ∷ xs) e)
 is_at p x xs false e h = rw e (one_more p x xs (shortest p xs) e h)
 

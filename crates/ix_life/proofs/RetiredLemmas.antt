@@ -7,7 +7,7 @@ use Rattle.ix_conf.specs.declared.entries.Entry.{Entry}
 use Rattle.ix_conf.specs.declared.entries.Entry.TheVariants.{Stanza, Pair}
 use Rattle.ix_conf.specs.declared.layers.Layer.{Layer}
 use Rattle.ix_conf.specs.declared.layers.MergedEntry.{MergedEntry}
-use Rattle.ix_values.specs.Values.{own_value, stated, value_of}
+use Rattle.ix_conf_values.specs.Values.{own_value, stated, value_of}
 use Rattle.ix_life.specs.Limits.{limits}
 use Rattle.ix_life.specs.Retired.{HaveStanzas}
 use Rattle.ix_life.specs.Stanzas.{is_default, is_volume, is_index, is_index_stanza}
@@ -43,13 +43,15 @@ pair_stanza name key x stanza same h = by (bytes_eq stanza name) refl
         no e = cc
     by false e = rw (e, sym (ap (bytes_eq stanza) same) ∙ e) refl
 
-said_stanzas : (layer : List ℕ) (e : Entry) (stanza key : List ℕ) → entry_at stanza [] (said_by layer e) ≡ None → entry_at stanza key (said_by layer e) ≡ None
+said_stanzas : (layer : List ℕ) (e : Entry) (stanza key : List ℕ) → entry_at stanza [] (said_by layer e) ≡ None →
+    entry_at stanza key (said_by layer e) ≡ None
 said_stanzas layer (Stanza name) stanza key h = own_stanza name stanza key h
 said_stanzas layer (Pair name [] value) stanza key h = own_stanza name stanza key h
 said_stanzas layer (Pair name (b ∷ more) value) stanza key h =
     pair_stanza name key (record { stanza = name; key = b ∷ more; value = value; layer = layer }) stanza refl h
 
-file_stanzas : (layer : List ℕ) (file : List Entry) (stanza key : List ℕ) → in_file stanza [] layer file ≡ None → in_file stanza key layer file ≡ None
+file_stanzas : (layer : List ℕ) (file : List Entry) (stanza key : List ℕ) → in_file stanza [] layer file ≡ None →
+    in_file stanza key layer file ≡ None
 file_stanzas layer [] stanza key h = refl
 file_stanzas layer (e ∷ es) stanza key h =
     let both = none_both (in_file stanza [] layer es) (entry_at stanza [] (said_by layer e)) h in
@@ -60,7 +62,8 @@ layer_stanzas : (layers : List Layer) (stanza key : List ℕ) → in_layers stan
 layer_stanzas [] stanza key h = refl
 layer_stanzas (l ∷ ls) stanza key h =
     let both = none_both (in_file stanza [] l.name l.file) (in_layers stanza [] ls) h in
-    neither (in_file stanza key l.name l.file) (in_layers stanza key ls) (file_stanzas l.name l.file stanza key both.0) (layer_stanzas ls stanza key both.1)
+    neither (in_file stanza key l.name l.file) (in_layers stanza key ls) (file_stanzas l.name l.file stanza key both.0)
+    (layer_stanzas ls stanza key both.1)
 
 pub merged_stanzas : (layers : List Layer) (entries : List MergedEntry) → AreMerged layers entries → HaveStanzas entries
 merged_stanzas layers entries merged stanza key none =
@@ -83,25 +86,30 @@ twice : {A : Type 0} (o : Option A) → option_or o o ≡ o
 twice None = refl
 twice (Some x) = refl
 
-no_own : (entries : List MergedEntry) → HaveStanzas entries → (name key : List ℕ) → entry_at name [] entries ≡ None → own_value entries name key ≡ None
+no_own : (entries : List MergedEntry) → HaveStanzas entries → (name key : List ℕ) → entry_at name [] entries ≡ None →
+    own_value entries name key ≡ None
 no_own entries have name [] none = refl
 no_own entries have name (b ∷ key) none = rw (have name (b ∷ key) none) refl
 
 abbrev Defaults : List MergedEntry → List ℕ → Type 0
 Defaults entries name = (key : List ℕ) → value_of entries name key ≡ value_of entries (codes "default") key
 
-defaults : (entries : List MergedEntry) → HaveStanzas entries → (name : List ℕ) → is_volume name ≡ false → is_index entries name ≡ false → Defaults entries name
+defaults : (entries : List MergedEntry) → HaveStanzas entries → (name : List ℕ) → is_volume name ≡ false → is_index entries name ≡ false →
+    Defaults entries name
 defaults entries have name other gone key = by (is_default name) refl
   where
     by : (b : Bool) → is_default name ≡ b → value_of entries name key ≡ value_of entries (codes "default") key
     by true e = ap (λ n. value_of entries n key) (same_name name (codes "default") e)
     by false e =
         let none = absent (entry_at name [] entries)
-        (default_or_gone (bytes_eq name (codes "main")) (is_default name) (is_volume name) (is_some (entry_at name [] entries)) gone other e) in
+        (default_or_gone (bytes_eq name (codes "main")) (is_default name) (is_volume name) (is_some (entry_at name [] entries)) gone other
+        e) in
         let of_default = own_value entries (codes "default") key in
-        ap (λ (o : Option (List ℕ)). stated (option_or o of_default)) (no_own entries have name key none) ∙ ap stated (sym (twice of_default))
+        ap (λ (o : Option (List ℕ)). stated (option_or o of_default)) (no_own entries have name key none)
+        ∙ ap stated (sym (twice of_default))
 
-pub retired_limits : (entries : List MergedEntry) → HaveStanzas entries → (name : List ℕ) → is_volume name ≡ false → is_index entries name ≡ false
+pub retired_limits : (entries : List MergedEntry) → HaveStanzas entries → (name : List ℕ) → is_volume name ≡ false →
+    is_index entries name ≡ false
     → limits entries name ≡ limits entries (codes "default")
 retired_limits entries have name other gone =
     let v = defaults entries have name other gone in

@@ -1,5 +1,7 @@
--- The rules of housekeeping. From Splunk's "Managing Indexers and Clusters", how the indexer retires data.
-use Rattle.std.specs.Prelude.{◌*◌, ◌==◌, ◌&&◌, ◌||◌, not, nat_lt, if◌then◌else◌, ℕ, ℤ, Bool, true, false, List, ◌++◌, Option, Some, None, map, filter, take, drop}
+-- The rules of housekeeping. From Splunk's "Managing Indexers and Clusters", how the indexer
+-- retires data.
+use Rattle.std.specs.Prelude.{◌*◌, ◌==◌, ◌&&◌, ◌||◌, not, nat_lt, if◌then◌else◌, ℕ, ℤ, Bool, true, false, List, ◌++◌, Option, Some, None}
+use Rattle.std.specs.Prelude.{map, filter, take, drop}
 use Rattle.ix_items.specs.declared.items.Bucket.{Bucket}
 use Rattle.ix_items.specs.declared.items.Rule.{Rule}
 use Rattle.ix_items.specs.declared.items.Rule.TheVariants as rules
@@ -99,7 +101,8 @@ hot_bytes p bs = sizes (filter (stays_hot p) bs)
 abbrev pub warm : Policy → List Bucket → List Bucket
 warm p bs = ordered (filter (λ b. is_warm b || is_idle p b) bs)
 
--- 2. Warm buckets move to cold until their number, and the bytes of hot and warm buckets, meet their limits.
+-- 2. Warm buckets move to cold until their number, and the bytes of hot and warm buckets, meet
+--    their limits.
 abbrev pub cooling : Policy → List Bucket → ℕ
 cooling p bs = going (home_cap p.limits (hot_bytes p bs)) (warm p bs)
 
@@ -143,7 +146,8 @@ moves p bs = record {
   frozen = frozen p (hot_bytes p bs) (cold p bs) (still_warm p bs);
 }
 
--- the same, where the hot and quarantine buckets that are left have so many bytes, and these are the warm ones
+-- the same, where the hot and quarantine buckets that are left have so many bytes, and these are
+-- the warm ones
 abbrev pub moves_with : Policy → List Bucket → ℕ → List Bucket → Moves
 moves_with p bs hot warm =
     let n = going (home_cap p.limits hot) warm in

@@ -1,7 +1,7 @@
 -- What the numbers of indexes.conf read as. From Splunk's Admin Manual, indexes.conf.
 use Rattle.std.specs.Prelude.{ℕ, Bool, ◌||◌, if◌then◌else◌, List, Option, Some, None, codes, bytes_eq, max}
 use Rattle.std.specs.Option.{option_map}
-use Rattle.ix_values.specs.Plain.{count_in}
+use Rattle.ix_conf_values.specs.Plain.{count_in}
 use Rattle.ix_life.specs.declared.kinds.Kind.{Kind}
 use Rattle.ix_life.specs.declared.kinds.Kind.TheVariants.{Size, HotBuckets, Span, FromOne, FromZero}
 

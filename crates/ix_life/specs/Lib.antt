@@ -8,3 +8,4 @@ pub mod Stanzas
 pub mod Limits
 pub mod Listed
 pub mod Retired
+pub mod FaultNames

@@ -1,10 +1,12 @@
--- What indexes.conf says: its first fault, and the limits of each index. From Splunk's Admin Manual, indexes.conf.
-use Rattle.std.specs.Prelude.{◌≡◌, ℕ, Bool, true, false, not, ◌&&◌, ◌||◌, if◌then◌else◌, List, [], ◌∷◌, ◌++◌, Option, Some, None, is_some, unwrap_or, codes, bytes_eq}
+-- What indexes.conf says: its first fault, and the limits of each index. From Splunk's Admin
+-- Manual, indexes.conf.
+use Rattle.std.specs.Prelude.{◌≡◌, ℕ, Bool, true, false, not, ◌&&◌, ◌||◌, if◌then◌else◌, List, [], ◌∷◌, ◌++◌, Option, Some, None, is_some}
+use Rattle.std.specs.Prelude.{unwrap_or, codes, bytes_eq}
 use Rattle.std.specs.Option.{option_and_then, option_or}
 use Rattle.std.specs.List.{flat_map}
 use Rattle.ix_conf.specs.Value.{entry_at}
 use Rattle.ix_conf.specs.declared.layers.MergedEntry.{MergedEntry}
-use Rattle.ix_values.specs.Values.{value_of}
+use Rattle.ix_conf_values.specs.Values.{value_of}
 use Rattle.ix_life.specs.declared.kinds.Kind.{Kind}
 use Rattle.ix_life.specs.declared.kinds.Kind.TheVariants as kinds
 use Rattle.ix_life.specs.declared.limits.Limits.{Limits}

@@ -45,7 +45,8 @@ is_out limits time arrival = is_longer time arrival limits.quarantine_past_secs 
 abbrev pub spans : Limits → ℤ → Bucket → Bool
 spans limits time b = not (is_longer (int_min b.oldest time) (int_max b.newest time) limits.max_hot_span_secs)
 
--- an event out of range goes into a quarantine bucket, any other into a hot bucket whose span allows it
+-- an event out of range goes into a quarantine bucket, any other into a hot bucket whose span
+-- allows it
 abbrev pub takes_as : State → Bool → Bool → Bool
 takes_as Hot out span = not out && span
 takes_as Quarantine out span = out

@@ -1,5 +1,6 @@
 -- The size rule: the shortest prefix whose going meets a limit, or the whole list.
-use Rattle.std.specs.Prelude.{◌≡◌, ◌<◌, ◌≤◌, ◌+◌, ℕ, suc, Bool, true, false, ◌&&◌, if◌then◌else◌, List, [], ◌∷◌, length, drop, Option, Some, None, nat_le}
+use Rattle.std.specs.Prelude.{◌≡◌, ◌<◌, ◌≤◌, ◌+◌, ℕ, suc, Bool, true, false, ◌&&◌, if◌then◌else◌, List, [], ◌∷◌, length, drop, Option}
+use Rattle.std.specs.Prelude.{Some, None, nat_le}
 use Rattle.std.specs.List.{sum_by}
 use Rattle.ix_items.specs.declared.items.Bucket.{Bucket}
 use Rattle.ix_life.specs.declared.caps.Cap.{Cap}

@@ -1,4 +1,5 @@
--- Which stanzas of indexes.conf are indexes, and how indexes are named. From Splunk's Admin Manual, indexes.conf.
+-- Which stanzas of indexes.conf are indexes, and how indexes are named. From Splunk's Admin Manual,
+-- indexes.conf.
 use Rattle.std.specs.Prelude.{ℕ, Bool, true, false, not, ◌&&◌, ◌||◌, ◌==◌, nat_eq, List, [], ◌∷◌, codes, bytes_eq, is_some}
 use Rattle.std.specs.List.{starts_with, list_all}
 use Rattle.std.specs.Char.{is_ascii_lowercase, is_ascii_digit}

@@ -57,7 +57,8 @@ fn fits(cap: &Cap, count: usize, bytes: u128) -> bool
     meets_count(cap.most, count) && meets_bytes(cap.within, cap.beside + bytes)
 }
 
-/// How many of the buckets go, from the front on, until the others are within the cap: the shortest prefix, or all.
+/// How many of the buckets go, from the front on, until the others are within the cap: the shortest
+/// prefix, or all.
 pub fn shortest(buckets: &[Bucket], cap: &Cap) -> usize
     requires { cap.now.beside < 2 ^ 127 }
     ensures value { result ≡ defs.shortest (defs.allowed cap.now) buckets.now }

@@ -1,4 +1,5 @@
-//! Copies of indexes as they stand, with their buckets. Whoever works a command out does it on such copies. Each fails for want of memory alone.
+//! Copies of indexes as they stand, with their buckets. Whoever works a command out does it on such
+//! copies. Each fails for want of memory alone.
 
 ghost use Rattle.std.specs.Prelude.{◌≡◌, IfOk};
 

@@ -2,6 +2,7 @@
 
 ghost use Rattle.std.specs.Prelude.{◌≡◌, ◌<◌, None, Some, IfErr, IfOk, OnOk, length, drop, is_some};
 ghost use Rattle.ix_conf.specs.Lent.{item_entry};
+ghost use Rattle.ix_life.specs.FaultNames.{name_of};
 ghost use Rattle.ix_life.specs.Limits as defs;
 
 use crate::kinds::{Kind, is_text, kind_of, read};
@@ -9,21 +10,44 @@ use crate::stanzas::{is_default, is_index, is_index_name, is_index_stanza, is_vo
 use ix_base::{Bytes, NoMemory as OutOfMemory};
 use ix_conf::{Item, Merged};
 use std::alloc::Global;
+use std::fmt;
 use thiserror::Error;
 
-/// What is wrong in the settings of indexes. The first fault in the order of stanza and key is answered; that of a stanza
-/// itself comes before those of its keys.
+/// What is wrong in the settings of indexes. The first fault in the order of stanza and key is
+/// answered; that of a stanza itself comes before those of its keys.
 #[derive(Debug, Drop, Error)]
 pub enum LimitFault {
     /// The value of this key is none of its kind, or names no index.
-    #[error("[{stanza:?}] has a bad value of {key:?}")]
     BadValue { stanza: Bytes, key: Bytes },
     /// An index cannot have this name.
-    #[error("[{stanza:?}] is no name of an index")]
     BadIndexName { stanza: Bytes },
     /// There was no room in memory.
-    #[error("there was no room in memory")]
     NoMemory,
+}
+
+impl LimitFault {
+    /// Its name, as the line of a fault in the settings tells it.
+    pub fn name(&self) -> &'static str
+        ensures { result.now ≡ name_of self.now }
+    {
+        match self {
+            LimitFault::BadValue { .. } => "BadValue",
+            LimitFault::BadIndexName { .. } => "BadIndexName",
+            LimitFault::NoMemory => "NoMemory",
+        }
+    }
+}
+
+/// Its name.
+impl fmt::Display for LimitFault {
+    ghost use Rattle.std.specs.Prelude.{Some};
+    ghost use Rattle.ix_life.specs.FaultNames.{name_of};
+
+    ghost output = { λ fault. Some (name_of fault) };
+
+    fn fmt<W: fmt::Write>(&self, f: &mut fmt::Formatter<W>) -> fmt::Result {
+        f.write_str(self.name())
+    }
 }
 
 impl From<OutOfMemory> for LimitFault {

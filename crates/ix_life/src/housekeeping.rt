@@ -129,7 +129,8 @@ fn freeze_young(
     list: &mut Vec<(u64, Rule)>,
 ) -> Result<(), NoMemory>
     requires { hot < 2 ^ 127 }
-    ensures { OnOk result (list.new.items ≡ list.old.items ++ defs.frozen_by_size policy.now hot (filter (defs.is_young policy.now) cold.now) (filter (defs.is_young policy.now) warm.now)) }
+    ensures { OnOk result (list.new.items ≡ list.old.items
+        ++ defs.frozen_by_size policy.now hot (filter (defs.is_young policy.now) cold.now) (filter (defs.is_young policy.now) warm.now)) }
 {
     let cold = picked(alloc, policy, Pick::Young, cold)?;
     let warm = picked(alloc, policy, Pick::Young, warm)?;
@@ -200,7 +201,8 @@ fn frozen_then(
     frozen(alloc, policy, hot, &cold, left)
 }
 
-/// The five steps, where the hot and quarantine buckets that step 1 leaves have so many bytes, and these are the warm ones.
+/// The five steps, where the hot and quarantine buckets that step 1 leaves have so many bytes, and
+/// these are the warm ones.
 fn moves_with(
     alloc: Global,
     policy: &Policy,
@@ -230,18 +232,22 @@ fn moves(alloc: Global, policy: &Policy, buckets: &[Bucket]) -> Result<Moves, No
     moves_with(alloc, policy, buckets, hot, &warm)
 }
 
-/// What housekeeping does at a moment, in microseconds since 1970-01-01T00:00:00Z, to the buckets of one index. Buckets are taken
-/// by the newest time and then by the number.
+/// What housekeeping does at a moment, in microseconds since 1970-01-01T00:00:00Z, to the buckets
+/// of one index. Buckets are taken by the newest time and then by the number.
 ///
-/// 1. With `max_hot_idle_secs` above 0, hot and quarantine buckets whose last event came more than so many seconds before roll to warm.
-/// 2. Warm buckets move to cold, the fewest after which at most `max_warm_count` are warm and, with `home_max_mb` above 0, the bytes
-///    of hot, quarantine and warm buckets are within it.
-/// 3. Warm and cold buckets whose newest event is more than `frozen_secs` old freeze, by the rule age.
-/// 4. With `cold_max_mb` above 0, cold buckets freeze, the fewest after which their bytes are within it, by the rule cold.
-/// 5. Cold buckets and then warm ones freeze, the fewest after which all bytes are within `max_total_mb`, by the rule total.
+/// 1. With `max_hot_idle_secs` above 0, hot and quarantine buckets whose last event came more than
+///    so many seconds before roll to warm.
+/// 2. Warm buckets move to cold, the fewest after which at most `max_warm_count` are warm and, with
+///    `home_max_mb` above 0, the bytes of hot, quarantine and warm buckets are within it.
+/// 3. Warm and cold buckets whose newest event is more than `frozen_secs` old freeze, by the rule
+///    age.
+/// 4. With `cold_max_mb` above 0, cold buckets freeze, the fewest after which their bytes are
+///    within it, by the rule cold.
+/// 5. Cold buckets and then warm ones freeze, the fewest after which all bytes are within
+///    `max_total_mb`, by the rule total.
 ///
-/// Where a limit of size cannot be met, all buckets of its list go. Hot and quarantine buckets never freeze, and thawed ones
-/// are under no rule.
+/// Where a limit of size cannot be met, all buckets of its list go. Hot and quarantine buckets
+/// never freeze, and thawed ones are under no rule.
 pub fn housekeep(
     alloc: Global,
     buckets: &BucketList,

@@ -3,7 +3,7 @@
 ghost use Rattle.std.specs.Prelude.{◌≡◌, bytes_eq};
 ghost use Rattle.ix_life.specs.Kinds as defs;
 
-use ix_values::read_count;
+use ix_conf_values::read_count;
 
 /// A kind of number.
 #[derive(Clone, Copy, Debug, PartialEq, Eq)]
@@ -78,7 +78,8 @@ pub fn read(kind: Kind, text: &[u8]) -> Option<u64>
     }
 }
 
-/// The kind of number that a setting of an index has; `None` for a key that is no such setting, or has any text.
+/// The kind of number that a setting of an index has; `None` for a key that is no such setting, or
+/// has any text.
 pub fn kind_of(key: &[u8]) -> Option<Kind>
     ensures { result ≡ defs.kind_of key.now }
 {

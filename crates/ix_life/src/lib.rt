@@ -1,5 +1,6 @@
-//! The life of buckets: which bucket of an index an event goes into, and which buckets roll to warm, move to cold and
-//! freeze. Pure rules over lists of buckets; the store keeps the buckets and carries the moves out.
+//! The life of buckets: which bucket of an index an event goes into, and which buckets roll to
+//! warm, move to cold and freeze. Pure rules over lists of buckets; the store keeps the buckets and
+//! carries the moves out.
 #![tactic(auto)]
 
 mod caps;

@@ -154,8 +154,8 @@ fn place_of(found: Option<Numbered>) -> Option<usize>
     Some(at)
 }
 
-/// Where an event of this time and arrival goes among the buckets of its index, by their places in the list. Times are
-/// microseconds since 1970-01-01T00:00:00Z. It takes no memory.
+/// Where an event of this time and arrival goes among the buckets of its index, by their places in
+/// the list. Times are microseconds since 1970-01-01T00:00:00Z. It takes no memory.
 pub fn place_at(buckets: &[Bucket], limits: &Limits, time: i64, arrival: i64) -> Places
     ensures { result ≡ defs.places buckets.now limits.now time arrival }
 {
@@ -168,13 +168,14 @@ pub fn place_at(buckets: &[Bucket], limits: &Limits, time: i64, arrival: i64) ->
     }
 }
 
-/// Where an event of this time and arrival goes among the buckets of its index. Times are microseconds since
-/// 1970-01-01T00:00:00Z.
+/// Where an event of this time and arrival goes among the buckets of its index. Times are
+/// microseconds since 1970-01-01T00:00:00Z.
 ///
-/// An event is out of range where its time is more than `quarantine_past_secs` before its arrival, or more than
-/// `quarantine_future_secs` after it; it goes into a quarantine bucket. Any other goes into the first hot bucket by
-/// number whose span with the event stays within `max_hot_span_secs`. Where there is no such bucket a new one is to be made;
-/// where `max_hot_buckets` or more take events already, the one that was used the longest ago rolls first. It takes no memory.
+/// An event is out of range where its time is more than `quarantine_past_secs` before its arrival,
+/// or more than `quarantine_future_secs` after it; it goes into a quarantine bucket. Any other goes
+/// into the first hot bucket by number whose span with the event stays within `max_hot_span_secs`.
+/// Where there is no such bucket a new one is to be made; where `max_hot_buckets` or more take
+/// events already, the one that was used the longest ago rolls first. It takes no memory.
 pub fn place(buckets: &BucketList, limits: &Limits, time: i64, arrival: i64) -> Target
     ensures { result ≡ defs.target buckets.now limits.now time arrival }
 {

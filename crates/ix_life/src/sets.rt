@@ -4,7 +4,7 @@ ghost use Rattle.std.specs.Prelude.{◌≡◌, ◌++◌, ◌∷◌, [], None, If
 ghost use Rattle.std.specs.Option.{option_copied};
 ghost use Rattle.std.specs.List.{flat_map};
 ghost use Rattle.ix_conf.specs.Lent.{item_entry};
-ghost use Rattle.ix_values.specs.Values.{value_of};
+ghost use Rattle.ix_conf_values.specs.Values.{value_of};
 ghost use Rattle.ix_life.specs.Limits as defs;
 ghost use Rattle.ix_life.specs.Listed.{listed_at, main_of, listed, named};
 ghost use Rattle.ix_life.specs.Retired.{HaveRetiredLimits};
@@ -15,7 +15,7 @@ use crate::limits::Limits;
 use crate::stanzas::{DEFAULT, MAIN, is_index_stanza};
 use ix_base::{Bytes, NoMemory, Sequence};
 use ix_conf::{Item, Merged};
-use ix_values::value_of;
+use ix_conf_values::value_of;
 use std::alloc::Global;
 
 /// The limits of one index.
@@ -239,13 +239,14 @@ fn read_all(alloc: Global, indexes: &Merged) -> Result<LimitSet, NoMemory>
 }
 
 impl LimitSet {
-    /// Reads the settings of all indexes. An index is each stanza but `default` and those that begin with `volume:`, and
-    /// `main`. A value that an index does not have is that of `default`, else the built-in one; an empty value is the
-    /// built-in one.
+    /// Reads the settings of all indexes. An index is each stanza but `default` and those that
+    /// begin with `volume:`, and `main`. A value that an index does not have is that of `default`,
+    /// else the built-in one; an empty value is the built-in one.
     ///
-    /// Every value of an index and of `default` is judged, also one that has no effect. `defaultDatabase`, `lastChanceIndex` and
-    /// `rotatePeriodInSecs` mean something in `default` alone, and are judged there alone. Of several faults the first one in the
-    /// order of the bytes of stanza and key is answered.
+    /// Every value of an index and of `default` is judged, also one that has no effect.
+    /// `defaultDatabase`, `lastChanceIndex` and `rotatePeriodInSecs` mean something in `default`
+    /// alone, and are judged there alone. Of several faults the first one in the order of the bytes
+    /// of stanza and key is answered.
     pub fn load(alloc: Global, indexes: &Merged) -> Result<LimitSet, LimitFault>
         ensures ok { IfOk result (λ set. defs.AreLimits indexes.now set) }
         ensures sound { OnOk result (defs.first_fault indexes.now ≡ None) }
@@ -262,8 +263,8 @@ impl LimitSet {
         self.indexes.as_slice()
     }
 
-    /// The limits of an index that is not configured and still has buckets: what `default` and the built-in values give. It takes
-    /// no memory.
+    /// The limits of an index that is not configured and still has buckets: what `default` and the
+    /// built-in values give. It takes no memory.
     pub fn retired(&self) -> &Limits
         ensures { result.now ≡ self.now.retired }
     {
@@ -291,7 +292,8 @@ impl LimitSet {
     }
 }
 
-/// A law: the limits that a set has for retired indexes are those of each index that is not configured.
+/// A law: the limits that a set has for retired indexes are those of each index that is not
+/// configured.
 pub fn retired_limits()
     ensures { HaveRetiredLimits }
 {}

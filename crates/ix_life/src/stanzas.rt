@@ -79,8 +79,8 @@ pub fn contains(text: &[u8], word: &[u8]) -> bool
     is_text(word, b"")
 }
 
-/// Whether an index may have this name: small letters, digits, `_` and `-`, of which the last two do not begin it, and no
-/// `kvstore` in it.
+/// Whether an index may have this name: small letters, digits, `_` and `-`, of which the last two
+/// do not begin it, and no `kvstore` in it.
 pub fn is_index_name(name: &[u8]) -> bool
     ensures { result ≡ defs.is_index_name name.now }
 {

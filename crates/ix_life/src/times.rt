@@ -3,7 +3,8 @@
 ghost use Rattle.std.specs.Prelude.{◌≡◌};
 ghost use Rattle.ix_life.specs.Times as defs;
 
-/// Whether one time is more than so many seconds before another. Times are microseconds since 1970-01-01T00:00:00Z.
+/// Whether one time is more than so many seconds before another. Times are microseconds since
+/// 1970-01-01T00:00:00Z.
 pub fn is_longer(from: i64, to: i64, secs: u64) -> bool
     ensures { result ≡ defs.is_longer from to secs }
 {

@@ -27,8 +27,8 @@ pub type IndexViewList = Sequence<IndexView>;
 pub struct View {
     /// The indexes, in the order of the bytes of their names.
     pub indexes: IndexViewList,
-    /// The buckets that were frozen: by the moment at which they froze, then by the bytes of the index's name, by the rule, by the newest
-    /// time and by the number of the bucket.
+    /// The buckets that were frozen: by the moment at which they froze, then by the bytes of the
+    /// index's name, by the rule, by the newest time and by the number of the bucket.
     pub ledger: EntryList,
     /// How many events were settled, by all commands so far.
     pub settled: u64,

@@ -1,5 +1,6 @@
 -- A pattern's attempts, as a way of looking for breaks.
-use Rattle.std.proofs.Common.{◌≡◌, ℕ, zero, suc, ◌+◌, ◌-◌, ◌<◌, ◌≤◌, Bool, true, false, List, [], ◌∷◌, ◌++◌, length, take, drop, get_or, Option, Some, None, if◌then◌else◌, refl, sym, ◌∙◌, ap, subst, arith, ◌⊎◌, inl, inr, nat_le}
+use Rattle.std.proofs.Common.{◌≡◌, ℕ, zero, suc, ◌+◌, ◌-◌, ◌<◌, ◌≤◌, Bool, true, false, List, [], ◌∷◌, ◌++◌, length, take, drop, get_or}
+use Rattle.std.proofs.Common.{Option, Some, None, if◌then◌else◌, refl, sym, ◌∙◌, ap, subst, arith, ◌⊎◌, inl, inr, nat_le}
 use Rattle.std.specs.Prelude.{slice_get, replicate, take_while, not}
 use Rattle.std.specs.List.{prefix_len}
 use Rattle.std.proofs.lemmas.List.{length-take}
@@ -42,7 +43,8 @@ stays : (p : Shape) → IsSound (tree p.rows) → (before : Option ℕ) (bytes l
 stays p sound before bytes later u =
     let text : Text = record { before = before; bytes = bytes; unfinished = true } in
     let longer : Text = record { before = before; bytes = bytes ++ later; unfinished = u } in
-    elim (head-stays (attempt p text) (attempt p longer) (refined p sound text longer (record { unfinished = refl; before = refl; more = later; bytes = refl }))) [
+    elim (head-stays (attempt p text) (attempt p longer)
+    (refined p sound text longer (record { unfinished = refl; before = refl; more = later; bytes = refl }))) [
       | inl e ↦ inl e
       | inr e ↦ inr (ap look_at e)
     ]
@@ -51,7 +53,8 @@ none-set : (count : ℕ) → AllInOrder 0 (replicate count None)
 none-set zero = tt
 none-set (suc n) = (tt, none-set n)
 
-break-in-order : (place : ℕ) (groups : List (Option (ℕ × ℕ))) → AllInOrder place groups → ((break_of groups).0 ≤ (break_of groups).1) × ((break_of groups).1 ≤ place)
+break-in-order : (place : ℕ) (groups : List (Option (ℕ × ℕ))) → AllInOrder place groups → ((break_of groups).0 ≤ (break_of groups).1)
+    × ((break_of groups).1 ≤ place)
 break-in-order place [] all = (omega arith, omega arith)
 break-in-order place (None ∷ groups) all = break-in-order place groups all.1
 break-in-order place (Some span ∷ groups) all = all.0
@@ -123,19 +126,24 @@ breaks-wait p before bytes u e = by (nat_le reach (length bytes)) refl e
     near : Text
     near = record { before = before; bytes = take reach bytes; unfinished = false }
 
-    by : (b : Bool) → nat_le reach (length bytes) ≡ b → look_at (slice_get (ways (tree p.rows) (if b then near else text) (at_start p)) 0) ≡ more → length bytes < reach
+    by : (b : Bool) → nat_le reach (length bytes) ≡ b →
+        look_at (slice_get (ways (tree p.rows) (if b then near else text) (at_start p)) 0) ≡ more → length bytes < reach
     by true f g = absurd (known-look (ways (tree p.rows) near (at_start p)) (all-known (tree p.rows) near refl (at_start p)) g)
     by false f g = leb-false reach (length bytes) f
 
 -- the code's search for the next byte with which a match may begin
-pub sought-over : (p q : Shape) (starts : List Bool) (u : Bool) (before : Option ℕ) (bytes : List ℕ) (at n : ℕ) → AreStarts q starts → q ≡ p →
+pub sought-over : (p q : Shape) (starts : List Bool) (u : Bool) (before : Option ℕ) (bytes : List ℕ) (at n : ℕ) → AreStarts q starts →
+    q ≡ p →
     ((k : ℕ) → get_or bytes k 0 < 256) → Sought (breaks_by p) u before bytes at →
-    n ≡ length (take_while (λ b. not (in_set starts b)) (take (length bytes - at) (drop at bytes))) → Sought (breaks_by p) u before bytes (at + n)
+    n ≡ length (take_while (λ b. not (in_set starts b)) (take (length bytes - at) (drop at bytes))) →
+    Sought (breaks_by p) u before bytes (at + n)
 sought-over p q starts u before bytes at n are same low s e =
-    sought-first (breaks_by p) (λ b. in_set starts b) (breaks-begin p starts (subst (λ (r : Shape). AreStarts r starts) same are)) u before bytes at n
+    sought-first (breaks_by p) (λ b. in_set starts b) (breaks-begin p starts (subst (λ (r : Shape). AreStarts r starts) same are)) u before
+    bytes at n
     (take (length bytes - at) (drop at bytes)) low (rest-is bytes at) s e
 
-pub over-within : (test : ℕ → Bool) (bytes : List ℕ) (at n : ℕ) → at ≤ length bytes → n ≡ length (take_while test (take (length bytes - at) (drop at bytes))) →
+pub over-within : (test : ℕ → Bool) (bytes : List ℕ) (at n : ℕ) → at ≤ length bytes →
+    n ≡ length (take_while test (take (length bytes - at) (drop at bytes))) →
     at + n ≤ length bytes
 over-within test bytes at n h e =
     let hay = take (length bytes - at) (drop at bytes) in

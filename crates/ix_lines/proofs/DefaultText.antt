@@ -1,5 +1,6 @@
 -- The text of the pattern of newlines, and its syntax.
-use Rattle.std.proofs.Common.{◌≡◌, ℕ, zero, suc, ◌<◌, ◌≤◌, Bool, true, false, ◌||◌, ◌&&◌, nat_lt, nat_le, List, codes, Some, None, unwrap_or, map, replicate, refl, sym, ◌∙◌, ap, arith}
+use Rattle.std.proofs.Common.{◌≡◌, ℕ, zero, suc, ◌<◌, ◌≤◌, Bool, true, false, ◌||◌, ◌&&◌, nat_lt, nat_le, List, codes, Some, None}
+use Rattle.std.proofs.Common.{unwrap_or, map, replicate, refl, sym, ◌∙◌, ap, arith}
 use Rattle.std.specs.Prelude.{◌==◌, slice_get}
 use Rattle.std.specs.List.{range_with_len}
 use Rattle.std.proofs.lemmas.List.FromFn.{get_or-map-range_with_len, length-map-range_with_len}
@@ -10,7 +11,8 @@ use Rattle.ix_pattern.specs.Sets.{none, bytes_where, with_range, folded, other_c
 use Rattle.ix_pattern.specs.Piece.{in_set}
 use Rattle.ix_pattern.specs.Rows.{Shape, tree}
 use Rattle.ix_pattern.specs.Syntax.{Syntax, done, leaf, paren, spelled, IsSpelledBy, tree_of, groups}
-use Rattle.ix_pattern.specs.Tokens.{tokens_of, tokens, modifiers, modifier, token_at, opening, class, class_set, members, turn, member, single, escape_at, range_end, behind_byte, member_from, count as count_token}
+use Rattle.ix_pattern.specs.Tokens.{tokens_of, tokens, modifiers, modifier, token_at, opening, class, class_set, members, turn, member}
+use Rattle.ix_pattern.specs.Tokens.{single, escape_at, range_end, behind_byte, member_from, count as count_token}
 use Rattle.ix_pattern.specs.Reads.{IsReadAs}
 use Rattle.ix_pattern.specs.declared.tokens.Leaf.TheVariants.{Bytes}
 use Rattle.ix_pattern.specs.declared.tokens.Opening.TheVariants.{Capture}
@@ -30,7 +32,8 @@ abbrev pub default_text : List ℕ
 default_text = codes "([\\r\\n]+)"
 
 default-tokens : tokens_of default_text ≡ Some (spelled default_syntax)
-unfolding newline_set tokens_of tokens modifiers modifier token_at opening class class_set members turn member single escape_at range_end behind_byte member_from count_token
+unfolding newline_set tokens_of tokens modifiers modifier token_at opening class class_set members turn member single escape_at range_end
+    behind_byte member_from count_token
 default-tokens = refl
 
 pub default-spelled : IsSpelledBy default_syntax default_text
@@ -61,7 +64,8 @@ none-at zero b = refl
 none-at (suc n) zero = refl
 none-at (suc n) (suc b) = none-at n b
 
-has-range : (low high : ℕ) (set : List Bool) (b : ℕ) → b < 256 → in_set (with_range low high set) b ≡ (in_set set b || (nat_le low b && nat_le b high))
+has-range : (low high : ℕ) (set : List Bool) (b : ℕ) → b < 256 →
+    in_set (with_range low high set) b ≡ (in_set set b || (nat_le low b && nat_le b high))
 unfolding with_range
 has-range low high set b h = has-at (λ c. in_set set c || (nat_le low c && nat_le c high)) b h
 

@@ -1,5 +1,6 @@
 -- The open line.
-use Rattle.std.proofs.Common.{Ok, Err, subst, ◌≡◌, ℕ, ◌+◌, ◌-◌, ◌<◌, ◌≤◌, ℤ, Bool, true, false, List, [], ◌∷◌, ◌++◌, length, take, Some, None, refl, sym, ◌∙◌, ap, arith}
+use Rattle.std.proofs.Common.{Ok, Err, subst, ◌≡◌, ℕ, ◌+◌, ◌-◌, ◌<◌, ◌≤◌, ℤ, Bool, true, false, List, [], ◌∷◌, ◌++◌, length, take, Some}
+use Rattle.std.proofs.Common.{None, refl, sym, ◌∙◌, ap, arith}
 use Rattle.std.specs.Prelude.{Result, OnOk, OnErr, find, unwrap_or, nat_le, not, ◌&&◌}
 use Rattle.std.specs.List.{All}
 use Rattle.std.proofs.lemmas.List.{length-take-le, get_or-take}
@@ -38,7 +39,8 @@ first-on [] [] bytes moment is some = absurd (omega (arith, ap length is.bytes_a
 first-on [] (d ∷ part) bytes moment is some = ap Some (sym is.moment_is)
 first-on (s ∷ stretch) part bytes moment is some = refl
 
-pub add-keeps : (t : ℕ) (stretch part : List Dated) (old new : Kept) (bytes : List ℕ) (moment : ℤ) → Keeps t stretch old → IsPart bytes moment part →
+pub add-keeps : (t : ℕ) (stretch part : List Dated) (old new : Kept) (bytes : List ℕ) (moment : ℤ) → Keeps t stretch old →
+    IsPart bytes moment part →
     0 < length bytes → new.bytes ≡ old.bytes ++ take (t + 1 - length old.bytes) bytes → new.moment ≡ Some (unwrap_or old.moment moment) →
     Keeps t (stretch ++ part) new
 add-keeps t stretch part old new bytes moment keeps is some b m =
@@ -80,7 +82,8 @@ line-part t (d ∷ part) bytes m is some =
     ap (λ bs. unless_empty (cut t bs) m) (sym is.bytes_are) ∙ ap (unless_empty (cut t (bytes_of (d ∷ part)))) (sym is.moment_is)
 
 -- a short line that is added, or none, leaves all of them short
-pub short-pushed : {T E : Type 0} (r : Result T E) (old new : List Line) (line : Line) → OnOk r (new ≡ old ++ line ∷ []) → OnErr r (new ≡ old) →
+pub short-pushed : {T E : Type 0} (r : Result T E) (old new : List Line) (line : Line) → OnOk r (new ≡ old ++ line ∷ []) →
+    OnErr r (new ≡ old) →
     IsShort line → All IsShort old → All IsShort new
 short-pushed (Ok x) old new line e f h all = subst (All IsShort) (sym e) (All-push IsShort old line all h)
 short-pushed (Err x) old new line e f h all = subst (All IsShort) (sym f) all

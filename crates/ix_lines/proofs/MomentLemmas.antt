@@ -1,5 +1,6 @@
 -- Runs of equal moments.
-use Rattle.std.proofs.Common.{◌≡◌, ℕ, zero, suc, ◌+◌, ◌-◌, ◌<◌, ◌≤◌, ℤ, pos, List, [], ◌∷◌, ◌++◌, length, drop, get_or, replicate, refl, sym, ◌∙◌, ap, arith, append_assoc, w64, to_z, of_z}
+use Rattle.std.proofs.Common.{◌≡◌, ℕ, zero, suc, ◌+◌, ◌-◌, ◌<◌, ◌≤◌, ℤ, pos, List, [], ◌∷◌, ◌++◌, length, drop, get_or, replicate, refl}
+use Rattle.std.proofs.Common.{sym, ◌∙◌, ap, arith, append_assoc, w64, to_z, of_z}
 use Rattle.std.proofs.lemmas.List.{append-nil, length-drop, get_or-drop}
 use mir.Val.{SFits}
 use Rattle.std.proofs.Math.Facts.{to_z-of_z}
@@ -22,12 +23,14 @@ replicate-add (suc a) b x = let e : suc a + b ≡ suc (a + b) = omega arith in r
 drop-replicate : (n c : ℕ) (x : ℤ) (ys : List ℤ) → c ≤ n → drop n (replicate c x ++ ys) ≡ drop (n - c) ys
 drop-replicate n zero x ys h = let e : n ≡ n - 0 = omega arith in ap (λ k. drop k ys) e
 drop-replicate zero (suc c) x ys h = absurd (omega arith)
-drop-replicate (suc n) (suc c) x ys h = let e : n - c ≡ suc n - suc c = omega arith in drop-replicate n c x ys (omega arith) ∙ ap (λ k. drop k ys) e
+drop-replicate (suc n) (suc c) x ys h = let e : n - c ≡ suc n - suc c = omega arith in drop-replicate n c x ys (omega arith)
+    ∙ ap (λ k. drop k ys) e
 
 pub shorter-replicate : (n c : ℕ) (x : ℤ) (ys : List ℤ) → n ≤ c → replicate (c - n) x ++ ys ≡ drop n (replicate c x ++ ys)
 shorter-replicate zero c x ys h = let e : c - 0 ≡ c = omega arith in ap (λ k. replicate k x ++ ys) e
 shorter-replicate (suc n) zero x ys h = absurd (omega arith)
-shorter-replicate (suc n) (suc c) x ys h = let e : suc c - suc n ≡ c - n = omega arith in ap (λ k. replicate k x ++ ys) e ∙ shorter-replicate n c x ys (omega arith)
+shorter-replicate (suc n) (suc c) x ys h = let e : suc c - suc n ≡ c - n = omega arith in ap (λ k. replicate k x ++ ys) e
+    ∙ shorter-replicate n c x ys (omega arith)
 
 get_or-replicate : (i c : ℕ) (x d : ℤ) (ys : List ℤ) → i < c → get_or (replicate c x ++ ys) i d ≡ x
 get_or-replicate i zero x d ys h = absurd (omega arith)
@@ -55,21 +58,25 @@ points-on runs old new p h r s =
     record {
       within = omega (arith, r);
       others = ap (λ k. drop k (moments_of runs)) s ∙ sym (drop-drop old.passed n (moments_of runs)) ∙ ap (drop n) p.others
-          ∙ run-past runs old.run n h (omega arith) ∙ ap (λ k. drop k (moments_of (drop (old.run + 1) runs))) none ∙ ap (λ k. moments_of (drop k runs)) (sym r);
+          ∙ run-past runs old.run n h (omega arith) ∙ ap (λ k. drop k (moments_of (drop (old.run + 1) runs))) none
+          ∙ ap (λ k. moments_of (drop k runs)) (sym r);
     }
 
 -- the moment at a place, by the cursor
-pub in-run : (runs : List Run) (c : Cursor) (place : ℕ) → PointsInto runs c → c.passed ≤ place → c.run < length runs → place - c.passed < (get_or runs c.run no_run).count →
+pub in-run : (runs : List Run) (c : Cursor) (place : ℕ) → PointsInto runs c → c.passed ≤ place → c.run < length runs →
+    place - c.passed < (get_or runs c.run no_run).count →
     (get_or runs c.run no_run).moment ≡ get_or (moments_of runs) place (pos 0)
 in-run runs c place p on h near =
     let k : ℕ = place - c.passed in
     let r : Run = get_or runs c.run no_run in
     let e : c.passed + k ≡ place = omega arith in
-    sym (ap (λ n. get_or (moments_of runs) n (pos 0)) (sym e) ∙ sym (get_or-drop c.passed (moments_of runs) k (pos 0)) ∙ ap (λ l. get_or l k (pos 0)) p.others
+    sym (ap (λ n. get_or (moments_of runs) n (pos 0)) (sym e) ∙ sym (get_or-drop c.passed (moments_of runs) k (pos 0))
+    ∙ ap (λ l. get_or l k (pos 0)) p.others
     ∙ ap (λ rs. get_or (moments_of rs) k (pos 0)) (drop-run runs c.run h)
     ∙ get_or-replicate k r.count r.moment (pos 0) (moments_of (drop (c.run + 1) runs)) near)
 
-pub past-all : (runs : List Run) (c : Cursor) (place : ℕ) → PointsInto runs c → c.passed ≤ place → length runs ≤ c.run → length (moments_of runs) ≤ place
+pub past-all : (runs : List Run) (c : Cursor) (place : ℕ) → PointsInto runs c → c.passed ≤ place → length runs ≤ c.run →
+    length (moments_of runs) ≤ place
 past-all runs c place p on h =
     let e : drop c.passed (moments_of runs) ≡ [] = p.others ∙ ap moments_of (drop-past c.run runs h) in
     omega (arith, ap length e, length-drop c.passed (moments_of runs))
@@ -97,7 +104,8 @@ last-grows (q ∷ s ∷ runs) (suc i) n r m h is e =
 pub last-added : (runs : List Run) (r : Run) → moments_of (runs ++ r ∷ []) ≡ moments_of runs ++ replicate r.count r.moment
 last-added [] r = append-nil (replicate r.count r.moment)
 last-added (q ∷ runs) r =
-    ap (λ l. replicate q.count q.moment ++ l) (last-added runs r) ∙ sym (append_assoc (replicate q.count q.moment) (moments_of runs) (replicate r.count r.moment))
+    ap (λ l. replicate q.count q.moment ++ l) (last-added runs r)
+    ∙ sym (append_assoc (replicate q.count q.moment) (moments_of runs) (replicate r.count r.moment))
 
 pub shortened : (runs : List Run) (n : ℕ) (r : Run) → 0 < length runs → r ≡ get_or runs 0 no_run → n ≤ (get_or runs 0 no_run).count →
     moments_of (slice_set runs 0 (record { count = r.count - n; moment = r.moment })) ≡ drop n (moments_of runs)
@@ -115,7 +123,8 @@ pub run-next : (runs : List Run) (i : ℕ) → i < length runs → moments_of (d
 run-next runs i h = ap moments_of (drop-run runs i h)
 
 -- or its moments become a part of the run in use, as they are equal or none
-pub run-joins : (runs : List Run) (i : ℕ) (now grown : Run) → i < length runs → grown ≡ record { count = now.count + (get_or runs i no_run).count; moment = now.moment } →
+pub run-joins : (runs : List Run) (i : ℕ) (now grown : Run) → i < length runs →
+    grown ≡ record { count = now.count + (get_or runs i no_run).count; moment = now.moment } →
     replicate (get_or runs i no_run).count (get_or runs i no_run).moment ≡ replicate (get_or runs i no_run).count now.moment →
     waiting grown runs (i + 1) ≡ waiting now runs i
 run-joins runs i now grown h is same =

@@ -20,4 +20,5 @@ default_shape = record {
 pub newlines-stable : IsStable newlines
 unfolding least_length
 newlines-stable =
-    subst IsStable (run-breaks is_newline newline_set newline_set-has default_shape refl refl) (breaks-stable default_shape (tt, omega arith) (omega arith))
+    subst IsStable (run-breaks is_newline newline_set newline_set-has default_shape refl refl)
+    (breaks-stable default_shape (tt, omega arith) (omega arith))

@@ -1,5 +1,6 @@
 -- What the attempts of a group of one or more bytes of a set come to.
-use Rattle.std.proofs.Common.{◌≡◌, ℕ, zero, suc, ◌+◌, ◌<◌, ◌≤◌, Bool, true, false, ◌&&◌, List, [], ◌∷◌, ◌++◌, length, take, get_or, Option, Some, None, if◌then◌else◌, nat_le, nat_lt, cond, refl, sym, ◌∙◌, ap, arith}
+use Rattle.std.proofs.Common.{◌≡◌, ℕ, zero, suc, ◌+◌, ◌<◌, ◌≤◌, Bool, true, false, ◌&&◌, List, [], ◌∷◌, ◌++◌, length, take, get_or, Option}
+use Rattle.std.proofs.Common.{Some, None, if◌then◌else◌, nat_le, nat_lt, cond, refl, sym, ◌∙◌, ap, arith}
 use Rattle.std.specs.Prelude.{◌==◌, slice_get, slice_set, replicate}
 use Rattle.std.specs.List.{prefix_len}
 use Rattle.std.proofs.Math.Path.{fun_ext}
@@ -59,22 +60,27 @@ run-head test set has text [] (suc n) r same long =
     (ap (slice_get text.bytes) (omega arith) ∙ same 0)
     ∙ by text.unfinished (optional false (ways (byte_in set) text) n)
   where
-    by : (u : Bool) (next : Reached → List Way) → slice_get (onward next (if u then edge ∷ [] else []) ++ ends_at r ∷ []) 0 ≡ Some (if u then edge else ends_at r)
+    by : (u : Bool) (next : Reached → List Way) → slice_get (onward next (if u then edge ∷ [] else []) ++ ends_at r
+        ∷ []) 0 ≡ Some (if u then edge else ends_at r)
     by true next = refl
     by false next = refl
 run-head test set has text (b ∷ rest) (suc n) r same long =
     ap (λ o. slice_get (onward (optional false (ways (byte_in set) text) n) (byte_ways set text r o) ++ ends_at r ∷ []) 0)
     (ap (slice_get text.bytes) (omega arith) ∙ same 0)
     ∙ by (in_set set b) (optional false (ways (byte_in set) text) n)
-    (run-head test set has text rest n (record r { place = r.place + 1 }) (λ k. ap (slice_get text.bytes) (omega arith) ∙ same (suc k)) (omega arith))
+    (run-head test set has text rest n (record r { place = r.place + 1 }) (λ k. ap (slice_get text.bytes) (omega arith)
+    ∙ same (suc k)) (omega arith))
     ∙ ap (λ t. Some (if t then run_way test text.unfinished (record r { place = r.place + 1 }) rest else ends_at r)) (has b)
   where
-    by : (t : Bool) (next : Reached → List Way) → slice_get (next (record r { place = r.place + 1 })) 0 ≡ Some (run_way test text.unfinished (record r { place = r.place + 1 }) rest) →
+    by : (t : Bool) (next : Reached → List Way) → slice_get (next (record r { place = r.place + 1 })) 0 ≡ Some
+        (run_way test text.unfinished (record r { place = r.place + 1 }) rest) →
         slice_get (onward next (here t (record r { place = r.place + 1 })) ++ ends_at r ∷ []) 0
         ≡ Some (if t then run_way test text.unfinished (record r { place = r.place + 1 }) rest else ends_at r)
     by true next h =
-        let next_head = head-first (next (record r { place = r.place + 1 })) [] (run_way test text.unfinished (record r { place = r.place + 1 }) rest) h in
-        head-first (next (record r { place = r.place + 1 }) ++ []) (ends_at r ∷ []) (run_way test text.unfinished (record r { place = r.place + 1 }) rest) next_head
+        let next_head = head-first (next (record r { place = r.place + 1 })) []
+        (run_way test text.unfinished (record r { place = r.place + 1 }) rest) h in
+        head-first (next (record r { place = r.place + 1 }) ++ []) (ends_at r
+        ∷ []) (run_way test text.unfinished (record r { place = r.place + 1 }) rest) next_head
     by false next h = refl
 
 -- a way on whose end group 1 is closed, which began at the first place
@@ -100,7 +106,8 @@ look-run test u k (b ∷ rest) = by (test b) u (look-run test u (k + 1) rest)
 
     by : (t v : Bool) →
         look_at (Some (closed (run_way test v (from (k + 1)) rest)))
-        ≡ (if v && (prefix_len test rest == length rest) then more else match 0 (k + 1 + prefix_len test rest) (k + 1 + prefix_len test rest)) →
+        ≡ (if v && (prefix_len test rest == length rest) then more else match 0 (k + 1 + prefix_len test rest)
+        (k + 1 + prefix_len test rest)) →
         look_at (Some (closed (if t then run_way test v (from (k + 1)) rest else ends_at (from k))))
         ≡ if v && (cond t (1 + prefix_len test rest) 0 == suc (length rest)) then more
         else match 0 (k + cond t (1 + prefix_len test rest) 0) (k + cond t (1 + prefix_len test rest) 0)
@@ -121,7 +128,8 @@ unfolding ways
 look-text test set has before [] true = refl
 look-text test set has before [] false = refl
 look-text test set has before (b ∷ bytes) u =
-    by (in_set set b) (optional false (ways (byte_in set) (record { before = before; bytes = b ∷ bytes; unfinished = u })) (suc (suc (length bytes))))
+    by (in_set set b) (optional false (ways (byte_in set) (record { before = before; bytes = b ∷ bytes; unfinished = u }))
+    (suc (suc (length bytes))))
     (run-head test set has (record { before = before; bytes = b ∷ bytes; unfinished = u }) bytes (suc (suc (length bytes))) (from 1)
     (λ k. ap (slice_get (b ∷ bytes)) (one-more k)) (omega arith))
     ∙ ap (λ t. by_run (cond t (1 + prefix_len test bytes) 0) (suc (length bytes)) u) (has b)
@@ -140,12 +148,15 @@ look-text test set has before (b ∷ bytes) u =
         ap look_at (close-head (next (from 1) ++ []) (run_way test u (from 1) bytes)
         (head-first (next (from 1)) [] (run_way test u (from 1) bytes) h))
         ∙ look-run test u 1 bytes
-        ∙ ap (λ t. if u && t then more else match 0 (1 + prefix_len test bytes) (1 + prefix_len test bytes)) (sym (lengths (prefix_len test bytes) (length bytes)))
-        ∙ ap (λ t. if u && (1 + prefix_len test bytes == suc (length bytes)) then more else if t then no_match else match 0 (1 + prefix_len test bytes) (1 + prefix_len test bytes))
+        ∙ ap (λ t. if u && t then more else match 0 (1 + prefix_len test bytes) (1 + prefix_len test bytes))
+        (sym (lengths (prefix_len test bytes) (length bytes)))
+        ∙ ap (λ t. if u && (1 + prefix_len test bytes == suc (length bytes)) then more else if t then no_match else match 0
+        (1 + prefix_len test bytes) (1 + prefix_len test bytes))
         (sym (some-run (prefix_len test bytes)))
     by false next h = none u ∙ ap (λ t. if u && t then more else no_match) (sym (none-run (length bytes)))
 
--- The same of a text of which an attempt sees the first bytes. An attempt can't tell of a text with no byte yet.
+-- The same of a text of which an attempt sees the first bytes. An attempt can't tell of a text with
+-- no byte yet.
 abbrev pub by_sight : ℕ → ℕ → Bool → Look
 by_sight n len u = if u && (n == len) && nat_lt n reach then more else if n == 0 then no_match else match 0 n n
 
@@ -189,19 +200,26 @@ look-sight test set has before bytes u = by (nat_le reach (length bytes)) refl
     within false false = refl
 
     by : (full : Bool) → nat_le reach (length bytes) ≡ full →
-        seen (if full then record { before = before; bytes = take reach bytes; unfinished = false } else record { before = before; bytes = bytes; unfinished = u })
+        seen (if full then record { before = before; bytes = take reach bytes; unfinished = false } else record {
+          before = before;
+          bytes = bytes;
+          unfinished = u;
+        })
         ≡ by_sight (run_length test bytes) (length bytes) u
     by true e =
         look-text test set has before (take reach bytes) false
         ∙ ap (λ n. if n == 0 then no_match else match 0 n n) (sym run-is)
-        ∙ ap (λ t. if t then more else if run_length test bytes == 0 then no_match else match 0 (run_length test bytes) (run_length test bytes))
-        (sym (same (run_length test bytes == length bytes) (nat_lt (run_length test bytes) reach) u (far (leb-true reach (length bytes) e))))
+        ∙ ap (λ t. if t then more else if run_length test bytes == 0 then no_match else match 0 (run_length test bytes)
+        (run_length test bytes))
+        (sym (same (run_length test bytes == length bytes) (nat_lt (run_length test bytes) reach) u
+        (far (leb-true reach (length bytes) e))))
     by false e =
         let short : length bytes < reach = leb-false reach (length bytes) e in
         look-text test set has before bytes u
         ∙ ap (λ l. by_run (prefix_len test l) (length bytes) u) (sym (take-past reach bytes (omega arith)))
         ∙ ap (λ n. by_run n (length bytes) u) (sym run-is)
-        ∙ ap (λ t. if t then more else if run_length test bytes == 0 then no_match else match 0 (run_length test bytes) (run_length test bytes))
+        ∙ ap (λ t. if t then more else if run_length test bytes == 0 then no_match else match 0 (run_length test bytes)
+        (run_length test bytes))
         (within (run_length test bytes == length bytes) u
         ∙ ap (λ t. u && (run_length test bytes == length bytes) && t) (sym (near short)))
 
@@ -209,8 +227,10 @@ look-sight test set has before bytes u = by (nat_le reach (length bytes)) refl
 pub run-look : (test : ℕ → Bool) (set : List Bool) → HasBytes test set → (p : Shape) → tree p.rows ≡ run_tree set → p.groups ≡ 1 →
     (before : Option ℕ) (bytes : List ℕ) (u : Bool) → breaks_by p before bytes u ≡ by_sight (run_length test bytes) (length bytes) u
 run-look test set has p tree_is groups_are before bytes u =
-    ap (λ piece. look_at (slice_get (ways piece (sight reach (record { before = before; bytes = bytes; unfinished = u })) (record { place = 0; groups = replicate p.groups None })) 0)) tree_is
-    ∙ ap (λ n. look_at (slice_get (ways (run_tree set) (sight reach (record { before = before; bytes = bytes; unfinished = u })) (record { place = 0; groups = replicate n None })) 0)) groups_are
+    ap (λ piece. look_at (slice_get (ways piece (sight reach (record { before = before; bytes = bytes; unfinished = u }))
+    (record { place = 0; groups = replicate p.groups None })) 0)) tree_is
+    ∙ ap (λ n. look_at (slice_get (ways (run_tree set) (sight reach (record { before = before; bytes = bytes; unfinished = u }))
+    (record { place = 0; groups = replicate n None })) 0)) groups_are
     ∙ look-sight test set has before bytes u
 
 -- the same, as an equation of functions
@@ -230,7 +250,8 @@ same-run f g same (suc n) (b ∷ bytes) low =
     ap (λ t. cond t (1 + prefix_len f (take n bytes)) 0) (same b (low 0))
     ∙ ap (λ k. cond (g b) (1 + k) 0) (same-run f g same n bytes (λ k. low (suc k)))
 
-begins-run : (p : Shape) (starts : List Bool) (run : IsByteRun p) → AreStarts p starts → (b : ℕ) → b < 256 → in_set starts b ≡ in_set run.set b
+begins-run : (p : Shape) (starts : List Bool) (run : IsByteRun p) → AreStarts p starts → (b : ℕ) → b < 256 →
+    in_set starts b ≡ in_set run.set b
 unfolding may_begin
 begins-run p starts run are b h = are b h ∙ ap (λ piece. may_begin piece b) run.tree_is
 
@@ -242,20 +263,24 @@ counted-look p starts are run before bytes u low =
     length-prefix_len (λ b. in_set starts b) (take reach bytes)
     ∙ same-run (λ b. in_set starts b) (λ b. in_set run.set b) (begins-run p starts run are) reach bytes low
     ∙ sym (length-prefix_len (λ b. in_set run.set b) (take reach bytes)) in
-    ap (λ n. by_sight n (length bytes) u) e ∙ sym (run-look (λ b. in_set run.set b) run.set (λ b. refl) p run.tree_is run.groups_are before bytes u)
+    ap (λ n. by_sight n (length bytes) u) e ∙ sym (run-look (λ b. in_set run.set b) run.set (λ b. refl) p run.tree_is run.groups_are before
+    bytes u)
 
 -- the code's tests on a run that it has counted
-waits-is : (test : ℕ → Bool) (bytes : List ℕ) (u waits b : Bool) (n : ℕ) → n ≡ run_length test bytes → waits ≡ (u && (n == length bytes) && nat_lt n reach) → waits ≡ b →
+waits-is : (test : ℕ → Bool) (bytes : List ℕ) (u waits b : Bool) (n : ℕ) → n ≡ run_length test bytes →
+    waits ≡ (u && (n == length bytes) && nat_lt n reach) → waits ≡ b →
     (u && (run_length test bytes == length bytes) && nat_lt (run_length test bytes) reach) ≡ b
 waits-is test bytes u waits b n e w t = ap (λ k. u && (k == length bytes) && nat_lt k reach) (sym e) ∙ sym w ∙ t
 
-pub run-more : (test : ℕ → Bool) (bytes : List ℕ) (u waits : Bool) (n : ℕ) → n ≡ run_length test bytes → waits ≡ (u && (n == length bytes) && nat_lt n reach) → waits ≡ true →
+pub run-more : (test : ℕ → Bool) (bytes : List ℕ) (u waits : Bool) (n : ℕ) → n ≡ run_length test bytes →
+    waits ≡ (u && (n == length bytes) && nat_lt n reach) → waits ≡ true →
     more ≡ runs_by test None bytes u
 run-more test bytes u waits n e w t =
     let r : ℕ = run_length test bytes in
     sym (ap (λ c. if c then more else if r == 0 then no_match else match 0 r r) (waits-is test bytes u waits true n e w t))
 
-run-ends : (test : ℕ → Bool) (bytes : List ℕ) (u waits : Bool) (n : ℕ) → n ≡ run_length test bytes → waits ≡ (u && (n == length bytes) && nat_lt n reach) → waits ≡ false →
+run-ends : (test : ℕ → Bool) (bytes : List ℕ) (u waits : Bool) (n : ℕ) → n ≡ run_length test bytes →
+    waits ≡ (u && (n == length bytes) && nat_lt n reach) → waits ≡ false →
     (if n == 0 then no_match else match 0 n n) ≡ runs_by test None bytes u
 run-ends test bytes u waits n e w t =
     let r : ℕ = run_length test bytes in
@@ -268,10 +293,14 @@ is-zero n e = grind (arith, nat_tests)
 not-zero : (n : ℕ) → ¬ (n ≡ 0) → (n == 0) ≡ false
 not-zero n e = grind (arith, nat_tests)
 
-pub run-none : (test : ℕ → Bool) (bytes : List ℕ) (u waits : Bool) (n : ℕ) → n ≡ run_length test bytes → waits ≡ (u && (n == length bytes) && nat_lt n reach) → waits ≡ false →
+pub run-none : (test : ℕ → Bool) (bytes : List ℕ) (u waits : Bool) (n : ℕ) → n ≡ run_length test bytes →
+    waits ≡ (u && (n == length bytes) && nat_lt n reach) → waits ≡ false →
     n ≡ 0 → no_match ≡ runs_by test None bytes u
-run-none test bytes u waits n e w t z = sym (ap (λ c. if c then no_match else match 0 n n) (is-zero n z)) ∙ run-ends test bytes u waits n e w t
+run-none test bytes u waits n e w t z = sym (ap (λ c. if c then no_match else match 0 n n) (is-zero n z))
+    ∙ run-ends test bytes u waits n e w t
 
-pub run-some : (test : ℕ → Bool) (bytes : List ℕ) (u waits : Bool) (n : ℕ) → n ≡ run_length test bytes → waits ≡ (u && (n == length bytes) && nat_lt n reach) → waits ≡ false →
+pub run-some : (test : ℕ → Bool) (bytes : List ℕ) (u waits : Bool) (n : ℕ) → n ≡ run_length test bytes →
+    waits ≡ (u && (n == length bytes) && nat_lt n reach) → waits ≡ false →
     ¬ (n ≡ 0) → match 0 n n ≡ runs_by test None bytes u
-run-some test bytes u waits n e w t z = sym (ap (λ c. if c then no_match else match 0 n n) (not-zero n z)) ∙ run-ends test bytes u waits n e w t
+run-some test bytes u waits n e w t z = sym (ap (λ c. if c then no_match else match 0 n n) (not-zero n z))
+    ∙ run-ends test bytes u waits n e w t

@@ -1,12 +1,13 @@
 -- The loop of the walk.
-use Rattle.std.proofs.Common.{◌≡◌, ℕ, zero, suc, ◌+◌, ◌-◌, ◌<◌, ◌≤◌, ℤ, pos, Bool, List, [], ◌∷◌, ◌++◌, length, take, drop, get_or, Option, refl, sym, ◌∙◌, ap, subst, arith, rules, append_assoc}
+use Rattle.std.proofs.Common.{◌≡◌, ℕ, zero, suc, ◌+◌, ◌-◌, ◌<◌, ◌≤◌, ℤ, pos, Bool, List, [], ◌∷◌, ◌++◌, length, take, drop, get_or, Option}
+use Rattle.std.proofs.Common.{refl, sym, ◌∙◌, ap, subst, arith, rules, append_assoc}
 use Rattle.std.specs.Prelude.{IfSome}
 use Rattle.std.specs.List.{flat_map, zip}
 use Rattle.std.proofs.lemmas.List.{append-nil, length-drop}
 use Rattle.std.proofs.lemmas.Grind.{flat_map-append}
 use Rattle.std.proofs.lemmas.Slice.Zip.{length-zip}
 use Rattle.ix_base.specs.Stream.{Dated, bytes_of}
-use Rattle.ix_lines.specs.Walk.{Looker, Walked, preceded, walk}
+use Rattle.ix_lines.specs.Walk.{BreakFinder, Walked, preceded, walk}
 use Rattle.ix_lines.specs.Lines.{line_of}
 use Rattle.ix_lines.specs.Laws.{IsStable}
 use Rattle.ix_lines.specs.Kept.{Keeps, IsPart, AddsSome, first_moment}
@@ -23,7 +24,8 @@ use Rattle.ix_lines.proofs.WalkLemmas.{preceded-preceded, bytes_of-append}
 use Rattle.ix_lines.proofs.SeekLemmas.{by_found, walk-seek, last_byte-append, rest-is}
 
 -- before the first step
-pub came-first : (look : Looker) (u : Bool) (t : ℕ) (first : Option ℕ) (all stretch : List Dated) (kept : Kept) (out : List Line) → Keeps t stretch kept →
+pub came-first : (look : BreakFinder) (u : Bool) (t : ℕ) (first : Option ℕ) (all stretch : List Dated) (kept : Kept) (out : List Line) →
+    Keeps t stretch kept →
     CameTo look u t (walk look u first stretch 0 all) first all 0 0 kept out out
 came-first look u t first all stretch kept out keeps = record {
   stretch = stretch;
@@ -34,7 +36,8 @@ came-first look u t first all stretch kept out keeps = record {
 }
 
 -- where the search stops, and a break with its match, lie within the bytes
-pub stop-within : (all : List ℕ) (at n most : ℕ) (f : Found) → f ≡ Stop n → at ≤ length all → IsWithin f (length (take (length all - at) (drop at all))) most →
+pub stop-within : (all : List ℕ) (at n most : ℕ) (f : Found) → f ≡ Stop n → at ≤ length all →
+    IsWithin f (length (take (length all - at) (drop at all))) most →
     (at + n ≤ length all) × (length all < at + n + most)
 stop-within all at n most f is h w =
     let m = subst (λ (x : Found). IsWithin x (length (take (length all - at) (drop at all))) most) is w in
@@ -59,10 +62,12 @@ first-part (suc k) (suc s) [] ms m h = search rules
 first-part (suc k) (suc s) (b ∷ bs) [] m h = search rules
 first-part (suc k) (suc s) (b ∷ bs) (x ∷ ms) m h = first-part (suc k) s bs ms m (λ l. h (omega arith))
 
-pub part-is : (bs : List ℕ) (ms : List ℤ) (start end : ℕ) (m : ℤ) → length bs ≡ length ms → (start < length ms → m ≡ get_or ms start (pos 0)) →
+pub part-is : (bs : List ℕ) (ms : List ℤ) (start end : ℕ) (m : ℤ) → length bs ≡ length ms →
+    (start < length ms → m ≡ get_or ms start (pos 0)) →
     IsPart (part start end bs) m (part start end (zip bs ms))
 part-is bs ms start end m same h = record {
-  bytes_are = bytes_of-take (end - start) (drop start (zip bs ms)) ∙ ap (take (end - start)) (bytes_of-drop start (zip bs ms) ∙ ap (drop start) (bytes_of-zip bs ms same));
+  bytes_are = bytes_of-take (end - start) (drop start (zip bs ms))
+      ∙ ap (take (end - start)) (bytes_of-drop start (zip bs ms) ∙ ap (drop start) (bytes_of-zip bs ms same));
   moment_is = first-part (end - start) start bs ms m h;
 }
 
@@ -70,7 +75,8 @@ pub bytes-taken : (bs : List ℕ) (ms : List ℤ) (n : ℕ) → length bs ≡ le
 bytes-taken bs ms n same = bytes_of-take n (zip bs ms) ∙ ap (take n) (bytes_of-zip bs ms same)
 
 -- the code's search, at the place that the walk has come to
-pub sought : (look : Looker) (u : Bool) (first r : Option ℕ) (bs slice : List ℕ) (ms : List ℤ) (at : ℕ) (f : Found) → length bs ≡ length ms →
+pub sought : (look : BreakFinder) (u : Bool) (first r : Option ℕ) (bs slice : List ℕ) (ms : List ℤ) (at : ℕ) (f : Found) →
+    length bs ≡ length ms →
     r ≡ last_byte first (take at bs) → slice ≡ drop at bs → f ≡ seek look u r slice →
     seek look u (last_byte first (bytes_of (take at (zip bs ms)))) (bytes_of (drop at (zip bs ms))) ≡ f
 sought look u first r bs slice ms at f same p q e =
@@ -86,16 +92,19 @@ before-on first all at n =
     ∙ ap (last_byte first) (sym (bytes_of-append (take at all) (take n (drop at all))))
     ∙ ap (λ l. last_byte first (bytes_of l)) (take-add at n all)
 
-rest-on : (stretch all : List Dated) (start at n : ℕ) → start ≤ at → (stretch ++ part start at all) ++ take n (drop at all) ≡ stretch ++ part start (at + n) all
+rest-on : (stretch all : List Dated) (start at n : ℕ) → start ≤ at → (stretch ++ part start at all) ++ take n (drop at all) ≡ stretch
+    ++ part start (at + n) all
 rest-on stretch all start at n h =
     append_assoc stretch (part start at all) (take n (drop at all)) ∙ ap (λ l. stretch ++ l) (part-on start at n all h)
 
-pub came-break : (look : Looker) → IsStable look → (u : Bool) (t : ℕ) (whole : Walked) (first : Option ℕ) (all : List Dated) (start at from to n : ℕ)
+pub came-break : (look : BreakFinder) → IsStable look →
+    (u : Bool) (t : ℕ) (whole : Walked) (first : Option ℕ) (all : List Dated) (start at from to n : ℕ)
     (kept kept' : Kept) (old out out' : List Line) (bytes : List ℕ) (m : ℤ) →
     CameTo look u t whole first all start at kept old out → start ≤ at → to ≤ n →
     seek look u (last_byte first (bytes_of (take at all))) (bytes_of (drop at all)) ≡ Break from to n →
     IsPart bytes m (part start (at + from) all) →
-    ((stretch part : List Dated) → Keeps t stretch kept → IsPart bytes m part → Keeps t [] kept' × (out' ≡ out ++ line_of t (stretch ++ part))) →
+    ((stretch part : List Dated) → Keeps t stretch kept → IsPart bytes m part → Keeps t [] kept'
+    × (out' ≡ out ++ line_of t (stretch ++ part))) →
     CameTo look u t whole first all (at + to) (at + n) kept' old out'
 came-break look stable u t whole first all start at from to n kept kept' old out out' bytes m c sa tn f is ends =
     let b : Option ℕ = last_byte first (bytes_of (take at all)) in
@@ -115,14 +124,18 @@ came-break look stable u t whole first all start at from to n kept kept' old out
           ∙ ap (preceded c.done) (walk-seek look stable u b rest left ∙ ap (by_found look u b rest left) f)
           ∙ preceded-preceded c.done ((rest ++ take from left) ∷ [])
           (walk look u (last_byte b (bytes_of (take n left))) (drop to (take n left)) 0 (drop n left))
-          ∙ ap (λ y. preceded (c.done ++ y ∷ []) (walk look u (last_byte b (bytes_of (take n left))) (drop to (take n left)) 0 (drop n left)))
+          ∙ ap (λ y. preceded (c.done ++ y ∷ []) (walk look u (last_byte b (bytes_of (take n left))) (drop to (take n left)) 0
+          (drop n left)))
           (rest-on c.stretch all start at from sa)
           ∙ ap (λ q. preceded (c.done ++ x ∷ []) (walk look u q (drop to (take n left)) 0 (drop n left))) (before-on first all at n)
-          ∙ ap (λ s. preceded (c.done ++ x ∷ []) (walk look u (last_byte first (bytes_of (take (at + n) all))) s 0 (drop n left))) (part-behind at to n all tn)
-          ∙ ap (λ l. preceded (c.done ++ x ∷ []) (walk look u (last_byte first (bytes_of (take (at + n) all))) (part (at + to) (at + n) all) 0 l)) (drop-drop at n all);
+          ∙ ap (λ s. preceded (c.done ++ x ∷ []) (walk look u (last_byte first (bytes_of (take (at + n) all))) s 0 (drop n left)))
+          (part-behind at to n all tn)
+          ∙ ap (λ l. preceded (c.done ++ x ∷ []) (walk look u (last_byte first (bytes_of (take (at + n) all))) (part (at + to) (at + n) all)
+          0 l)) (drop-drop at n all);
     }
 
-pub came-stop : (look : Looker) → IsStable look → (u : Bool) (t : ℕ) (whole : Walked) (first : Option ℕ) (all : List Dated) (start at n : ℕ)
+pub came-stop : (look : BreakFinder) → IsStable look → (u : Bool) (t : ℕ) (whole : Walked) (first : Option ℕ) (all : List Dated)
+    (start at n : ℕ)
     (kept kept' : Kept) (old out : List Line) (bytes : List ℕ) (m : ℤ) →
     CameTo look u t whole first all start at kept old out → start ≤ at →
     seek look u (last_byte first (bytes_of (take at all))) (bytes_of (drop at all)) ≡ Stop n →
@@ -134,9 +147,19 @@ came-stop look stable u t whole first all start at n kept kept' old out bytes m 
     let rest : List Dated = c.stretch ++ part start at all in
     let left : List Dated = drop at all in
     let x : List Dated = c.stretch ++ part start (at + n) all in
-    let e : whole ≡ record { done = c.done ++ []; rest = x; before = last_byte first (bytes_of (take (at + n) all)); pending = drop (at + n) all } =
+    let e : whole ≡ record {
+      done = c.done ++ [];
+      rest = x;
+      before = last_byte first (bytes_of (take (at + n) all));
+      pending = drop (at + n) all;
+    } =
     c.walk_on ∙ ap (preceded c.done) (walk-seek look stable u b rest left ∙ ap (by_found look u b rest left) f)
-    ∙ (λ i. record { done = c.done ++ []; rest = rest-on c.stretch all start at n sa i; before = before-on first all at n i; pending = drop-drop at n all i }) in
+    ∙ (λ i. record {
+      done = c.done ++ [];
+      rest = rest-on c.stretch all start at n sa i;
+      before = before-on first all at n i;
+      pending = drop-drop at n all i;
+    }) in
     let P : Walked → Type 0 = λ w. Settles t w (last_byte first (bytes_of (take (at + n) all))) kept' (drop (at + n) all) old out in
     subst P (sym e) (record {
       keeps = adds c.stretch (part start (at + n) all) c.keeps is;
@@ -146,7 +169,8 @@ came-stop look stable u t whole first all start at n kept kept' old out bytes m 
     })
 
 -- the part up to the end
-pub rest-part : (bs : List ℕ) (ms : List ℤ) (start : ℕ) (m : ℤ) → length bs ≡ length ms → (start < length ms → m ≡ get_or ms start (pos 0)) →
+pub rest-part : (bs : List ℕ) (ms : List ℤ) (start : ℕ) (m : ℤ) → length bs ≡ length ms →
+    (start < length ms → m ≡ get_or ms start (pos 0)) →
     IsPart (take (length bs - start) (drop start bs)) m (drop start (zip bs ms))
 rest-part bs ms start m same h =
     subst (λ (l : List Dated). IsPart (take (length bs - start) (drop start bs)) m l)
@@ -154,7 +178,8 @@ rest-part bs ms start m same h =
     (part-is bs ms start (length bs) m same h)
 
 -- what was added so far are the first lines of the walk
-pub came-some : (look : Looker) (u : Bool) (t : ℕ) (whole : Walked) (first : Option ℕ) (all : List Dated) (start at : ℕ) (kept : Kept) (old out new : List Line) →
+pub came-some : (look : BreakFinder) (u : Bool) (t : ℕ) (whole : Walked) (first : Option ℕ) (all : List Dated) (start at : ℕ) (kept : Kept)
+    (old out new : List Line) →
     CameTo look u t whole first all start at kept old out → new ≡ out → AddsSome (flat_map (line_of t) whole.done) old new
 came-some look u t whole first all start at kept old out new c e =
     let later : Walked = walk look u (last_byte first (bytes_of (take at all))) (c.stretch ++ part start at all) 0 (drop at all) in
@@ -167,15 +192,18 @@ came-some look u t whole first all start at kept old out new c e =
 
 -- ---- what the code was lent of the bytes and of the runs of their moments
 
-pub moment-is : (runs lent : List Run) (start : ℕ) (m : ℤ) → lent ≡ runs → (start < length (moments_of lent) → m ≡ get_or (moments_of lent) start (pos 0)) →
+pub moment-is : (runs lent : List Run) (start : ℕ) (m : ℤ) → lent ≡ runs →
+    (start < length (moments_of lent) → m ≡ get_or (moments_of lent) start (pos 0)) →
     start < length (moments_of runs) → m ≡ get_or (moments_of runs) start (pos 0)
 moment-is runs lent start m e h = subst (λ (rs : List Run). start < length (moments_of rs) → m ≡ get_or (moments_of rs) start (pos 0)) e h
 
-pub part-lent : (bs all : List ℕ) (start end : ℕ) (m w : ℤ) (p : List Dated) → all ≡ bs → w ≡ m → IsPart (part start end bs) m p → IsPart (part start end all) w p
+pub part-lent : (bs all : List ℕ) (start end : ℕ) (m w : ℤ) (p : List Dated) → all ≡ bs → w ≡ m → IsPart (part start end bs) m p →
+    IsPart (part start end all) w p
 part-lent bs all start end m w p e f is =
     subst (λ (l : List ℕ). IsPart (part start end l) w p) (sym e) (subst (λ (z : ℤ). IsPart (part start end bs) z p) (sym f) is)
 
-pub rest-lent : (bs all : List ℕ) (start : ℕ) (m w : ℤ) (p : List Dated) → all ≡ bs → w ≡ m → IsPart (take (length bs - start) (drop start bs)) m p →
+pub rest-lent : (bs all : List ℕ) (start : ℕ) (m w : ℤ) (p : List Dated) → all ≡ bs → w ≡ m →
+    IsPart (take (length bs - start) (drop start bs)) m p →
     IsPart (take (length all - start) (drop start all)) w p
 rest-lent bs all start m w p e f is =
     subst (λ (l : List ℕ). IsPart (take (length l - start) (drop start l)) w p) (sym e)

@@ -1,8 +1,9 @@
 -- The lines of a stream.
-use Rattle.std.specs.Prelude.{ℕ, ◌≤◌, ◌-◌, ◌==◌, ◌||◌, ℤ, Bool, true, false, not, ◌&&◌, if◌then◌else◌, nat_le, nat_lt, List, [], ◌∷◌, ◌++◌, length, take, slice_index, unwrap_or, find}
+use Rattle.std.specs.Prelude.{ℕ, ◌≤◌, ◌-◌, ◌==◌, ◌||◌, ℤ, Bool, true, false, not, ◌&&◌, if◌then◌else◌, nat_le, nat_lt, List, [], ◌∷◌, ◌++◌}
+use Rattle.std.specs.Prelude.{length, take, slice_index, unwrap_or, find}
 use Rattle.std.specs.List.{flat_map}
 use Rattle.ix_base.specs.Stream.{Dated, bytes_of}
-use Rattle.ix_lines.specs.Walk.{Looker, walk_of}
+use Rattle.ix_lines.specs.Walk.{BreakFinder, walk_of}
 use Rattle.ix_base.specs.declared.events.Line.{Line}
 
 -- the length at which a line is cut, by the setting: 0 and all above 2^20 count as 2^20
@@ -34,9 +35,9 @@ line_of t [] = []
 line_of t (d ∷ stretch) = unless_empty (cut t (bytes_of (d ∷ stretch))) d.1
 
 -- the lines of an open stream, and those of a closed one, where the last rest is a line too
-abbrev pub settled : Looker → ℕ → List Dated → List Line
+abbrev pub settled : BreakFinder → ℕ → List Dated → List Line
 settled look t stream = flat_map (line_of t) (walk_of look true stream).done
 
-abbrev pub all_lines : Looker → ℕ → List Dated → List Line
+abbrev pub all_lines : BreakFinder → ℕ → List Dated → List Line
 all_lines look t stream =
     let w = walk_of look false stream in flat_map (line_of t) w.done ++ line_of t (w.rest ++ w.pending)

@@ -3,7 +3,7 @@ use Rattle.std.specs.Prelude.{◌≡◌, ℕ, ◌+◌, ◌-◌, ◌<◌, ℤ, Bo
 use Rattle.ix_base.specs.Stream.{Dated, bytes_of}
 use Rattle.ix_pattern.specs.Piece.{least_length}
 use Rattle.ix_pattern.specs.Rows.{Shape, tree}
-use Rattle.ix_lines.specs.Walk.{Looker, walk_of}
+use Rattle.ix_lines.specs.Walk.{BreakFinder, walk_of}
 use Rattle.ix_lines.specs.Breaks.{breaks_by}
 use Rattle.ix_lines.specs.Lines.{settled, all_lines}
 use Rattle.ix_lines.specs.Kept.{first_moment, AddsSome}
@@ -22,7 +22,7 @@ pub record Parts : Type 0 where
   pub broken : Bool
 
 -- the parts of a stream
-abbrev pub parts_of : Looker → ℕ → List Dated → Parts
+abbrev pub parts_of : BreakFinder → ℕ → List Dated → Parts
 parts_of look t stream =
     let w = walk_of look true stream in
     record {
@@ -35,29 +35,29 @@ parts_of look t stream =
     }
 
 -- the value stands for the stream
-abbrev pub StandsFor : Looker → ℕ → List Dated → Parts → Type 0
+abbrev pub StandsFor : BreakFinder → ℕ → List Dated → Parts → Type 0
 StandsFor look t stream parts = parts ≡ parts_of look t stream
 
 -- the lines that the later bytes settle were added
-pub record Adds (look : Looker) (t : ℕ) (stream later : List Dated) (old new : List Line) : Type 0 where
+pub record Adds (look : BreakFinder) (t : ℕ) (stream later : List Dated) (old new : List Line) : Type 0 where
   pub added : List Line
   pub settles : settled look t (stream ++ later) ≡ settled look t stream ++ added
   pub written : new ≡ old ++ added
 
 -- some of the lines that the later bytes settle were added, the first ones
-pub record AddsPart (look : Looker) (t : ℕ) (stream later : List Dated) (old new : List Line) : Type 0 where
+pub record AddsPart (look : BreakFinder) (t : ℕ) (stream later : List Dated) (old new : List Line) : Type 0 where
   pub added : List Line
   pub settles : settled look t (stream ++ later) ≡ settled look t stream ++ added
   pub written : AddsSome added old new
 
 -- the lines that the end of the stream settles were added
-pub record Ends (look : Looker) (t : ℕ) (stream : List Dated) (old new : List Line) : Type 0 where
+pub record Ends (look : BreakFinder) (t : ℕ) (stream : List Dated) (old new : List Line) : Type 0 where
   pub added : List Line
   pub settles : all_lines look t stream ≡ settled look t stream ++ added
   pub written : new ≡ old ++ added
 
 -- some of them were added, the first ones
-pub record EndsPart (look : Looker) (t : ℕ) (stream : List Dated) (old new : List Line) : Type 0 where
+pub record EndsPart (look : BreakFinder) (t : ℕ) (stream : List Dated) (old new : List Line) : Type 0 where
   pub added : List Line
   pub settles : all_lines look t stream ≡ settled look t stream ++ added
   pub written : AddsSome added old new

@@ -1,8 +1,8 @@
 -- The first break from a place on.
 use Rattle.std.specs.Prelude.{◌<◌, ◌≤◌, ℕ, suc, ◌+◌, Bool, List, [], ◌∷◌, Option, Some}
-use Rattle.ix_lines.specs.Walk.{Look, match, no_match, more, Looker}
-use Rattle.ix_lines.specs.declared.breaks.Looked.{Looked}
-use Rattle.ix_lines.specs.declared.breaks.Looked.TheVariants.{Match, No, More}
+use Rattle.ix_lines.specs.Walk.{Look, match, no_match, more, BreakFinder}
+use Rattle.ix_lines.specs.declared.breaks.BreakLook.{BreakLook}
+use Rattle.ix_lines.specs.declared.breaks.BreakLook.TheVariants.{Match, No, More}
 use Rattle.ix_lines.specs.declared.breaks.Found.{Found}
 use Rattle.ix_lines.specs.declared.breaks.Found.TheVariants.{Break, Stop}
 
@@ -11,13 +11,13 @@ abbrev pub last_byte : Option ℕ → List ℕ → Option ℕ
 last_byte before [] = before
 last_byte before (b ∷ bytes) = last_byte (Some b) bytes
 
-abbrev pub look_of : Looked → Look
+abbrev pub look_of : BreakLook → Look
 look_of (Match from to end) = match from to end
 look_of No = no_match
 look_of More = more
 
 -- a break lies within its match, which takes a byte and lies within the text
-abbrev pub IsSized : Looked → ℕ → Type 0
+abbrev pub IsSized : BreakLook → ℕ → Type 0
 IsSized (Match from to end) len = (from ≤ to) × (to ≤ end) × (0 < end) × (end ≤ len)
 IsSized No len = Unit {0}
 IsSized More len = Unit {0}
@@ -36,7 +36,7 @@ found_by later no_match = past_one later
 found_by later (match from to n) = Break from to n
 
 -- the first break, or the place at which the walk stops: where more is wanted, or at the end
-abbrev pub seek : Looker → Bool → Option ℕ → List ℕ → Found
+abbrev pub seek : BreakFinder → Bool → Option ℕ → List ℕ → Found
 seek look unfinished before [] = Stop 0
 seek look unfinished before (b ∷ bytes) =
     found_by (seek look unfinished (Some b) bytes) (look before (b ∷ bytes) unfinished)

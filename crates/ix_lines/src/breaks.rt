@@ -20,7 +20,7 @@ use std::sync::ledger::{Blank, Ledger};
 
 /// What an attempt at a place comes to. Places count from that place.
 #[derive(Clone, Copy)]
-pub enum Looked {
+pub enum BreakLook {
     /// A break, and the end of the match that gave it.
     Match { from: usize, to: usize, end: usize },
     /// No match begins here.
@@ -34,7 +34,8 @@ pub enum Looked {
 pub enum Found {
     /// A break, and the end of the match that gave it.
     Break { from: usize, to: usize, end: usize },
-    /// No break before this place, which is the end, or from which on it depends on bytes that have not come.
+    /// No break before this place, which is the end, or from which on it depends on bytes that have
+    /// not come.
     Stop(usize),
 }
 
@@ -67,12 +68,13 @@ fn break_of(groups: &[Option<(usize, usize)>]) -> (usize, usize)
     (0, 0)
 }
 
-/// A pattern of breaks, with the attempt that goes on while bytes come. Contracts see the pattern, what the attempt is to
-/// its callers, and whether one is made at all.
+/// A pattern of breaks, with the attempt that goes on while bytes come. Contracts see the pattern,
+/// what the attempt is to its callers, and whether one is made at all.
 pub struct Breaker {
     pattern: Pattern,
     scan: Scan,
-    /// The pattern is a group of one or more bytes of a set: a break is counted, and no attempt is made.
+    /// The pattern is a group of one or more bytes of a set: a break is counted, and no attempt is
+    /// made.
     counts: bool,
 }
 
@@ -133,14 +135,15 @@ impl Breaker {
         self.scan.reset();
     }
 
-    /// The attempt at the first of these bytes. It goes on where they go on from those of the last look.
+    /// The attempt at the first of these bytes. It goes on where they go on from those of the last
+    /// look.
     fn look<L: Ledger>(
         &mut self,
         before: Option<u8>,
         bytes: &[u8],
         unfinished: bool,
         steps: &mut Steps<L>,
-    ) -> Result<Looked, NoMemory>
+    ) -> Result<BreakLook, NoMemory>
         requires { GoesOn self.old.scan before bytes.now }
         ensures is { IfOk result (λ l. look_of l ≡ breaks_by self.old.pattern before bytes.now unfinished) }
         ensures sized { IfOk result (λ l. IsSized l (length bytes.now)) }
@@ -161,15 +164,15 @@ impl Breaker {
             Look::Found(found) => {
                 let (from, to) = break_of(found.groups.as_slice());
                 let end = found.end;
-                Ok(Looked::Match { from, to, end })
+                Ok(BreakLook::Match { from, to, end })
             }
-            Look::No => Ok(Looked::No),
-            Look::More => Ok(Looked::More),
+            Look::No => Ok(BreakLook::No),
+            Look::More => Ok(BreakLook::More),
         }
     }
 
-    /// The first break from the first of these bytes on, which go on from those of the last look. The bytes with which no
-    /// match begins are passed over at once.
+    /// The first break from the first of these bytes on, which go on from those of the last look.
+    /// The bytes with which no match begins are passed over at once.
     pub fn seek<L: Ledger>(
         &mut self,
         before: Option<u8>,
@@ -181,10 +184,12 @@ impl Breaker {
         ensures is { IfOk result (λ found. found ≡ seek (breaks_by self.old.pattern) unfinished before bytes.now) }
         ensures within { IfOk result (λ found. IsWithin found (length bytes.now) reach) }
         ensures pattern { self.new.pattern ≡ self.old.pattern }
-        ensures goes_on { IfOk result (λ found. GoesOn self.new.scan (last_byte before (take (end_of found) bytes.now)) (drop (end_of found) bytes.now)) }
+        ensures goes_on { IfOk result (λ found. GoesOn self.new.scan (last_byte before (take (end_of found) bytes.now))
+            (drop (end_of found) bytes.now)) }
         ensures begun { IfOk result (λ found. StopsBegun found (length bytes.now) self.new) }
         ensures counted { IfOk result (λ found. steps.new ≤ steps.old + self.old.pattern.weight * 512 * most_looks found) }
-        ensures again { IfOk result (λ found. IsBegun self.old → steps.new ≤ steps.old + self.old.pattern.weight * 512 * (most_looks found - 1)) }
+        ensures again { IfOk result (λ found. IsBegun self.old →
+            steps.new ≤ steps.old + self.old.pattern.weight * 512 * (most_looks found - 1)) }
         ensures later { steps.old ≤ steps.new }
     {
         let mut at: usize = 0;
@@ -200,9 +205,9 @@ impl Breaker {
                 unfinished,
                 steps,
             )? {
-                Looked::No => at = place + 1,
-                Looked::More => return Ok(Found::Stop(place)),
-                Looked::Match { from, to, end } => {
+                BreakLook::No => at = place + 1,
+                BreakLook::More => return Ok(Found::Stop(place)),
+                BreakLook::Match { from, to, end } => {
                     self.stand(place + end);
                     return Ok(Found::Break {
                         from: place + from,
@@ -216,8 +221,8 @@ impl Breaker {
         Ok(Found::Stop(at))
     }
 
-    /// Brings the attempt up to the end of these bytes. The tests are counted in the ledger that the blank one opens, which
-    /// nobody reads.
+    /// Brings the attempt up to the end of these bytes. The tests are counted in the ledger that
+    /// the blank one opens, which nobody reads.
     pub fn bring_up<L: Ledger>(
         &mut self,
         before: Option<u8>,

@@ -1,5 +1,5 @@
-//! Breakers that are a group of one or more bytes of a set, as the default one. Their breaks are counted byte by byte, and
-//! no search is made for them.
+//! Breakers that are a group of one or more bytes of a set, as the default one. Their breaks are
+//! counted byte by byte, and no search is made for them.
 
 ghost use Rattle.std.specs.Prelude.{◌≡◌, ◌<◌, ◌&&◌, ◌==◌, nat_lt, Bool, List, None, length, take, true, false};
 ghost use Rattle.ix_pattern.specs.Piece.{byte_in, count, in_set};
@@ -8,7 +8,7 @@ ghost use Rattle.ix_match.specs.Attempt.{reach};
 ghost use Rattle.ix_lines.specs.ByteRuns.{run_length, runs_by, IsByteRun};
 ghost use Rattle.ix_lines.specs.Seek.{look_of};
 
-use crate::breaks::{Looked, first_bytes};
+use crate::breaks::{BreakLook, first_bytes};
 use ix_match::{REACH, Scan};
 use ix_pattern::{Node, Pattern};
 
@@ -48,7 +48,8 @@ pub fn is_byte_run(p: &Pattern) -> bool
     }
 }
 
-/// How many bytes with which a match may begin stand at the front of these bytes, as far as an attempt sees.
+/// How many bytes with which a match may begin stand at the front of these bytes, as far as an
+/// attempt sees.
 fn run_length(scan: &Scan, bytes: &[u8]) -> usize
     ensures { result ≡ run_length (λ b. in_set scan.now.starts b) bytes.now }
 {
@@ -73,17 +74,17 @@ fn run_waits(n: usize, len: usize, unfinished: bool) -> bool
 }
 
 /// The run of bytes with which a match may begin, at the front of these bytes.
-pub fn run_at(scan: &Scan, bytes: &[u8], unfinished: bool) -> Looked
+pub fn run_at(scan: &Scan, bytes: &[u8], unfinished: bool) -> BreakLook
     ensures { look_of result ≡ runs_by (λ b. in_set scan.now.starts b) None bytes.now unfinished }
 {
     let n = run_length(scan, bytes);
     if run_waits(n, bytes.len(), unfinished) {
-        return Looked::More;
+        return BreakLook::More;
     }
     if n == 0 {
-        return Looked::No;
+        return BreakLook::No;
     }
-    Looked::Match {
+    BreakLook::Match {
         from: 0,
         to: n,
         end: n,

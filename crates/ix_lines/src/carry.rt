@@ -13,16 +13,19 @@ use std::alloc::Global;
 /// What is to be carried of a stream, to go on with it later.
 #[derive(Drop)]
 pub struct LineParts {
-    /// The byte before the place from which on breaks are still to be found. There is none at the stream's start.
+    /// The byte before the place from which on breaks are still to be found. There is none at the
+    /// stream's start.
     pub before: Option<u8>,
-    /// The bytes from there on, at most 16,383, as runs that have one moment each; neighbouring runs have different ones.
+    /// The bytes from there on, at most 16,383, as runs that have one moment each; neighbouring
+    /// runs have different ones.
     pub pending: LineList,
-    /// The first bytes of the line that is open there, one more than a line may have at the most, with the moment of the
-    /// first one. There is none where the line has no byte.
+    /// The first bytes of the line that is open there, one more than a line may have at the most,
+    /// with the moment of the first one. There is none where the line has no byte.
     pub line: Option<Line>,
 }
 
-/// The bytes as the longest runs that have one moment. The moments may have neighbouring runs of equal ones, and empty ones.
+/// The bytes as the longest runs that have one moment. The moments may have neighbouring runs of
+/// equal ones, and empty ones.
 pub fn runs_of(alloc: Global, bytes: &[u8], moments: &[Run]) -> Result<LineList, NoMemory>
     requires { length bytes.now ≡ length (moments_of moments.now) }
     ensures { IfOk result (λ runs. runs ≡ runs_of (zip bytes.now (moments_of moments.now))) }

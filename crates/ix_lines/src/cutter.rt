@@ -46,7 +46,8 @@ impl Drop for Cutter {
 }
 
 impl Cutter {
-    /// Walks the bytes as far as they settle breaks, and adds the lines that these end; how many bytes it came past.
+    /// Walks the bytes as far as they settle breaks, and adds the lines that these end; how many
+    /// bytes it came past.
     pub fn settle<L: Ledger>(
         &mut self,
         pending: &Pending,
@@ -59,19 +60,24 @@ impl Cutter {
         requires bound { self.old.truncate ≤ 1048576 }
         requires goes_on { GoesOn self.old.breaker.scan pending.now.before pending.now.bytes }
         ensures walk { IfOk result (λ stop. (stretch : List Dated) → Keeps self.old.truncate stretch self.old.kept →
-            Settles self.old.truncate (walk (breaks_by self.old.breaker.pattern) unfinished pending.now.before stretch 0 (dated_in pending.now))
+            Settles self.old.truncate (walk (breaks_by self.old.breaker.pattern) unfinished pending.now.before stretch 0
+            (dated_in pending.now))
             (last_byte pending.now.before (take stop pending.now.bytes)) self.new.kept (drop stop (dated_in pending.now)) out.old out.new) }
         ensures within { IfOk result (λ stop. stop ≤ length pending.now.bytes) }
         ensures short { IfOk result (λ stop. length pending.now.bytes < stop + reach) }
         ensures breaker { self.new.breaker.pattern ≡ self.old.breaker.pattern }
-        ensures goes_on { IfOk result (λ stop. GoesOn self.new.breaker.scan (last_byte pending.now.before (take stop pending.now.bytes)) (drop stop pending.now.bytes)) }
+        ensures goes_on { IfOk result (λ stop. GoesOn self.new.breaker.scan (last_byte pending.now.before (take stop pending.now.bytes))
+            (drop stop pending.now.bytes)) }
         ensures begun { IfOk result (λ stop. stop < length pending.now.bytes → IsBegun self.new.breaker) }
         ensures counted { IfOk result (λ stop. steps.new ≤ steps.old + self.old.breaker.pattern.weight * 512 * (stop + 1)) }
-        ensures again { IfOk result (λ stop. IsBegun self.old.breaker → steps.new ≤ steps.old + self.old.breaker.pattern.weight * 512 * stop) }
+        ensures again { IfOk result (λ stop. IsBegun self.old.breaker →
+            steps.new ≤ steps.old + self.old.breaker.pattern.weight * 512 * stop) }
         ensures truncate { self.new.truncate ≡ self.old.truncate }
         ensures later { steps.old ≤ steps.new }
         ensures err { OnErr result ((stretch : List Dated) → Keeps self.old.truncate stretch self.old.kept →
-            AddsSome (flat_map (line_of self.old.truncate) (walk (breaks_by self.old.breaker.pattern) unfinished pending.now.before stretch 0 (dated_in pending.now)).done) out.old out.new) }
+            AddsSome (flat_map (line_of self.old.truncate)
+            (walk (breaks_by self.old.breaker.pattern) unfinished pending.now.before stretch 0 (dated_in pending.now)).done) out.old
+            out.new) }
         ensures lines { All IsShort out.old → All IsShort out.new }
     {
         let truncate = self.truncate;

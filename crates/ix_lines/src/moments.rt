@@ -1,5 +1,5 @@
-//! The moments of the bytes that wait, as runs of equal ones. `Pending` keeps them, and the walk over its bytes asks for
-//! the moment at which each line begins.
+//! The moments of the bytes that wait, as runs of equal ones. `Pending` keeps them, and the walk
+//! over its bytes asks for the moment at which each line begins.
 
 ghost use Rattle.std.specs.Prelude.{◌≡◌, ◌-◌, ◌<◌, ◌≤◌, ◌++◌, List, length, drop, replicate, get_or, pos, OnOk};
 ghost use Rattle.ix_lines.specs.Moments.{moments_of, PointsInto};
@@ -67,7 +67,8 @@ pub fn drop_moments(runs: &mut Vec<Run>, n: usize)
     shorten(runs, left);
 }
 
-/// A place among runs, which only moves on: so a walk that asks for the moments of rising places passes each run once.
+/// A place among runs, which only moves on: so a walk that asks for the moments of rising places
+/// passes each run once.
 #[derive(Clone, Copy)]
 pub struct Cursor {
     /// The number of the run before which it stands.
@@ -91,7 +92,8 @@ impl Cursor {
         requires on { self.old.passed ≤ place }
         ensures stands { PointsInto runs.now self.new }
         ensures on { self.new.passed ≤ place }
-        ensures near { self.new.run < length runs.now → place - self.new.passed < (get_or runs.now self.new.run (record { count = 0; moment = pos 0 })).count }
+        ensures near { self.new.run < length runs.now →
+            place - self.new.passed < (get_or runs.now self.new.run (record { count = 0; moment = pos 0 })).count }
     {
         while self.run < runs.len() && runs[self.run].count <= place - self.passed {
             self.passed += runs[self.run].count;

@@ -11,8 +11,8 @@ use ix_base::NoMemory;
 use ix_pattern::Pattern;
 use std::alloc::Global;
 
-/// The pattern of breaks where none is set, `([\r\n]+)`: a break is each longest run of the bytes 0x0D and 0x0A, as far as
-/// an attempt of 16,384 bytes sees.
+/// The pattern of breaks where none is set, `([\r\n]+)`: a break is each longest run of the bytes
+/// 0x0D and 0x0A, as far as an attempt of 16,384 bytes sees.
 pub fn default_breaker(alloc: Global) -> Result<Pattern, NoMemory>
     ensures read { IfOk result (λ p. (s : Syntax) × IsReadAs (codes "([\\r\\n]+)") s p) }
     ensures breaker { IfOk result (λ p. IsBreaker p) }

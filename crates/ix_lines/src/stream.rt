@@ -26,15 +26,17 @@ use std::alloc::Global;
 use std::marker::{Brand, Model};
 use std::sync::ledger::{Blank, Ledger};
 
-/// The lines of a stream that comes in blocks. Whatever the blocks, the lines are those of the whole stream.
+/// The lines of a stream that comes in blocks. Whatever the blocks, the lines are those of the
+/// whole stream.
 ///
-/// Lines stand between the breaks of a pattern. From the start of the stream on an attempt to match it is made at each
-/// place. A match gives a break, whose bytes are dropped: what its first capturing group took in, or of those that took
-/// part the one with the least number, or the empty place before the match where none did. The search goes on behind the
-/// match. An attempt sees 16,384 bytes.
+/// Lines stand between the breaks of a pattern. From the start of the stream on an attempt to match
+/// it is made at each place. A match gives a break, whose bytes are dropped: what its first
+/// capturing group took in, or of those that took part the one with the least number, or the empty
+/// place before the match where none did. The search goes on behind the match. An attempt sees
+/// 16,384 bytes.
 ///
-/// At most 16,383 bytes wait for what comes behind them, with their moments; of the line that is open the first bytes
-/// are kept, one more than a line may have.
+/// At most 16,383 bytes wait for what comes behind them, with their moments; of the line that is
+/// open the first bytes are kept, one more than a line may have.
 pub struct Lines {
     cutter: Cutter,
     pending: Pending,
@@ -74,7 +76,8 @@ impl Model for Lines {
       };
     } };
 
-    ghost invariant = { λ l. IsStable (breaks_by l.cutter.breaker.pattern) × (l.cutter.truncate ≤ 1048576) × OnFalse l.broken (IsPaired l.pending)
+    ghost invariant = { λ l. IsStable (breaks_by l.cutter.breaker.pattern) × (l.cutter.truncate ≤ 1048576)
+        × OnFalse l.broken (IsPaired l.pending)
         × OnFalse l.broken (Attends l.cutter.breaker l.pending.before l.pending.bytes) };
 }
 
@@ -104,9 +107,10 @@ fn brought_up(alloc: Global, pattern: Pattern, pending: &Pending) -> Result<Brea
 }
 
 impl Lines {
-    /// The lines of a stream that has no byte yet. The breaker has a capturing group, and a match of it takes at least one
-    /// byte. A line of more than `truncate` bytes is cut to that length, or to up to three bytes fewer, so that no character
-    /// of UTF-8 is cut; 0 and all above 1,048,576 count as 1,048,576.
+    /// The lines of a stream that has no byte yet. The breaker has a capturing group, and a match
+    /// of it takes at least one byte. A line of more than `truncate` bytes is cut to that length,
+    /// or to up to three bytes fewer, so that no character of UTF-8 is cut; 0 and all above
+    /// 1,048,576 count as 1,048,576.
     pub fn new(alloc: Global, breaker: Pattern, truncate: u32) -> Result<Lines, NoMemory>
         requires { IsBreaker breaker }
         ensures breaker { IfOk result (λ lines. lines.breaker ≡ breaker) }
@@ -126,12 +130,14 @@ impl Lines {
         })
     }
 
-    /// Takes in the next bytes, which came at this moment, in microseconds since 1970-01-01T00:00:00Z, and adds the lines
-    /// that they settle. A moment before 1970 counts as 0, and one after the beginning of 2100 as that. Each test of a
-    /// byte by an attempt at the breaker counts as a step: there are at most 512 times the breaker's weight for each byte by
-    /// which the place moved on at which a break is still sought, and as many again where no byte waited there. Where one
-    /// did, the attempt goes on, and makes no test twice. Where there is no room in memory the first ones of these lines may
-    /// have been added, and the value is broken: it answers `NoMemory` from then on and adds nothing.
+    /// Takes in the next bytes, which came at this moment, in microseconds since
+    /// 1970-01-01T00:00:00Z, and adds the lines that they settle. A moment before 1970 counts as 0,
+    /// and one after the beginning of 2100 as that. Each test of a byte by an attempt at the
+    /// breaker counts as a step: there are at most 512 times the breaker's weight for each byte by
+    /// which the place moved on at which a break is still sought, and as many again where no byte
+    /// waited there. Where one did, the attempt goes on, and makes no test twice. Where there is no
+    /// room in memory the first ones of these lines may have been added, and the value is broken:
+    /// it answers `NoMemory` from then on and adds nothing.
     pub fn feed<L: Ledger>(
         &mut self,
         bytes: &[u8],
@@ -150,8 +156,10 @@ impl Lines {
         ensures truncate { self.new.parts.truncate ≡ self.old.parts.truncate }
         ensures pending { OnOk result (length self.new.parts.pending < reach) }
         ensures short { All IsShort out.old → All IsShort out.new }
-        ensures counted { OnOk result (steps.new ≤ steps.old + self.old.breaker.weight * 512 * (moved self.old (length bytes.now) self.new + 1)) }
-        ensures again { OnOk result (0 < length self.old.parts.pending → steps.new ≤ steps.old + self.old.breaker.weight * 512 * moved self.old (length bytes.now) self.new) }
+        ensures counted { OnOk result (steps.new ≤ steps.old + self.old.breaker.weight * 512 *
+            (moved self.old (length bytes.now) self.new + 1)) }
+        ensures again { OnOk result (0 < length self.old.parts.pending →
+            steps.new ≤ steps.old + self.old.breaker.weight * 512 * moved self.old (length bytes.now) self.new) }
         ensures later { steps.old ≤ steps.new }
     {
         if self.broken {
@@ -165,8 +173,8 @@ impl Lines {
         Ok(())
     }
 
-    /// Ends the stream, and adds the lines that are left. Where there is no room in memory the first ones of these may
-    /// have been added. A broken value answers `NoMemory` and adds nothing.
+    /// Ends the stream, and adds the lines that are left. Where there is no room in memory the
+    /// first ones of these may have been added. A broken value answers `NoMemory` and adds nothing.
     pub fn close<L: Ledger>(self, out: &mut LineList, steps: &mut Steps<L>) -> Result<(), NoMemory>
         ensures ok { OnOk result ((stream : List Dated) → Holds stream self →
             Ends (breaks_by self.breaker) self.parts.truncate stream out.old out.new) }
@@ -194,8 +202,8 @@ impl Lines {
             .end_line(cutter.alloc, truncate, &bytes[stop..], moment, out)
     }
 
-    /// What is to be carried over a stop: the byte before the scan place, the bytes that wait there, and the open line. A
-    /// broken value answers `NoMemory`.
+    /// What is to be carried over a stop: the byte before the scan place, the bytes that wait
+    /// there, and the open line. A broken value answers `NoMemory`.
     pub fn parts(&self) -> Result<LineParts, NoMemory>
         ensures carry { IfOk result (λ parts. (stream : List Dated) → Holds stream self.now →
             parts ≡ carry_of (breaks_by self.now.breaker) self.now.parts.truncate stream) }
@@ -215,8 +223,8 @@ impl Lines {
         })
     }
 
-    /// The lines of each stream of which these are the parts, by the same breaker and the same length. The conditions on
-    /// the breaker are those of `new`.
+    /// The lines of each stream of which these are the parts, by the same breaker and the same
+    /// length. The conditions on the breaker are those of `new`.
     pub fn resume(
         alloc: Global,
         breaker: Pattern,
@@ -226,7 +234,8 @@ impl Lines {
         requires { IsBreaker breaker }
         ensures breaker { IfOk result (λ lines. lines.breaker ≡ breaker) }
         ensures truncate { IfOk result (λ lines. lines.parts.truncate ≡ effective truncate) }
-        ensures stands { IfOk result (λ lines. (stream : List Dated) → parts ≡ carry_of (breaks_by breaker) (effective truncate) stream → Holds stream lines) }
+        ensures stands { IfOk result (λ lines. (stream : List Dated) → parts ≡ carry_of (breaks_by breaker) (effective truncate) stream →
+            Holds stream lines) }
     {
         let pending = Pending::resumed(alloc, parts.before, parts.pending.as_slice())?;
         let breaker = brought_up(alloc, breaker, &pending)?;

@@ -1,5 +1,6 @@
 -- What a window gives of its file.
-use Rattle.std.proofs.Common.{◌≡◌, ◌≢◌, ◌≤◌, ◌<◌, ◌+◌, ◌-◌, ◌^◌, ℕ, min, Bool, false, Result, List, [], ◌++◌, length, take, drop, refl, sym, ◌∙◌, ap, arith, append_assoc, length-append, length-take, length-drop, take-append-drop}
+use Rattle.std.proofs.Common.{◌≡◌, ◌≢◌, ◌≤◌, ◌<◌, ◌+◌, ◌-◌, ◌^◌, ℕ, min, Bool, false, Result, List, [], ◌++◌, length, take, drop, refl}
+use Rattle.std.proofs.Common.{sym, ◌∙◌, ap, arith, append_assoc, length-append, length-take, length-drop, take-append-drop}
 use Rattle.std.specs.Prelude.{if◌then◌else◌, is_ok, not}
 use Rattle.std.proofs.lemmas.List.{take_at, take_rest, take-append-le, drop_at, drop-drop, drop-append-le, append-nil, drop_all}
 use Rattle.std.proofs.Math.Seq.{take-add}
@@ -20,7 +21,8 @@ pub none_on : (l : List ℕ) → IsFrontOf [] l
 none_on l = record { rest = l; whole_is = refl }
 
 -- what it holds from a place on
-pub ahead_on : (window : Window) (at : ℕ) (file : List ℕ) → window.start ≤ at → at - window.start ≤ length window.held.items → IsWindowOn window file
+pub ahead_on : (window : Window) (at : ℕ) (file : List ℕ) → window.start ≤ at → at - window.start ≤ length window.held.items →
+    IsWindowOn window file
     → IsFrontOf (drop (at - window.start) window.held.items) (drop at file)
 ahead_on window at file le within on =
     let skip = at - window.start in
@@ -39,7 +41,8 @@ module _ (at : ℕ) (file ahead : List ℕ) (front : IsFrontOf ahead (drop at fi
   front_take n le = ap (take n) front.whole_is ∙ take-append-le n ahead front.rest le
 
   -- the bytes at hand are enough
-  pub read_held : (n : ℕ) (buf copied : List ℕ) → n ≡ min (length ahead) (length buf) → n ≡ length (copied ++ drop n buf) → copied ≡ take n ahead
+  pub read_held : (n : ℕ) (buf copied : List ℕ) → n ≡ min (length ahead) (length buf) → n ≡ length (copied ++ drop n buf) →
+      copied ≡ take n ahead
       → (n ≡ min (length buf) (length file - at)) × (copied ++ drop n buf ≡ take n (drop at file) ++ drop n buf)
   read_held n buf copied least all is =
       let size : length copied ≡ n = omega (arith, ap length is, length-take n ahead, least) in (
@@ -48,9 +51,12 @@ module _ (at : ℕ) (file ahead : List ℕ) (front : IsFrontOf ahead (drop at fi
       )
 
   -- the rest is read behind them
-  pub read_rest : (n more : ℕ) (buf copied behind : List ℕ) → n ≡ min (length ahead) (length buf) → n ≢ length (copied ++ drop n buf) → copied ≡ take n ahead
-      → (let mid = copied ++ drop n buf in let part = take (length mid - n) (drop n mid) in (more ≡ min (length part) (length file - (at + n))) × (behind ≡ take more (drop (at + n) file) ++ drop more part))
-      → (let mid = copied ++ drop n buf in (n + more ≡ min (length buf) (length file - at)) × (take n mid ++ (behind ++ drop (length mid - n) (drop n mid)) ≡ take (n + more) (drop at file) ++ drop (n + more) buf))
+  pub read_rest : (n more : ℕ) (buf copied behind : List ℕ) → n ≡ min (length ahead) (length buf) → n ≢ length (copied ++ drop n buf) →
+      copied ≡ take n ahead
+      → (let mid = copied ++ drop n buf in let part = take (length mid - n) (drop n mid) in
+      (more ≡ min (length part) (length file - (at + n))) × (behind ≡ take more (drop (at + n) file) ++ drop more part))
+      → (let mid = copied ++ drop n buf in (n + more ≡ min (length buf) (length file - at))
+      × (take n mid ++ (behind ++ drop (length mid - n) (drop n mid)) ≡ take (n + more) (drop at file) ++ drop (n + more) buf))
   read_rest n more buf copied behind least some is read =
       let mid = copied ++ drop n buf in
       let size : length copied ≡ n = omega (arith, ap length is, length-take n ahead, least) in
@@ -61,7 +67,8 @@ module _ (at : ℕ) (file ahead : List ℕ) (front : IsFrontOf ahead (drop at fi
       let none : drop (length mid - n) (drop n mid) ≡ [] = drop_all (length mid - n) (drop n mid) (omega (arith, length-drop n mid)) in
       let all : n ≡ length ahead = omega (arith, least, some, size_mid) in
       let two : take (n + more) (drop at file) ≡ copied ++ take more (drop (at + n) file) =
-      take-add n more (drop at file) ∙ ap (λ (l : List ℕ). l ++ take more (drop n (drop at file))) (front_take n (omega (arith, all)) ∙ sym is) ∙ ap (λ (l : List ℕ). copied ++ take more l) (drop-drop n at file) in (
+      take-add n more (drop at file) ∙ ap (λ (l : List ℕ). l ++ take more (drop n (drop at file))) (front_take n (omega (arith, all))
+      ∙ sym is) ∙ ap (λ (l : List ℕ). copied ++ take more l) (drop-drop n at file) in (
         omega (arith, read.0, front_size, length-drop n buf, ap length part, all),
         ap (λ (l : List ℕ). l ++ (behind ++ drop (length mid - n) (drop n mid))) front
             ∙ ap (λ (l : List ℕ). copied ++ (behind ++ l)) none ∙ ap (λ (l : List ℕ). copied ++ l) (append-nil behind ∙ read.1)
@@ -84,7 +91,8 @@ module _ (at room : ℕ) (file buf none : List ℕ) (five : length none ≡ 5) w
   )
 
 -- a vector that was filled up to a length has it
-pub filled_up : {T E : Type 0} (result : Result T E) (failed : Bool) (now len before : ℕ) → now ≡ (if is_ok result then len else before) → is_ok result ≡ not failed → failed ≡ false → now ≡ len
+pub filled_up : {T E : Type 0} (result : Result T E) (failed : Bool) (now len before : ℕ) → now ≡ (if is_ok result then len else before) →
+    is_ok result ≡ not failed → failed ≡ false → now ≡ len
 filled_up result failed now len before is by filled = is ∙ ap (λ (b : Bool). if b then len else before) (by ∙ ap not filled)
 
 -- what was read into the whole of a vector's bytes
@@ -96,7 +104,8 @@ module _ (len room : ℕ) (before buf : List ℕ) (is_room : room ≡ len) (long
     pub body_size : (rest out : List ℕ) → out ≡ take room (buf ++ rest) → length out ≡ len
     body_size rest out is = ap length (is ∙ take_at buf rest room (size ∙ long)) ∙ size ∙ long ∙ is_room
 
-    module _ (file : List ℕ) (at n : ℕ) (read : (n ≡ min (length before) (length file - at)) × (buf ≡ take n (drop at file) ++ drop n before)) where
+    module _ (file : List ℕ) (at n : ℕ) (read : (n ≡ min (length before) (length file - at))
+        × (buf ≡ take n (drop at file) ++ drop n before)) where
       pub body_cut : n < len → length file < at + len
       body_cut lt = omega (arith, read.0, long, is_room)
 
@@ -105,4 +114,5 @@ module _ (len room : ℕ) (before buf : List ℕ) (is_room : room ≡ len) (long
           let all : n ≡ len = omega (arith, read.0, long, is_room) in
           let none : drop n before ≡ [] = drop_all n before (omega (arith, all, long, is_room)) in
           is ∙ take_at buf rest room (size ∙ long)
-          ∙ read.1 ∙ ap (λ (l : List ℕ). take n (drop at file) ++ l) none ∙ append-nil (take n (drop at file)) ∙ ap (λ (k : ℕ). take k (drop at file)) all
+          ∙ read.1 ∙ ap (λ (l : List ℕ). take n (drop at file) ++ l) none ∙ append-nil (take n (drop at file))
+          ∙ ap (λ (k : ℕ). take k (drop at file)) all

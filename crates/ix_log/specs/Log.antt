@@ -21,7 +21,8 @@ place_of log = log.at
 abbrev pub put_so_far : Log → ℕ
 put_so_far log = log.len
 
--- where the file ends, if nothing stands behind what was put: behind a gate, or behind the bytes of the next body
+-- where the file ends, if nothing stands behind what was put: behind a gate, or behind the bytes of
+-- the next body
 abbrev pub end_of : Log → ℕ
 end_of log = if log.begun then log.at + 5 + log.len else log.at + 1
 
@@ -37,7 +38,8 @@ blocks (body ∷ bodies) = block body ++ blocks bodies
 abbrev pub AreShort : List (List ℕ) → Type 0
 AreShort bodies = AllByRecursion (λ body. length body < 2 ^ 32) bodies
 
--- the file is the blocks of these bodies, and then a gate that is not open, whatever stands behind it
+-- the file is the blocks of these bodies, and then a gate that is not open, whatever stands behind
+-- it
 pub record Gated (bodies : List (List ℕ)) (file : List ℕ) : Type 0 where
   pub gate : ℕ
   pub rest : List ℕ
@@ -156,7 +158,8 @@ pub record IsBegun {D : Type 0} (g : Ghosts D) (log : Log) (disk : D) : Type 0 w
   pub body : List ℕ
   pub putting : IsPutting g log disk bodies body
 
--- An open gate stands behind these bodies, and no further body stands there whole, with at least one byte behind it.
+-- An open gate stands behind these bodies, and no further body stands there whole, with at least
+-- one byte behind it.
 pub record IsCut (bodies : List (List ℕ)) (file : List ℕ) : Type 0 where
   pub tail : List ℕ
   pub spelled : file ≡ blocks bodies ++ 1 ∷ tail

@@ -13,11 +13,13 @@ pub enum Head {
     Cut,
 }
 
-/// What stands at a gate, by the first five bytes, of which n stand there, and by how many bytes are left.
+/// What stands at a gate, by the first five bytes, of which n stand there, and by how many bytes
+/// are left.
 pub fn head_of(head: &[u8], n: usize, left: u64) -> Head
     requires { length head.now ≡ 5 }
     ensures within { IsWithin result left }
-    ensures head { (rest end : List ℕ) → head.now ≡ take n rest ++ end → n ≡ min 5 (length rest) → left ≡ length rest → 0 < length rest → IsHead result rest }
+    ensures head { (rest end : List ℕ) → head.now ≡ take n rest ++ end → n ≡ min 5 (length rest) → left ≡ length rest → 0 < length rest →
+        IsHead result rest }
 {
     if n > 0 && head[0] != 1 {
         return Head::End;

@@ -1,10 +1,11 @@
 //! The log: reading its bodies, and putting one more.
 
-ghost use Rattle.std.specs.Prelude.{◌≡◌, ◌<◌, ◌≤◌, ◌+◌, ◌^◌, ℕ, List, [], ◌∷◌, ◌++◌, length, true, IfOk, OnOk, OnErr, IsErrOf, take, drop, Some, Err};
+ghost use Rattle.std.specs.Prelude.{◌≡◌, ◌<◌, ◌≤◌, ◌+◌, ◌^◌, ℕ, List, [], ◌∷◌, ◌++◌, length, true, IfOk, OnOk, OnErr, IsErrOf, take, drop};
+ghost use Rattle.std.specs.Prelude.{Some, Err};
 ghost use Rattle.ix_base.specs.Faults.{HasCause, Rose};
 ghost use Rattle.ix_base.specs.Told.{Told};
 ghost use Rattle.ix_disk.specs.Image.{Image, bytes_in, Stays, Apart};
-ghost use Rattle.ix_disk.specs.Moments.{Goes, InFile, Holds, Reads};
+ghost use Rattle.ix_disk.specs.Moments.{ImagesStep, InFile, Holds, Reads};
 ghost use Rattle.ix_log.specs.Head.{IsHead, IsWithin};
 ghost use Rattle.ix_log.specs.Window.{IsWindowOn};
 ghost use Rattle.ix_log.specs.declared.log.BeginFault.TheVariants as begins;
@@ -73,7 +74,7 @@ fn head_at<D: Disk>(
     ensures within { IfOk result (λ head. IsWithin head left) }
     ensures shows { Reads D.Disk disk.old file (IsWindowOn window.old) → OnOk result (Reads D.Disk disk.new file (IsWindowOn window.new)) }
     ensures same { D.Disk.seen disk.new ≡ D.Disk.seen disk.old }
-    ensures images { Goes D.Disk disk.old disk.new Stays }
+    ensures images { ImagesStep D.Disk disk.old disk.new Stays }
     ensures cause { HasCause (D.Disk.faults disk.old) (D.Disk.faults disk.new) result }
 {
     window.reach(disk, file, at, left)?;
@@ -83,7 +84,8 @@ fn head_at<D: Disk>(
     Ok(head_of(&head, n, left))
 }
 
-/// A log of bodies in a file of a disk. It is mounted, read to its end, and then further bodies are put.
+/// A log of bodies in a file of a disk. It is mounted, read to its end, and then further bodies are
+/// put.
 #[derive(Drop)]
 pub struct Log {
     file: File,
@@ -103,17 +105,18 @@ pub struct Log {
 }
 
 impl Log {
-    ghost use Rattle.ix_log.specs.Log.{OnMore, IsMounted, IsReading, IsUsable, IsBegun, HasBodies, Gated, WithOrWithout, IsAtEnd, IsPutting, IsWhole, IsReady, IsCut, HasNoMore, EndsAt, file_of, place_of, put_so_far, blocks};
+    ghost use Rattle.ix_log.specs.Log.{OnMore, IsMounted, IsReading, IsUsable, IsBegun, HasBodies, Gated, WithOrWithout, IsAtEnd};
+    ghost use Rattle.ix_log.specs.Log.{IsPutting, IsWhole, IsReady, IsCut, HasNoMore, EndsAt, file_of, place_of, put_so_far, blocks};
 
-    /// Settles the file by a sync, and stands before its first body. The bodies are judged by `next`, so this is never
-    /// `Damaged`; and it takes no memory.
+    /// Settles the file by a sync, and stands before its first body. The bodies are judged by
+    /// `next`, so this is never `Damaged`; and it takes no memory.
     pub fn mount<D: Disk>(alloc: Global, disk: &mut D, file: File) -> Result<Log, LogFault>
         ensures reading { IfOk result (λ log. IsReading D.Disk log disk.new []) }
         ensures mounted { IfOk result (λ log. IsMounted D.Disk log disk.new) }
         ensures file { IfOk result (λ log. file_of log ≡ file) }
         ensures counted { IfOk result (λ log. put_so_far log ≡ 0) }
         ensures same { D.Disk.seen disk.new ≡ D.Disk.seen disk.old }
-        ensures images { Goes D.Disk disk.old disk.new Stays }
+        ensures images { ImagesStep D.Disk disk.old disk.new Stays }
         ensures later { D.Disk.faults disk.old ≤ D.Disk.faults disk.new }
         ensures cause { OnErr result ((result ≡ Err LogFault.Disk) × Rose (D.Disk.faults disk.old) (D.Disk.faults disk.new)) }
     {
@@ -130,8 +133,9 @@ impl Log {
         })
     }
 
-    /// Makes the file an empty log, whatever it held: removes it, writes one closed gate, and syncs. Bytes of a body may
-    /// be put next. After a fault it is open what the file holds. It takes no memory.
+    /// Makes the file an empty log, whatever it held: removes it, writes one closed gate, and
+    /// syncs. Bytes of a body may be put next. After a fault it is open what the file holds. It
+    /// takes no memory.
     pub fn begin<D: Disk>(alloc: Global, disk: &mut D, file: File) -> Result<Log, BeginFault>
         // After Ok the list is empty in every image.
         ensures empty { IfOk result (λ log. IsAtEnd D.Disk log disk.new []) }
@@ -140,8 +144,9 @@ impl Log {
         ensures counted { IfOk result (λ log. put_so_far log ≡ 0) }
         // Nothing stands behind the gate.
         ensures alone { IfOk result (λ log. HasNoMore D.Disk log disk.new) }
-        // Every image since the start of the call has all other files, and a read of them gives what it gave.
-        ensures images { Goes D.Disk disk.old disk.new (Apart file) }
+        // Every image since the start of the call has all other files, and a read of them gives
+        // what it gave.
+        ensures images { ImagesStep D.Disk disk.old disk.new (Apart file) }
         ensures seen { Told (Apart file) (D.Disk.seen disk.old) (D.Disk.seen disk.new) }
         ensures later { D.Disk.faults disk.old ≤ D.Disk.faults disk.new }
         ensures cause { OnErr result ((result ≡ Err BeginFault.Disk) × Rose (D.Disk.faults disk.old) (D.Disk.faults disk.new)) }
@@ -162,13 +167,16 @@ impl Log {
 
     /// Reads the body of so many bytes at the log's gate into `out`, in place of what stood there.
     fn body<D: Disk>(&self, disk: &mut D, len: u32, out: &mut Bytes) -> Result<(), LogFault>
-        ensures read { Reads D.Disk disk.old self.now.file (IsWindowOn self.now.window) → (image : Image) → D.Disk.seen disk.old ≡ Some image →
-            OnOk result (self.now.at + 5 + len ≤ length (bytes_in image self.now.file) → out.new ≡ take len (drop (self.now.at + 5) (bytes_in image self.now.file))) }
+        ensures read { Reads D.Disk disk.old self.now.file (IsWindowOn self.now.window) → (image : Image) →
+            D.Disk.seen disk.old ≡ Some image →
+            OnOk result (self.now.at + 5 + len ≤ length (bytes_in image self.now.file) →
+            out.new ≡ take len (drop (self.now.at + 5) (bytes_in image self.now.file))) }
         ensures sized { OnOk result (length out.new ≡ len) }
-        ensures damaged { Reads D.Disk disk.old self.now.file (IsWindowOn self.now.window) → (image : Image) → D.Disk.seen disk.old ≡ Some image →
+        ensures damaged { Reads D.Disk disk.old self.now.file (IsWindowOn self.now.window) → (image : Image) →
+            D.Disk.seen disk.old ≡ Some image →
             (at : ℕ) → result ≡ Err (LogFault.Damaged at) → length (bytes_in image self.now.file) < self.now.at + 5 + len }
         ensures same { D.Disk.seen disk.new ≡ D.Disk.seen disk.old }
-        ensures images { Goes D.Disk disk.old disk.new Stays }
+        ensures images { ImagesStep D.Disk disk.old disk.new Stays }
         ensures later { D.Disk.faults disk.old ≤ D.Disk.faults disk.new }
         ensures cause { IsErrOf result LogFault.Disk → Rose (D.Disk.faults disk.old) (D.Disk.faults disk.new) }
     {
@@ -188,29 +196,34 @@ impl Log {
         Ok(())
     }
 
-    /// Reads the next body into `out`, in place of what stood there, and answers true. At the end of the list it answers
-    /// false, and leaves `out` as it was. After a fault it is open what stands in `out`. It is `Damaged` exactly where an
-    /// open gate stands, and behind it no whole body with at least one byte more; `at` is the place of the gate. It takes
-    /// no more memory than the body that stands there and a window on what is left of the file, of at most 256 KiB,
-    /// through which it is read in large pieces. Where there is no room for the window it does without, and at the end of
-    /// the list it gives the window back.
+    /// Reads the next body into `out`, in place of what stood there, and answers true. At the end
+    /// of the list it answers false, and leaves `out` as it was. After a fault it is open what
+    /// stands in `out`. It is `Damaged` exactly where an open gate stands, and behind it no whole
+    /// body with at least one byte more; `at` is the place of the gate. It takes no more memory
+    /// than the body that stands there and a window on what is left of the file, of at most 256
+    /// KiB, through which it is read in large pieces. Where there is no room for the window it does
+    /// without, and at the end of the list it gives the window back.
     pub fn next<D: Disk>(&mut self, disk: &mut D, out: &mut Bytes) -> Result<bool, LogFault>
         requires { IsMounted D.Disk self.old disk.old }
         ensures mounted { IfOk result (λ more. more ≡ true → IsMounted D.Disk self.new disk.new) }
         ensures usable { IfOk result (λ more. OnMore more (Unit {0}) (IsUsable D.Disk self.new disk.new)) }
-        // Where it answers true, the log has read one body more, which stands in `out`; where false, it stands at the end.
+        // Where it answers true, the log has read one body more, which stands in `out`; where
+        // false, it stands at the end.
         ensures next { (bodies : List (List ℕ)) → IsReading D.Disk self.old disk.old bodies → IfOk result (λ more.
-            OnMore more (IsReading D.Disk self.new disk.new (bodies ++ out.new ∷ [])) (IsAtEnd D.Disk self.new disk.new bodies × (out.new ≡ out.old))) }
+            OnMore more (IsReading D.Disk self.new disk.new (bodies ++ out.new ∷ [])) (IsAtEnd D.Disk self.new disk.new bodies
+            × (out.new ≡ out.old))) }
         // No whole body stands behind the open gate at the place that it names.
-        ensures damaged { (bodies : List (List ℕ)) → IsReading D.Disk self.old disk.old bodies → (at : ℕ) → result ≡ Err (LogFault.Damaged at) →
-            (image : Image) → D.Disk.seen disk.old ≡ Some image → (at ≡ length (blocks bodies)) × IsCut bodies (bytes_in image (file_of self.old)) }
+        ensures damaged { (bodies : List (List ℕ)) → IsReading D.Disk self.old disk.old bodies → (at : ℕ) →
+            result ≡ Err (LogFault.Damaged at) →
+            (image : Image) → D.Disk.seen disk.old ≡ Some image → (at ≡ length (blocks bodies))
+            × IsCut bodies (bytes_in image (file_of self.old)) }
         // For want of memory only where a whole body stands there.
         ensures memory { (bodies : List (List ℕ)) → IsReading D.Disk self.old disk.old bodies → result ≡ Err LogFault.NoMemory →
             (image : Image) → D.Disk.seen disk.old ≡ Some image → IsCut bodies (bytes_in image (file_of self.old)) → ⊥ }
         ensures file { file_of self.new ≡ file_of self.old }
         ensures counted { put_so_far self.new ≡ put_so_far self.old }
         ensures same { D.Disk.seen disk.new ≡ D.Disk.seen disk.old }
-        ensures images { Goes D.Disk disk.old disk.new Stays }
+        ensures images { ImagesStep D.Disk disk.old disk.new Stays }
         ensures later { D.Disk.faults disk.old ≤ D.Disk.faults disk.new }
         ensures cause { IsErrOf result LogFault.Disk → Rose (D.Disk.faults disk.old) (D.Disk.faults disk.new) }
     {
@@ -233,7 +246,8 @@ impl Log {
         }
     }
 
-    /// The place of the gate behind the bodies that were read or written: each call that puts a body writes from there on.
+    /// The place of the gate behind the bodies that were read or written: each call that puts a
+    /// body writes from there on.
     pub fn place(&self) -> u64
         ensures { result ≡ place_of self.now }
     {
@@ -247,7 +261,7 @@ impl Log {
             OnOk result (IsAtEnd D.Disk self.new disk.new bodies × (self.new.closed ≡ true)) }
         ensures no_more { HasNoMore D.Disk self.old disk.old → OnOk result (HasNoMore D.Disk self.new disk.new) }
         ensures images { (bodies : List (List ℕ)) → IsAtEnd D.Disk self.old disk.old bodies →
-            Goes D.Disk disk.old disk.new (InFile (file_of self.old) (HasBodies bodies)) }
+            ImagesStep D.Disk disk.old disk.new (InFile (file_of self.old) (HasBodies bodies)) }
         ensures counted { put_so_far self.new ≡ put_so_far self.old }
         ensures file { self.new.file ≡ self.old.file }
         ensures seen { Told (Apart (file_of self.old)) (D.Disk.seen disk.old) (D.Disk.seen disk.new) }
@@ -270,7 +284,7 @@ impl Log {
             OnOk result (IsPutting D.Disk self.new disk.new bodies []) }
         ensures no_more { HasNoMore D.Disk self.old disk.old → OnOk result (HasNoMore D.Disk self.new disk.new) }
         ensures images { (bodies : List (List ℕ)) → IsAtEnd D.Disk self.old disk.old bodies →
-            Goes D.Disk disk.old disk.new (InFile (file_of self.old) (HasBodies bodies)) }
+            ImagesStep D.Disk disk.old disk.new (InFile (file_of self.old) (HasBodies bodies)) }
         ensures counted { put_so_far self.new ≡ put_so_far self.old }
         ensures file { self.new.file ≡ self.old.file }
         ensures seen { Told (Apart (file_of self.old)) (D.Disk.seen disk.old) (D.Disk.seen disk.new) }
@@ -288,7 +302,7 @@ impl Log {
             OnOk result (IsPutting D.Disk self.new disk.new bodies body) }
         ensures no_more { HasNoMore D.Disk self.old disk.old → OnOk result (HasNoMore D.Disk self.new disk.new) }
         ensures images { (bodies : List (List ℕ)) (body : List ℕ) → IsReady D.Disk self.old disk.old bodies body →
-            Goes D.Disk disk.old disk.new (InFile (file_of self.old) (HasBodies bodies)) }
+            ImagesStep D.Disk disk.old disk.new (InFile (file_of self.old) (HasBodies bodies)) }
         ensures counted { put_so_far self.new ≡ put_so_far self.old }
         ensures file { self.new.file ≡ self.old.file }
         ensures seen { Told (Apart (file_of self.old)) (D.Disk.seen disk.old) (D.Disk.seen disk.new) }
@@ -301,7 +315,8 @@ impl Log {
         Ok(())
     }
 
-    /// Puts further bytes of the next body. No body counts before `finish`. After `Failed` the log is not used again.
+    /// Puts further bytes of the next body. No body counts before `finish`. After `Failed` the log
+    /// is not used again.
     pub fn put<D: Disk>(&mut self, disk: &mut D, bytes: &[u8]) -> Result<(), Failed>
         requires usable { IsUsable D.Disk self.old disk.old }
         requires short { put_so_far self.old + length bytes.now < 2 ^ 32 }
@@ -314,7 +329,7 @@ impl Log {
         ensures no_more { HasNoMore D.Disk self.old disk.old → OnOk result (HasNoMore D.Disk self.new disk.new) }
         // Every image since the start of the call has the bodies from before, and all other files.
         ensures images { (bodies : List (List ℕ)) (body : List ℕ) → IsReady D.Disk self.old disk.old bodies body →
-            Goes D.Disk disk.old disk.new (InFile (file_of self.old) (HasBodies bodies)) }
+            ImagesStep D.Disk disk.old disk.new (InFile (file_of self.old) (HasBodies bodies)) }
         ensures file { file_of self.new ≡ file_of self.old }
         ensures seen { Told (Apart (file_of self.old)) (D.Disk.seen disk.old) (D.Disk.seen disk.new) }
         ensures cause { HasCause (D.Disk.faults disk.old) (D.Disk.faults disk.new) result }
@@ -330,9 +345,10 @@ impl Log {
         requires { (bodies : List (List ℕ)) × (body : List ℕ) × IsPutting D.Disk self.now disk.old bodies body }
         ensures whole { (bodies : List (List ℕ)) (body : List ℕ) → IsPutting D.Disk self.now disk.old bodies body →
             OnOk result (IsWhole D.Disk self.now disk.new bodies body) }
-        ensures no_more { HasNoMore D.Disk self.now disk.old → OnOk result (EndsAt D.Disk self.now disk.new (self.now.at + 6 + self.now.len)) }
+        ensures no_more { HasNoMore D.Disk self.now disk.old →
+            OnOk result (EndsAt D.Disk self.now disk.new (self.now.at + 6 + self.now.len)) }
         ensures images { (bodies : List (List ℕ)) (body : List ℕ) → IsPutting D.Disk self.now disk.old bodies body →
-            Goes D.Disk disk.old disk.new (InFile self.now.file (Gated bodies)) }
+            ImagesStep D.Disk disk.old disk.new (InFile self.now.file (Gated bodies)) }
         ensures bounded { OnOk result (self.now.at + 5 + self.now.len < 2 ^ 63) }
         ensures seen { Told (Apart (file_of self.now)) (D.Disk.seen disk.old) (D.Disk.seen disk.new) }
         ensures cause { HasCause (D.Disk.faults disk.old) (D.Disk.faults disk.new) result }
@@ -349,9 +365,10 @@ impl Log {
         requires { (bodies : List (List ℕ)) × (body : List ℕ) × IsWhole D.Disk self.now disk.old bodies body }
         ensures opened { (bodies : List (List ℕ)) (body : List ℕ) → IsWhole D.Disk self.now disk.old bodies body →
             OnOk result (Holds D.Disk disk.new self.now.file (Gated (bodies ++ body ∷ []))) }
-        ensures no_more { (end : ℕ) → self.now.at < end → EndsAt D.Disk self.now disk.old end → OnOk result (EndsAt D.Disk self.now disk.new end) }
+        ensures no_more { (end : ℕ) → self.now.at < end → EndsAt D.Disk self.now disk.old end →
+            OnOk result (EndsAt D.Disk self.now disk.new end) }
         ensures images { (bodies : List (List ℕ)) (body : List ℕ) → IsWhole D.Disk self.now disk.old bodies body →
-            Goes D.Disk disk.old disk.new (InFile self.now.file (WithOrWithout bodies body)) }
+            ImagesStep D.Disk disk.old disk.new (InFile self.now.file (WithOrWithout bodies body)) }
         ensures seen { Told (Apart (file_of self.now)) (D.Disk.seen disk.old) (D.Disk.seen disk.new) }
         ensures cause { HasCause (D.Disk.faults disk.old) (D.Disk.faults disk.new) result }
     {
@@ -370,9 +387,10 @@ impl Log {
             OnOk result (IsAtEnd D.Disk self.new disk.new (bodies ++ body ∷ [])) }
         // Where nothing stood behind what was put, nothing stands behind the gate that follows.
         ensures no_more { HasNoMore D.Disk self.old disk.old → OnOk result (HasNoMore D.Disk self.new disk.new) }
-        // Every image since the start of the call has the bodies from before, with this one or without, and all other files.
+        // Every image since the start of the call has the bodies from before, with this one or
+        // without, and all other files.
         ensures images { (bodies : List (List ℕ)) (body : List ℕ) → IsPutting D.Disk self.old disk.old bodies body →
-            Goes D.Disk disk.old disk.new (InFile (file_of self.old) (WithOrWithout bodies body)) }
+            ImagesStep D.Disk disk.old disk.new (InFile (file_of self.old) (WithOrWithout bodies body)) }
         ensures file { file_of self.new ≡ file_of self.old }
         ensures seen { Told (Apart (file_of self.old)) (D.Disk.seen disk.old) (D.Disk.seen disk.new) }
         ensures cause { HasCause (D.Disk.faults disk.old) (D.Disk.faults disk.new) result }

@@ -1,11 +1,11 @@
-//! The window of a log that is read: a stretch of its file, read ahead in large pieces. The log reads heads and bodies
-//! through it.
+//! The window of a log that is read: a stretch of its file, read ahead in large pieces. The log
+//! reads heads and bodies through it.
 
 ghost use Rattle.std.specs.Prelude.{◌≡◌, ◌≤◌, ◌<◌, ◌+◌, ◌-◌, ◌^◌, ◌++◌, ℕ, List, [], length, take, drop, min, Some, IfOk, OnOk};
 ghost use Rattle.ix_base.specs.Faults.{HasCause};
 ghost use Rattle.ix_base.specs.Told.{IsFrontOf};
 ghost use Rattle.ix_disk.specs.Image.{Image, bytes_in, Stays};
-ghost use Rattle.ix_disk.specs.Moments.{Goes, Reads};
+ghost use Rattle.ix_disk.specs.Moments.{ImagesStep, Reads};
 ghost use Rattle.ix_log.specs.Window.{IsWindowOn};
 
 use ix_base::{Failed, File};
@@ -15,7 +15,8 @@ use std::alloc::Global;
 /// How many bytes a window reads at once, where the file has them.
 const PIECE: u64 = 256 * 1024;
 
-/// How many bytes it has at hand where a reader asks for them, where the file has them: those of a head.
+/// How many bytes it has at hand where a reader asks for them, where the file has them: those of a
+/// head.
 const HEAD: u64 = 5;
 
 /// A stretch of a file, as a read gave it.
@@ -54,9 +55,9 @@ impl Window {
         &self.held[(at - self.start) as usize..]
     }
 
-    /// Sees that a head's bytes are at hand at a place behind which so many bytes stand, or all of these if they are
-    /// fewer: where they are not, it reads a piece from there on. Where there is no room in memory for that it holds
-    /// nothing then.
+    /// Sees that a head's bytes are at hand at a place behind which so many bytes stand, or all of
+    /// these if they are fewer: where they are not, it reads a piece from there on. Where there is
+    /// no room in memory for that it holds nothing then.
     pub fn reach<D: Disk>(
         &mut self,
         disk: &mut D,
@@ -66,7 +67,7 @@ impl Window {
     ) -> Result<(), Failed>
         ensures shows { Reads D.Disk disk.old file (IsWindowOn self.old) → OnOk result (Reads D.Disk disk.new file (IsWindowOn self.new)) }
         ensures same { D.Disk.seen disk.new ≡ D.Disk.seen disk.old }
-        ensures images { Goes D.Disk disk.old disk.new Stays }
+        ensures images { ImagesStep D.Disk disk.old disk.new Stays }
         ensures cause { HasCause (D.Disk.faults disk.old) (D.Disk.faults disk.new) result }
     {
         if self.ahead(at).len() as u64 >= left.min(HEAD) {
@@ -82,7 +83,8 @@ impl Window {
         Ok(())
     }
 
-    /// Reads as the disk does. What the window holds of it is copied, and only the rest is read from the disk.
+    /// Reads as the disk does. What the window holds of it is copied, and only the rest is read
+    /// from the disk.
     pub fn read<D: Disk>(
         &self,
         disk: &mut D,
@@ -97,7 +99,7 @@ impl Window {
             (n ≡ min (length buf.old) (length (bytes_in image file) - at))
             × (buf.new ≡ take n (drop at (bytes_in image file)) ++ drop n buf.old)) }
         ensures same { D.Disk.seen disk.new ≡ D.Disk.seen disk.old }
-        ensures images { Goes D.Disk disk.old disk.new Stays }
+        ensures images { ImagesStep D.Disk disk.old disk.new Stays }
         ensures cause { HasCause (D.Disk.faults disk.old) (D.Disk.faults disk.new) result }
     {
         let ahead = self.ahead(at);

@@ -1,12 +1,16 @@
 -- A closed text has no edges, and its first match lies in it.
-use Rattle.std.proofs.Common.{◌≡◌, ℕ, zero, suc, ◌+◌, ◌-◌, ◌≤◌, Bool, true, false, List, [], ◌∷◌, ◌++◌, length, take, Option, Some, None, if◌then◌else◌, refl, ◌∙◌, ap, subst, arith, nat_le, ◌&&◌}
+use Rattle.std.proofs.Common.{◌≡◌, ℕ, zero, suc, ◌+◌, ◌-◌, ◌≤◌, Bool, true, false, List, [], ◌∷◌, ◌++◌, length, take, Option, Some, None}
+use Rattle.std.proofs.Common.{if◌then◌else◌, refl, ◌∙◌, ap, subst, arith, nat_le, ◌&&◌}
 use Rattle.std.specs.Prelude.{slice_get, slice_set, replicate, ◌==◌}
 use Rattle.std.proofs.lemmas.List.{length-replicate}
 use Rattle.ix_pattern.specs.Piece.{Piece, nothing, byte_in, start, finish, word, seq, either, count, group, ahead, in_set, least_length}
-use Rattle.ix_pattern.specs.Ways.{Text, Reached, Way, ends_at, edge, onward, required, prefer, optional, further_turns, byte_before, at_end, here, byte_ways, is_start, finish_ways, is_word_byte, is_word, differ, word_ways, sight, look, close_group, ways}
+use Rattle.ix_pattern.specs.Ways.{Text, Reached, Way, ends_at, edge, onward, required, prefer, optional, further_turns, byte_before}
+use Rattle.ix_pattern.specs.Ways.{at_end, here, byte_ways, is_start, finish_ways, is_word_byte, is_word, differ, word_ways, sight, look}
+use Rattle.ix_pattern.specs.Ways.{close_group, ways}
 use Rattle.ix_pattern.specs.Laws.{AllInOrder}
 use Rattle.ix_pattern.specs.Rows.{Shape, tree}
-use Rattle.ix_pattern.proofs.Ends.{EachEnd, EachEnd-append, EachEnd-onward, EachEnd-here, EachEnd-at_end, EachEnd-prefer, finish-ends, word-ends, look-ends, Within, ways-ends}
+use Rattle.ix_pattern.proofs.Ends.{EachEnd, EachEnd-append, EachEnd-onward, EachEnd-here, EachEnd-at_end, EachEnd-prefer, finish-ends}
+use Rattle.ix_pattern.proofs.Ends.{word-ends, look-ends, Within, ways-ends}
 use Rattle.ix_pattern.proofs.Spans.{Ordered, ways-keeps}
 use Rattle.ix_match.specs.Matches.{closed, ways_from, AllWithin}
 
@@ -35,7 +39,8 @@ Known-prefer : (lazy : Bool) (stop more : List Way) → Known stop → Known mor
 Known-prefer true stop more p q = Known-append stop more p q
 Known-prefer false stop more p q = Known-append more stop q p
 
-Known-optional : (lazy : Bool) (turn : Reached → List Way) → ((r : Reached) → Known (turn r)) → (n : ℕ) (r : Reached) → Known (optional lazy turn n r)
+Known-optional : (lazy : Bool) (turn : Reached → List Way) → ((r : Reached) → Known (turn r)) → (n : ℕ) (r : Reached) →
+    Known (optional lazy turn n r)
 Known-optional lazy turn t zero r = tt
 Known-optional lazy turn t (suc n) r =
     Known-prefer lazy (ends_at r ∷ []) (onward (optional lazy turn n) (turn r)) tt
@@ -104,7 +109,8 @@ all-known (ahead inside wanted) text u r =
 -- a fact about where a match has come to, which each byte and each group that ends there keep
 pub record Stays (P : Reached → Type 0) : Type 0 where
   pub next : (r : Reached) → P r → P (record r { place = r.place + 1 })
-  pub closes : (r e : Reached) (number : ℕ) → P r → P e → P (record e { groups = slice_set e.groups (number - 1) (Some (r.place, e.place)) })
+  pub closes : (r e : Reached) (number : ℕ) → P r → P e →
+      P (record e { groups = slice_set e.groups (number - 1) (Some (r.place, e.place)) })
 
 abbrev KeptBy : (Reached → Type 0) → (Reached → List Way) → Type 0
 KeptBy P turn = (r : Reached) → P r → EachEnd P (turn r)
@@ -112,7 +118,8 @@ KeptBy P turn = (r : Reached) → P r → EachEnd P (turn r)
 onward-kept : (P : Reached → Type 0) (next : Reached → List Way) (xs : List Way) → EachEnd P xs → KeptBy P next → EachEnd P (onward next xs)
 onward-kept P next xs p k = EachEnd-onward P P next xs p k
 
-required-kept : (P : Reached → Type 0) (turn next : Reached → List Way) → KeptBy P turn → KeptBy P next → (m : ℕ) → KeptBy P (required turn m next)
+required-kept : (P : Reached → Type 0) (turn next : Reached → List Way) → KeptBy P turn → KeptBy P next → (m : ℕ) →
+    KeptBy P (required turn m next)
 required-kept P turn next t f zero r p = f r p
 required-kept P turn next t f (suc m) r p = onward-kept P (required turn m next) (turn r) (t r p) (required-kept P turn next t f m)
 
@@ -122,7 +129,8 @@ optional-kept P lazy turn t (suc m) r p =
     EachEnd-prefer P lazy (ends_at r ∷ []) (onward (optional lazy turn m) (turn r)) (p, tt)
     (onward-kept P (optional lazy turn m) (turn r) (t r p) (optional-kept P lazy turn t m))
 
-bytes-kept : (P : Reached → Type 0) → Stays P → (set : List Bool) (text : Text) (r : Reached) (o : Option ℕ) → P r → EachEnd P (byte_ways set text r o)
+bytes-kept : (P : Reached → Type 0) → Stays P → (set : List Bool) (text : Text) (r : Reached) (o : Option ℕ) → P r →
+    EachEnd P (byte_ways set text r o)
 bytes-kept P s set text r None p = EachEnd-at_end P text.unfinished [] tt
 bytes-kept P s set text r (Some b) p = EachEnd-here P (in_set set b) (record r { place = r.place + 1 }) (s.next r p)
 
@@ -133,14 +141,16 @@ ways-kept P s (byte_in set) text r p = bytes-kept P s set text r (slice_get text
 ways-kept P s (start lines) text r p = EachEnd-here P (is_start lines (byte_before text.before text.bytes r.place)) r p
 ways-kept P s (finish lines) text r p = finish-ends P lines text r (slice_get text.bytes r.place) p
 ways-kept P s word text r p = word-ends P text r (slice_get text.bytes r.place) p
-ways-kept P s (seq first rest) text r p = onward-kept P (ways rest text) (ways first text r) (ways-kept P s first text r p) (ways-kept P s rest text)
+ways-kept P s (seq first rest) text r p = onward-kept P (ways rest text) (ways first text r) (ways-kept P s first text r p)
+    (ways-kept P s rest text)
 ways-kept P s (either first other) text r p =
     EachEnd-append P (ways first text r) (ways other text r) (ways-kept P s first text r p) (ways-kept P s other text r p)
 ways-kept P s (count inside least most lazy) text r p =
     required-kept P (ways inside text) (optional lazy (ways inside text) (further_turns text least most)) (ways-kept P s inside text)
     (optional-kept P lazy (ways inside text) (ways-kept P s inside text) (further_turns text least most)) least r p
 ways-kept P s (group number inside) text r p =
-    EachEnd-onward P P (close_group number r.place) (ways inside text r) (ways-kept P s inside text r p) (λ e q. (s.closes r e number p q, tt))
+    EachEnd-onward P P (close_group number r.place) (ways inside text r) (ways-kept P s inside text r p)
+    (λ e q. (s.closes r e number p q, tt))
 ways-kept P s (ahead inside wanted) text r p = look-ends P wanted r (ways inside (sight (r.place + 255) text) r) p
 
 -- as many groups as this
@@ -164,7 +174,8 @@ AllFrom low [] = Unit {0}
 AllFrom low (None ∷ groups) = AllFrom low groups
 AllFrom low (Some span ∷ groups) = (low ≤ span.0) × AllFrom low groups
 
-AllFrom-set : (low : ℕ) (groups : List (Option (ℕ × ℕ))) (i a b : ℕ) → low ≤ a → AllFrom low groups → AllFrom low (slice_set groups i (Some (a, b)))
+AllFrom-set : (low : ℕ) (groups : List (Option (ℕ × ℕ))) (i a b : ℕ) → low ≤ a → AllFrom low groups →
+    AllFrom low (slice_set groups i (Some (a, b)))
 AllFrom-set low [] i a b h all = tt
 AllFrom-set low (None ∷ groups) zero a b h all = (h, all)
 AllFrom-set low (Some span ∷ groups) zero a b h all = (h, all.1)

@@ -1,5 +1,6 @@
 -- A search for one of a few bytes, and the bytes that are passed over.
-use Rattle.std.proofs.Common.{◌≡◌, ℕ, zero, suc, ◌+◌, ◌<◌, Bool, true, false, List, [], ◌∷◌, length, get_or, Option, Some, None, refl, sym, ◌∙◌, arith}
+use Rattle.std.proofs.Common.{◌≡◌, ℕ, zero, suc, ◌+◌, ◌<◌, Bool, true, false, List, [], ◌∷◌, length, get_or, Option, Some, None, refl, sym}
+use Rattle.std.proofs.Common.{◌∙◌, arith}
 use Rattle.std.specs.Prelude.{unwrap_or, take_while, not}
 use Rattle.std.specs.List.{prefix_len}
 use Rattle.std.proofs.lemmas.List.{length-take-le}
@@ -20,7 +21,8 @@ not-passed false f = refl
 step : (set : List Bool) (x : ℕ) (xs : List ℕ) → (in_set set x ≡ true → ⊥) → over set (x ∷ xs) ≡ 1 + over set xs
 step set x xs f = rw (not-passed (in_set set x) f) refl
 
-all-over : (set : List Bool) (bytes : List ℕ) → ((k : ℕ) → k < length bytes → in_set set (get_or bytes k 0) ≡ true → ⊥) → over set bytes ≡ length bytes
+all-over : (set : List Bool) (bytes : List ℕ) → ((k : ℕ) → k < length bytes → in_set set (get_or bytes k 0) ≡ true → ⊥) →
+    over set bytes ≡ length bytes
 all-over set [] f = refl
 all-over set (x ∷ xs) f =
     omega (arith, step set x xs (f 0 (omega arith)), all-over set xs (λ k low. f (suc k) (omega (arith, low))))
@@ -32,7 +34,8 @@ over-to set (x ∷ xs) zero low f e = rw e refl
 over-to set (x ∷ xs) (suc n) low f e =
     omega (arith, step set x xs (f 0 (omega arith)), over-to set xs n (omega (arith, low)) (λ k less. f (suc k) (omega (arith, less))) e)
 
-found-over : (set : List Bool) (test : ℕ → Bool) (bytes : List ℕ) (first : Option ℕ) → AreItsBytes test set → ((k : ℕ) → get_or bytes k 0 < 256) →
+found-over : (set : List Bool) (test : ℕ → Bool) (bytes : List ℕ) (first : Option ℕ) → AreItsBytes test set →
+    ((k : ℕ) → get_or bytes k 0 < 256) →
     IsFirstByte test bytes first → unwrap_or first (length bytes) ≡ over set bytes
 found-over set test bytes None are low none =
     sym (all-over set bytes (λ k within e. none k (omega arith) within (sym (are (get_or bytes k 0) (low k)) ∙ e)))
@@ -40,7 +43,8 @@ found-over set test bytes (Some n) are low found =
     sym (over-to set bytes n found.0.high (λ k less e. found.0.before k (omega arith) less (sym (are (get_or bytes k 0) (low k)) ∙ e))
     (are (get_or bytes n 0) (low n) ∙ found.1))
 
-pub passed : (set : List Bool) (test : ℕ → Bool) (bytes : List ℕ) (first : Option ℕ) → AreItsBytes test set → ((k : ℕ) → get_or bytes k 0 < 256) →
+pub passed : (set : List Bool) (test : ℕ → Bool) (bytes : List ℕ) (first : Option ℕ) → AreItsBytes test set →
+    ((k : ℕ) → get_or bytes k 0 < 256) →
     IsFirstByte test bytes first → unwrap_or first (length bytes) ≡ length (take_while (λ b. not (in_set set b)) bytes)
 passed set test bytes first are low found =
     found-over set test bytes first are low found

@@ -1,5 +1,6 @@
 -- The bytes with which every match begins.
-use Rattle.std.proofs.Common.{◌≡◌, ◌⊎◌, inl, inr, ℕ, ◌+◌, ◌<◌, ◌≤◌, Bool, true, false, eqb, List, [], ◌∷◌, ◌++◌, length, length-append, get_or, if◌then◌else◌, Option, Some, None, refl, sym, ◌∙◌, ap, subst, arith}
+use Rattle.std.proofs.Common.{◌≡◌, ◌⊎◌, inl, inr, ℕ, ◌+◌, ◌<◌, ◌≤◌, Bool, true, false, eqb, List, [], ◌∷◌, ◌++◌, length, length-append}
+use Rattle.std.proofs.Common.{get_or, if◌then◌else◌, Option, Some, None, refl, sym, ◌∙◌, ap, subst, arith}
 use Rattle.std.specs.Prelude.{slice_get, replicate, ◌==◌}
 use Rattle.std.proofs.lemmas.List.{get_or_append_left, get_or_push}
 use Rattle.std.proofs.lemmas.Option.{slice_get_within, get_or_from_slice_get}
@@ -36,10 +37,12 @@ one-byte piece byte text k t closed are = by (slice_get text.bytes k) refl
   where
     silent : (o : Option ℕ) → slice_get text.bytes k ≡ o → ((s : Reached) → byte_ways t.set text s o ≡ []) → Silent (ways piece text) k
     silent o e none s place =
-        ap (λ (p : Piece). ways p text s) t.is ∙ one-ways t.set text s ∙ ap (λ (n : ℕ). byte_ways t.set text s (slice_get text.bytes n)) place
+        ap (λ (p : Piece). ways p text s) t.is ∙ one-ways t.set text s
+        ∙ ap (λ (n : ℕ). byte_ways t.set text s (slice_get text.bytes n)) place
         ∙ ap (byte_ways t.set text s) e ∙ none s
 
-    tested : (b : ℕ) → slice_get text.bytes k ≡ Some b → (test : Bool) → in_set t.set b ≡ test → Silent (ways piece text) k ⊎ (slice_get text.bytes k ≡ Some byte)
+    tested : (b : ℕ) → slice_get text.bytes k ≡ Some b → (test : Bool) → in_set t.set b ≡ test → Silent (ways piece text) k
+        ⊎ (slice_get text.bytes k ≡ Some byte)
     tested b e true is =
         let low : b < 256 = subst (λ (n : ℕ). n < 256) (get_or_from_slice_get text.bytes k b 0 e) (are k) in
         inr (e ∙ ap Some (t.only b low is))
@@ -50,30 +53,36 @@ one-byte piece byte text k t closed are = by (slice_get text.bytes k) refl
     by (Some b) e = tested b e (in_set t.set b) refl
 
 -- the bytes with one more stand there
-longer : (text bytes : List ℕ) (k byte : ℕ) → OccursAt text bytes k → slice_get text (k + length bytes) ≡ Some byte → OccursAt text (bytes ++ byte ∷ []) k
+longer : (text bytes : List ℕ) (k byte : ℕ) → OccursAt text bytes k → slice_get text (k + length bytes) ≡ Some byte →
+    OccursAt text (bytes ++ byte ∷ []) k
 longer text bytes k byte o e =
     record {
-      fits = (let low : k + length bytes < length text = slice_get_within text (k + length bytes) byte e in omega (arith, low, length-append bytes (byte ∷ [])));
+      fits = (let low : k + length bytes < length text = slice_get_within text (k + length bytes) byte e in
+          omega (arith, low, length-append bytes (byte ∷ [])));
       reads = λ j low. at j (omega (arith, low, length-append bytes (byte ∷ []))) (eqb j (length bytes)) refl;
     }
   where
     at : (j : ℕ) → j < length bytes + 1 → (t : Bool) → eqb j (length bytes) ≡ t → get_or text (k + j) 0 ≡ get_or (bytes ++ byte ∷ []) j 0
     at j low true is =
         let here : j ≡ length bytes = grind (arith, is) in
-        ap (λ (n : ℕ). get_or text (k + n) 0) here ∙ get_or_from_slice_get text (k + length bytes) byte 0 e ∙ sym (get_or_push bytes byte 0 j (sym here))
+        ap (λ (n : ℕ). get_or text (k + n) 0) here ∙ get_or_from_slice_get text (k + length bytes) byte 0 e
+        ∙ sym (get_or_push bytes byte 0 j (sym here))
     at j low false is =
         let less : j < length bytes = grind (arith, low, is) in
         o.reads j less ∙ sym (get_or_append_left bytes (byte ∷ []) 0 j less)
 
 -- the first piece of a sequence takes one byte
-pub leads-byte : (whole at first rest : Piece) (bytes : List ℕ) (byte : ℕ) → at ≡ seq first rest → TakesOne first byte → Leads whole at bytes →
+pub leads-byte : (whole at first rest : Piece) (bytes : List ℕ) (byte : ℕ) → at ≡ seq first rest → TakesOne first byte →
+    Leads whole at bytes →
     Leads whole rest (bytes ++ byte ∷ [])
 leads-byte whole at first rest bytes byte is one leads text r closed are within = by (leads text r closed are within)
   where
-    found : Begun text r whole at bytes → Silent (ways first text) (r.place + length bytes) ⊎ (slice_get text.bytes (r.place + length bytes) ≡ Some byte) →
+    found : Begun text r whole at bytes → Silent (ways first text) (r.place + length bytes)
+        ⊎ (slice_get text.bytes (r.place + length bytes) ≡ Some byte) →
         (ways whole text r ≡ []) ⊎ Begun text r whole rest (bytes ++ byte ∷ [])
     found b (inl none) =
-        inl (b.on (λ s place. ap (λ (p : Piece). ways p text s) is ∙ seq-ways first rest text s ∙ ap (onward (ways rest text)) (none s place)))
+        inl (b.on (λ s place. ap (λ (p : Piece). ways p text s) is ∙ seq-ways first rest text s
+        ∙ ap (onward (ways rest text)) (none s place)))
     found b (inr got) =
         inr (record {
           occurs = longer text.bytes bytes r.place byte b.occurs got;
@@ -96,7 +105,8 @@ none-empty None = refl
 none-empty (Some b) = refl
 
 -- the first piece of a sequence takes no byte
-pub leads-nothing : (whole at first rest : Piece) (bytes : List ℕ) → at ≡ seq first rest → fronts first ≡ [] → Leads whole at bytes → Leads whole rest bytes
+pub leads-nothing : (whole at first rest : Piece) (bytes : List ℕ) → at ≡ seq first rest → fronts first ≡ [] → Leads whole at bytes →
+    Leads whole rest bytes
 leads-nothing whole at first rest bytes is none leads text r closed are within = by (leads text r closed are within)
   where
     by : (ways whole text r ≡ []) ⊎ Begun text r whole at bytes → (ways whole text r ≡ []) ⊎ Begun text r whole rest bytes
@@ -106,7 +116,8 @@ leads-nothing whole at first rest bytes is none leads text r closed are within =
           occurs = b.occurs;
           on = λ q. b.on (λ s place.
               ap (λ (p : Piece). ways p text s) is ∙ seq-ways first rest text s
-              ∙ no-front first text (ways rest text) s closed (ap (in_one (slice_get text.bytes s.place)) none ∙ none-empty (slice_get text.bytes s.place))
+              ∙ no-front first text (ways rest text) s closed (ap (in_one (slice_get text.bytes s.place)) none
+              ∙ none-empty (slice_get text.bytes s.place))
               (λ empty t there. q t (there ∙ place)));
         })
 
@@ -119,23 +130,28 @@ leads-stop whole at bytes leads text r closed are within = by (leads text r clos
     by (inr b) = inr b.occurs
 
 -- the last piece takes one byte
-pub leads-last : (whole at : Piece) (bytes : List ℕ) (byte : ℕ) → TakesOne at byte → Leads whole at bytes → Begins whole (bytes ++ byte ∷ [])
+pub leads-last : (whole at : Piece) (bytes : List ℕ) (byte : ℕ) → TakesOne at byte → Leads whole at bytes →
+    Begins whole (bytes ++ byte ∷ [])
 leads-last whole at bytes byte one leads text r closed are within = by (leads text r closed are within)
   where
-    found : Begun text r whole at bytes → Silent (ways at text) (r.place + length bytes) ⊎ (slice_get text.bytes (r.place + length bytes) ≡ Some byte) →
+    found : Begun text r whole at bytes → Silent (ways at text) (r.place + length bytes)
+        ⊎ (slice_get text.bytes (r.place + length bytes) ≡ Some byte) →
         (ways whole text r ≡ []) ⊎ OccursAt text.bytes (bytes ++ byte ∷ []) r.place
     found b (inl none) = inl (b.on none)
     found b (inr got) = inr (longer text.bytes bytes r.place byte b.occurs got)
 
-    by : (ways whole text r ≡ []) ⊎ Begun text r whole at bytes → (ways whole text r ≡ []) ⊎ OccursAt text.bytes (bytes ++ byte ∷ []) r.place
+    by : (ways whole text r ≡ []) ⊎ Begun text r whole at bytes → (ways whole text r ≡ [])
+        ⊎ OccursAt text.bytes (bytes ++ byte ∷ []) r.place
     by (inl none) = inl none
     by (inr b) = found b (one-byte at byte text (r.place + length bytes) one closed are)
 
 pub each-begins : (p : Shape) (bytes : List ℕ) → Begins (tree p.rows) bytes → EachBegins p bytes
-each-begins p bytes begins text place are within = begins (closed text) (record { place = place; groups = replicate p.groups None }) refl are within
+each-begins p bytes begins text place are within = begins (closed text) (record { place = place; groups = replicate p.groups None }) refl
+    are within
 
 -- a byte piece whose set has one byte
-pub takes-one : (piece : Piece) (set own : List Bool) (byte : ℕ) → piece ≡ byte_in own → AreItsBytes (is_one_of (One byte)) set → ((b : ℕ) → b < 256 → in_set set b ≡ in_set own b) → TakesOne piece byte
+pub takes-one : (piece : Piece) (set own : List Bool) (byte : ℕ) → piece ≡ byte_in own → AreItsBytes (is_one_of (One byte)) set →
+    ((b : ℕ) → b < 256 → in_set set b ≡ in_set own b) → TakesOne piece byte
 takes-one piece set own byte is one same =
     record {
       set = own;

@@ -1,5 +1,6 @@
 -- Places that are passed over.
-use Rattle.std.proofs.Common.{◌≡◌, inl, inr, ℕ, ◌+◌, ◌-◌, ◌<◌, ◌≤◌, ◌⊎◌, Bool, true, false, nat_lt, List, [], length, get_or, take, drop, Option, Some, None, refl, sym, ◌∙◌, ap, subst, arith}
+use Rattle.std.proofs.Common.{◌≡◌, inl, inr, ℕ, ◌+◌, ◌-◌, ◌<◌, ◌≤◌, ◌⊎◌, Bool, true, false, nat_lt, List, [], length, get_or, take, drop}
+use Rattle.std.proofs.Common.{Option, Some, None, refl, sym, ◌∙◌, ap, subst, arith}
 use Rattle.std.specs.Prelude.{slice_get, take_while, not}
 use Rattle.std.specs.List.{prefix_len}
 use Rattle.std.proofs.lemmas.List.{length-drop, length-take-le, get_or-drop, take_rest}
@@ -16,7 +17,8 @@ use Rattle.ix_match.proofs.FrontLemmas.{none-behind}
 
 -- ---- a search behind a place
 
-occurs-behind : (text bytes : List ℕ) (place k : ℕ) → place ≤ k → place ≤ length text → OccursAt text bytes k → OccursAt (drop place text) bytes (k - place)
+occurs-behind : (text bytes : List ℕ) (place k : ℕ) → place ≤ k → place ≤ length text → OccursAt text bytes k →
+    OccursAt (drop place text) bytes (k - place)
 occurs-behind text bytes place k low within o =
     record {
       fits = (let f = o.fits in omega (arith, f, length-drop place text));
@@ -25,7 +27,8 @@ occurs-behind text bytes place k low within o =
           get_or-drop place text (k - place + j) 0 ∙ ap (λ (n : ℕ). get_or text n 0) same ∙ o.reads j less);
     }
 
-occurs-from : (text bytes : List ℕ) (place n : ℕ) → place ≤ length text → OccursAt (drop place text) bytes n → OccursAt text bytes (place + n)
+occurs-from : (text bytes : List ℕ) (place n : ℕ) → place ≤ length text → OccursAt (drop place text) bytes n →
+    OccursAt text bytes (place + n)
 occurs-from text bytes place n within o =
     record {
       fits = (let f = o.fits in omega (arith, f, length-drop place text));
@@ -35,7 +38,8 @@ occurs-from text bytes place n within o =
     }
 
 -- it stands at no place
-pub none-behind-place : (text hay bytes : List ℕ) (place : ℕ) → place ≤ length text → hay ≡ drop place text → Nowhere (OccursAt hay bytes) 0 (length hay + 1) →
+pub none-behind-place : (text hay bytes : List ℕ) (place : ℕ) → place ≤ length text → hay ≡ drop place text →
+    Nowhere (OccursAt hay bytes) 0 (length hay + 1) →
     Nowhere (OccursAt text bytes) place (length text + 1)
 none-behind-place text hay bytes place within is none k low high o =
     none (k - place) (omega arith) (omega (arith, low, high, within, ap length is, length-drop place text))
@@ -58,16 +62,19 @@ first-behind-place text hay bytes place n within is found = (
 
 -- ---- the bytes with which every match begins
 
-no-way : (p : Shape) (text bytes : List ℕ) (k : ℕ) → EachBegins p bytes → AreBytes text → k ≤ length text → (OccursAt text bytes k → ⊥) → ways_from p text k ≡ []
+no-way : (p : Shape) (text bytes : List ℕ) (k : ℕ) → EachBegins p bytes → AreBytes text → k ≤ length text → (OccursAt text bytes k → ⊥) →
+    ways_from p text k ≡ []
 no-way p text bytes k each are within none = by (each text k are within)
   where
     by : (ways_from p text k ≡ []) ⊎ OccursAt text bytes k → ways_from p text k ≡ []
     by (inl e) = e
     by (inr o) = absurd (none o)
 
-pub literal-candidate : (p : Shape) (text bytes : List ℕ) (place : ℕ) (found : Option ℕ) → EachBegins p bytes → AreBytes text → FindsNeedle text bytes place found →
+pub literal-candidate : (p : Shape) (text bytes : List ℕ) (place : ℕ) (found : Option ℕ) → EachBegins p bytes → AreBytes text →
+    FindsNeedle text bytes place found →
     IsCandidate p text place found
-literal-candidate p text bytes place None each are none = λ k low high. no-way p text bytes k each are high (none k low (omega (arith, high)))
+literal-candidate p text bytes place None each are none =
+    λ k low high. no-way p text bytes k each are high (none k low (omega (arith, high)))
 literal-candidate p text bytes place (Some at) each are found =
     let high = found.0.high in (
       found.0.low,
@@ -81,10 +88,12 @@ not-true : (b : Bool) → not b ≡ true → b ≡ false
 not-true true e = grind (arith, e)
 not-true false e = refl
 
-over-length : (test : ℕ → Bool) (text hay : List ℕ) (place n : ℕ) → hay ≡ drop place text → n ≡ length (take_while test hay) → n ≡ prefix_len test hay
+over-length : (test : ℕ → Bool) (text hay : List ℕ) (place n : ℕ) → hay ≡ drop place text → n ≡ length (take_while test hay) →
+    n ≡ prefix_len test hay
 over-length test text hay place n is e = e ∙ length-take-le (prefix_len test hay) hay (prefix_len-le-length test hay)
 
-pub over-within : (test : ℕ → Bool) (text : List ℕ) (place n : ℕ) → place ≤ length text → n ≡ length (take_while test (take (length text - place) (drop place text))) →
+pub over-within : (test : ℕ → Bool) (text : List ℕ) (place n : ℕ) → place ≤ length text →
+    n ≡ length (take_while test (take (length text - place) (drop place text))) →
     place + n ≤ length text
 over-within test text place n within e =
     let hay = take (length text - place) (drop place text) in
@@ -106,12 +115,14 @@ over-none p first text place n are bytes within e k low high =
     ap (λ (h : List ℕ). get_or h j 0) is ∙ get_or-drop place text j 0 ∙ ap (λ (i : ℕ). get_or text i 0) same in
     let out : in_set first (get_or text k 0) ≡ false =
     ap (in_set first) (sym read) ∙ not-true (in_set first (get_or hay j 0)) (prefix_len_passes test hay j 0 less) in
-    ap (λ (o : Option ℕ). in_one o (fronts (tree p.rows))) (slice_get-get_or text k 0 (omega (arith, high, over-within test text place n within e)))
+    ap (λ (o : Option ℕ). in_one o (fronts (tree p.rows)))
+    (slice_get-get_or text k 0 (omega (arith, high, over-within test text place n within e)))
     ∙ sym (are (get_or text k 0) (bytes k)) ∙ out
 
 -- ---- the text's start
 
-pub anchored-candidate : (p : Shape) (text : List ℕ) (place at : ℕ) → anchored (tree p.rows) ≡ true → 0 < at → IsCandidate p text place (Some at) → IsCandidate p text place None
+pub anchored-candidate : (p : Shape) (text : List ℕ) (place at : ℕ) → anchored (tree p.rows) ≡ true → 0 < at →
+    IsCandidate p text place (Some at) → IsCandidate p text place None
 anchored-candidate p text place at a some c k low high = by (nat_lt k at) refl
   where
     by : (t : Bool) → nat_lt k at ≡ t → ways_from p text k ≡ []

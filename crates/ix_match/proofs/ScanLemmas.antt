@@ -1,11 +1,12 @@
 -- Where the match of an attempt lies.
-use Rattle.std.proofs.Common.{◌≡◌, ℕ, ◌+◌, ◌*◌, ◌≤◌, ◌<◌, Bool, true, false, length, take, Option, None, if◌then◌else◌, nat_le, refl, sym, ◌∙◌, ap, subst, arith}
+use Rattle.std.proofs.Common.{◌≡◌, ℕ, ◌+◌, ◌*◌, ◌≤◌, ◌<◌, Bool, true, false, length, take, Option, None, if◌then◌else◌, nat_le, refl, sym}
+use Rattle.std.proofs.Common.{◌∙◌, ap, subst, arith}
 use Rattle.std.proofs.lemmas.List.{length-take}
 use Rattle.std.proofs.lemmas.Bool.{leb-false}
 use Rattle.std.specs.Prelude.{slice_get, replicate}
 use Rattle.ix_pattern.specs.Ways.{Text, Way, sight, ways}
 use Rattle.ix_pattern.specs.Rows.{Shape, tree}
-use Rattle.ix_threads.specs.Leaf.{at}
+use Rattle.ix_pikevm.specs.Leaf.{at}
 use Rattle.ix_match.specs.declared.scan.Look.{Look}
 use Rattle.ix_match.specs.declared.scan.Look.TheVariants.{Found as Ended, No, More}
 use Rattle.ix_match.specs.Attempt.{reach, attempt}
@@ -24,11 +25,13 @@ seen-length n text = by (nat_le n (length text.bytes)) refl
 
 -- an attempt's head, from what the search found in what it sees
 pub head-here : (p : Shape) (text seen : Text) (out : Option Way) (look : Look) → seen ≡ sight reach text →
-    slice_get (ways (tree p.rows) seen (at 0 (replicate p.groups None))) 0 ≡ out → head_of look ≡ out → slice_get (attempt p text) 0 ≡ head_of look
+    slice_get (ways (tree p.rows) seen (at 0 (replicate p.groups None))) 0 ≡ out → head_of look ≡ out →
+    slice_get (attempt p text) 0 ≡ head_of look
 head-here p text seen out look same h e =
     ap (λ (t : Text). slice_get (ways (tree p.rows) t (at 0 (replicate p.groups None))) 0) (sym same) ∙ h ∙ sym e
 
-pub look-lies : (p : Shape) (text : Text) (look : Look) → slice_get (attempt p text) 0 ≡ head_of look → BeginsAtOnce look → LiesInReach text.bytes p.groups look
+pub look-lies : (p : Shape) (text : Text) (look : Look) → slice_get (attempt p text) 0 ≡ head_of look → BeginsAtOnce look →
+    LiesInReach text.bytes p.groups look
 look-lies p text (Ended found) h b =
     let l = head-lies (tree p.rows) (sight reach text) p.groups 0 (record { place = found.end; groups = found.groups }) (omega arith) h in
     record {

@@ -1,12 +1,13 @@
 -- Where a match may begin in a whole text.
-use Rattle.std.specs.Prelude.{◌≡◌, ℕ, zero, suc, ◌<◌, ◌≤◌, Bool, true, false, not, ◌&&◌, ◌||◌, if◌then◌else◌, List, [], ◌∷◌, ◌++◌, length, Option, Some, None}
+use Rattle.std.specs.Prelude.{◌≡◌, ℕ, zero, suc, ◌<◌, ◌≤◌, Bool, true, false, not, ◌&&◌, ◌||◌, if◌then◌else◌, List, [], ◌∷◌, ◌++◌, length}
+use Rattle.std.specs.Prelude.{Option, Some, None}
 use Rattle.ix_pattern.specs.Piece.{Piece, nothing, byte_in, start, finish, word, seq, either, count, group, ahead, in_set}
 use Rattle.ix_pattern.specs.declared.pattern.Node.TheVariants.{Bytes}
 use Rattle.ix_pattern.specs.Rows.{Rows, Shape, piece_at, tree, node_at, set_at}
 use Rattle.ix_match.specs.Matches.{ways_from}
-use Rattle.ix_match.specs.declared.front.Front.{Front}
-use Rattle.ix_match.specs.declared.front.Opening.{Opening}
-use Rattle.ix_match.specs.declared.front.Opening.TheVariants.{Byte, Empty, Inside, Sequence, Choice}
+use Rattle.ix_match.specs.declared.first_pieces.FirstPieces.{FirstPieces}
+use Rattle.ix_match.specs.declared.first_pieces.Opening.{Opening}
+use Rattle.ix_match.specs.declared.first_pieces.Opening.TheVariants.{Byte, Empty, Inside, Sequence, Choice}
 
 -- a match of it may take no byte
 unfoldable pub passes : Piece → Bool
@@ -72,12 +73,13 @@ abbrev pub Opens : Rows → ℕ → Opening → Type 0
 Opens rows at Byte = (node_at rows at ≡ Some Bytes) × (piece_at rows at ≡ byte_in (set_at rows at))
 Opens rows at Empty = (passes (piece_at rows at) ≡ true) × (fronts (piece_at rows at) ≡ [])
 Opens rows at (Inside inside empty) =
-    (inside < at) × (passes (piece_at rows at) ≡ (empty || passes (piece_at rows inside))) × (fronts (piece_at rows at) ≡ fronts (piece_at rows inside))
+    (inside < at) × (passes (piece_at rows at) ≡ (empty || passes (piece_at rows inside)))
+    × (fronts (piece_at rows at) ≡ fronts (piece_at rows inside))
 Opens rows at (Sequence first rest) = (first < at) × (rest < at) × (piece_at rows at ≡ seq (piece_at rows first) (piece_at rows rest))
 Opens rows at (Choice first other) = (first < at) × (other < at) × (piece_at rows at ≡ either (piece_at rows first) (piece_at rows other))
 
 -- what is known of where a match of the pattern may begin
-pub record IsFront (p : Shape) (front : Front) : Type 0 where
+pub record IsFront (p : Shape) (front : FirstPieces) : Type 0 where
   pub pieces : ArePieces p.rows front.pieces.items (fronts (tree p.rows))
   pub passes_is : front.passes ≡ passes (tree p.rows)
   pub anchored_is : front.anchored ≡ anchored (tree p.rows)

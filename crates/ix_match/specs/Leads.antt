@@ -15,7 +15,8 @@ AreBytes text = (k : ℕ) → slice_index text k < 256
 
 -- every match in a whole text begins with these bytes
 abbrev pub EachBegins : Shape → List ℕ → Type 0
-EachBegins p bytes = (text : List ℕ) (place : ℕ) → AreBytes text → place ≤ length text → (ways_from p text place ≡ []) ⊎ OccursAt text bytes place
+EachBegins p bytes = (text : List ℕ) (place : ℕ) → AreBytes text → place ≤ length text → (ways_from p text place ≡ [])
+    ⊎ OccursAt text bytes place
 
 -- it takes this byte and no other
 pub record TakesOne (piece : Piece) (byte : ℕ) : Type 0 where
@@ -29,7 +30,8 @@ Takes piece (One byte) = TakesOne piece byte
 Takes piece Nothing = fronts piece ≡ []
 Takes piece Other = Unit {0}
 
--- The bytes stand there, and what follows them in the whole piece is the piece `at`: where that has no way behind them, the whole has none.
+-- The bytes stand there, and what follows them in the whole piece is the piece `at`: where that has
+-- no way behind them, the whole has none.
 pub record Begun (text : Text) (r : Reached) (whole at : Piece) (bytes : List ℕ) : Type 0 where
   pub occurs : OccursAt text.bytes bytes r.place
   pub on : ((s : Reached) → s.place ≡ r.place + length bytes → ways at text s ≡ []) → ways whole text r ≡ []

@@ -6,12 +6,12 @@ ghost use Rattle.ix_match.specs.Fronts.{IsFront};
 ghost use Rattle.ix_match.specs.Searches.{IsSearch};
 
 use crate::budget::is_spent;
-use crate::front::{Front, candidate, front_of};
+use crate::first_pieces::{FirstPieces, candidate, front_of};
 use crate::search::Search;
 use ix_base::{NoMemory, Sequence, Steps};
 use ix_pattern::Pattern;
-use ix_threads::input::Input;
-use ix_threads::run::Outcome;
+use ix_pikevm::input::Input;
+use ix_pikevm::run::Outcome;
 use std::alloc::Global;
 use std::marker::Brand;
 use std::sync::ledger::{Blank, Ledger};
@@ -19,7 +19,8 @@ use std::sync::ledger::{Blank, Ledger};
 /// For each capturing group of a pattern the span of its last turn, if it took part.
 pub type GroupList = Sequence<Option<(usize, usize)>>;
 
-/// A match, as places of the text: its first byte stands at `start`, and `end` is the place behind its last one.
+/// A match, as places of the text: its first byte stands at `start`, and `end` is the place behind
+/// its last one.
 #[derive(Drop)]
 pub struct Found {
     pub start: usize,
@@ -78,11 +79,11 @@ fn find_walked<L: Ledger>(
     Ok(found)
 }
 
-/// The first match that begins at this place or later. Where attempts at one place after the other have cost too much, a
-/// walk over the rest of the text tells it.
+/// The first match that begins at this place or later. Where attempts at one place after the other
+/// have cost too much, a walk over the rest of the text tells it.
 fn find_from<L: Ledger>(
     p: &Pattern,
-    front: &Front,
+    front: &FirstPieces,
     search: &mut Search,
     text: &[u8],
     from: usize,
@@ -112,8 +113,8 @@ fn find_from<L: Ledger>(
     Ok(None)
 }
 
-/// The first match. The pattern is written out only where one may begin. Steps are counted in the ledger that the blank
-/// one opens, which nobody reads.
+/// The first match. The pattern is written out only where one may begin. Steps are counted in the
+/// ledger that the blank one opens, which nobody reads.
 fn find_uncounted<L: Ledger>(
     alloc: Global,
     p: &Pattern,
@@ -138,9 +139,9 @@ fn find_uncounted<L: Ledger>(
     Ok(found)
 }
 
-/// The first match of a pattern in a whole text that begins at the place `from` or later; of those that begin at the
-/// same place, the one that the pattern prefers. There is none exactly where it matches at no place from `from` on, up
-/// to and with the text's end.
+/// The first match of a pattern in a whole text that begins at the place `from` or later; of those
+/// that begin at the same place, the one that the pattern prefers. There is none exactly where it
+/// matches at no place from `from` on, up to and with the text's end.
 pub fn find(alloc: Global, p: &Pattern, text: &[u8], from: usize) -> Result<Option<Found>, NoMemory>
     requires { from ≤ length text.now }
     ensures first { IfOk result (λ found. IsFirst p.now text.now from found) }

@@ -6,7 +6,7 @@ ghost use Rattle.ix_pattern.specs.Rows.{piece_at, node_at, set_at};
 ghost use Rattle.ix_match.specs.Leads.{EachBegins, Takes, Leads, LeadsTo};
 
 use crate::few::{Few, few_of};
-use crate::front::{Opening, opens_with};
+use crate::first_pieces::{Opening, opens_with};
 use ix_base::{NoMemory, Steps};
 use ix_pattern::{Node, Pattern};
 use std::alloc::Global;
@@ -50,8 +50,8 @@ fn taken_by<L: Ledger>(p: &Pattern, piece: usize, steps: &mut Steps<L>) -> Taken
     }
 }
 
-/// Adds the byte with which every match of the piece with this number begins, where it has one. The answer is the piece
-/// that follows, where its bytes may be added too.
+/// Adds the byte with which every match of the piece with this number begins, where it has one. The
+/// answer is the piece that follows, where its bytes may be added too.
 fn add_lead<L: Ledger>(
     p: &Pattern,
     at: usize,
@@ -59,7 +59,8 @@ fn add_lead<L: Ledger>(
     steps: &mut Steps<L>,
 ) -> Result<Option<usize>, NoMemory>
     requires { at < length p.now.rows }
-    ensures { IfOk result (λ next. (whole : Piece) → Leads whole (piece_at p.now.rows at) bytes.old.items → LeadsTo p.now.rows whole at next bytes.new.items) }
+    ensures { IfOk result (λ next. (whole : Piece) → Leads whole (piece_at p.now.rows at) bytes.old.items →
+        LeadsTo p.now.rows whole at next bytes.new.items) }
 {
     match opens_with(p, at) {
         Opening::Sequence { first, rest } => match taken_by(p, first, steps) {

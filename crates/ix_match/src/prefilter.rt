@@ -1,4 +1,5 @@
-//! What tells where a match may begin, before any search is made. Places at which none can are passed over many at a time.
+//! What tells where a match may begin, before any search is made. Places at which none can are
+//! passed over many at a time.
 
 ghost use Rattle.std.specs.Prelude.{◌≡◌, ℕ, ◌<◌, ◌≤◌, length, IfOk, IfSome, false, slice_get};
 ghost use Rattle.memchr.specs.Find.{FindsNeedle};
@@ -9,7 +10,7 @@ ghost use Rattle.ix_match.specs.Leads.{EachBegins};
 ghost use Rattle.ix_match.specs.Prefilters.{may_be_first, AreFirst, IsPrefilter};
 
 use crate::few::{Few, few_of, passed_over};
-use crate::front::{Front, front_of, may_begin};
+use crate::first_pieces::{FirstPieces, front_of, may_begin};
 use crate::leads::lead_of;
 use ix_base::{NoMemory, Steps};
 use ix_pattern::Pattern;
@@ -33,7 +34,7 @@ pub struct Prefilter {
 }
 
 /// Whether a match may take the byte as its first one.
-fn may_be_first<L: Ledger>(p: &Pattern, front: &Front, byte: u8, steps: &mut Steps<L>) -> bool
+fn may_be_first<L: Ledger>(p: &Pattern, front: &FirstPieces, byte: u8, steps: &mut Steps<L>) -> bool
     requires { IsFront p.now front.now }
     ensures { result ≡ may_be_first p.now byte }
 {
@@ -41,7 +42,7 @@ fn may_be_first<L: Ledger>(p: &Pattern, front: &Front, byte: u8, steps: &mut Ste
 }
 
 /// For each byte, whether a match may take it as its first one.
-fn first_of<L: Ledger>(p: &Pattern, front: &Front, steps: &mut Steps<L>) -> [bool; 256]
+fn first_of<L: Ledger>(p: &Pattern, front: &FirstPieces, steps: &mut Steps<L>) -> [bool; 256]
     requires { IsFront p.now front.now }
     ensures { AreFirst p.now result }
 {
@@ -52,7 +53,8 @@ fn first_of<L: Ledger>(p: &Pattern, front: &Front, steps: &mut Steps<L>) -> [boo
     first
 }
 
-/// The search for the bytes with which every match begins. A single byte is found faster by its value.
+/// The search for the bytes with which every match begins. A single byte is found faster by its
+/// value.
 fn literal_of<L: Ledger>(
     alloc: Global,
     p: &Pattern,
@@ -68,8 +70,8 @@ fn literal_of<L: Ledger>(
     Ok(Some(literal))
 }
 
-/// What is known of where a match may begin. The tests are counted in the ledger that the blank one opens, which nobody
-/// reads.
+/// What is known of where a match may begin. The tests are counted in the ledger that the blank one
+/// opens, which nobody reads.
 fn prefilter_uncounted<L: Ledger>(
     alloc: Global,
     p: &Pattern,
@@ -112,18 +114,21 @@ impl Prefilter {
         prefilter_uncounted::<Brand>(alloc, p, Blank::new(1))
     }
 
-    /// The first place from this one on with a byte that a match may take as its first one, or the text's end.
+    /// The first place from this one on with a byte that a match may take as its first one, or the
+    /// text's end.
     fn next_place(&self, text: &[u8], place: usize) -> usize
         requires place { place ≤ length text.now }
         requires few { Lists self.now.few self.now.first }
         ensures later { place ≤ result }
         ensures within { result ≤ length text.now }
-        ensures none { (p : Shape) → AreFirst p self.now.first → (k : ℕ) → place ≤ k → k < result → in_one (slice_get text.now k) (fronts (tree p.rows)) ≡ false }
+        ensures none { (p : Shape) → AreFirst p self.now.first → (k : ℕ) → place ≤ k → k < result →
+            in_one (slice_get text.now k) (fronts (tree p.rows)) ≡ false }
     {
         place + passed_over(&self.first, self.few, &text[place..])
     }
 
-    /// The first place from this one on at which a match may begin, but for what is known of the text's start.
+    /// The first place from this one on at which a match may begin, but for what is known of the
+    /// text's start.
     fn unanchored(&self, text: &[u8], place: usize) -> Option<usize>
         requires place { place ≤ length text.now }
         requires few { Lists self.now.few self.now.first }
@@ -139,7 +144,8 @@ impl Prefilter {
         if at < text.len() { Some(at) } else { None }
     }
 
-    /// The first place from this one on at which a match may begin. There is none where no match begins from here on.
+    /// The first place from this one on at which a match may begin. There is none where no match
+    /// begins from here on.
     pub fn candidate(&self, text: &[u8], place: usize) -> Option<usize>
         requires place { place ≤ length text.now }
         requires few { Lists self.now.few self.now.first }

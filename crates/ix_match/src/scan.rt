@@ -1,13 +1,14 @@
 //! One attempt at a place of a stream, of which more bytes may come.
 
-ghost use Rattle.std.specs.Prelude.{◌≡◌, ℕ, ◌≤◌, ◌+◌, ◌-◌, ◌*◌, List, [], Option, None, true, not, length, take, take_while, replicate, slice_get, IfSome, IfOk, OnOk, OnErr};
+ghost use Rattle.std.specs.Prelude.{◌≡◌, ℕ, ◌≤◌, ◌+◌, ◌-◌, ◌*◌, List, [], Option, None, true, not, length, take, take_while, replicate};
+ghost use Rattle.std.specs.Prelude.{slice_get, IfSome, IfOk, OnOk, OnErr};
 ghost use Rattle.ix_pattern.specs.Piece.{in_set};
 ghost use Rattle.ix_pattern.specs.Rows.{Rows, tree, byte_pieces};
 ghost use Rattle.ix_pattern.specs.Ways.{sight, ways};
 ghost use Rattle.ix_match.specs.Attempt.{reach, attempt};
-ghost use Rattle.ix_threads.specs.Leaf.{text_of, at};
-ghost use Rattle.ix_threads.specs.Finders.{HasRoom};
-ghost use Rattle.ix_threads.specs.Outcomes.{head_of as outcome_head};
+ghost use Rattle.ix_pikevm.specs.Leaf.{text_of, at};
+ghost use Rattle.ix_pikevm.specs.Finders.{HasRoom};
+ghost use Rattle.ix_pikevm.specs.Outcomes.{head_of as outcome_head};
 ghost use Rattle.ix_match.specs.Starts.{AreStarts};
 ghost use Rattle.ix_match.specs.Scans.{GoesOn, emptied, head_of, BeginsAtOnce, LiesInReach};
 ghost use Rattle.ix_match.specs.Searches.{IsKept, KeepsFor};
@@ -15,13 +16,13 @@ ghost use Rattle.ix_match.specs.Searches.{IsKept, KeepsFor};
 use crate::few;
 use crate::few::{Few, few_of};
 use crate::first::{Found, GroupList};
-use crate::kept::Kept;
+use crate::scan_given::ScanGiven;
+use crate::scan_state::ScanState;
 use crate::starts::starts_of;
-use crate::told::Told;
 use ix_base::{NoMemory, Steps};
 use ix_pattern::Pattern;
-use ix_threads::input::Input;
-use ix_threads::run::Outcome;
+use ix_pikevm::input::Input;
+use ix_pikevm::run::Outcome;
 use std::alloc::Global;
 use std::marker::Model;
 use std::sync::ledger::Ledger;
@@ -40,18 +41,18 @@ pub enum Look {
     More,
 }
 
-/// One attempt at the first place of a text of which more bytes may come. Contracts see the pattern that it was made
-/// for, for each byte whether a match may begin with it, and since it was made or reset the byte before its text and
-/// the bytes that were given.
+/// One attempt at the first place of a text of which more bytes may come. Contracts see the pattern
+/// that it was made for, for each byte whether a match may begin with it, and since it was made or
+/// reset the byte before its text and the bytes that were given.
 #[derive(Drop)]
 pub struct Scan {
     alloc: Global,
     starts: [bool; 256],
     few: Few,
     before: Option<u8>,
-    told: Told,
+    told: ScanGiven,
     /// The search for the pattern, once an attempt was made, and the attempt itself.
-    kept: Option<Kept>,
+    kept: Option<ScanState>,
 }
 
 impl Model for Scan {
@@ -104,18 +105,20 @@ fn is_same(a: Option<u8>, b: Option<u8>) -> bool
     }
 }
 
-/// Goes on with the attempt that is kept, or begins one. Where nothing is kept yet the search is made first.
+/// Goes on with the attempt that is kept, or begins one. Where nothing is kept yet the search is
+/// made first.
 fn go_on_with<L: Ledger>(
     alloc: Global,
     p: &Pattern,
-    kept: &mut Option<Kept>,
+    kept: &mut Option<ScanState>,
     goes_on: bool,
     input: Input<'_>,
     steps: &mut Steps<L>,
 ) -> Result<Outcome, NoMemory>
     requires kept { IfSome kept.old (λ k. IsKept p.now.rows k.search) }
     requires goes_on { goes_on ≡ true → IfSome kept.old (λ k. KeepsFor p.now.rows k input.before input.bytes.now) }
-    ensures head { IfOk result (λ o. slice_get (ways (tree p.now.rows) (text_of input.entry) (at 0 (replicate p.now.groups None))) 0 ≡ outcome_head o) }
+    ensures head { IfOk result (λ o. slice_get (ways (tree p.now.rows) (text_of input.entry) (at 0 (replicate p.now.groups None)))
+        0 ≡ outcome_head o) }
     ensures kept { OnOk result (IfSome kept.new (λ k. KeepsFor p.now.rows k input.entry.before input.entry.bytes.now)) }
     ensures some { OnOk result (kept.new ≡ None → ⊥) }
     ensures counted { OnOk result (steps.new ≤ steps.old + 256 * byte_pieces p.now.rows) }
@@ -129,7 +132,7 @@ fn go_on_with<L: Ledger>(
             Ok(outcome)
         }
         None => {
-            let mut made = Kept::tabled(alloc, p, steps)?;
+            let mut made = ScanState::tabled(alloc, p, steps)?;
             let outcome = made.go_on(p, input, steps)?;
             *kept = Some(made);
             Ok(outcome)
@@ -138,8 +141,9 @@ fn go_on_with<L: Ledger>(
 }
 
 /// Of what is kept the attempt no longer counts.
-fn forget(kept: &mut Option<Kept>)
-    ensures { (rows : Rows) (before : Option ℕ) (bytes : List ℕ) → IfSome kept.old (λ old. IsKept rows old.search) → IfSome kept.new (λ k. KeepsFor rows k before bytes) }
+fn forget(kept: &mut Option<ScanState>)
+    ensures { (rows : Rows) (before : Option ℕ) (bytes : List ℕ) → IfSome kept.old (λ old. IsKept rows old.search) →
+        IfSome kept.new (λ k. KeepsFor rows k before bytes) }
 {
     if let Some(kept) = kept {
         kept.stand(false);
@@ -147,7 +151,7 @@ fn forget(kept: &mut Option<Kept>)
 }
 
 /// A copy of what was kept.
-fn copied(kept: &Option<Kept>) -> Result<Option<Kept>, NoMemory>
+fn copied(kept: &Option<ScanState>) -> Result<Option<ScanState>, NoMemory>
     requires { IfSome kept.now (λ k. HasRoom k.search.finder k.search.room) }
     ensures kept { IfOk result (λ k. (rows : Rows) (before : Option ℕ) (bytes : List ℕ) →
         IfSome kept.now (λ old. KeepsFor rows old before bytes) → IfSome k (λ new. KeepsFor rows new before bytes)) }
@@ -175,20 +179,23 @@ impl Scan {
             few: few_of(&starts),
             starts,
             before: None,
-            told: Told::of(p, &[]),
+            told: ScanGiven::of(p, &[]),
             kept: None,
         })
     }
 
-    /// The attempt at the first of these bytes, by the pattern that the scan was made for. `before` is the byte before
-    /// them; there is none at the start of the stream. The bytes go on from those of the last call since `new` or
-    /// `reset`, behind the same byte. An attempt sees the first 16,384 of them; where there are so many, or the stream
-    /// is `closed`, its text ends there. Each test of a byte counts as a step; there are at most as many as the pattern's
-    /// weight times 512 and the bytes that no call since `new` or `reset` was given. Where a byte was given before, there are
-    /// none: the threads go on from the last place of which all is decided, and each test is made once.
+    /// The attempt at the first of these bytes, by the pattern that the scan was made for. `before`
+    /// is the byte before them; there is none at the start of the stream. The bytes go on from
+    /// those of the last call since `new` or `reset`, behind the same byte. An attempt sees the
+    /// first 16,384 of them; where there are so many, or the stream is `closed`, its text ends
+    /// there. Each test of a byte counts as a step; there are at most as many as the pattern's
+    /// weight times 512 and the bytes that no call since `new` or `reset` was given. Where a byte
+    /// was given before, there are none: the threads go on from the last place of which all is
+    /// decided, and each test is made once.
     ///
-    /// It is `Found` with the preferred one of the matches that begin here, `No` exactly where none does, and `More`
-    /// exactly where that depends on bytes that have not come. After `NoMemory` the scan is as after `reset`.
+    /// It is `Found` with the preferred one of the matches that begin here, `No` exactly where none
+    /// does, and `More` exactly where that depends on bytes that have not come. After `NoMemory`
+    /// the scan is as after `reset`.
     pub fn advance<L: Ledger>(
         &mut self,
         p: &Pattern,
@@ -199,7 +206,8 @@ impl Scan {
     ) -> Result<Look, NoMemory>
         requires pattern { p.now ≡ self.old.pattern }
         requires goes_on { GoesOn self.old before text.now }
-        ensures head { IfOk result (λ look. slice_get (attempt p.now (record { before = before; bytes = text.now; unfinished = not closed })) 0 ≡ head_of look) }
+        ensures head { IfOk result (λ look. slice_get (attempt p.now
+            (record { before = before; bytes = text.now; unfinished = not closed })) 0 ≡ head_of look) }
         ensures begins { IfOk result BeginsAtOnce }
         ensures lies { IfOk result (LiesInReach text.now p.now.groups) }
         ensures given { OnOk result (self.new ≡ record self.old { before = before; given = text.now }) }
@@ -220,7 +228,7 @@ impl Scan {
             return Err(NoMemory);
         };
         self.before = before;
-        self.told = Told::of(p, text);
+        self.told = ScanGiven::of(p, text);
         Ok(look_of(outcome))
     }
 

@@ -1,32 +1,34 @@
-//! The search for a pattern, and what it works in. `find` makes one for each call, and `Scan` keeps one.
+//! The search for a pattern, and what it works in. `find` makes one for each call, and `Scan` keeps
+//! one.
 
 ghost use Rattle.std.specs.Prelude.{◌≡◌, ◌≤◌, ◌+◌, ◌*◌, None, IfOk, OnOk, length, replicate, slice_get};
 ghost use Rattle.ix_pattern.specs.Ways.{ways};
 ghost use Rattle.ix_pattern.specs.Rows.{Rows, tree, byte_pieces};
-ghost use Rattle.ix_threads.specs.Leaf.{text_of, at};
-ghost use Rattle.ix_threads.specs.Outcomes.{head_of};
-ghost use Rattle.ix_threads.specs.Attempts.{Stands};
-ghost use Rattle.ix_threads.specs.Finders.{HasRoom, IsSameProgram};
-ghost use Rattle.ix_threads.specs.Places.{IsPlace};
+ghost use Rattle.ix_pikevm.specs.Leaf.{text_of, at};
+ghost use Rattle.ix_pikevm.specs.Outcomes.{head_of};
+ghost use Rattle.ix_pikevm.specs.Attempts.{IsAttemptOn};
+ghost use Rattle.ix_pikevm.specs.Finders.{HasRoom, IsSameProgram};
+ghost use Rattle.ix_pikevm.specs.Places.{IsPlace};
 ghost use Rattle.ix_match.specs.Matches.{closed};
 ghost use Rattle.ix_match.specs.Searches.{IsSearch, IsKept};
 
 use ix_base::{NoMemory, Steps};
 use ix_pattern::Pattern;
-use ix_threads::attempt::{Attempt, go_on};
-use ix_threads::finder::{Finder, finder_of, head, room_again, room_of, tabled_finder};
-use ix_threads::input::Input;
-use ix_threads::place::first_place;
-use ix_threads::plan::Room;
-use ix_threads::run::Outcome;
+use ix_pikevm::attempt::{Attempt, go_on};
+use ix_pikevm::input::Input;
+use ix_pikevm::matcher::{Matcher, finder_of, head, room_again, room_of, tabled_finder};
+use ix_pikevm::matcher_ref::Scratch;
+use ix_pikevm::place::first_place;
+use ix_pikevm::run::Outcome;
 use std::alloc::Global;
 use std::sync::ledger::Ledger;
 
-/// A pattern that was written out, and room for the threads. It is used again from place to place and from text to text.
+/// A pattern that was written out, and room for the threads. It is used again from place to place
+/// and from text to text.
 pub struct Search {
     pub alloc: Global,
-    pub finder: Finder,
-    pub room: Room,
+    pub finder: Matcher,
+    pub room: Scratch,
 }
 
 /// It is written out, so that each place where one is let go is a call of it, which is proved once.
@@ -84,7 +86,8 @@ impl Search {
     ) -> Result<Outcome, NoMemory>
         requires search { IsSearch p.now.rows self.old }
         requires within { place ≤ length input.bytes.now }
-        ensures head { IfOk result (λ o. slice_get (ways (tree p.now.rows) (text_of input.entry) (at place (replicate p.now.groups None))) 0 ≡ head_of o) }
+        ensures head { IfOk result (λ o. slice_get (ways (tree p.now.rows) (text_of input.entry) (at place (replicate p.now.groups None)))
+            0 ≡ head_of o) }
         ensures search { OnOk result (IsSearch p.now.rows self.new) }
         ensures finder { self.new.finder ≡ self.old.finder }
         ensures later { steps.old ≤ steps.new }
@@ -119,8 +122,8 @@ impl Search {
         Ok(place)
     }
 
-    /// Goes on with an attempt at the first place of a text: the head of the ordered list of ways there, where no group has
-    /// taken part.
+    /// Goes on with an attempt at the first place of a text: the head of the ordered list of ways
+    /// there, where no group has taken part.
     pub fn go_on<L: Ledger>(
         &mut self,
         p: &Pattern,
@@ -129,9 +132,10 @@ impl Search {
         steps: &mut Steps<L>,
     ) -> Result<Outcome, NoMemory>
         requires search { IsSearch p.now.rows self.old }
-        requires stands { Stands p.now.rows self.old.finder.program attempt.old input.before input.bytes.now }
-        ensures head { IfOk result (λ o. slice_get (ways (tree p.now.rows) (text_of input.entry) (at 0 (replicate p.now.groups None))) 0 ≡ head_of o) }
-        ensures stands { OnOk result (Stands p.now.rows self.old.finder.program attempt.new input.entry.before input.entry.bytes.now) }
+        requires stands { IsAttemptOn p.now.rows self.old.finder.program attempt.old input.before input.bytes.now }
+        ensures head { IfOk result (λ o. slice_get (ways (tree p.now.rows) (text_of input.entry) (at 0 (replicate p.now.groups None)))
+            0 ≡ head_of o) }
+        ensures stands { OnOk result (IsAttemptOn p.now.rows self.old.finder.program attempt.new input.entry.before input.entry.bytes.now) }
         ensures search { OnOk result (IsSearch p.now.rows self.new) }
         ensures finder { self.new.finder ≡ self.old.finder }
         ensures later { steps.old ≤ steps.new }

@@ -10,7 +10,8 @@ use std::alloc::Global;
 use std::marker::Brand;
 use std::sync::ledger::{Blank, Ledger};
 
-/// Whether a match of the piece with this number may begin with the byte, by whether those of the pieces below it may.
+/// Whether a match of the piece with this number may begin with the byte, by whether those of the
+/// pieces below it may.
 #[tactic(auto, unfolding(crate::specs::Starts::may_begin))]
 fn piece_begins<L: Ledger>(
     p: &Pattern,
@@ -56,8 +57,8 @@ fn begins<L: Ledger>(
     Ok(piece_begins(p, root, &below, byte, steps))
 }
 
-/// For each byte, whether a match may begin with it. The tests are counted in the ledger that the blank one opens, which
-/// nobody reads.
+/// For each byte, whether a match may begin with it. The tests are counted in the ledger that the
+/// blank one opens, which nobody reads.
 fn starts_uncounted<L: Ledger>(
     alloc: Global,
     p: &Pattern,
@@ -83,7 +84,8 @@ pub fn starts_of(alloc: Global, p: &Pattern) -> Result<[bool; 256], NoMemory>
     starts_uncounted::<Brand>(alloc, p, Blank::new(1))
 }
 
-/// A law about the definitions, and no code: an attempt before any other byte has neither an end nor an edge.
+/// A law about the definitions, and no code: an attempt before any other byte has neither an end
+/// nor an edge.
 pub fn others_begin_nothing()
     ensures { OthersBeginNothing }
 {}

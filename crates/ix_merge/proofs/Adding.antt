@@ -1,5 +1,7 @@
 -- What one line more makes of the events and of what is carried.
-use Rattle.std.proofs.Common.{◌≡◌, ℕ, ◌+◌, ◌≤◌, Bool, true, false, not, ◌&&◌, ◌||◌, if◌then◌else◌, nat_lt, nat_le, List, [], ◌∷◌, ◌++◌, length, map, Option, Some, None, refl, sym, subst, ◌∙◌, ap, arith, rules, length-append, append_assoc, option_to_list}
+use Rattle.std.proofs.Common.{◌≡◌, ℕ, ◌+◌, ◌≤◌, Bool, true, false, not, ◌&&◌, ◌||◌, if◌then◌else◌, nat_lt, nat_le, List, [], ◌∷◌, ◌++◌}
+use Rattle.std.proofs.Common.{length, map, Option, Some, None, refl, sym, subst, ◌∙◌, ap, arith, rules, length-append, append_assoc}
+use Rattle.std.proofs.Common.{option_to_list}
 use Rattle.std.specs.List.{join_with_byte}
 use Rattle.std.specs.Option.{ForSome}
 use Rattle.std.specs.Prelude.{unwrap_or}
@@ -29,7 +31,8 @@ joined-more head rest line =
     let longer : length (head ∷ (rest ++ line ∷ [])) ≡ length (head ∷ rest) + 1 = omega (arith, length-append rest (line ∷ [])) in
     λ i. record { raw = raw-more head rest line i; moment = head.moment; lines = longer i }
 
-fits-more : (max : ℕ) (head : Line) (rest : List Line) (line : Line) → has_room max (head ∷ rest) line ≡ fits max (event_of (head ∷ rest)) line
+fits-more : (max : ℕ) (head : Line) (rest : List Line) (line : Line) →
+    has_room max (head ∷ rest) line ≡ fits max (event_of (head ∷ rest)) line
 fits-more max head rest line = ap (λ (l : List ℕ). nat_lt (length (head ∷ rest)) max && nat_le (length l) 4194304) (raw-more head rest line)
 
 -- the last one of some groups
@@ -43,13 +46,18 @@ record Placed (front whole : List (List Line)) (p : Option Whole × Option Whole
 
 placed-by : (front : List (List Line)) (head : Line) (rest : List Line) (line : Line) (c : Bool) (whole : List (List Line)) →
     whole ≡ front ++ (if c then (head ∷ (rest ++ line ∷ [])) ∷ [] else (head ∷ rest) ∷ (line ∷ []) ∷ []) →
-    Placed front whole (if c then (Some (joined (event_of (head ∷ rest)) line), None) else (Some (event_of (line ∷ [])), Some (event_of (head ∷ rest))))
+    Placed front whole (if c then (Some (joined (event_of (head ∷ rest)) line), None) else (
+      Some (event_of (line ∷ [])),
+      Some (event_of (head ∷ rest)),
+    ))
 placed-by front head rest line true whole is =
     let e : map event_of whole ≡ map event_of front ++ event_of (head ∷ (rest ++ line ∷ [])) ∷ [] =
     ap (map event_of) is ∙ map-last front (head ∷ (rest ++ line ∷ [])) in
     record {
-      «open» = ap Some (sym (joined-more head rest line)) ∙ sym (ap last e ∙ last-more (map event_of front) (event_of (head ∷ (rest ++ line ∷ []))));
-      settles = ap all_but_last e ∙ all_but_last-more (map event_of front) (event_of (head ∷ (rest ++ line ∷ []))) ∙ sym (append-nil (map event_of front));
+      «open» = ap Some (sym (joined-more head rest line))
+          ∙ sym (ap last e ∙ last-more (map event_of front) (event_of (head ∷ (rest ++ line ∷ []))));
+      settles = ap all_but_last e ∙ all_but_last-more (map event_of front) (event_of (head ∷ (rest ++ line ∷ [])))
+          ∙ sym (append-nil (map event_of front));
     }
 placed-by front head rest line false whole is =
     let e : map event_of whole ≡ (map event_of front ++ event_of (head ∷ rest) ∷ []) ++ event_of (line ∷ []) ∷ [] =
@@ -61,12 +69,16 @@ placed-by front head rest line false whole is =
     }
 
 -- the events of some lines: the last one, and those before it
-last-is : (max : ℕ) (lines : List MarkedLine) (g : GroupsSplit max lines) → last (map event_of (groups max lines)) ≡ Some (event_of (g.head ∷ g.rest))
-last-is max lines g = ap (λ l. last (map event_of l)) g.is ∙ ap last (map-last g.front (g.head ∷ g.rest)) ∙ last-more (map event_of g.front) (event_of (g.head ∷ g.rest))
+last-is : (max : ℕ) (lines : List MarkedLine) (g : GroupsSplit max lines) →
+    last (map event_of (groups max lines)) ≡ Some (event_of (g.head ∷ g.rest))
+last-is max lines g = ap (λ l. last (map event_of l)) g.is ∙ ap last (map-last g.front (g.head ∷ g.rest))
+    ∙ last-more (map event_of g.front) (event_of (g.head ∷ g.rest))
 
-others-are : (max : ℕ) (lines : List MarkedLine) (g : GroupsSplit max lines) → all_but_last (map event_of (groups max lines)) ≡ map event_of g.front
+others-are : (max : ℕ) (lines : List MarkedLine) (g : GroupsSplit max lines) →
+    all_but_last (map event_of (groups max lines)) ≡ map event_of g.front
 others-are max lines g =
-    ap (λ l. all_but_last (map event_of l)) g.is ∙ ap all_but_last (map-last g.front (g.head ∷ g.rest)) ∙ all_but_last-more (map event_of g.front) (event_of (g.head ∷ g.rest))
+    ap (λ l. all_but_last (map event_of l)) g.is ∙ ap all_but_last (map-last g.front (g.head ∷ g.rest))
+    ∙ all_but_last-more (map event_of g.front) (event_of (g.head ∷ g.rest))
 
 -- the open event behind one line more, and the event that the line ended
 pub record Steps (max : ℕ) (lines : List MarkedLine) (m : MarkedLine) (p : Option Whole × Option Whole) : Type 0 where
@@ -90,11 +102,15 @@ step max (a ∷ later) m =
     let c = not b && has_room max (g.head ∷ g.rest) m.line in
     let s = steps-of max lines m g _ (placed-by g.front g.head g.rest m.line c (groups max (lines ++ m ∷ [])) (g.next m)) in
     subst (λ (o : Option Whole). Steps max lines m (placed max b o m.line)) (sym (last-is max lines g))
-    (subst (λ (r : Bool). Steps max lines m (if not b && r then (Some (joined (event_of (g.head ∷ g.rest)) m.line), None) else (Some (event_of (m.line ∷ [])), Some (event_of (g.head ∷ g.rest)))))
+    (subst (λ (r : Bool). Steps max lines m (if not b && r then (
+      Some (joined (event_of (g.head ∷ g.rest)) m.line),
+      None,
+    ) else (Some (event_of (m.line ∷ [])), Some (event_of (g.head ∷ g.rest)))))
     (fits-more max g.head g.rest m.line) s)
 
 -- what is carried behind one line more
-pub taken : (max : ℕ) (lines : List MarkedLine) (m : MarkedLine) (parts : MergeParts) (event ended : Option Whole) → parts ≡ carry_of true max lines →
+pub taken : (max : ℕ) (lines : List MarkedLine) (m : MarkedLine) (parts : MergeParts) (event ended : Option Whole) →
+    parts ≡ carry_of true max lines →
     placed max (starts_by parts m.marks) parts.event m.line ≡ (event, ended) →
     Takes max lines m (record (passed parts m.marks) { event = event }) ended
 taken max lines m parts event ended is gives =
@@ -132,7 +148,10 @@ BothSized max p = ForSome p.0 (λ e. IsSized max e) × ForSome p.1 (λ e. IsSize
 
 placed-sized : (max : ℕ) (begins : Bool) (event : Option Whole) (line : Line) → 1 ≤ max → length line.bytes ≤ 1048576 →
     ForSome event (λ e. IsSized max e) → BothSized max (placed max begins event line)
-placed-sized max begins None line some few sized = (for-some (IsSized max) (event_of (line ∷ [])) (one-sized max line some few), for-none (IsSized max))
+placed-sized max begins None line some few sized = (
+  for-some (IsSized max) (event_of (line ∷ [])) (one-sized max line some few),
+  for-none (IsSized max),
+)
 placed-sized max begins (Some old) line some few sized = by (not begins) (fits max old line) refl
   where
     by : (c r : Bool) → fits max old line ≡ r →
@@ -141,7 +160,8 @@ placed-sized max begins (Some old) line some few sized = by (not begins) (fits m
     by true false e = (for-some (IsSized max) (event_of (line ∷ [])) (one-sized max line some few), sized)
     by false r e = (for-some (IsSized max) (event_of (line ∷ [])) (one-sized max line some few), sized)
 
-pub both-sized : (max : ℕ) (begins : Bool) (event : Option Whole) (line : Line) (after ended : Option Whole) → 1 ≤ max → length line.bytes ≤ 1048576 →
+pub both-sized : (max : ℕ) (begins : Bool) (event : Option Whole) (line : Line) (after ended : Option Whole) → 1 ≤ max →
+    length line.bytes ≤ 1048576 →
     ForSome event (λ e. IsSized max e) → placed max begins event line ≡ (after, ended) →
     ForSome after (λ e. IsSized max e) × ForSome ended (λ e. IsSized max e)
 both-sized max begins event line after ended some few sized gives =
@@ -152,7 +172,8 @@ pub closes : (on : Bool) (max : ℕ) (lines : List MarkedLine) (parts : MergePar
     all_events on max lines ≡ settled on max lines ++ option_to_list parts.event
 closes on max lines parts is = by on lines ∙ ap (λ (p : MergeParts). settled on max lines ++ option_to_list p.event) (sym is)
   where
-    by : (on : Bool) (lines : List MarkedLine) → all_events on max lines ≡ settled on max lines ++ option_to_list (carry_of on max lines).event
+    by : (on : Bool) (lines : List MarkedLine) → all_events on max lines ≡ settled on max lines
+        ++ option_to_list (carry_of on max lines).event
     by false lines = sym (append-nil (settled false max lines))
     by true [] = refl
     by true (a ∷ later) =
@@ -163,13 +184,15 @@ closes on max lines parts is = by on lines ∙ ap (λ (p : MergeParts). settled 
         ∙ ap (λ o. all_but_last (map event_of (groups max lines)) ++ option_to_list o) (sym (last-is max lines g))
 
 -- one line more, for a value
-pub adds : (lines : List MarkedLine) (m : MarkedLine) (old : Merging) (on : Bool) (max : ℕ) (parts : MergeParts) (broken : Bool) (new : MergeParts) (ended : Option Whole) →
+pub adds : (lines : List MarkedLine) (m : MarkedLine) (old : Merging) (on : Bool) (max : ℕ) (parts : MergeParts) (broken : Bool)
+    (new : MergeParts) (ended : Option Whole) →
     record { on = on; max_lines = max; parts = parts; broken = broken } ≡ old → on ≡ true →
     (parts ≡ carry_of true max lines → Takes max lines m new ended) → Holds lines old →
     Adds lines m old (record { on = on; max_lines = max; parts = new; broken = false }) ended
 adds lines m old on max parts broken new ended view is takes =
     subst (λ (o : Merging). Holds lines o → Adds lines m o (record { on = on; max_lines = max; parts = new; broken = false }) ended) view
     (subst (λ (b : Bool). Holds lines (record { on = b; max_lines = max; parts = parts; broken = broken })
-    → Adds lines m (record { on = b; max_lines = max; parts = parts; broken = broken }) (record { on = b; max_lines = max; parts = new; broken = false }) ended)
+    → Adds lines m (record { on = b; max_lines = max; parts = parts; broken = broken })
+    (record { on = b; max_lines = max; parts = new; broken = false }) ended)
     (sym is)
     (λ holds. let t = takes holds.parts in record { holds = record { parts = t.carried; whole = refl }; settles = t.settles }))

@@ -1,5 +1,6 @@
 -- The groups of lines, and what one line more makes of them.
-use Rattle.std.proofs.Common.{◌≡◌, ℕ, Bool, true, false, not, ◌&&◌, if◌then◌else◌, List, [], ◌∷◌, ◌++◌, flat_map, refl, sym, ◌∙◌, ap, append_assoc}
+use Rattle.std.proofs.Common.{◌≡◌, ℕ, Bool, true, false, not, ◌&&◌, if◌then◌else◌, List, [], ◌∷◌, ◌++◌, flat_map, refl, sym, ◌∙◌, ap}
+use Rattle.std.proofs.Common.{append_assoc}
 use Rattle.std.proofs.lemmas.List.{append-nil}
 use Rattle.std.proofs.lemmas.Grind.{flat_map-append}
 use Rattle.ix_base.specs.declared.events.Line.{Line}
@@ -22,7 +23,8 @@ runs-split earlier head rest [] = record {
   is = λ more. ap (λ e. runs_from e (head ∷ rest) more) (sym (append-nil earlier));
 }
 runs-split earlier head rest (m ∷ later) =
-    by (starts earlier m.marks) (runs-split (earlier ++ m ∷ []) m.line [] later) (runs-split (earlier ++ m ∷ []) head (rest ++ m.line ∷ []) later)
+    by (starts earlier m.marks) (runs-split (earlier ++ m ∷ []) m.line [] later)
+    (runs-split (earlier ++ m ∷ []) head (rest ++ m.line ∷ []) later)
   where
     by : (b : Bool) →
         RunsSplit (λ more. runs_from (earlier ++ m ∷ []) (m.line ∷ []) (later ++ more)) ((earlier ++ m ∷ []) ++ later) →
@@ -33,7 +35,8 @@ runs-split earlier head rest (m ∷ later) =
       front = (head ∷ rest) ∷ s.front;
       head = s.head;
       rest = s.rest;
-      is = λ more. ap (λ l. (head ∷ rest) ∷ l) (s.is more ∙ ap (λ e. s.front ++ runs_from e (s.head ∷ s.rest) more) (append_assoc earlier (m ∷ []) later));
+      is = λ more. ap (λ l. (head ∷ rest) ∷ l) (s.is more
+          ∙ ap (λ e. s.front ++ runs_from e (s.head ∷ s.rest) more) (append_assoc earlier (m ∷ []) later));
     }
     by false s t = record {
       front = t.front;
@@ -89,7 +92,8 @@ groups-split max m later =
           ap (λ l. flat_map (pieces max) (runs_from (m ∷ []) (m.line ∷ []) l)) (sym (append-nil later))
           ∙ ap (flat_map (pieces max)) (r.is [])
           ∙ flat_map-append (pieces max) r.front ((r.head ∷ r.rest) ∷ [])
-          ∙ ap (λ l. flat_map (pieces max) r.front ++ l) (append-nil (pieces max (r.head ∷ r.rest)) ∙ ap (pieces_from max (r.head ∷ [])) (sym (append-nil r.rest)) ∙ p.is [])
+          ∙ ap (λ l. flat_map (pieces max) r.front ++ l) (append-nil (pieces max (r.head ∷ r.rest))
+          ∙ ap (pieces_from max (r.head ∷ [])) (sym (append-nil r.rest)) ∙ p.is [])
           ∙ sym (append_assoc (flat_map (pieces max) r.front) p.front ((p.head ∷ p.rest) ∷ []));
       next = λ n.
           ap (flat_map (pieces max)) (r.is (n ∷ []))
@@ -98,9 +102,12 @@ groups-split max m later =
           ∙ sym (append_assoc (flat_map (pieces max) r.front) p.front _);
     }
   where
-    last-run : (n : MarkedLine) (head : Line) (rest : List Line) (p : PiecesSplit max (λ more. pieces_from max (head ∷ []) (rest ++ more))) (b : Bool) →
-        flat_map (pieces max) (if b then (head ∷ rest) ∷ runs_from ((m ∷ later) ++ n ∷ []) (n.line ∷ []) [] else runs_from ((m ∷ later) ++ n ∷ []) (head ∷ (rest ++ n.line ∷ [])) [])
-        ≡ p.front ++ (if not b && has_room max (p.head ∷ p.rest) n.line then (p.head ∷ (p.rest ++ n.line ∷ [])) ∷ [] else (p.head ∷ p.rest) ∷ (n.line ∷ []) ∷ [])
+    last-run : (n : MarkedLine) (head : Line) (rest : List Line) (p : PiecesSplit max (λ more. pieces_from max (head ∷ []) (rest ++ more)))
+        (b : Bool) →
+        flat_map (pieces max) (if b then (head ∷ rest) ∷ runs_from ((m ∷ later) ++ n ∷ []) (n.line ∷ []) [] else runs_from ((m ∷ later) ++ n
+        ∷ []) (head ∷ (rest ++ n.line ∷ [])) [])
+        ≡ p.front ++ (if not b && has_room max (p.head ∷ p.rest) n.line then (p.head ∷ (p.rest ++ n.line ∷ [])) ∷ [] else (p.head ∷ p.rest)
+        ∷ (n.line ∷ []) ∷ [])
     last-run n head rest p true =
         ap (λ l. pieces_from max (head ∷ []) l ++ (n.line ∷ []) ∷ []) (sym (append-nil rest))
         ∙ ap (λ l. l ++ (n.line ∷ []) ∷ []) (p.is [])

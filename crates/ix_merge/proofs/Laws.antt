@@ -1,5 +1,6 @@
 -- What further lines leave as it was.
-use Rattle.std.proofs.Common.{◌≡◌, ℕ, Bool, true, false, if◌then◌else◌, List, [], ◌∷◌, ◌++◌, map, Option, refl, sym, ◌∙◌, ap, append_assoc, option_to_list}
+use Rattle.std.proofs.Common.{◌≡◌, ℕ, Bool, true, false, if◌then◌else◌, List, [], ◌∷◌, ◌++◌, map, Option, refl, sym, ◌∙◌, ap, append_assoc}
+use Rattle.std.proofs.Common.{option_to_list}
 use Rattle.std.specs.List.{flat_map}
 use Rattle.std.proofs.lemmas.List.{append-nil, map-append}
 use Rattle.std.proofs.lemmas.Grind.{flat_map-append}
@@ -14,7 +15,8 @@ use Rattle.ix_merge.specs.declared.carry.MergeParts.{MergeParts}
 use Rattle.ix_merge.proofs.Adding.{step, taken, closes}
 
 -- with merging on, each line more settles no event, or one
-settles-more : (max : ℕ) (lines later : List MarkedLine) → (added : List Whole) × (settled true max (lines ++ later) ≡ settled true max lines ++ added)
+settles-more : (max : ℕ) (lines later : List MarkedLine) → (added : List Whole)
+    × (settled true max (lines ++ later) ≡ settled true max lines ++ added)
 settles-more max lines [] = ([], ap (settled true max) (append-nil lines) ∙ sym (append-nil (settled true max lines)))
 settles-more max lines (m ∷ later) =
     let s = step max lines m in
@@ -30,7 +32,8 @@ events-stay true max lines later =
       more,
       (
         more.0 ++ option_to_list (carry_of true max (lines ++ later)).event,
-        closes true max (lines ++ later) (carry_of true max (lines ++ later)) refl ∙ ap (λ l. l ++ option_to_list (carry_of true max (lines ++ later)).event) more.1
+        closes true max (lines ++ later) (carry_of true max (lines ++ later)) refl
+            ∙ ap (λ l. l ++ option_to_list (carry_of true max (lines ++ later)).event) more.1
             ∙ append_assoc (settled true max lines) more.0 (option_to_list (carry_of true max (lines ++ later)).event),
       ),
     )
@@ -50,9 +53,11 @@ longer : (max : ℕ) (lines : List MarkedLine) (m : MarkedLine) (later : List Ma
     settled true max ((lines ++ m ∷ []) ++ later) ≡ settled true max (lines ++ m ∷ []) ++ more →
     settled true max (lines ++ m ∷ later) ≡ settled true max lines ++ (first ++ more)
 longer max lines m later first more p q =
-    ap (settled true max) (sym (append_assoc lines (m ∷ []) later)) ∙ q ∙ ap (λ l. l ++ more) p ∙ append_assoc (settled true max lines) first more
+    ap (settled true max) (sym (append_assoc lines (m ∷ []) later)) ∙ q ∙ ap (λ l. l ++ more) p
+    ∙ append_assoc (settled true max lines) first more
 
-alike : (max : ℕ) (lines others later : List MarkedLine) → carry_of true max lines ≡ carry_of true max others → Alike true max lines others later
+alike : (max : ℕ) (lines others later : List MarkedLine) → carry_of true max lines ≡ carry_of true max others →
+    Alike true max lines others later
 alike max lines others [] e = record {
   settles = record {
     added = [];
@@ -73,10 +78,12 @@ alike max lines others (m ∷ later) e =
         to_first = longer max lines m later (option_to_list p.1) more.settles.added t.settles more.settles.to_first;
         to_second = longer max others m later (option_to_list p.1) more.settles.added u.settles more.settles.to_second;
       };
-      carries = ap (carry_of true max) (sym (append_assoc lines (m ∷ []) later)) ∙ more.carries ∙ ap (carry_of true max) (append_assoc others (m ∷ []) later);
+      carries = ap (carry_of true max) (sym (append_assoc lines (m ∷ []) later)) ∙ more.carries
+          ∙ ap (carry_of true max) (append_assoc others (m ∷ []) later);
     }
 
-alike-any : (on : Bool) (max : ℕ) (lines others later : List MarkedLine) → carry_of on max lines ≡ carry_of on max others → Alike on max lines others later
+alike-any : (on : Bool) (max : ℕ) (lines others later : List MarkedLine) → carry_of on max lines ≡ carry_of on max others →
+    Alike on max lines others later
 alike-any true max lines others later e = alike max lines others later e
 alike-any false max lines others later e = record {
   settles = record {
@@ -88,11 +95,13 @@ alike-any false max lines others later e = record {
 }
 
 -- the open event is the last one of a closed list
-ended : (on : Bool) (max : ℕ) (lines later : List MarkedLine) (parts : MergeParts) (added : List Whole) → parts ≡ carry_of on max (lines ++ later) →
+ended : (on : Bool) (max : ℕ) (lines later : List MarkedLine) (parts : MergeParts) (added : List Whole) →
+    parts ≡ carry_of on max (lines ++ later) →
     settled on max (lines ++ later) ≡ settled on max lines ++ added →
     all_events on max (lines ++ later) ≡ settled on max lines ++ (added ++ option_to_list parts.event)
 ended on max lines later parts added is e =
-    closes on max (lines ++ later) parts is ∙ ap (λ l. l ++ option_to_list parts.event) e ∙ append_assoc (settled on max lines) added (option_to_list parts.event)
+    closes on max (lines ++ later) parts is ∙ ap (λ l. l ++ option_to_list parts.event) e
+    ∙ append_assoc (settled on max lines) added (option_to_list parts.event)
 
 pub carry-decides : (on : Bool) (max : ℕ) → CarryDecides on max
 carry-decides on max lines others later e =
@@ -115,7 +124,8 @@ whole_list groups = flat_map (λ group. group) groups
 pieces-keep : (max : ℕ) (piece lines : List Line) → whole_list (pieces_from max piece lines) ≡ piece ++ lines
 pieces-keep max piece [] = refl
 pieces-keep max piece (line ∷ lines) =
-    elim (has_room max piece line) as (λ b. whole_list (if b then pieces_from max (piece ++ line ∷ []) lines else piece ∷ pieces_from max (line ∷ []) lines) ≡ piece ++ line ∷ lines) [
+    elim (has_room max piece line) as (λ b. whole_list (if b then pieces_from max (piece ++ line ∷ []) lines else piece
+    ∷ pieces_from max (line ∷ []) lines) ≡ piece ++ line ∷ lines) [
       | true ↦ pieces-keep max (piece ++ line ∷ []) lines ∙ append_assoc piece (line ∷ []) lines
       | false ↦ ap (λ l. piece ++ l) (pieces-keep max (line ∷ []) lines)
     ]
@@ -130,11 +140,13 @@ cuts-keep max (run ∷ rs) =
     flat_map-append (λ (group : List Line). group) (pieces max run) (flat_map (pieces max) rs)
     ∙ ap (λ l. l ++ whole_list (flat_map (pieces max) rs)) (pieces-all max run) ∙ ap (λ l. run ++ l) (cuts-keep max rs)
 
-runs-keep : (earlier : List MarkedLine) (run : List Line) (later : List MarkedLine) → whole_list (runs_from earlier run later) ≡ run ++ map (λ m. m.line) later
+runs-keep : (earlier : List MarkedLine) (run : List Line) (later : List MarkedLine) → whole_list (runs_from earlier run later) ≡ run
+    ++ map (λ m. m.line) later
 runs-keep earlier run [] = refl
 runs-keep earlier run (m ∷ later) =
     elim (starts earlier m.marks) as (λ b.
-    whole_list (if b then run ∷ runs_from (earlier ++ m ∷ []) (m.line ∷ []) later else runs_from (earlier ++ m ∷ []) (run ++ m.line ∷ []) later)
+    whole_list (if b then run ∷ runs_from (earlier ++ m ∷ []) (m.line ∷ []) later else runs_from (earlier ++ m ∷ []) (run ++ m.line
+    ∷ []) later)
     ≡ run ++ m.line ∷ map (λ m. m.line) later) [
       | true ↦ ap (λ l. run ++ l) (runs-keep (earlier ++ m ∷ []) (m.line ∷ []) later)
       | false ↦ runs-keep (earlier ++ m ∷ []) (run ++ m.line ∷ []) later ∙ append_assoc run (m.line ∷ []) (map (λ m. m.line) later)

@@ -10,7 +10,8 @@ forced-more lines m = ap (λ o. option_map_or (λ (n : MarkedLine). n.marks.forc
 pub held-more : (lines : List MarkedLine) (m : MarkedLine) →
     is_held (lines ++ m ∷ []) ≡ (not m.marks.forces && (m.marks.holds || is_held lines))
 held-more lines m =
-    ap (λ o. option_map_or (λ (n : MarkedLine). not n.marks.forces) o false) (last_that-more (λ (n : MarkedLine). n.marks.forces || n.marks.holds) lines m)
+    ap (λ o. option_map_or (λ (n : MarkedLine). not n.marks.forces) o false)
+    (last_that-more (λ (n : MarkedLine). n.marks.forces || n.marks.holds) lines m)
     ∙ by m.marks.forces m.marks.holds refl (last_that (λ (n : MarkedLine). n.marks.forces || n.marks.holds) lines)
   where
     by : (f h : Bool) → m.marks.forces ≡ f → (o : Option MarkedLine) →

@@ -20,8 +20,8 @@ event_of lines = record { raw = raw_of lines; moment = moment_of lines; lines = 
 abbrev pub has_room : ℕ → List Line → Line → Bool
 has_room max lines line = nat_lt (length lines) max && nat_le (length (raw_of (lines ++ line ∷ []))) 4194304
 
--- The runs of lines, each up to the next line that starts an event: `run` is the one that has begun, `earlier` are all
--- lines before the others.
+-- The runs of lines, each up to the next line that starts an event: `run` is the one that has
+-- begun, `earlier` are all lines before the others.
 abbrev pub runs_from : List MarkedLine → List Line → List MarkedLine → List (List Line)
 runs_from earlier run [] = run ∷ []
 runs_from earlier run (m ∷ later) =

@@ -22,12 +22,15 @@ pub record AddSame (first first_longer second second_longer : List Whole) : Type
   pub to_first : first_longer ≡ first ++ added
   pub to_second : second_longer ≡ second ++ added
 
--- further lines settle the same events behind either list, whether more may come or not, and leave the same to be carried
+-- further lines settle the same events behind either list, whether more may come or not, and leave
+-- the same to be carried
 pub record GoOnAlike (on : Bool) (max : ℕ) (lines others later : List MarkedLine) : Type 0 where
   pub settles : AddSame (settled on max lines) (settled on max (lines ++ later)) (settled on max others) (settled on max (others ++ later))
-  pub ends : AddSame (settled on max lines) (all_events on max (lines ++ later)) (settled on max others) (all_events on max (others ++ later))
+  pub ends : AddSame (settled on max lines) (all_events on max (lines ++ later)) (settled on max others)
+      (all_events on max (others ++ later))
   pub carries : carry_of on max (lines ++ later) ≡ carry_of on max (others ++ later)
 
 -- what is carried of some lines decides what further lines come to
 abbrev pub CarryDecides : Bool → ℕ → Type 0
-CarryDecides on max = (lines others later : List MarkedLine) → carry_of on max lines ≡ carry_of on max others → GoOnAlike on max lines others later
+CarryDecides on max = (lines others later : List MarkedLine) → carry_of on max lines ≡ carry_of on max others →
+    GoOnAlike on max lines others later

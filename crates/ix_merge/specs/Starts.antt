@@ -20,7 +20,8 @@ last_that test xs = find test (reverse xs)
 abbrev pub is_forced : List MarkedLine → Bool
 is_forced earlier = option_map_or (λ m. m.marks.forces) (last earlier) false
 
--- behind these lines: of those among them that force a break or hold one back the last does not force one
+-- behind these lines: of those among them that force a break or hold one back the last does not
+-- force one
 abbrev pub is_held : List MarkedLine → Bool
 is_held earlier = option_map_or (λ m. not m.marks.forces) (last_that (λ m. m.marks.forces || m.marks.holds) earlier) false
 

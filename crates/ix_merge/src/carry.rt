@@ -11,11 +11,12 @@ use crate::events::{Marks, Whole, place};
 use ix_base::{Line, NoMemory};
 use std::alloc::Global;
 
-/// What is to be carried of the lines so far, to go on with them later. Where lines are not merged there is no event, and
-/// both marks are false.
+/// What is to be carried of the lines so far, to go on with them later. Where lines are not merged
+/// there is no event, and both marks are false.
 #[derive(Drop)]
 pub struct MergeParts {
-    /// The event that is open: the last one, which the next line may join. There is none before the first line.
+    /// The event that is open: the last one, which the next line may join. There is none before the
+    /// first line.
     pub event: Option<Whole>,
     /// The next line starts no event because it is wanted.
     pub held: bool,

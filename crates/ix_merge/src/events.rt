@@ -76,7 +76,8 @@ impl Whole {
     }
 }
 
-/// Adds the line to the open event, or begins the next event with it and answers the one that it ends.
+/// Adds the line to the open event, or begins the next event with it and answers the one that it
+/// ends.
 pub fn place(
     event: &mut Option<Whole>,
     begins: bool,

@@ -12,15 +12,17 @@ pub use carry::MergeParts;
 pub use events::{Marks, Whole};
 pub use merging::Merge;
 
-/// Laws about the definitions, and no code: the events that some lines have settled are the first events of every list that
-/// begins with these lines, open or closed; and each line is in exactly one event, in order.
+/// Laws about the definitions, and no code: the events that some lines have settled are the first
+/// events of every list that begins with these lines, open or closed; and each line is in exactly
+/// one event, in order.
 pub fn events_stay()
     ensures stay { (on : Bool) (max : ℕ) → EventsStay on max }
     ensures lines { (max : ℕ) → KeepsLines max }
 {}
 
-/// A law about the definitions, and no code: what is carried of some lines decides what further lines come to. Behind two lists
-/// of which the same is carried, the same lines settle the same events, open or closed, and then the same is carried again.
+/// A law about the definitions, and no code: what is carried of some lines decides what further
+/// lines come to. Behind two lists of which the same is carried, the same lines settle the same
+/// events, open or closed, and then the same is carried again.
 pub fn events_follow_carry()
     ensures { (on : Bool) (max : ℕ) → CarryDecides on max }
 {}

@@ -13,13 +13,14 @@ use ix_base::{Line, NoMemory};
 use std::alloc::Global;
 use std::marker::Model;
 
-/// The events of lines that come one by one, each with its marks. Whatever was taken in and carried over a stop, the events
-/// are those of the whole list of lines.
+/// The events of lines that come one by one, each with its marks. Whatever was taken in and carried
+/// over a stop, the events are those of the whole list of lines.
 ///
-/// The first line starts an event, and so does a line behind one that forces a break, or one that is wanted, not vetoed and
-/// not held. A line is held where, of the lines before it that force a break or hold one back, the last does not force
-/// one. A line that starts no event joins that of the line before, unless the event would then have more lines than it may
-/// have, or more than 4,194,304 bytes: then it starts one all the same.
+/// The first line starts an event, and so does a line behind one that forces a break, or one that
+/// is wanted, not vetoed and not held. A line is held where, of the lines before it that force a
+/// break or hold one back, the last does not force one. A line that starts no event joins that of
+/// the line before, unless the event would then have more lines than it may have, or more than
+/// 4,194,304 bytes: then it starts one all the same.
 ///
 /// Of the lines so far, the event that is open is kept, and two marks.
 pub struct Merge {
@@ -56,8 +57,8 @@ impl Model for Merge {
 }
 
 impl Merge {
-    /// The events of lines of which none has come yet. Where `on` is false each line is an event by itself. An event has at
-    /// most `max_lines` lines. It takes no memory.
+    /// The events of lines of which none has come yet. Where `on` is false each line is an event by
+    /// itself. An event has at most `max_lines` lines. It takes no memory.
     pub fn new(alloc: Global, on: bool, max_lines: u32) -> Merge
         requires { 1 ≤ max_lines }
         ensures on { result.on ≡ on }
@@ -73,9 +74,9 @@ impl Merge {
         }
     }
 
-    /// Takes in the next line, of at most 1,048,576 bytes, and answers the event that it ends, if any: the one before it,
-    /// or where lines are not merged the line itself. Where there is no room in memory the value is broken: it answers
-    /// `NoMemory` from then on.
+    /// Takes in the next line, of at most 1,048,576 bytes, and answers the event that it ends, if
+    /// any: the one before it, or where lines are not merged the line itself. Where there is no
+    /// room in memory the value is broken: it answers `NoMemory` from then on.
     pub fn add(&mut self, line: Line, marks: Marks) -> Result<Option<Whole>, NoMemory>
         requires { length line.bytes ≤ 1048576 }
         ensures ok { IfOk result (λ ended. (lines : List MarkedLine) → Holds lines self.old →
@@ -99,7 +100,8 @@ impl Merge {
         Ok(ended)
     }
 
-    /// Ends the lines, and answers the event that is open, if any. No `add` has answered `NoMemory`. It takes no memory.
+    /// Ends the lines, and answers the event that is open, if any. No `add` has answered
+    /// `NoMemory`. It takes no memory.
     pub fn close(self) -> Option<Whole>
         requires { IsFalse self.broken }
         ensures ends { (lines : List MarkedLine) → Holds lines self → Ends lines self result }
@@ -115,7 +117,8 @@ impl Merge {
         left.event
     }
 
-    /// What is to be carried over a stop: the open event and the two marks. No `add` has answered `NoMemory`.
+    /// What is to be carried over a stop: the open event and the two marks. No `add` has answered
+    /// `NoMemory`.
     pub fn parts(&self) -> Result<MergeParts, NoMemory>
         requires { IsFalse self.now.broken }
         ensures carry { IfOk result (λ parts. (lines : List MarkedLine) → Holds lines self.now →
@@ -125,9 +128,9 @@ impl Merge {
         self.parts.copy(self.alloc)
     }
 
-    /// The events of each list of lines of which these are the parts, by the same settings. The parts have no event and no
-    /// mark where `on` is false, and else an event of 1 to `max_lines` lines and at most 4,194,304 bytes, or none. It takes
-    /// no memory.
+    /// The events of each list of lines of which these are the parts, by the same settings. The
+    /// parts have no event and no mark where `on` is false, and else an event of 1 to `max_lines`
+    /// lines and at most 4,194,304 bytes, or none. It takes no memory.
     pub fn resume(alloc: Global, on: bool, max_lines: u32, parts: MergeParts) -> Merge
         requires some { 1 ≤ max_lines }
         requires form { HasForm on max_lines parts }

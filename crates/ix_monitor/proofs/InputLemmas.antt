@@ -1,5 +1,6 @@
 -- The entries of inputs.conf, taken one after the other.
-use Rattle.std.proofs.Common.{◌≡◌, ℕ, ◌+◌, ◌<◌, Bool, false, true, List, [], ◌∷◌, refl, sym, ap, ◌∙◌, drop, length, get_or, Option, Some, None, arith}
+use Rattle.std.proofs.Common.{◌≡◌, ℕ, ◌+◌, ◌<◌, Bool, false, true, List, [], ◌∷◌, refl, sym, ap, ◌∙◌, drop, length, get_or, Option, Some}
+use Rattle.std.proofs.Common.{None, arith}
 use Rattle.std.specs.Prelude.{slice_get, ◌&&◌, ◌||◌, ◌==◌}
 use Rattle.std.specs.List.{list_any}
 use Rattle.std.specs.Option.{option_or}
@@ -26,7 +27,8 @@ pub fault_free : (limits : LimitSet) (xs : List MergedEntry) (i : ℕ) (x : Merg
 fault_free limits xs i x e none whole known =
     sym (ap (λ o. option_or o (first_fault limits (drop (i + 1) xs))) none) ∙ sym (next limits xs i x e) ∙ known
 
-pub fault_here : (limits : LimitSet) (xs : List MergedEntry) (i : ℕ) (x : MergedEntry) (fault : InputFault) → slice_get xs i ≡ Some x → Refuses (fault_at limits x) fault
+pub fault_here : (limits : LimitSet) (xs : List MergedEntry) (i : ℕ) (x : MergedEntry) (fault : InputFault) → slice_get xs i ≡ Some x →
+    Refuses (fault_at limits x) fault
     → (whole : Option InputFault) → first_fault limits (drop i xs) ≡ whole → Refuses whole fault
 fault_here limits xs i x (BadValue stanza key) e found whole known =
     sym known ∙ next limits xs i x e ∙ ap (λ o. option_or o (first_fault limits (drop (i + 1) xs))) found
@@ -34,5 +36,6 @@ fault_here limits xs i x (BadStanza stanza) e found whole known =
     sym known ∙ next limits xs i x e ∙ ap (λ o. option_or o (first_fault limits (drop (i + 1) xs))) found
 fault_here limits xs i x NoMemory e found whole known = tt
 
-pub fault_none : (limits : LimitSet) (xs : List MergedEntry) (i : ℕ) → slice_get xs i ≡ None → (whole : Option InputFault) → first_fault limits (drop i xs) ≡ whole → whole ≡ None
+pub fault_none : (limits : LimitSet) (xs : List MergedEntry) (i : ℕ) → slice_get xs i ≡ None → (whole : Option InputFault) →
+    first_fault limits (drop i xs) ≡ whole → whole ≡ None
 fault_none limits xs i e whole known = sym known ∙ ap (first_fault limits) (drop_past xs i e)

@@ -1,10 +1,12 @@
--- What inputs.conf says: its first fault, and the files that are watched. From Splunk's Admin Manual, inputs.conf.
-use Rattle.std.specs.Prelude.{◌≡◌, ℕ, Bool, true, false, not, ◌&&◌, ◌||◌, nat_le, length, if◌then◌else◌, List, [], ◌∷◌, Option, Some, None, is_some, unwrap_or, codes, bytes_eq}
+-- What inputs.conf says: its first fault, and the files that are watched. From Splunk's Admin
+-- Manual, inputs.conf.
+use Rattle.std.specs.Prelude.{◌≡◌, ℕ, Bool, true, false, not, ◌&&◌, ◌||◌, nat_le, length, if◌then◌else◌, List, [], ◌∷◌, Option, Some, None}
+use Rattle.std.specs.Prelude.{is_some, unwrap_or, codes, bytes_eq}
 use Rattle.std.specs.Option.{option_and_then, option_or}
 use Rattle.std.specs.List.{flat_map}
 use Rattle.ix_conf.specs.declared.layers.MergedEntry.{MergedEntry}
-use Rattle.ix_values.specs.Plain.{boolean}
-use Rattle.ix_values.specs.Values.{value_of}
+use Rattle.ix_conf_values.specs.Plain.{boolean}
+use Rattle.ix_conf_values.specs.Values.{value_of}
 use Rattle.ix_life.specs.declared.sets.LimitSet.{LimitSet}
 use Rattle.ix_life.specs.Limits.{limits_of}
 use Rattle.ix_monitor.specs.declared.faults.InputFault.{InputFault}

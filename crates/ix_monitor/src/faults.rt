@@ -8,19 +8,20 @@ ghost use Rattle.ix_monitor.specs.Paths.{path_of};
 use crate::paths::{is_bad_path, path_of};
 use ix_base::{Bytes, NoMemory as OutOfMemory};
 use ix_conf::{Item, Merged};
+use ix_conf_values::read_boolean;
 use ix_life::LimitSet;
-use ix_values::read_boolean;
 use std::alloc::Global;
 use thiserror::Error;
 
-/// What is wrong in the settings of inputs. The first fault in the order of stanza and key is answered; that of a stanza
-/// itself comes before those of its keys.
+/// What is wrong in the settings of inputs. The first fault in the order of stanza and key is
+/// answered; that of a stanza itself comes before those of its keys.
 #[derive(Debug, Drop, Error)]
 pub enum InputFault {
     /// The value of this key is none of its kind, or names no index.
     #[error("[{stanza:?}] has a bad value of {key:?}")]
     BadValue { stanza: Bytes, key: Bytes },
-    /// No files can be watched under the path of this stanza: it is empty, has `...`, or a `*` in another segment than the last.
+    /// No files can be watched under the path of this stanza: it is empty, has `...`, or a `*` in
+    /// another segment than the last.
     #[error("no files can be watched under [{stanza:?}]")]
     BadStanza { stanza: Bytes },
     /// There was no room in memory.

@@ -4,7 +4,7 @@ ghost use Rattle.std.specs.Prelude.{◌≡◌, ◌++◌, None, IfErr, IfOk, OnOk
 ghost use Rattle.std.specs.Option.{option_copied};
 ghost use Rattle.std.specs.List.{flat_map};
 ghost use Rattle.ix_conf.specs.Lent.{item_entry};
-ghost use Rattle.ix_values.specs.Values.{value_of};
+ghost use Rattle.ix_conf_values.specs.Values.{value_of};
 ghost use Rattle.ix_monitor.specs.Inputs as defs;
 ghost use Rattle.ix_monitor.specs.Paths.{path_of};
 
@@ -12,8 +12,8 @@ use crate::faults::{InputFault, judge};
 use crate::paths::path_of;
 use ix_base::{Bytes, NoMemory, Sequence};
 use ix_conf::{Item, Merged};
+use ix_conf_values::{read_boolean, value_of};
 use ix_life::LimitSet;
-use ix_values::{read_boolean, value_of};
 use std::alloc::Global;
 use std::marker::Model;
 
@@ -30,7 +30,8 @@ pub struct Input {
     pub index: Option<Bytes>,
 }
 
-/// The inputs that are not disabled, in the order of the bytes of their stanzas. Contracts see them as a list.
+/// The inputs that are not disabled, in the order of the bytes of their stanzas. Contracts see them
+/// as a list.
 #[derive(Drop)]
 pub struct Inputs {
     list: Sequence<Input>,
@@ -133,12 +134,13 @@ fn list_inputs(alloc: Global, inputs: &Merged) -> Result<Sequence<Input>, NoMemo
 }
 
 impl Inputs {
-    /// Reads the inputs: the stanzas `monitor://PATH`. A value that a stanza does not have is that of `default`, else the built-in
-    /// one; an empty value is the built-in one.
+    /// Reads the inputs: the stanzas `monitor://PATH`. A value that a stanza does not have is that
+    /// of `default`, else the built-in one; an empty value is the built-in one.
     ///
-    /// The values of `default` and of all these stanzas are judged, also of those that are disabled. A host, a source and a source type have
-    /// 1 to 1,024 bytes, an index is one that is configured, and `disabled` is a boolean. Of several faults the first one in the
-    /// order of the bytes of stanza and key is answered.
+    /// The values of `default` and of all these stanzas are judged, also of those that are
+    /// disabled. A host, a source and a source type have 1 to 1,024 bytes, an index is one that is
+    /// configured, and `disabled` is a boolean. Of several faults the first one in the order of the
+    /// bytes of stanza and key is answered.
     pub fn load(alloc: Global, inputs: &Merged, limits: &LimitSet) -> Result<Inputs, InputFault>
         ensures ok { IfOk result (λ list. list ≡ defs.inputs inputs.now) }
         ensures sound { OnOk result (defs.first_fault limits.now inputs.now ≡ None) }

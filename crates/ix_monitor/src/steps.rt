@@ -46,9 +46,10 @@ fn behind(offset: u64, size: u64) -> Step
 
 /// What a pass does with a file of which it was kept, or was not, how far it has been read.
 ///
-/// A file of which nothing was kept is read from its start, and passed over where it is empty. One that begins with the head
-/// that was kept and has not become shorter than the part that was read goes on from there, and is passed over where it
-/// has no more. Any other is another file under the same name, and is read again. It takes no memory.
+/// A file of which nothing was kept is read from its start, and passed over where it is empty. One
+/// that begins with the head that was kept and has not become shorter than the part that was read
+/// goes on from there, and is passed over where it has no more. Any other is another file under the
+/// same name, and is read again. It takes no memory.
 pub fn plan(file: &Seen, kept: Option<&Spot>) -> Step
     ensures { result ≡ defs.plan file.now (option_copied kept.entry) }
 {

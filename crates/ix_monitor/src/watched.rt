@@ -7,7 +7,8 @@ pub struct Watched {
     pub path: Bytes,
     /// What its channel states of the events that come from it.
     pub meta: ChannelMeta,
-    /// Whether an input names it without a `*`. A pass tells of such a file also where it is missing.
+    /// Whether an input names it without a `*`. A pass tells of such a file also where it is
+    /// missing.
     pub named: bool,
 }
 

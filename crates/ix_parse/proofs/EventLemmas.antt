@@ -47,7 +47,8 @@ with-more s meta o first more =
     ∙ ap (λ (l : List Routed). o.routed ++ l) (sym (outcomes-append s meta o.latest first more)))
 
 pub with-both : (s : Settings) (meta : ChannelMeta) (before between behind : Outcomes) (first more : List Whole) →
-    between ≡ with_events s meta before first → behind ≡ with_events s meta between more → behind ≡ with_events s meta before (first ++ more)
+    between ≡ with_events s meta before first → behind ≡ with_events s meta between more →
+    behind ≡ with_events s meta before (first ++ more)
 with-both s meta before between behind first more e f =
     f ∙ ap (λ (o : Outcomes). with_events s meta o more) e ∙ with-more s meta before first more
 

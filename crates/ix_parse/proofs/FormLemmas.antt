@@ -1,5 +1,6 @@
 -- What is carried of a stream has the form of a carry.
-use Rattle.std.proofs.Common.{◌≡◌, ℕ, zero, suc, ◌+◌, ◌-◌, ◌<◌, ◌≤◌, ℤ, Bool, true, false, List, [], ◌∷◌, ◌++◌, length, take, drop, map, find, Option, Some, None, refl, sym, ◌∙◌, ap, subst, arith}
+use Rattle.std.proofs.Common.{◌≡◌, ℕ, zero, suc, ◌+◌, ◌-◌, ◌<◌, ◌≤◌, ℤ, Bool, true, false, List, [], ◌∷◌, ◌++◌, length, take, drop, map}
+use Rattle.std.proofs.Common.{find, Option, Some, None, refl, sym, ◌∙◌, ap, subst, arith}
 use Rattle.std.specs.Prelude.{if◌then◌else◌, reverse, IfSome}
 use Rattle.std.specs.List.{All, AllByRecursion, flat_map}
 use Rattle.std.specs.Option.{ForSome}
@@ -12,11 +13,11 @@ use Rattle.std.proofs.lemmas.List.Elements.{All-from_recursion, All-nil, All-hea
 use Rattle.ix_base.specs.Clocks.{clamped}
 use Rattle.ix_base.specs.Stream.{Dated, bytes_of, dated}
 use Rattle.ix_base.specs.declared.events.Line.{Line}
-use Rattle.ix_carry.specs.Form.{IsMoment, IsTime, IsRun, BeginElse, AreApart, IsOpenLine, IsEvent, HasForm}
+use Rattle.ix_parse.specs.Form.{IsMoment, IsTime, IsRun, BeginElse, AreApart, IsOpenLine, IsEvent, HasForm}
 use Rattle.ix_lines.specs.Breaks.{breaks_by}
 use Rattle.ix_lines.specs.Carry.{joined, runs_of, open_line, dated_of}
 use Rattle.ix_lines.specs.Lines.{cut, unless_empty, line_of, effective}
-use Rattle.ix_lines.specs.Walk.{Look, match, no_match, more, Looker, Walked, after, walk, walk_of}
+use Rattle.ix_lines.specs.Walk.{Look, match, no_match, more, BreakFinder, Walked, after, walk, walk_of}
 use Rattle.ix_match.specs.Attempt.{reach}
 use Rattle.ix_merge.specs.Carry.{carry_of}
 use Rattle.ix_merge.specs.Events.{moment_of, event_of, groups}
@@ -43,20 +44,24 @@ pub record Within (P : Dated → Type 0) (w : Walked) : Type 0 where
   pub pending : All P w.pending
 
 after-within : (P : Dated → Type 0) (before : Option ℕ) (rest stream : List Dated) (next : List Dated → ℕ → Walked) (l : Look) →
-    ((since : List Dated) (within : ℕ) → All P since → Within P (next since within)) → All P rest → All P stream → Within P (after before rest stream next l)
+    ((since : List Dated) (within : ℕ) → All P since → Within P (next since within)) → All P rest → All P stream →
+    Within P (after before rest stream next l)
 after-within P before rest stream next more ih r s = record { done = tt; rest = r; pending = s }
-after-within P before rest stream next no_match ih r s = ih (rest ++ take 1 stream) 0 (All-append P rest (take 1 stream) r (All-take P 1 stream s))
+after-within P before rest stream next no_match ih r s =
+    ih (rest ++ take 1 stream) 0 (All-append P rest (take 1 stream) r (All-take P 1 stream s))
 after-within P before rest stream next (match from to n) ih r s =
     let w = ih (take (n - to) (drop to stream)) (n - 1) (All-take P (n - to) (drop to stream) (All-drop P to stream s)) in
     record { done = (All-append P rest (take from stream) r (All-take P from stream s), w.done); rest = w.rest; pending = w.pending }
 
-pub walk-within : (P : Dated → Type 0) (look : Looker) (u : Bool) (before : Option ℕ) (rest : List Dated) (within : ℕ) (stream : List Dated) →
+pub walk-within : (P : Dated → Type 0) (look : BreakFinder) (u : Bool) (before : Option ℕ) (rest : List Dated) (within : ℕ)
+    (stream : List Dated) →
     All P rest → All P stream → Within P (walk look u before rest within stream)
 walk-within P look u before rest zero [] r s = record { done = tt; rest = r; pending = All-nil P }
 walk-within P look u before rest (suc n) [] r s = record { done = tt; rest = r; pending = All-nil P }
 walk-within P look u before rest (suc n) (d ∷ stream) r s = walk-within P look u (Some d.0) rest n stream r (All-tail P d stream s)
 walk-within P look u before rest zero (d ∷ stream) r s =
-    after-within P before rest (d ∷ stream) (λ since within. walk look u (Some d.0) since within stream) (look before (bytes_of (d ∷ stream)) u)
+    after-within P before rest (d ∷ stream) (λ since within. walk look u (Some d.0) since within stream)
+    (look before (bytes_of (d ∷ stream)) u)
     (λ since within ok. walk-within P look u (Some d.0) since within stream ok (All-tail P d stream s)) r s
 
 -- ---- runs
@@ -68,7 +73,8 @@ joined-runs : (d : Dated) (runs : List Line) → IsMoment d.1 → AllByRecursion
 joined-runs d [] m all = (run-of-one d m, tt)
 joined-runs d (run ∷ runs) m all = by (int_eq d.1 run.moment)
   where
-    by : (b : Bool) → AllByRecursion IsRun (if b then record { bytes = d.0 ∷ run.bytes; moment = d.1 } ∷ runs else record { bytes = d.0 ∷ []; moment = d.1 } ∷ run ∷ runs)
+    by : (b : Bool) → AllByRecursion IsRun (if b then record { bytes = d.0 ∷ run.bytes; moment = d.1 }
+        ∷ runs else record { bytes = d.0 ∷ []; moment = d.1 } ∷ run ∷ runs)
     by true = (record { moment = m; some = omega arith }, all.1)
     by false = (run-of-one d m, all)
 
@@ -76,7 +82,8 @@ joined-apart : (d : Dated) (runs : List Line) → AreApart runs → AreApart (jo
 joined-apart d [] apart = (tt, tt)
 joined-apart d (run ∷ runs) apart = by (int_eq d.1 run.moment) refl
   where
-    by : (b : Bool) → int_eq d.1 run.moment ≡ b → AreApart (if b then record { bytes = d.0 ∷ run.bytes; moment = d.1 } ∷ runs else record { bytes = d.0 ∷ []; moment = d.1 } ∷ run ∷ runs)
+    by : (b : Bool) → int_eq d.1 run.moment ≡ b → AreApart (if b then record { bytes = d.0 ∷ run.bytes; moment = d.1 }
+        ∷ runs else record { bytes = d.0 ∷ []; moment = d.1 } ∷ run ∷ runs)
     by true e = (subst (λ (m : ℤ). BeginElse m runs) (sym ((Decides-int_eq d.1 run.moment).0 e)) apart.0, apart.1)
     by false e = (λ same. absurd (true≢false (sym ((Decides-int_eq d.1 run.moment).1 same) ∙ e)), apart)
 
@@ -112,7 +119,8 @@ unless-empty : (P : ℤ → Type 0) (bytes : List ℕ) (m : ℤ) → P m → All
 unless-empty P [] m h = tt
 unless-empty P (b ∷ bytes) m h = (h, tt)
 
-pub line-moments : (P : ℤ → Type 0) (t : ℕ) (stretch : List Dated) → All (λ d. P d.1) stretch → AllByRecursion (λ line. P line.moment) (line_of t stretch)
+pub line-moments : (P : ℤ → Type 0) (t : ℕ) (stretch : List Dated) → All (λ d. P d.1) stretch →
+    AllByRecursion (λ line. P line.moment) (line_of t stretch)
 line-moments P t [] all = tt
 line-moments P t (d ∷ stretch) all = unless-empty P (cut t (bytes_of (d ∷ stretch))) d.1 (All-head (λ x. P x.1) d stretch all)
 
@@ -132,10 +140,12 @@ pub lines-moments : (P : ℤ → Type 0) (t : ℕ) (done : List (List Dated)) �
     AllByRecursion (λ line. P line.moment) (flat_map (line_of t) done)
 lines-moments P t [] all = tt
 lines-moments P t (stretch ∷ done) all =
-    both (λ line. P line.moment) (line_of t stretch) (flat_map (line_of t) done) (line-moments P t stretch all.0) (lines-moments P t done all.1)
+    both (λ line. P line.moment) (line_of t stretch) (flat_map (line_of t) done) (line-moments P t stretch all.0)
+    (lines-moments P t done all.1)
 
 -- the members of lists that were joined
-pub apart : {T : Type 0} (P : T → Type 0) (groups : List (List T)) → AllByRecursion P (flat_map (λ group. group) groups) → AllByRecursion (AllByRecursion P) groups
+pub apart : {T : Type 0} (P : T → Type 0) (groups : List (List T)) → AllByRecursion P (flat_map (λ group. group) groups) →
+    AllByRecursion (AllByRecursion P) groups
 apart P [] all = tt
 apart P (group ∷ groups) all =
     (front P group (flat_map (λ g. g) groups) all, apart P groups (behind P group (flat_map (λ g. g) groups) all))
@@ -151,7 +161,8 @@ event-moments (group ∷ groups) all = (first-moment group all.0, event-moments 
 
 reversed : {T : Type 0} (P : T → Type 0) (xs : List T) → AllByRecursion P xs → AllByRecursion P (reverse xs)
 reversed P [] all = tt
-reversed P (x ∷ xs) all = subst (AllByRecursion P) (sym (reverse-append (x ∷ []) xs)) (both P (reverse xs) (reverse (x ∷ [])) (reversed P xs all.1) (all.0, tt))
+reversed P (x ∷ xs) all = subst (AllByRecursion P) (sym (reverse-append (x ∷ []) xs))
+    (both P (reverse xs) (reverse (x ∷ [])) (reversed P xs all.1) (all.0, tt))
 
 found-first : {T : Type 0} (P : T → Type 0) (xs : List T) → AllByRecursion P xs → IfSome (find (λ x. true) xs) P
 found-first P [] all = tt
@@ -166,7 +177,8 @@ unmarked s [] = refl
 unmarked s (line ∷ lines) = ap (λ (l : List Line). line ∷ l) (unmarked s lines)
 
 -- the moment of the open event
-open-moment : (on : Bool) (max : ℕ) (lines : List MarkedLine) → KeepsLines max → AllByRecursion (λ line. IsMoment line.moment) (map (λ m. m.line) lines) →
+open-moment : (on : Bool) (max : ℕ) (lines : List MarkedLine) → KeepsLines max →
+    AllByRecursion (λ line. IsMoment line.moment) (map (λ m. m.line) lines) →
     IfSome (carry_of on max lines).event (λ event. IsMoment event.moment)
 open-moment false max lines keeps all = tt
 open-moment true max lines keeps all =
@@ -179,7 +191,8 @@ open-moment true max lines keeps all =
 pub clamped-moment : (m : ℤ) → IsMoment (clamped m)
 clamped-moment m = (grind (arith, ints), grind (arith, ints))
 
-pub accepted : (time arrival : ℤ) (ago hence : ℕ) → IsMoment arrival → ago ≤ 10951 → hence ≤ 10950 → is_accepted time arrival ago hence ≡ true → IsTime time
+pub accepted : (time arrival : ℤ) (ago hence : ℕ) → IsMoment arrival → ago ≤ 10951 → hence ≤ 10950 →
+    is_accepted time arrival ago hence ≡ true → IsTime time
 accepted time arrival ago hence m a h e = (grind (arith, ints), grind (arith, ints))
 
 fallen-back : (arrival : ℤ) (last latest : Option ℤ) → IfSome latest IsTime → IfSome (latest_with (fall_back arrival last) latest) IsTime
@@ -199,9 +212,11 @@ settled-time (Some time) arrival ago hence last latest m a h is = by (is_accepte
 pub next-time : (t : TimeSettings) (latest : Option ℤ) (event : Whole) → t.days_ago ≤ 10951 → t.days_hence ≤ 10950 → IfSome latest IsTime →
     IfSome (latest_behind t latest event) IsTime
 unfolding time
-next-time t latest event a h is = settled-time (read t event.raw event.moment) (clamped event.moment) t.days_ago t.days_hence latest latest (clamped-moment event.moment) a h is
+next-time t latest event a h is = settled-time (read t event.raw event.moment) (clamped event.moment) t.days_ago t.days_hence latest latest
+    (clamped-moment event.moment) a h is
 
-latest-time : (t : TimeSettings) (latest : Option ℤ) (events : List Whole) → t.days_ago ≤ 10951 → t.days_hence ≤ 10950 → IfSome latest IsTime →
+latest-time : (t : TimeSettings) (latest : Option ℤ) (events : List Whole) → t.days_ago ≤ 10951 → t.days_hence ≤ 10950 →
+    IfSome latest IsTime →
     IfSome (latest_of t latest events) IsTime
 latest-time t latest [] a h is = is
 latest-time t latest (event ∷ events) a h is = latest-time t (latest_behind t latest event) events a h (next-time t latest event a h is)
@@ -223,7 +238,7 @@ pub carry-form : (s : Settings) (stream : List Dated) → AreUsable s → HasMom
     length (dated_of (carried s stream).lines.pending) < reach → merged.HasForm s.merge.on s.merge.max_lines (carried s stream).merge →
     HasForm (rules_of s) (carried s stream)
 carry-form s stream usable moments keeps few merge =
-    let look : Looker = breaks_by s.breaker in
+    let look : BreakFinder = breaks_by s.breaker in
     let t : ℕ = effective s.truncate in
     let w : Walked = walk_of look true stream in
     let within : Within (λ d. IsMoment d.1) w = walk-within (λ d. IsMoment d.1) look true None [] 0 stream (All-nil (λ d. IsMoment d.1))
@@ -233,11 +248,16 @@ carry-form s stream usable moments keeps few merge =
     let event = open-moment s.merge.on s.merge.max_lines (marked s.merge s.time lines) keeps
     (subst (AllByRecursion (λ line. IsMoment line.moment)) (sym (unmarked s lines)) all) in
     record {
-      pending = record { each = runs-are w.pending within.pending; apart = runs-apart w.pending; few = few-pending (length (dated_of (runs_of w.pending))) few };
+      pending = record {
+        each = runs-are w.pending within.pending;
+        apart = runs-apart w.pending;
+        few = few-pending (length (dated_of (runs_of w.pending))) few;
+      };
       line = for-some (IsOpenLine (t + 1)) (open_line t w.rest) (open-line-is t w.rest within.rest);
       event = counted s.merge.max_lines (carried s stream).merge.event usable.few_lines event merge.sized;
       merge = merge;
-      latest = for-some IsTime (latest_of s.time None (events_of s stream false)) (latest-time s.time None (events_of s stream false) usable.ago usable.hence tt);
+      latest = for-some IsTime (latest_of s.time None (events_of s stream false))
+          (latest-time s.time None (events_of s stream false) usable.ago usable.hence tt);
     }
 
 -- ---- the moments of what a channel is fed
@@ -247,4 +267,5 @@ dated-moments [] m h = tt
 dated-moments (b ∷ bytes) m h = (h, dated-moments bytes m h)
 
 pub fed-moments : (stream : List Dated) (bytes : List ℕ) (m : ℤ) → HasMoments stream → HasMoments (stream ++ dated bytes (clamped m))
-fed-moments stream bytes m h = both (λ d. IsMoment d.1) stream (dated bytes (clamped m)) h (dated-moments bytes (clamped m) (clamped-moment m))
+fed-moments stream bytes m h = both (λ d. IsMoment d.1) stream (dated bytes (clamped m)) h
+    (dated-moments bytes (clamped m) (clamped-moment m))

@@ -7,3 +7,8 @@ pub mod SameLemmas
 pub mod SizeLemmas
 pub mod StandLemmas
 pub mod TimeLemmas
+pub mod Again
+pub mod Found
+pub mod Lists
+pub mod Runs
+pub mod Whole

@@ -2,17 +2,18 @@
 use Rattle.std.specs.Prelude.{slice_get, replicate, option_and_then, is_some, fold, map, take}
 use Rattle.std.specs.List.{AllZip}
 use Rattle.std.specs.Option.{option_or, option_map}
-use Rattle.std.proofs.Common.{◌≡◌, ◌&&◌, ◌||◌, ℕ, zero, suc, ℤ, Bool, true, false, List, [], ◌∷◌, ◌+◌, ◌-◌, ◌++◌, Option, None, Some, refl, sym, ◌∙◌, ap, length, unwrap_or}
+use Rattle.std.proofs.Common.{◌≡◌, ◌&&◌, ◌||◌, ℕ, zero, suc, ℤ, Bool, true, false, List, [], ◌∷◌, ◌+◌, ◌-◌, ◌++◌, Option, None, Some, refl}
+use Rattle.std.proofs.Common.{sym, ◌∙◌, ap, length, unwrap_or}
 use Rattle.ix_base.specs.Stream.{Dated}
 use Rattle.ix_base.specs.declared.events.ChannelMeta.{ChannelMeta}
 use Rattle.ix_base.specs.declared.events.Event.{Event}
 use Rattle.ix_base.specs.declared.events.Line.{Line}
 use Rattle.ix_base.specs.declared.events.Routed.{Routed}
-use Rattle.ix_carry.specs.declared.carry.Carry.{Carry}
+use Rattle.ix_parse.specs.declared.carry.Carry.{Carry}
 use Rattle.ix_lines.specs.Breaks.{look_at, breaks_by}
 use Rattle.ix_lines.specs.Carry as lines
 use Rattle.ix_lines.specs.Lines.{effective}
-use Rattle.ix_lines.specs.Walk.{Looker}
+use Rattle.ix_lines.specs.Walk.{BreakFinder}
 use Rattle.ix_match.specs.Attempt.{reach}
 use Rattle.ix_match.specs.Matches.{ways_from}
 use Rattle.ix_match.specs.declared.first.Found.{Found}
@@ -30,7 +31,8 @@ use Rattle.ix_props.specs.declared.settings.Settings.{Settings}
 use Rattle.ix_props.specs.declared.settings.TimeSettings.{TimeSettings}
 use Rattle.ix_parse.specs.Carry.{rules_of, carry_of}
 use Rattle.ix_parse.specs.Marks.{is_in, marks_of, marked_line, marked}
-use Rattle.ix_parse.specs.Settled.{lines_of, channel_lines, events_of, latest_with, time_behind, latest_behind, latest_of, event_of, outcome_of, outcomes, settled}
+use Rattle.ix_parse.specs.Settled.{lines_of, channel_lines, events_of, latest_with, time_behind, latest_behind, latest_of, event_of}
+use Rattle.ix_parse.specs.Settled.{outcome_of, outcomes, settled}
 use Rattle.ix_time.specs.Times.{read}
 use Rattle.ix_time.proofs.SameLemmas.{same-ways, same-place, same-reads, same-times}
 use Rattle.ix_time.specs.declared.chosen.TimeFound.{TimeFound}
@@ -40,19 +42,20 @@ use Rattle.ix_transforms.specs.Seds.{chosen, replaced, substituted, sed_text, cu
 use Rattle.ix_transforms.specs.Transforms.{destination, searched, given_by, front, with_after, transformed, transformed_by}
 use Rattle.ix_transforms.specs.Queues.{value_of, limit_of}
 use Rattle.ix_transforms.specs.declared.queues.Queued.{Queued}
-use Rattle.ix_values.specs.declared.escapes.Part.{Part}
-use Rattle.ix_values.specs.declared.seds.Sed.{Sed}
-use Rattle.ix_values.specs.declared.seds.Sed.TheVariants.{Replace, Swap}
-use Rattle.ix_values.specs.declared.seds.Which.{Which}
-use Rattle.ix_values.specs.declared.transforms.Transform.{Transform}
+use Rattle.ix_conf_values.specs.declared.escapes.Part.{Part}
+use Rattle.ix_conf_values.specs.declared.seds.Sed.{Sed}
+use Rattle.ix_conf_values.specs.declared.seds.Sed.TheVariants.{Replace, Swap}
+use Rattle.ix_conf_values.specs.declared.seds.Which.{Which}
+use Rattle.ix_conf_values.specs.declared.transforms.Transform.{Transform}
 use Rattle.ix_parse.specs.Same.{SettleTheSame, CarryTheSame}
 
 -- ---- ways
 
 -- a tree and a number of groups as a way of looking for breaks
-abbrev looks_by : Piece → ℕ → Looker
+abbrev looks_by : Piece → ℕ → BreakFinder
 looks_by piece groups before bytes unfinished =
-    look_at (slice_get (ways piece (sight reach (record { before = before; bytes = bytes; unfinished = unfinished })) (record { place = 0; groups = replicate groups None })) 0)
+    look_at (slice_get (ways piece (sight reach (record { before = before; bytes = bytes; unfinished = unfinished }))
+    (record { place = 0; groups = replicate groups None })) 0)
 
 -- patterns that mean the same break at the same places
 same-breaks : (p q : Shape) → MeanSame p q → breaks_by p ≡ breaks_by q
@@ -77,7 +80,8 @@ marks_by on dated before date veto break hold = record {
 abbrev with_patterns : MergeSettings → MergeSettings → MergeSettings
 with_patterns m a = record m { before = a.before; break_after = a.break_after; hold_after = a.hold_after; veto = a.veto }
 
-same-marks : (a b : MergeSettings) (t u : TimeSettings) (line : Line) → AreSameMerge a b → AreSameTime t u → marks_of a t line ≡ marks_of b u line
+same-marks : (a b : MergeSettings) (t u : TimeSettings) (line : Line) → AreSameMerge a b → AreSameTime t u →
+    marks_of a t line ≡ marks_of b u line
 same-marks a b t u line same times =
     let text = line.bytes in
     let on : a.on ≡ b.on = ap (λ (m : MergeSettings). m.on) same.others in
@@ -89,10 +93,12 @@ same-marks a b t u line same times =
     let date = ap (λ (o : Option ℤ). is_some o) (same-reads t u text line.moment times) in
     λ i. marks_by (on i) (dated i) (before i) (date i) (veto i) (break i) (hold i)
 
-same-marked : (a b : MergeSettings) (t u : TimeSettings) (lines : List Line) → AreSameMerge a b → AreSameTime t u → marked a t lines ≡ marked b u lines
+same-marked : (a b : MergeSettings) (t u : TimeSettings) (lines : List Line) → AreSameMerge a b → AreSameTime t u →
+    marked a t lines ≡ marked b u lines
 same-marked a b t u [] same times = refl
 same-marked a b t u (line ∷ lines) same times =
-    ap (λ (m : Marks). (let first : MarkedLine = record { line = line; marks = m } in first) ∷ marked a t lines) (same-marks a b t u line same times)
+    ap (λ (m : Marks). (let first : MarkedLine = record { line = line; marks = m } in first)
+    ∷ marked a t lines) (same-marks a b t u line same times)
     ∙ ap (λ (l : List MarkedLine). marked_line b u line ∷ l) (same-marked a b t u lines same times)
 
 -- ---- changes
@@ -108,7 +114,8 @@ same-first : (p q : Shape) (text : List ℕ) (from : ℕ) → MeanSame p q → f
 unfolding first
 same-first p q text from same = same-first_of (length text + 1 - from) p q text from same
 
-same-matches_up_to : (n : ℕ) (p q : Shape) (text : List ℕ) (from : ℕ) → MeanSame p q → matches_up_to n p text from ≡ matches_up_to n q text from
+same-matches_up_to : (n : ℕ) (p q : Shape) (text : List ℕ) (from : ℕ) → MeanSame p q →
+    matches_up_to n p text from ≡ matches_up_to n q text from
 unfolding matches_up_to
 same-matches_up_to zero p q text from same = refl
 same-matches_up_to (suc n) p q text from same =
@@ -143,7 +150,8 @@ with_regex t p = record t { regex = p }
 
 same-transformed : (t : Transform) (p : Shape) (q : Queued) → MeanSame p t.regex → transformed q (with_regex t p) ≡ transformed q t
 same-transformed t p q same =
-    ap (λ (found : Option Found). with_after (destination t) (option_map (λ text. take (limit_of (destination t)) (front t.write_meta q.event.meta ++ text))
+    ap (λ (found : Option Found). with_after (destination t)
+    (option_map (λ text. take (limit_of (destination t)) (front t.write_meta q.event.meta ++ text))
     (given_by t (value_of (destination t) q) (searched t q) found)) q) (same-first p t.regex (searched t q) 0 same)
 
 same-transform : (a b : Transform) (q : Queued) → IsSameTransform a b → transformed q a ≡ transformed q b
@@ -156,9 +164,11 @@ same-transforms (a ∷ more) [] q same = absurd same
 same-transforms (a ∷ more) (b ∷ bs) q same =
     ap (transformed_by more) (same-transform a b q same.0) ∙ same-transforms more bs (transformed q b) same.1
 
-pub same-changed : (a b : List Sed) (c d : List Transform) (event : Event) → AllZip IsSameSed a b → AllZip IsSameTransform c d → changed a c event ≡ changed b d event
+pub same-changed : (a b : List Sed) (c d : List Transform) (event : Event) → AllZip IsSameSed a b → AllZip IsSameTransform c d →
+    changed a c event ≡ changed b d event
 same-changed a b c d event seds transforms =
-    ap (λ (text : List ℕ). outcome (transformed_by c (record { event = record event { raw = text }; queue = (start a event).queue }))) (same-seds a b (cut event.raw) seds)
+    ap (λ (text : List ℕ). outcome (transformed_by c (record { event = record event { raw = text }; queue = (start a event).queue })))
+    (same-seds a b (cut event.raw) seds)
     ∙ ap outcome (same-transforms c d (start b event) transforms)
 
 -- ---- all of it
@@ -185,7 +195,8 @@ module _ (a b : Settings) (same : AreSame a b) where
   marked_same : (stream : List Dated) (closed : Bool) →
       marked a.merge a.time (channel_lines a stream closed) ≡ marked b.merge b.time (channel_lines b stream closed)
   marked_same stream closed =
-      ap (marked a.merge a.time) (lines_same stream closed) ∙ same-marked a.merge b.merge a.time b.time (channel_lines b stream closed) same.merge same.time
+      ap (marked a.merge a.time) (lines_same stream closed)
+      ∙ same-marked a.merge b.merge a.time b.time (channel_lines b stream closed) same.merge same.time
 
   events_same : (stream : List Dated) (closed : Bool) → events_of a stream closed ≡ events_of b stream closed
   events_same stream false = λ i. events.settled (ons i) (most i) (marked_same stream false i)
@@ -197,9 +208,11 @@ module _ (a b : Settings) (same : AreSame a b) where
   outcome_same : (meta : ChannelMeta) (latest : Option ℤ) (event : Whole) → outcome_of a meta latest event ≡ outcome_of b meta latest event
   outcome_same meta latest event =
       (λ i. changed a.seds a.transforms (event_of (sourcetypes i) meta (times_same latest event i).time event))
-      ∙ same-changed a.seds b.seds a.transforms b.transforms (event_of b.sourcetype meta (time_behind b.time latest event).time event) same.seds same.transforms
+      ∙ same-changed a.seds b.seds a.transforms b.transforms (event_of b.sourcetype meta (time_behind b.time latest event).time event)
+      same.seds same.transforms
 
-  outcomes_same : (meta : ChannelMeta) (latest : Option ℤ) (whole : List Whole) → outcomes a meta latest whole ≡ outcomes b meta latest whole
+  outcomes_same : (meta : ChannelMeta) (latest : Option ℤ) (whole : List Whole) →
+      outcomes a meta latest whole ≡ outcomes b meta latest whole
   outcomes_same meta latest [] = refl
   outcomes_same meta latest (event ∷ whole) =
       ap (λ (r : Routed). r ∷ outcomes a meta (latest_behind a.time latest event) whole) (outcome_same meta latest event)

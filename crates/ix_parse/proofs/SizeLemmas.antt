@@ -16,7 +16,8 @@ stated None k = omega arith
 stated (Some name) k = k
 
 -- an event as it comes to the changes keeps the sizes that these keep
-kept : (s : Settings) (meta : ChannelMeta) (time : ℤ) (event : Whole) → KeepsLimits s meta → KeepsSizes (event_of s.sourcetype meta time event)
+kept : (s : Settings) (meta : ChannelMeta) (time : ℤ) (event : Whole) → KeepsLimits s meta →
+    KeepsSizes (event_of s.sourcetype meta time event)
 kept s meta time event limits = record {
   index = omega (arith, stated meta.index limits.index);
   host = omega (arith, limits.host);

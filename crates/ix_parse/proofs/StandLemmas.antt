@@ -39,7 +39,8 @@ stays s lines-stay events-stay meta stream later false =
     let l = (lines-stay (effective s.truncate) stream later).0 in
     let e = (events-stay s.merge.on s.merge.max_lines (marked_of s stream) (marked s.merge s.time l.0)).0 in
     let all : events_of s (stream ++ later) false ≡ events_of s stream false ++ e.0 =
-    ap (events.settled s.merge.on s.merge.max_lines) (more-marked s (channel_lines s (stream ++ later) false) (channel_lines s stream false) l.0 l.1) ∙ e.1 in (
+    ap (events.settled s.merge.on s.merge.max_lines) (more-marked s (channel_lines s (stream ++ later) false) (channel_lines s stream false)
+    l.0 l.1) ∙ e.1 in (
       outcomes s meta (latest_of s.time None (events_of s stream false)) e.0,
       ap (outcomes s meta None) all ∙ outcomes-append s meta None (events_of s stream false) e.0,
     )
@@ -47,7 +48,8 @@ stays s lines-stay events-stay meta stream later true =
     let l = (lines-stay (effective s.truncate) stream later).1 in
     let e = (events-stay s.merge.on s.merge.max_lines (marked_of s stream) (marked s.merge s.time l.0)).1 in
     let all : events_of s (stream ++ later) true ≡ events_of s stream false ++ e.0 =
-    ap (events.all_events s.merge.on s.merge.max_lines) (more-marked s (channel_lines s (stream ++ later) true) (channel_lines s stream false) l.0 l.1) ∙ e.1 in (
+    ap (events.all_events s.merge.on s.merge.max_lines)
+    (more-marked s (channel_lines s (stream ++ later) true) (channel_lines s stream false) l.0 l.1) ∙ e.1 in (
       outcomes s meta (latest_of s.time None (events_of s stream false)) e.0,
       ap (outcomes s meta None) all ∙ outcomes-append s meta None (events_of s stream false) e.0,
     )
@@ -63,10 +65,12 @@ pub record GoesOn (s : Settings) (meta : ChannelMeta) (stream longer : List Date
   pub settles : settled s meta longer false ≡ settled s meta stream false ++ behind.routed
 
 -- settled by the names that a value has for the settings
-settled-as : (on on' : Bool) (max max' : ℕ) (lines : List MarkedLine) → on ≡ on' → max ≡ max' → events.settled on max lines ≡ events.settled on' max' lines
+settled-as : (on on' : Bool) (max max' : ℕ) (lines : List MarkedLine) → on ≡ on' → max ≡ max' →
+    events.settled on max lines ≡ events.settled on' max' lines
 settled-as on on' max max' lines e f = ap (λ (b : Bool). events.settled b max lines) e ∙ ap (λ (n : ℕ). events.settled on' n lines) f
 
-all-as : (on on' : Bool) (max max' : ℕ) (lines : List MarkedLine) → on ≡ on' → max ≡ max' → events.all_events on max lines ≡ events.all_events on' max' lines
+all-as : (on on' : Bool) (max max' : ℕ) (lines : List MarkedLine) → on ≡ on' → max ≡ max' →
+    events.all_events on max lines ≡ events.all_events on' max' lines
 all-as on on' max max' lines e f = ap (λ (b : Bool). events.all_events b max lines) e ∙ ap (λ (n : ℕ). events.all_events on' n lines) f
 
 -- a copy of what a channel keeps, which takes in more lines
@@ -88,7 +92,8 @@ copied s meta stream k copy before is same latest empty = record {
 }
 
 -- and what they come to
-pub taken-in : (s : Settings) (meta : ChannelMeta) (stream : List Dated) (lines : List Line) (copy new : Merging) (before behind : Outcomes) →
+pub taken-in : (s : Settings) (meta : ChannelMeta) (stream : List Dated) (lines : List Line) (copy new : Merging)
+    (before behind : Outcomes) →
     Copied s meta stream copy before → new.on ≡ copy.on → new.max_lines ≡ copy.max_lines →
     Takes s meta (marked_of s stream) lines copy new before behind → TakenIn s meta stream lines new behind
 taken-in s meta stream lines copy new before behind c on max t =
@@ -100,7 +105,8 @@ taken-in s meta stream lines copy new before behind c on max t =
       added = t.added;
       settles = settled-as s.merge.on copy.on s.merge.max_lines copy.max_lines all (sym c.merges) (sym c.most_lines)
           ∙ t.settles
-          ∙ ap (λ (l : List Whole). l ++ t.added) (settled-as copy.on s.merge.on copy.max_lines s.merge.max_lines (marked_of s stream) c.merges c.most_lines);
+          ∙ ap (λ (l : List Whole). l ++ t.added) (settled-as copy.on s.merge.on copy.max_lines s.merge.max_lines (marked_of s stream)
+          c.merges c.most_lines);
       latest_is = ap (λ (o : Outcomes). o.latest) t.outcomes_are ∙ ap (λ (l : Option ℤ). latest_of s.time l t.added) c.latest_is;
       routed_is = ap (λ (o : Outcomes). o.routed) t.outcomes_are
           ∙ ap (λ (l : List Routed). l ++ outcomes s meta before.latest t.added) c.empty
@@ -108,7 +114,8 @@ taken-in s meta stream lines copy new before behind c on max t =
     }
 
 pub goes-on : (s : Settings) (meta : ChannelMeta) (stream longer : List Dated) (more : List Line) (merge : Merging) (behind : Outcomes) →
-    channel_lines s longer false ≡ channel_lines s stream false ++ more → TakenIn s meta stream more merge behind → GoesOn s meta stream longer merge behind
+    channel_lines s longer false ≡ channel_lines s stream false ++ more → TakenIn s meta stream more merge behind →
+    GoesOn s meta stream longer merge behind
 goes-on s meta stream longer more merge behind e t =
     let m = more-marked s (channel_lines s longer false) (channel_lines s stream false) more e in
     let first : List Whole = events_of s stream false in
@@ -122,7 +129,8 @@ goes-on s meta stream longer more merge behind e t =
           ∙ ap (λ (l : List Routed). outcomes s meta None first ++ l) (sym t.routed_is);
     }
 
-pub comes-to-end : (s : Settings) (meta : ChannelMeta) (stream : List Dated) (more : List Line) (merge : Merging) (between behind : Outcomes) →
+pub comes-to-end : (s : Settings) (meta : ChannelMeta) (stream : List Dated) (more : List Line) (merge : Merging)
+    (between behind : Outcomes) →
     channel_lines s stream true ≡ channel_lines s stream false ++ more → TakenIn s meta stream more merge between →
     TakesEnd s meta (marked_of s stream ++ marked s.merge s.time more) merge between behind →
     settled s meta stream true ≡ settled s meta stream false ++ behind.routed
@@ -154,7 +162,8 @@ same-kept s s' meta meta' lines merge latest e f =
     ∙ ap (λ (x : ChannelMeta). let k : Kept = record { settings = s'; meta = x; lines = lines; merge = merge; latest = latest } in k) f
 
 -- lines are taken in by what a channel keeps, which is what was stated
-pub as-stated : (s s' : Settings) (meta meta' : ChannelMeta) (earlier : List MarkedLine) (lines : List Line) (old new : Merging) (before behind : Outcomes) →
+pub as-stated : (s s' : Settings) (meta meta' : ChannelMeta) (earlier : List MarkedLine) (lines : List Line) (old new : Merging)
+    (before behind : Outcomes) →
     s' ≡ s → meta' ≡ meta → Takes s' meta' earlier lines old new before behind → Takes s meta earlier lines old new before behind
 as-stated s s' meta meta' earlier lines old new before behind e f t =
     subst (λ (m : ChannelMeta). Takes s m earlier lines old new before behind) f

@@ -6,3 +6,6 @@ pub mod Limits
 pub mod Standing
 pub mod Carry
 pub mod Same
+pub mod Form
+pub mod Reading
+pub mod Spelling

@@ -10,7 +10,8 @@ use Rattle.ix_props.specs.declared.settings.Settings.{Settings}
 -- they settle the same of every stream, open or closed
 abbrev pub SettleTheSame : Type 0
 SettleTheSame =
-    (a b : Settings) (meta : ChannelMeta) (stream : List Dated) (closed : Bool) → AreSame a b → settled a meta stream closed ≡ settled b meta stream closed
+    (a b : Settings) (meta : ChannelMeta) (stream : List Dated) (closed : Bool) → AreSame a b →
+    settled a meta stream closed ≡ settled b meta stream closed
 
 -- and the same is carried, by the same rules
 abbrev pub CarryTheSame : Type 0

@@ -1,5 +1,6 @@
--- What the bytes of a channel come to: its lines, the events that these make, the times of the events, and what is changed in them.
--- Nothing here knows blocks: a stream is a list of bytes, each with its moment.
+-- What the bytes of a channel come to: its lines, the events that these make, the times of the
+-- events, and what is changed in them. Nothing here knows blocks: a stream is a list of bytes, each
+-- with its moment.
 use Rattle.std.specs.Prelude.{◌≡◌, ℕ, ℤ, Bool, true, false, List, [], ◌∷◌, ◌++◌, fold, Option, Some, None, unwrap_or}
 use Rattle.ix_base.specs.Stream.{Dated}
 use Rattle.ix_base.specs.declared.events.ChannelMeta.{ChannelMeta}
@@ -8,7 +9,7 @@ use Rattle.ix_base.specs.declared.events.Line.{Line}
 use Rattle.ix_base.specs.declared.events.Routed.{Routed}
 use Rattle.ix_lines.specs.Breaks.{breaks_by}
 use Rattle.ix_lines.specs.Lines as lines
-use Rattle.ix_lines.specs.Walk.{Looker}
+use Rattle.ix_lines.specs.Walk.{BreakFinder}
 use Rattle.ix_merge.specs.Events as events
 use Rattle.ix_merge.specs.declared.events.Whole.{Whole}
 use Rattle.ix_parse.specs.Marks.{marked}
@@ -20,9 +21,9 @@ use Rattle.ix_time.specs.declared.chosen.Origin.TheVariants.{Read, Last, Arrival
 use Rattle.ix_time.specs.declared.chosen.TimeFound.{TimeFound}
 use Rattle.ix_transforms.specs.Changes.{changed}
 
--- the lines of a stream by a way of looking for breaks, those of an open one that later bytes cannot change or all of a
--- closed one, each cut at t bytes
-abbrev pub lines_of : Looker → ℕ → List Dated → Bool → List Line
+-- the lines of a stream by a way of looking for breaks, those of an open one that later bytes
+-- cannot change or all of a closed one, each cut at t bytes
+abbrev pub lines_of : BreakFinder → ℕ → List Dated → Bool → List Line
 lines_of look t stream false = lines.settled look t stream
 lines_of look t stream true = lines.all_lines look t stream
 

@@ -5,9 +5,9 @@ ghost use Rattle.std.specs.List.{All};
 ghost use Rattle.ix_base.specs.Clocks.{clamped};
 ghost use Rattle.ix_base.specs.Stream.{Dated, dated};
 ghost use Rattle.ix_base.specs.declared.events.ChannelMeta.{ChannelMeta};
-ghost use Rattle.ix_carry.specs.Form.{IsCarryOf};
-ghost use Rattle.ix_carry.specs.Spelling.{spell};
-ghost use Rattle.ix_carry.specs.declared.carry.Carry.{Carry as Carried};
+ghost use Rattle.ix_parse.specs.Form.{IsCarryOf};
+ghost use Rattle.ix_parse.specs.Spelling.{spell};
+ghost use Rattle.ix_parse.specs.declared.carry.Carry.{Carry as Carried};
 ghost use Rattle.ix_lines.specs.Lines.{IsShort};
 ghost use Rattle.ix_lines.specs.Parts.{moved};
 ghost use Rattle.ix_props.specs.Settings.{AreUsable};
@@ -18,9 +18,10 @@ ghost use Rattle.ix_parse.specs.Settled.{channel_lines, settled};
 ghost use Rattle.ix_parse.specs.Stage.{TakenIn};
 ghost use Rattle.ix_parse.specs.Standing.{StandsFor};
 
+use crate::carry::{Carry, CarryRules, ResumeFault};
 use crate::outcomes::{Outcomes, Owner};
+use crate::reading::read_carry;
 use ix_base::{Bytes, ChannelMeta, LineList, NoMemory, RoutedList, Steps};
-use ix_carry::{Carry, CarryRules, ResumeFault, read_carry};
 use ix_lines::Lines;
 use ix_merge::Merge;
 use ix_props::Settings;
@@ -28,9 +29,10 @@ use std::alloc::Global;
 use std::marker::{Brand, Model};
 use std::sync::ledger::{Blank, Ledger};
 
-/// A stream of bytes with what is known of it. Its bytes are cut into lines, the lines are merged into events, and each event is
-/// dated and changed, all by the settings that were chosen for it. It holds back what later bytes may still change: the bytes at
-/// which a break may begin, the open line, and the open event.
+/// A stream of bytes with what is known of it. Its bytes are cut into lines, the lines are merged
+/// into events, and each event is dated and changed, all by the settings that were chosen for it.
+/// It holds back what later bytes may still change: the bytes at which a break may begin, the open
+/// line, and the open event.
 pub struct Channel {
     alloc: Global,
     settings: Settings,
@@ -78,14 +80,16 @@ fn rules_of(settings: &Settings) -> CarryRules
     }
 }
 
-/// The lines, the events and the latest accepted time with which a channel with these settings goes on from a carry.
+/// The lines, the events and the latest accepted time with which a channel with these settings goes
+/// on from a carry.
 fn resumed(
     alloc: Global,
     settings: &Settings,
     carry: &[u8],
 ) -> Result<(Lines, Merge, Option<i64>), ResumeFault>
     requires { AreUsable settings.now }
-    ensures stands { IfOk result (λ r. (meta : ChannelMeta) (stream : List Dated) → IsCarryOf (rules_of settings.now) carry.now (carry_of settings.now stream) →
+    ensures stands { IfOk result (λ r. (meta : ChannelMeta) (stream : List Dated) →
+        IsCarryOf (rules_of settings.now) carry.now (carry_of settings.now stream) →
         StandsFor settings.now meta stream (record { settings = settings.now; meta = meta; lines = r.0; merge = r.1; latest = r.2 })) }
     ensures whole { IfOk result (λ r. IsFalse r.1.broken) }
     ensures read { IfOk result (λ r. (said : Carried) × IsCarryOf (rules_of settings.now) carry.now said) }
@@ -104,7 +108,8 @@ fn resumed(
 }
 
 impl Channel {
-    /// A channel that has no byte yet. The settings are such as `Props::settings` gives. The metadata name the index.
+    /// A channel that has no byte yet. The settings are such as `Props::settings` gives. The
+    /// metadata name the index.
     pub fn start(alloc: Global, settings: Settings, meta: ChannelMeta) -> Result<Channel, NoMemory>
         requires meta { IsSome meta.index }
         requires usable { AreUsable settings }
@@ -168,7 +173,13 @@ impl Channel {
         outcomes: Outcomes,
     ) -> Result<(Channel, RoutedList), NoMemory>
         requires { IsFalse merge.broken }
-        ensures kept { IfOk result (λ next. next.0 ≡ record { settings = self.now.settings; meta = self.now.meta; lines = lines; merge = merge; latest = outcomes.latest }) }
+        ensures kept { IfOk result (λ next. next.0 ≡ record {
+          settings = self.now.settings;
+          meta = self.now.meta;
+          lines = lines;
+          merge = merge;
+          latest = outcomes.latest;
+        }) }
         ensures routed { IfOk result (λ next. next.1 ≡ outcomes.routed) }
     {
         let settings = self.settings.copy(self.alloc)?;
@@ -184,11 +195,12 @@ impl Channel {
         Ok((next, outcomes.routed))
     }
 
-    /// The channel once these bytes have come, all at one moment (microseconds since 1970-01-01T00:00:00Z; one before
-    /// 1970 counts as 0, and one after the beginning of 2100 as that), and what they settle. This channel stays as it is.
-    /// Each test of a byte by an attempt at the breaker counts as a step: there are at most 512 times the breaker's weight for
-    /// each byte by which the place moved on at which a break is still sought, and as many again where no byte waited there.
-    /// Where one did, the attempt goes on, and makes no test twice.
+    /// The channel once these bytes have come, all at one moment (microseconds since
+    /// 1970-01-01T00:00:00Z; one before 1970 counts as 0, and one after the beginning of 2100 as
+    /// that), and what they settle. This channel stays as it is. Each test of a byte by an attempt
+    /// at the breaker counts as a step: there are at most 512 times the breaker's weight for each
+    /// byte by which the place moved on at which a break is still sought, and as many again where
+    /// no byte waited there. Where one did, the attempt goes on, and makes no test twice.
     pub fn fed<L: Ledger>(
         &self,
         bytes: &[u8],
@@ -201,7 +213,8 @@ impl Channel {
             × (settled settings meta (stream ++ dated bytes.now (clamped moment)) false ≡ settled settings meta stream false ++ fed.1)) }
         ensures small { IfOk result (λ fed. (settings : Chosen) (meta : ChannelMeta) (stream : List Dated) →
             StandsFor settings meta stream self.now → KeepsLimits settings meta → All IsSmall fed.1) }
-        ensures counted { IfOk result (λ fed. steps.new ≤ steps.old + self.now.lines.breaker.weight * 512 * (moved self.now.lines (length bytes.now) fed.0.lines + 1)) }
+        ensures counted { IfOk result (λ fed. steps.new ≤ steps.old + self.now.lines.breaker.weight * 512 *
+            (moved self.now.lines (length bytes.now) fed.0.lines + 1)) }
         ensures again { IfOk result (λ fed. 0 < length self.now.lines.parts.pending →
             steps.new ≤ steps.old + self.now.lines.breaker.weight * 512 * moved self.now.lines (length bytes.now) fed.0.lines) }
         ensures later { steps.old ≤ steps.new }
@@ -213,7 +226,8 @@ impl Channel {
         self.gone_on(lines, merge, outcomes)
     }
 
-    /// The lines that closing the stream settles. Tests are counted in the ledger that the blank one opens, which nobody reads.
+    /// The lines that closing the stream settles. Tests are counted in the ledger that the blank
+    /// one opens, which nobody reads.
     fn last_lines<L: Ledger>(&self, blank: Blank) -> Result<LineList, NoMemory>
         requires name { blank.name ≡ L.name }
         requires parts { blank.parts ≡ L.parts }
@@ -243,9 +257,10 @@ impl Channel {
         Ok(outcomes.routed)
     }
 
-    /// What is to be carried of this channel over a stop, as bytes: the byte before the place from which on breaks are still to be
-    /// found, the bytes that wait there, and the open line; the open event and the two marks; and the latest accepted time. It is a
-    /// function of the settings and of the stream. The moments of each stream that was fed lie between 1970 and 2100.
+    /// What is to be carried of this channel over a stop, as bytes: the byte before the place from
+    /// which on breaks are still to be found, the bytes that wait there, and the open line; the
+    /// open event and the two marks; and the latest accepted time. It is a function of the settings
+    /// and of the stream. The moments of each stream that was fed lie between 1970 and 2100.
     pub fn carry(&self) -> Result<Bytes, NoMemory>
         ensures spelled { IfOk result (λ bytes. (settings : Chosen) (meta : ChannelMeta) (stream : List Dated) →
             StandsFor settings meta stream self.now → bytes ≡ spell (carry_of settings stream)) }
@@ -264,9 +279,9 @@ impl Channel {
         carry.write(self.alloc)
     }
 
-    /// A channel that goes on from a carry: it stands for each stream of which the bytes are the carry under these settings. The
-    /// settings are such as `Props::settings` gives. The metadata name the index. `BadCarry` comes exactly where the bytes are no
-    /// carry under these settings.
+    /// A channel that goes on from a carry: it stands for each stream of which the bytes are the
+    /// carry under these settings. The settings are such as `Props::settings` gives. The metadata
+    /// name the index. `BadCarry` comes exactly where the bytes are no carry under these settings.
     pub fn resume(
         alloc: Global,
         settings: Settings,
@@ -275,7 +290,8 @@ impl Channel {
     ) -> Result<Channel, ResumeFault>
         requires meta { IsSome meta.index }
         requires usable { AreUsable settings }
-        ensures stands { IfOk result (λ channel. (stream : List Dated) → IsCarryOf (rules_of settings) carry.now (carry_of settings stream) →
+        ensures stands { IfOk result (λ channel. (stream : List Dated) →
+            IsCarryOf (rules_of settings) carry.now (carry_of settings stream) →
             StandsFor settings meta stream channel) }
         ensures read { IfOk result (λ channel. (said : Carried) × IsCarryOf (rules_of settings) carry.now said) }
         ensures bad { result ≡ Err ResumeFault.BadCarry → (said : Carried) → IsCarryOf (rules_of settings) carry.now said → ⊥ }

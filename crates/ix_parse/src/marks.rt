@@ -1,10 +1,11 @@
-//! What a line is found to match. A channel asks it of each line before it hands the line on to be merged.
+//! What a line is found to match. A channel asks it of each line before it hands the line on to be
+//! merged.
 
 ghost use Rattle.std.specs.Prelude.{◌≡◌, IfOk};
 ghost use Rattle.ix_parse.specs.Marks as Marking;
 
 use ix_base::{Line, NoMemory};
-use ix_match::Finder;
+use ix_match::Regex;
 use ix_merge::Marks;
 use ix_pattern::Pattern;
 use ix_props::MergeSettings;
@@ -12,14 +13,14 @@ use ix_time::{TimeReader, finder_of};
 use std::alloc::Global;
 use std::marker::Model;
 
-/// Tells what lines match, by the settings of merging. Each pattern that is set is written out once for all lines, and none where lines
-/// are not merged. Contracts see the settings.
+/// Tells what lines match, by the settings of merging. Each pattern that is set is written out once
+/// for all lines, and none where lines are not merged. Contracts see the settings.
 pub struct LineMarker<'a> {
     merge: &'a MergeSettings,
-    before: Option<Finder>,
-    break_after: Option<Finder>,
-    hold_after: Option<Finder>,
-    veto: Option<Finder>,
+    before: Option<Regex>,
+    break_after: Option<Regex>,
+    hold_after: Option<Regex>,
+    veto: Option<Regex>,
 }
 
 /// It is written out, so that each place where one is let go is a call of it, which is proved once.
@@ -48,7 +49,7 @@ impl<'a> Model for LineMarker<'a> {
 }
 
 /// Whether a pattern that is set matches somewhere in a text.
-fn is_in(alloc: Global, pattern: &Option<Finder>, text: &[u8]) -> Result<bool, NoMemory>
+fn is_in(alloc: Global, pattern: &Option<Regex>, text: &[u8]) -> Result<bool, NoMemory>
     ensures { IfOk result (λ found. found ≡ Marking.is_in pattern.now text.now) }
 {
     let Some(finder) = pattern else {
@@ -64,7 +65,7 @@ fn finders_of(
     alloc: Global,
     one: &Option<Pattern>,
     other: &Option<Pattern>,
-) -> Result<(Option<Finder>, Option<Finder>), NoMemory>
+) -> Result<(Option<Regex>, Option<Regex>), NoMemory>
     ensures { IfOk result (λ found. (found.0 ≡ one.now) × (found.1 ≡ other.now)) }
 {
     let one = finder_of(alloc, one)?;

@@ -1,12 +1,12 @@
-//! The way of lines to outcomes: they are merged into events, and each event is dated and changed. A channel calls it for the lines
-//! that a block settles, and for those that are left at the end.
+//! The way of lines to outcomes: they are merged into events, and each event is dated and changed.
+//! A channel calls it for the lines that a block settles, and for those that are left at the end.
 
 ghost use Rattle.std.specs.Prelude.{◌≡◌, [], ◌∷◌, List, IfOk, OnOk, IsFalse, unwrap_or};
 ghost use Rattle.std.specs.List.{All, AllByRecursion};
 ghost use Rattle.ix_lines.specs.Lines.{IsShort};
 ghost use Rattle.ix_merge.specs.Stands.{Holds};
 ghost use Rattle.ix_merge.specs.Starts.{MarkedLine};
-ghost use Rattle.ix_values.specs.Seds.{IsApplicable};
+ghost use Rattle.ix_conf_values.specs.Seds.{IsApplicable};
 ghost use Rattle.ix_parse.specs.Finders.{IsEventStageOf, IsLineStageOf};
 ghost use Rattle.ix_parse.specs.Limits.{KeepsLimits, IsSmall};
 ghost use Rattle.ix_parse.specs.Settled.{event_of, latest_with};
@@ -82,7 +82,8 @@ impl Owner<'_> {
         requires stage { IsEventStageOf self.now.settings.now stage.now }
         requires seds { AllByRecursion IsApplicable self.now.settings.now.seds }
         ensures added { OnOk result (outcomes.new ≡ with_events self.now.settings.now self.now.meta.now outcomes.old (event ∷ [])) }
-        ensures small { OnOk result (KeepsLimits self.now.settings.now self.now.meta.now → All IsSmall outcomes.old.routed → All IsSmall outcomes.new.routed) }
+        ensures small { OnOk result (KeepsLimits self.now.settings.now self.now.meta.now → All IsSmall outcomes.old.routed →
+            All IsSmall outcomes.new.routed) }
     {
         let raw = event.raw.as_slice();
         let arrival = event.moment;
@@ -109,7 +110,8 @@ impl Owner<'_> {
         requires seds { AllByRecursion IsApplicable self.now.settings.now.seds }
         ensures takes { OnOk result ((earlier : List MarkedLine) → Holds earlier merge.old →
             Takes self.now.settings.now self.now.meta.now earlier (line ∷ []) merge.old merge.new outcomes.old outcomes.new) }
-        ensures small { OnOk result (KeepsLimits self.now.settings.now self.now.meta.now → All IsSmall outcomes.old.routed → All IsSmall outcomes.new.routed) }
+        ensures small { OnOk result (KeepsLimits self.now.settings.now self.now.meta.now → All IsSmall outcomes.old.routed →
+            All IsSmall outcomes.new.routed) }
         ensures whole { OnOk result (IsFalse merge.new.broken) }
         ensures on { merge.new.on ≡ merge.old.on }
         ensures max_lines { merge.new.max_lines ≡ merge.old.max_lines }
@@ -134,7 +136,8 @@ impl Owner<'_> {
         requires whole { IsFalse merge.old.broken }
         ensures takes { OnOk result ((earlier : List MarkedLine) → Holds earlier merge.old →
             Takes self.now.settings.now self.now.meta.now earlier lines merge.old merge.new outcomes.old outcomes.new) }
-        ensures small { OnOk result (KeepsLimits self.now.settings.now self.now.meta.now → All IsSmall outcomes.old.routed → All IsSmall outcomes.new.routed) }
+        ensures small { OnOk result (KeepsLimits self.now.settings.now self.now.meta.now → All IsSmall outcomes.old.routed →
+            All IsSmall outcomes.new.routed) }
         ensures whole { OnOk result (IsFalse merge.new.broken) }
         ensures on { merge.new.on ≡ merge.old.on }
         ensures max_lines { merge.new.max_lines ≡ merge.old.max_lines }
@@ -155,7 +158,8 @@ impl Owner<'_> {
         requires whole { IsFalse merge.broken }
         ensures takes { OnOk result ((lines : List MarkedLine) → Holds lines merge →
             TakesEnd self.now.settings.now self.now.meta.now lines merge outcomes.old outcomes.new) }
-        ensures small { OnOk result (KeepsLimits self.now.settings.now self.now.meta.now → All IsSmall outcomes.old.routed → All IsSmall outcomes.new.routed) }
+        ensures small { OnOk result (KeepsLimits self.now.settings.now self.now.meta.now → All IsSmall outcomes.old.routed →
+            All IsSmall outcomes.new.routed) }
     {
         let Some(event) = merge.close() else {
             return Ok(());

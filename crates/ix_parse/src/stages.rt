@@ -1,5 +1,5 @@
-//! What the lines and the events of a block are treated with. It is made once for a block that settles lines, so that each pattern of
-//! the settings is written out once for all of them.
+//! What the lines and the events of a block are treated with. It is made once for a block that
+//! settles lines, so that each pattern of the settings is written out once for all of them.
 
 ghost use Rattle.std.specs.Prelude.{IfOk};
 ghost use Rattle.ix_parse.specs.Finders.{IsEventStageOf, IsLineStageOf};

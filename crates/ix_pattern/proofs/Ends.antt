@@ -1,9 +1,12 @@
 -- Where the ends of a list of ways lie.
-use Rattle.std.proofs.Common.{◌≡◌, ℕ, zero, suc, ◌+◌, ◌*◌, ◌<◌, ◌≤◌, min, Bool, true, false, List, [], ◌∷◌, ◌++◌, length, Option, Some, None, if◌then◌else◌, refl, arith, ◌&&◌}
+use Rattle.std.proofs.Common.{◌≡◌, ℕ, zero, suc, ◌+◌, ◌*◌, ◌<◌, ◌≤◌, min, Bool, true, false, List, [], ◌∷◌, ◌++◌, length, Option, Some}
+use Rattle.std.proofs.Common.{None, if◌then◌else◌, refl, arith, ◌&&◌}
 use Rattle.std.specs.Prelude.{slice_get, ◌==◌}
 use Rattle.std.proofs.lemmas.Option.{slice_get_within}
 use Rattle.ix_pattern.specs.Piece.{Piece, nothing, byte_in, start, finish, word, seq, either, count, group, ahead, in_set, least_length}
-use Rattle.ix_pattern.specs.Ways.{Text, Reached, Way, ends_at, edge, onward, required, prefer, optional, further_turns, byte_before, at_end, here, byte_ways, is_start, finish_ways, is_word_byte, is_word, differ, word_ways, sight, look, close_group, ways}
+use Rattle.ix_pattern.specs.Ways.{Text, Reached, Way, ends_at, edge, onward, required, prefer, optional, further_turns, byte_before}
+use Rattle.ix_pattern.specs.Ways.{at_end, here, byte_ways, is_start, finish_ways, is_word_byte, is_word, differ, word_ways, sight, look}
+use Rattle.ix_pattern.specs.Ways.{close_group, ways}
 
 abbrev pub EachEnd : (Reached → Type 0) → List Way → Type 0
 EachEnd P [] = Unit {0}
@@ -45,7 +48,8 @@ byte_in-ends : (set : List Bool) (text : Text) (r : Reached) (o : Option ℕ) �
 byte_in-ends set text r None e = EachEnd-at_end (Within text (r.place + 1)) text.unfinished [] tt
 byte_in-ends set text r (Some b) e =
     let lt : r.place < length text.bytes = slice_get_within text.bytes r.place b e in
-    EachEnd-here (Within text (r.place + 1)) (in_set set b) (record r { place = r.place + 1 }) (record { low = omega arith; high = omega arith })
+    EachEnd-here (Within text (r.place + 1)) (in_set set b) (record r { place = r.place + 1 })
+    (record { low = omega arith; high = omega arith })
 
 pub finish-ends : (P : Reached → Type 0) (lines : Bool) (text : Text) (r : Reached) (o : Option ℕ) → P r →
     EachEnd P (finish_ways lines text r o)
@@ -106,7 +110,8 @@ unfolding ways least_length
 ways-ends nothing text r h = (record { low = omega arith; high = h }, tt)
 ways-ends (byte_in set) text r h = byte_in-ends set text r (slice_get text.bytes r.place) refl
 ways-ends (start lines) text r h =
-    EachEnd-here (Within text (r.place + 0)) (is_start lines (byte_before text.before text.bytes r.place)) r (record { low = omega arith; high = h })
+    EachEnd-here (Within text (r.place + 0)) (is_start lines (byte_before text.before text.bytes r.place)) r
+    (record { low = omega arith; high = h })
 ways-ends (finish lines) text r h =
     finish-ends (Within text (r.place + 0)) lines text r (slice_get text.bytes r.place) (record { low = omega arith; high = h })
 ways-ends word text r h =

@@ -1,5 +1,7 @@
--- The reader of tokens gives the syntax that they spell, and only where there is none it gives none.
-use Rattle.std.proofs.Common.{◌≡◌, Bool, true, false, ◌&&◌, if◌then◌else◌, List, [], ◌∷◌, ◌++◌, Option, Some, None, refl, sym, ◌∙◌, ap, subst, append_assoc, append-nil}
+-- The reader of tokens gives the syntax that they spell, and only where there is none it gives
+-- none.
+use Rattle.std.proofs.Common.{◌≡◌, Bool, true, false, ◌&&◌, if◌then◌else◌, List, [], ◌∷◌, ◌++◌, Option, Some, None, refl, sym, ◌∙◌, ap}
+use Rattle.std.proofs.Common.{subst, append_assoc, append-nil}
 use Rattle.ix_pattern.specs.declared.tokens.Repeat.{Repeat}
 use Rattle.ix_pattern.specs.declared.tokens.Opening.{Opening}
 use Rattle.ix_pattern.specs.declared.tokens.Token.{Token}
@@ -30,15 +32,21 @@ runs (leaf l times rest) ts outer a e =
     (ap run (append_assoc (spelled_count times) (spelled rest) ts)
     ∙ run-count times (spelled rest ++ ts) rest outer (runs rest ts outer a e))
 runs (paren opening inside times rest) ts outer a e =
-    let holds : may_hold opening (is_plain inside) ≡ true = and-first (may_hold opening (is_plain inside)) (is_allowed inside) (and-first (may_hold opening (is_plain inside) && is_allowed inside) (is_allowed rest) a) in
-    let within : is_allowed inside ≡ true = and-second (may_hold opening (is_plain inside)) (is_allowed inside) (and-first (may_hold opening (is_plain inside) && is_allowed inside) (is_allowed rest) a) in
+    let holds : may_hold opening (is_plain inside) ≡ true =
+    and-first (may_hold opening (is_plain inside)) (is_allowed inside)
+    (and-first (may_hold opening (is_plain inside) && is_allowed inside) (is_allowed rest) a) in
+    let within : is_allowed inside ≡ true = and-second (may_hold opening (is_plain inside)) (is_allowed inside)
+    (and-first (may_hold opening (is_plain inside) && is_allowed inside) (is_allowed rest) a) in
     let behind : run (spelled_count times ++ (spelled rest ++ ts)) ≡ Some (state (level times rest) outer) =
-    run-count times (spelled rest ++ ts) rest outer (runs rest ts outer (and-second (may_hold opening (is_plain inside) && is_allowed inside) (is_allowed rest) a) e) in
+    run-count times (spelled rest ++ ts) rest outer (runs rest ts outer
+    (and-second (may_hold opening (is_plain inside) && is_allowed inside) (is_allowed rest) a) e) in
     let closed : run (Close ∷ (spelled_count times ++ (spelled rest ++ ts))) ≡ Some (state (level None done) (level times rest ∷ outer)) =
     ap (λ o. o >>= step Close) behind in
-    let opens : run (spelled inside ++ Close ∷ (spelled_count times ++ (spelled rest ++ ts))) ≡ Some (state (level None inside) (level times rest ∷ outer)) =
+    let opens : run (spelled inside ++ Close ∷ (spelled_count times ++ (spelled rest ++ ts))) ≡ Some
+    (state (level None inside) (level times rest ∷ outer)) =
     runs inside (Close ∷ (spelled_count times ++ (spelled rest ++ ts))) (level times rest ∷ outer) within closed in
-    let regrouped : (spelled inside ++ Close ∷ (spelled_count times ++ spelled rest)) ++ ts ≡ spelled inside ++ Close ∷ (spelled_count times ++ (spelled rest ++ ts)) =
+    let regrouped : (spelled inside ++ Close ∷ (spelled_count times ++ spelled rest)) ++ ts ≡ spelled inside ++ Close
+    ∷ (spelled_count times ++ (spelled rest ++ ts)) =
     append_assoc (spelled inside) (Close ∷ (spelled_count times ++ spelled rest)) ts
     ∙ ap (λ l. spelled inside ++ Close ∷ l) (append_assoc (spelled_count times) (spelled rest) ts) in
     ap (λ o. o >>= step (Open opening)) (ap run regrouped ∙ opens)
@@ -89,18 +97,23 @@ step-spells : (t : Token) (st st' : State) → step t st ≡ Some st' → IsAllo
 step-spells (Leaf l) (state (level times rest) outer) st' e a =
     let same : state (level None (leaf l times rest)) outer ≡ st' = cc in
     subst (λ s. Spells s (Leaf l ∷ spelled_state (state (level times rest) outer))) same
-    (record { tokens = ap (λ l'. Leaf l ∷ l') (append_assoc (spelled_count times) (spelled rest) (spelled_levels outer)); allowed = (a.0, a.1) })
+    (record {
+      tokens = ap (λ l'. Leaf l ∷ l') (append_assoc (spelled_count times) (spelled rest) (spelled_levels outer));
+      allowed = (a.0, a.1);
+    })
 step-spells Bar (state (level None rest) outer) st' e a =
     let same : state (level None (bar rest)) outer ≡ st' = cc in
     subst (λ s. Spells s (Bar ∷ spelled_state (state (level None rest) outer))) same (record { tokens = refl; allowed = (a.0, a.1) })
 step-spells Bar (state (level (Some times) rest) outer) st' e a = absurd (cc)
 step-spells (Count repeat) (state (level None rest) outer) st' e a =
     let same : state (level (Some repeat) rest) outer ≡ st' = cc in
-    subst (λ s. Spells s (Count repeat ∷ spelled_state (state (level None rest) outer))) same (record { tokens = refl; allowed = (a.0, a.1) })
+    subst (λ s. Spells s (Count repeat ∷ spelled_state (state (level None rest) outer))) same
+    (record { tokens = refl; allowed = (a.0, a.1) })
 step-spells (Count repeat) (state (level (Some times) rest) outer) st' e a = absurd (cc)
 step-spells Close (state (level times rest) outer) st' e a =
     let same : state (level None done) (level times rest ∷ outer) ≡ st' = cc in
-    subst (λ s. Spells s (Close ∷ spelled_state (state (level times rest) outer))) same (record { tokens = refl; allowed = (refl, (a.0, a.1)) })
+    subst (λ s. Spells s (Close ∷ spelled_state (state (level times rest) outer))) same
+    (record { tokens = refl; allowed = (refl, (a.0, a.1)) })
 step-spells (Open opening) (state (level None inside) outer) st' e a = step-open opening inside outer st' e a
 step-spells (Open opening) (state (level (Some times) inside) outer) st' e a = absurd (cc)
 

@@ -1,5 +1,6 @@
 -- Rounds of readers.
-use Rattle.std.proofs.Common.{◌≡◌, ℕ, suc, ◌+◌, ◌-◌, ◌<◌, ◌≤◌, zero, length, [], ◌∷◌, Bool, true, false, ◌==◌, List, Option, Some, None, if◌then◌else◌, refl, sym, ◌∙◌, ap, ◌++◌, append_assoc, append-nil, arith}
+use Rattle.std.proofs.Common.{◌≡◌, ℕ, suc, ◌+◌, ◌-◌, ◌<◌, ◌≤◌, zero, length, [], ◌∷◌, Bool, true, false, ◌==◌, List, Option, Some, None}
+use Rattle.std.proofs.Common.{if◌then◌else◌, refl, sym, ◌∙◌, ap, ◌++◌, append_assoc, append-nil, arith}
 use Rattle.std.proofs.lemmas.Bool.{false≢true}
 use Rattle.ix_pattern.specs.Tokens.{turn, members, modifier, modifiers, behind_modifier, token_front, tokens, ◌>>=◌}
 use Rattle.ix_pattern.specs.declared.tokens.Flags.{Flags}
@@ -69,15 +70,19 @@ tokens_finished front n flags bytes whole is e =
     ap Some (sym (append-nil front)) ∙ ap (with_front front) (sym (tokens_end n flags bytes e)) ∙ is
 
 -- where a token is at the front, the rest is found behind it
-pub tokens_step : (front more : List Token) (n m : ℕ) (flags : Flags) (bytes behind : List ℕ) (t : Token) (whole : Option (List Token)) → m < n → 0 < length bytes →
-    Some (t, behind) ≡ token_front flags bytes → more ≡ front ++ t ∷ [] → with_front front (tokens (n - m) flags bytes) ≡ whole → with_front more (tokens (n - (m + 1)) flags behind) ≡ whole
+pub tokens_step : (front more : List Token) (n m : ℕ) (flags : Flags) (bytes behind : List ℕ) (t : Token) (whole : Option (List Token)) →
+    m < n → 0 < length bytes →
+    Some (t, behind) ≡ token_front flags bytes → more ≡ front ++ t ∷ [] → with_front front (tokens (n - m) flags bytes) ≡ whole →
+    with_front more (tokens (n - (m + 1)) flags behind) ≡ whole
 tokens_step front more n m flags bytes behind t whole lt some found grown is =
     let others : Token × List ℕ → Option (List Token) = λ t. tokens (n - (m + 1)) flags t.1 >>= λ others. Some (t.0 ∷ others) in
-    ap (λ f. with_front f (tokens (n - (m + 1)) flags behind)) grown ∙ sym (with_front-turn front (t, behind) (tokens (n - (m + 1)) flags behind))
+    ap (λ f. with_front f (tokens (n - (m + 1)) flags behind)) grown
+    ∙ sym (with_front-turn front (t, behind) (tokens (n - (m + 1)) flags behind))
     ∙ ap (λ o. with_front front (o >>= others)) found ∙ ap (with_front front) (sym (tokens_turn n m flags bytes lt some)) ∙ is
 
 -- where none is, there are no tokens
-pub tokens_failed : (front : List Token) (n m : ℕ) (flags : Flags) (bytes : List ℕ) (whole : Option (List Token)) → m < n → 0 < length bytes →
+pub tokens_failed : (front : List Token) (n m : ℕ) (flags : Flags) (bytes : List ℕ) (whole : Option (List Token)) → m < n →
+    0 < length bytes →
     None ≡ token_front flags bytes → with_front front (tokens (n - m) flags bytes) ≡ whole → None ≡ whole
 tokens_failed front n m flags bytes whole lt some none is =
     let others : Token × List ℕ → Option (List Token) = λ t. tokens (n - (m + 1)) flags t.1 >>= λ others. Some (t.0 ∷ others) in

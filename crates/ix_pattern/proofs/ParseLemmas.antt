@@ -1,5 +1,6 @@
 -- From what was read to the pattern.
-use Rattle.std.proofs.Common.{◌≡◌, ℕ, ◌+◌, ◌≤◌, min, nat_lt, Bool, true, false, ◌||◌, List, [], ◌∷◌, length, Option, Some, None, zero, suc, refl, sym, ◌∙◌, ap, subst, arith}
+use Rattle.std.proofs.Common.{◌≡◌, ℕ, ◌+◌, ◌≤◌, min, nat_lt, Bool, true, false, ◌||◌, List, [], ◌∷◌, length, Option, Some, None, zero, suc}
+use Rattle.std.proofs.Common.{refl, sym, ◌∙◌, ap, subst, arith}
 use Rattle.std.specs.Prelude.{◌==◌}
 use Rattle.std.specs.Option.{is_some}
 use Rattle.std.proofs.lemmas.Bool.Decides.{nat_tests}
@@ -17,7 +18,8 @@ use Rattle.ix_pattern.proofs.Grammar.{given-is-spelled, spelled-is-given}
 use Rattle.ix_pattern.proofs.StepLemmas.{snoc-nil}
 use Rattle.ix_pattern.proofs.ReadsLemmas.{captures-spelled, tokens-weigh, or-none}
 
-spelled-so : (text : List ℕ) (ts : List Token) (s : Syntax) → Some ts ≡ tokens_of text → IsSpelledBy s text → run ts ≡ Some (state (level None s) [])
+spelled-so : (text : List ℕ) (ts : List Token) (s : Syntax) → Some ts ≡ tokens_of text → IsSpelledBy s text →
+    run ts ≡ Some (state (level None s) [])
 spelled-so text ts s e p =
     let same : ts ≡ spelled s = let f : Some ts ≡ Some (spelled s) = e ∙ p.tokens in cc in
     ap run same ∙ spelled-is-given s p.allowed
@@ -29,27 +31,33 @@ no-state text ts found e r n s p =
     let some = spelled-so text ts s e p in
     absurd (let f : None ≡ Some (state (level None s) []) = sym none ∙ some in cc)
 
-final : (text : List ℕ) (ts : List Token) (reader : Reader) (s : Syntax) → Some ts ≡ tokens_of text → ReadsAll (Some reader) ts → IsSpelledBy s text →
+final : (text : List ℕ) (ts : List Token) (reader : Reader) (s : Syntax) → Some ts ≡ tokens_of text → ReadsAll (Some reader) ts →
+    IsSpelledBy s text →
     IsReading reader (state (level None s) [])
 final text ts reader s e r p =
     let has = r.0.1 in
-    let same : r.0.0 ≡ state (level None s) [] = let f : Some r.0.0 ≡ Some (state (level None s) []) = sym has.run ∙ spelled-so text ts s e p in cc in
+    let same : r.0.0 ≡ state (level None s) [] = let f : Some r.0.0 ≡ Some (state (level None s) []) = sym has.run
+    ∙ spelled-so text ts s e p in cc in
     subst (IsReading reader) same has.reading
 
-pub still-waits : (text : List ℕ) (ts : List Token) (found : Option Reader) (reader : Reader) → Some ts ≡ tokens_of text → ReadsAll found ts → found ≡ Some reader →
+pub still-waits : (text : List ℕ) (ts : List Token) (found : Option Reader) (reader : Reader) → Some ts ≡ tokens_of text →
+    ReadsAll found ts → found ≡ Some reader →
     is_some reader.here.waiting ≡ true → (s : Syntax) → IsSpelledBy s text → ⊥
 still-waits text ts found reader e r is w s p =
     let f = final text ts reader s e (subst (λ o. ReadsAll o ts) is r) p in
     absurd (let g : is_some reader.here.waiting ≡ false = ap is_some f.0.waits in let h : true ≡ false = sym w ∙ g in cc)
 
-pub still-open : (text : List ℕ) (ts : List Token) (found : Option Reader) (reader : Reader) → Some ts ≡ tokens_of text → ReadsAll found ts → found ≡ Some reader →
+pub still-open : (text : List ℕ) (ts : List Token) (found : Option Reader) (reader : Reader) → Some ts ≡ tokens_of text →
+    ReadsAll found ts → found ≡ Some reader →
     (reader.outer.items ≡ [] → ⊥) → (s : Syntax) → IsSpelledBy s text → ⊥
 still-open text ts found reader e r is w s p =
     let f = final text ts reader s e (subst (λ o. ReadsAll o ts) is r) p in
     w f.1
 
-ends : (text : List ℕ) (ts : List Token) (reader : Reader) (st : State) → Some ts ≡ tokens_of text → HasRead reader ts st → reader.opened ≡ 0 →
-    reader.work.groups ≡ captures ts → byte_pieces reader.work.rows ≤ leaves ts → reader.here.waiting ≡ None → reader.outer.items ≡ [] → (s : Syntax) × Read reader text s
+ends : (text : List ℕ) (ts : List Token) (reader : Reader) (st : State) → Some ts ≡ tokens_of text → HasRead reader ts st →
+    reader.opened ≡ 0 →
+    reader.work.groups ≡ captures ts → byte_pieces reader.work.rows ≤ leaves ts → reader.here.waiting ≡ None → reader.outer.items ≡ [] →
+    (s : Syntax) × Read reader text s
 ends text ts reader (state (level None s) []) e h z g b w o =
     let given = given-is-spelled ts (state (level None s) []) s h.run refl in (
       s,
@@ -68,7 +76,8 @@ ends text ts reader (state (level (Some times) s) levels) e h z g b w o =
 ends text ts reader (state (level None s) (level times t ∷ levels)) e h z g b w o =
     absurd (snoc-nil h.reading.1.0 h.reading.1.1 (sym h.reading.1.2 ∙ o))
 
-pub parsed : (text : List ℕ) (ts : List Token) (found : Option Reader) (reader : Reader) → Some ts ≡ tokens_of text → ReadsAll found ts → found ≡ Some reader →
+pub parsed : (text : List ℕ) (ts : List Token) (found : Option Reader) (reader : Reader) → Some ts ≡ tokens_of text → ReadsAll found ts →
+    found ≡ Some reader →
     reader.here.waiting ≡ None → reader.outer.items ≡ [] → (s : Syntax) × Read reader text s
 parsed text ts found reader e r is w o =
     let all : ReadsAll (Some reader) ts = subst (λ f. ReadsAll f ts) is r in
@@ -85,7 +94,8 @@ too-large high count deep weight s d h c w =
     rw (d, h, c, w) (ap (λ b. counts_high s || nat_lt 32 (groups s) || b || nat_lt 200000 (min (weight_of s) 200001)) (over (depth s) 64)
     ∙ ap (λ b. counts_high s || nat_lt 32 (groups s) || nat_lt 64 (depth s) || b) (over (weight_of s) 200000))
 
-pub parses-some : (text : List ℕ) (found : Option Reader) (reader : Reader) → found ≡ Some reader → Parses found text → (s : Syntax) × Read reader text s
+pub parses-some : (text : List ℕ) (found : Option Reader) (reader : Reader) → found ≡ Some reader → Parses found text → (s : Syntax)
+    × Read reader text s
 parses-some text found reader is p = subst (λ f. Parses f text) is p
 
 -- ---- the pattern

@@ -1,5 +1,6 @@
 -- What is known of a piece that is made of pieces.
-use Rattle.std.proofs.Common.{◌≡◌, ℕ, zero, suc, ◌+◌, ◌*◌, ◌<◌, ◌≤◌, min, max, Bool, true, false, not, ◌&&◌, ◌||◌, nat_lt, nat_le, length, List, Option, Some, None, Result, Ok, Err, IfOk, refl, sym, ◌∙◌, ap, arith}
+use Rattle.std.proofs.Common.{◌≡◌, ℕ, zero, suc, ◌+◌, ◌*◌, ◌<◌, ◌≤◌, min, max, Bool, true, false, not, ◌&&◌, ◌||◌, nat_lt, nat_le, length}
+use Rattle.std.proofs.Common.{List, Option, Some, None, Result, Ok, Err, IfOk, refl, sym, ◌∙◌, ap, arith}
 use Rattle.std.specs.Prelude.{◌==◌}
 use Rattle.std.proofs.lemmas.Bool.Decides.{nat_tests}
 use Rattle.std.proofs.lemmas.Bool.{leb-true, leb-false}
@@ -24,7 +25,8 @@ takes-suc m = grind (arith, nat_tests)
 
 or-takes : (m n : ℕ) → (nat_lt 0 m || nat_lt 0 n) ≡ nat_lt 0 (m + n)
 or-takes zero n = let none : n ≡ 0 + n = omega arith in ap (nat_lt 0) none
-or-takes (suc m) n = let one : suc (m + n) ≡ suc m + n = omega arith in ap (λ b. b || nat_lt 0 n) (takes-suc m) ∙ sym (takes-suc (m + n)) ∙ ap (nat_lt 0) one
+or-takes (suc m) n = let one : suc (m + n) ≡ suc m + n = omega arith in ap (λ b. b || nat_lt 0 n) (takes-suc m) ∙ sym (takes-suc (m + n))
+    ∙ ap (nat_lt 0) one
 
 and-takes : (m n : ℕ) → (nat_lt 0 m && nat_lt 0 n) ≡ nat_lt 0 (min m n)
 and-takes zero n = let none : 0 ≡ min 0 n = omega arith in ap (nat_lt 0) none
@@ -55,16 +57,19 @@ adds old new part piece weight g b is m t e = record {
 
 pub seq-part : (old new : Made) (part first rest : Part) (p q : Piece) (v w : ℕ) → Grew old new → part.piece < length new.rows →
     piece_at new.rows part.piece ≡ seq (piece_at old.rows first.piece) (piece_at old.rows rest.piece) →
-    part.weight ≡ min (first.weight + rest.weight) 200001 → part.takes ≡ (first.takes || rest.takes) → part.repeats_empty ≡ (first.repeats_empty || rest.repeats_empty) →
+    part.weight ≡ min (first.weight + rest.weight) 200001 → part.takes ≡ (first.takes || rest.takes) →
+    part.repeats_empty ≡ (first.repeats_empty || rest.repeats_empty) →
     IsPart old.rows first p v → IsPart old.rows rest q w → Adds old new part (seq p q) (v + w)
 unfolding least_length
 seq-part old new part first rest p q v w g b is m t e f r =
     adds old new part (seq p q) (v + w) g b (cc (f.is, r.is)) (omega (arith, f.measured, r.measured))
     (t ∙ rw (f.takes, r.takes) (or-takes (least_length p) (least_length q))) (cc (f.empty, r.empty))
 
-pub either-part : (old new : Made) (part first other : Part) (more : ℕ) (p q : Piece) (v w : ℕ) → Grew old new → part.piece < length new.rows →
+pub either-part : (old new : Made) (part first other : Part) (more : ℕ) (p q : Piece) (v w : ℕ) → Grew old new →
+    part.piece < length new.rows →
     piece_at new.rows part.piece ≡ either (piece_at old.rows first.piece) (piece_at old.rows other.piece) →
-    part.weight ≡ min (first.weight + other.weight + more) 200001 → part.takes ≡ (first.takes && other.takes) → part.repeats_empty ≡ (first.repeats_empty || other.repeats_empty) →
+    part.weight ≡ min (first.weight + other.weight + more) 200001 → part.takes ≡ (first.takes && other.takes) →
+    part.repeats_empty ≡ (first.repeats_empty || other.repeats_empty) →
     IsPart old.rows first p v → IsPart old.rows other q w → Adds old new part (either p q) (v + w + more)
 unfolding least_length
 either-part old new part first other more p q v w g b is m t e f r =
@@ -108,20 +113,23 @@ count-part old new part inside repeat p w g b is m t e i =
     (e ∙ rw (i.empty, i.takes) (ap (λ k. repeats_empty p || (is_none (most_of repeat.times) && k)) (not-takes (least_length p))))
 
 pub leaf-part : {n : ℕ} (old new : Made) (part : Part) (piece : Piece) → GrewBy n old new → part.piece < length new.rows →
-    piece_at new.rows part.piece ≡ piece → part.weight ≡ 1 → part.takes ≡ nat_lt 0 (least_length piece) → part.repeats_empty ≡ repeats_empty piece →
+    piece_at new.rows part.piece ≡ piece → part.weight ≡ 1 → part.takes ≡ nat_lt 0 (least_length piece) →
+    part.repeats_empty ≡ repeats_empty piece →
     AddsBy n old new part piece 1
 leaf-part old new part piece g b is m t e = adds old new part piece 1 g b is (omega (arith, m)) t e
 
 pub group-part : (old new : Made) (part inside : Part) (number : ℕ) (p : Piece) (w : ℕ) → Grew old new → part.piece < length new.rows →
     piece_at new.rows part.piece ≡ group number (piece_at old.rows inside.piece) → part.weight ≡ min (inside.weight + 2) 200001 →
-    part.takes ≡ inside.takes → part.repeats_empty ≡ inside.repeats_empty → IsPart old.rows inside p w → Adds old new part (group number p) (w + 2)
+    part.takes ≡ inside.takes → part.repeats_empty ≡ inside.repeats_empty → IsPart old.rows inside p w →
+    Adds old new part (group number p) (w + 2)
 unfolding least_length
 group-part old new part inside number p w g b is m t e i =
     adds old new part (group number p) (w + 2) g b (cc (i.is)) (omega (arith, i.measured)) (t ∙ i.takes) (e ∙ i.empty)
 
 pub ahead-part : (old new : Made) (part inside : Part) (wanted : Bool) (p : Piece) (w : ℕ) → Grew old new → part.piece < length new.rows →
     piece_at new.rows part.piece ≡ ahead (piece_at old.rows inside.piece) wanted → part.weight ≡ min (256 * inside.weight + 1) 200001 →
-    part.takes ≡ false → part.repeats_empty ≡ inside.repeats_empty → IsPart old.rows inside p w → Adds old new part (ahead p wanted) (256 * w + 1)
+    part.takes ≡ false → part.repeats_empty ≡ inside.repeats_empty → IsPart old.rows inside p w →
+    Adds old new part (ahead p wanted) (256 * w + 1)
 unfolding least_length
 ahead-part old new part inside wanted p w g b is m t e i =
     adds old new part (ahead p wanted) (256 * w + 1) g b (cc (i.is)) (omega (arith, i.measured)) t (e ∙ i.empty)
@@ -145,17 +153,20 @@ at-most-one (node.Count inside least most lazy) = omega arith
 at-most-one (node.Group number inside) = omega arith
 at-most-one (node.Ahead inside wanted) = omega arith
 
-pub leaf-made : (old new : Made) (part : Part) (l : Leaf) (row : Node × List Bool × Bool) → row ≡ leaf_row l → GrewBy (one_if_bytes row.0) old new →
+pub leaf-made : (old new : Made) (part : Part) (l : Leaf) (row : Node × List Bool × Bool) → row ≡ leaf_row l →
+    GrewBy (one_if_bytes row.0) old new →
     part.piece < length new.rows → piece_at new.rows part.piece ≡ made (pieces old.rows) row.0 row.1 → part.weight ≡ 1 →
     part.takes ≡ row.2 → part.repeats_empty ≡ false → AddsBy 1 old new part (leaf_piece l) 1
 unfolding least_length
 leaf-made old new part l row same f b is m t e =
-    with_row l (is ∙ ap (λ (r : Node × List Bool × Bool). made (pieces old.rows) r.0 r.1) same) (t ∙ ap (λ (r : Node × List Bool × Bool). r.2) same)
+    with_row l (is ∙ ap (λ (r : Node × List Bool × Bool). made (pieces old.rows) r.0 r.1) same) (t
+    ∙ ap (λ (r : Node × List Bool × Bool). r.2) same)
   where
     g : GrewBy 1 old new
     g = record { groups = f.groups; longer = f.longer; stay = f.stay; bytes = omega (arith, f.bytes, at-most-one row.0) }
 
-    with_row : (l : Leaf) → piece_at new.rows part.piece ≡ made (pieces old.rows) (leaf_row l).0 (leaf_row l).1 → part.takes ≡ (leaf_row l).2 →
+    with_row : (l : Leaf) → piece_at new.rows part.piece ≡ made (pieces old.rows) (leaf_row l).0 (leaf_row l).1 →
+        part.takes ≡ (leaf_row l).2 →
         AddsBy 1 old new part (leaf_piece l) 1
     with_row (leaf.Bytes set) i k = leaf-part old new part (byte_in set) g b i m k e
     with_row (leaf.Start lines) i k = leaf-part old new part (start lines) g b i m k e
@@ -175,7 +186,8 @@ Grew-then old mid new f g = record {
   bytes = omega (arith, f.bytes, g.bytes);
 }
 
-pub lift-part : {n : ℕ} (old new : Made) (part : Part) (piece : Piece) (weight : ℕ) → GrewBy n old new → IsPart old.rows part piece weight → IsPart new.rows part piece weight
+pub lift-part : {n : ℕ} (old new : Made) (part : Part) (piece : Piece) (weight : ℕ) → GrewBy n old new → IsPart old.rows part piece weight →
+    IsPart new.rows part piece weight
 lift-part old new part piece weight g i = record {
   below = omega (arith, g.longer, i.below);
   is = g.stay part.piece i.below ∙ i.is;
@@ -189,7 +201,8 @@ pub lift-optional : {n : ℕ} (old new : Made) (part : Option Part) (piece : Opt
 lift-optional old new None piece weight g i = i
 lift-optional old new (Some part) piece weight g i = (i.0, i.1, i.2, i.3, lift-part old new part i.0 i.1 g i.4)
 
-pub below-optional : (old : Made) (part : Option Part) (piece : Option Piece) (weight : Option ℕ) → IsOptional old.rows part piece weight → IsBelow old.rows part
+pub below-optional : (old : Made) (part : Option Part) (piece : Option Piece) (weight : Option ℕ) → IsOptional old.rows part piece weight →
+    IsBelow old.rows part
 below-optional old None piece weight i = tt
 below-optional old (Some part) piece weight i = i.4.below
 
@@ -197,10 +210,12 @@ pub lift-below : {n : ℕ} (old new : Made) (part : Option Part) → GrewBy n ol
 lift-below old new None g b = tt
 lift-below old new (Some part) g b = omega (arith, g.longer, b)
 
-pub same-part : (made : Made) (part : Part) (piece : Piece) (weight : ℕ) → IsPart made.rows part piece weight → Adds made made part piece weight
+pub same-part : (made : Made) (part : Part) (piece : Piece) (weight : ℕ) → IsPart made.rows part piece weight →
+    Adds made made part piece weight
 same-part made part piece weight i = record { grew = Grew-refl made; added = i }
 
-pub then-adds : {n : ℕ} (old mid new : Made) (part : Part) (piece : Piece) (weight : ℕ) → GrewBy n old mid → Adds mid new part piece weight → AddsBy n old new part piece weight
+pub then-adds : {n : ℕ} (old mid new : Made) (part : Part) (piece : Piece) (weight : ℕ) → GrewBy n old mid →
+    Adds mid new part piece weight → AddsBy n old new part piece weight
 then-adds old mid new part piece weight g a = record { grew = Grew-then old mid new g a.grew; added = a.added }
 
 pub all-add : {E : Type 0} (old mid new : Made) (r : Result Part E) (piece : Piece) (weight : ℕ) → Grew old mid →

@@ -1,5 +1,6 @@
 -- Reading all tokens.
-use Rattle.std.proofs.Common.{◌≡◌, ℕ, ◌+◌, ◌≤◌, Bool, true, false, List, [], ◌∷◌, ◌++◌, Option, Some, None, refl, sym, ◌∙◌, ap, subst, arith, append-nil, append_assoc, count_by, cond, Vec, Global}
+use Rattle.std.proofs.Common.{◌≡◌, ℕ, ◌+◌, ◌≤◌, Bool, true, false, List, [], ◌∷◌, ◌++◌, Option, Some, None, refl, sym, ◌∙◌, ap, subst}
+use Rattle.std.proofs.Common.{arith, append-nil, append_assoc, count_by, cond, Vec, Global}
 use Rattle.ix_pattern.specs.Syntax.{opened, done}
 use Rattle.ix_pattern.specs.Rows.{Rows, byte_pieces}
 use Rattle.ix_pattern.specs.Made.{Made}
@@ -51,7 +52,8 @@ pub record HasCome (reader : Reader) (all left : List Token) : Type 0 where
   pub known : reader.work.groups ≡ captures all
   pub bytes : byte_pieces reader.work.rows ≤ leaves read
 
-pub come-can : (reader : Reader) (all left before : List Token) (t : Token) → HasCome reader all left → left ≡ before ++ t ∷ [] → CanStep t reader
+pub come-can : (reader : Reader) (all left before : List Token) (t : Token) → HasCome reader all left → left ≡ before ++ t ∷ [] →
+    CanStep t reader
 come-can reader all left before t h e = record {
   left = omega (arith, h.opens, ap captures e, captures-snoc before t);
   known = omega (arith, h.opens, h.known, ap captures h.all_are, captures-append left h.read);

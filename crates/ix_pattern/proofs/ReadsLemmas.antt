@@ -1,8 +1,12 @@
 -- The pattern of a syntax.
-use Rattle.std.proofs.Common.{◌≡◌, ℕ, zero, suc, ◌+◌, ◌*◌, ◌<◌, ◌≤◌, max, Bool, true, false, ◌&&◌, ◌||◌, [], ◌∷◌, ◌++◌, Option, Some, None, unwrap_or, refl, sym, ◌∙◌, ap, arith}
+use Rattle.std.proofs.Common.{◌≡◌, ℕ, zero, suc, ◌+◌, ◌*◌, ◌<◌, ◌≤◌, max, Bool, true, false, ◌&&◌, ◌||◌, [], ◌∷◌, ◌++◌, Option, Some, None}
+use Rattle.std.proofs.Common.{unwrap_or, refl, sym, ◌∙◌, ap, arith}
 use Rattle.std.specs.Prelude.{◌==◌}
 use Rattle.ix_pattern.specs.Piece.{Piece, nothing, least_length, IsSound, IsPlain, TakesIfUnlimited}
-use Rattle.ix_pattern.specs.Syntax.{Syntax, done, bar, leaf, paren, spelled, spelled_count, groups, opened, pieces, whole, alternatives, joined, repeated, leaf_piece, paren_piece, is_plain, is_plain_opening, is_allowed, may_hold, repeats_empty, is_none, most_of, times_weight, repeated_weight, paren_weight, alternatives_weight, whole_weight, weights, weight_of}
+use Rattle.ix_pattern.specs.Syntax.{Syntax, done, bar, leaf, paren, spelled, spelled_count, groups, opened, pieces, whole, alternatives}
+use Rattle.ix_pattern.specs.Syntax.{joined, repeated, leaf_piece, paren_piece, is_plain, is_plain_opening, is_allowed, may_hold}
+use Rattle.ix_pattern.specs.Syntax.{repeats_empty, is_none, most_of, times_weight, repeated_weight, paren_weight, alternatives_weight}
+use Rattle.ix_pattern.specs.Syntax.{whole_weight, weights, weight_of}
 use Rattle.ix_pattern.specs.Run.{level, state, run}
 use Rattle.ix_pattern.specs.Frames.{captures, leaves}
 use Rattle.ix_pattern.specs.Reads.{OneSyntax}
@@ -91,7 +95,8 @@ paren-weigh Capture w = omega arith
 paren-weigh Plain w = omega arith
 paren-weigh (Ahead wanted) w = omega arith
 
-all-weigh : (first others : Option ℕ) (more : ℕ) → unwrap_or first 0 + unwrap_or others 0 ≤ alternatives_weight (unwrap_or first 1) others more
+all-weigh : (first others : Option ℕ) (more : ℕ) → unwrap_or first 0 + unwrap_or others 0 ≤ alternatives_weight (unwrap_or first 1) others
+    more
 all-weigh None None more = omega arith
 all-weigh (Some f) None more = omega arith
 all-weigh None (Some o) more = omega arith
@@ -160,11 +165,16 @@ paren-plain (Ahead wanted) n p e h = absurd (cc)
 pieces-plain : (s : Syntax) (n : ℕ) → is_plain s ≡ true → Of IsPlain (pieces n s).first × Of IsPlain (pieces n s).others
 pieces-plain done n e = (tt, tt)
 pieces-plain (bar rest) n e =
-    let behind = pieces-plain rest n e in
-    (tt, alternatives-plain (unwrap_or (pieces n rest).first nothing) (pieces n rest).others (first-plain (pieces n rest).first behind.0) behind.1)
+    let behind = pieces-plain rest n e in (
+      tt,
+      alternatives-plain (unwrap_or (pieces n rest).first nothing) (pieces n rest).others (first-plain (pieces n rest).first behind.0)
+          behind.1,
+    )
 pieces-plain (leaf l times rest) n e =
-    let behind = pieces-plain rest n e in
-    (joined-plain (repeated (leaf_piece l) times) (pieces n rest).first (repeated-plain (leaf_piece l) times (leaf-plain l)) behind.0, behind.1)
+    let behind = pieces-plain rest n e in (
+      joined-plain (repeated (leaf_piece l) times) (pieces n rest).first (repeated-plain (leaf_piece l) times (leaf-plain l)) behind.0,
+      behind.1,
+    )
 pieces-plain (paren opening inside times rest) n e =
     let both = and-both (is_plain_opening opening && is_plain inside) (is_plain rest) e in
     let front = and-both (is_plain_opening opening) (is_plain inside) both.0 in
@@ -175,7 +185,8 @@ pieces-plain (paren opening inside times rest) n e =
     (first-plain (pieces (n + opened opening) inside).first within.0) within.1 in
     let piece : Piece = paren_piece opening (n + opened opening) (whole (pieces (n + opened opening) inside)) in (
       joined-plain (repeated piece times) (pieces (n + opened opening + groups inside) rest).first
-          (repeated-plain piece times (paren-plain opening (n + opened opening) (whole (pieces (n + opened opening) inside)) front.0 held)) behind.0,
+          (repeated-plain piece times (paren-plain opening (n + opened opening) (whole (pieces (n + opened opening) inside)) front.0 held))
+          behind.0,
       behind.1,
     )
 
@@ -214,7 +225,8 @@ alternatives-fine : (p : Piece) (o : Option Piece) → IsFine p → Of IsFine o 
 alternatives-fine p None h i e = h e
 alternatives-fine p (Some q) h i e = let both = or-none (repeats_empty p) (repeats_empty q) e in (h both.0, i both.1)
 
-paren-fine : (opening : Opening) (n : ℕ) (p : Piece) (plain : Bool) → may_hold opening plain ≡ true → (plain ≡ true → IsPlain p) → IsFine p →
+paren-fine : (opening : Opening) (n : ℕ) (p : Piece) (plain : Bool) → may_hold opening plain ≡ true → (plain ≡ true → IsPlain p) →
+    IsFine p →
     IsFine (paren_piece opening n p)
 paren-fine Capture n p plain m q h e = h e
 paren-fine Plain n p plain m q h e = h e
@@ -224,11 +236,16 @@ paren-fine (Ahead wanted) n p plain m q h e = (h e, q m)
 pieces-fine : (s : Syntax) (n : ℕ) → is_allowed s ≡ true → Of IsFine (pieces n s).first × Of IsFine (pieces n s).others
 pieces-fine done n a = (tt, tt)
 pieces-fine (bar rest) n a =
-    let behind = pieces-fine rest n a in
-    (tt, alternatives-fine (unwrap_or (pieces n rest).first nothing) (pieces n rest).others (first-fine (pieces n rest).first behind.0) behind.1)
+    let behind = pieces-fine rest n a in (
+      tt,
+      alternatives-fine (unwrap_or (pieces n rest).first nothing) (pieces n rest).others (first-fine (pieces n rest).first behind.0)
+          behind.1,
+    )
 pieces-fine (leaf l times rest) n a =
-    let behind = pieces-fine rest n a in
-    (joined-fine (repeated (leaf_piece l) times) (pieces n rest).first (repeated-fine (leaf_piece l) times (leaf-fine l)) behind.0, behind.1)
+    let behind = pieces-fine rest n a in (
+      joined-fine (repeated (leaf_piece l) times) (pieces n rest).first (repeated-fine (leaf_piece l) times (leaf-fine l)) behind.0,
+      behind.1,
+    )
 pieces-fine (paren opening inside times rest) n a =
     let both = and-both (may_hold opening (is_plain inside) && is_allowed inside) (is_allowed rest) a in
     let front = and-both (may_hold opening (is_plain inside)) (is_allowed inside) both.0 in
@@ -244,7 +261,8 @@ pieces-fine (paren opening inside times rest) n a =
     let piece : Piece = paren_piece opening (n + opened opening) (whole (pieces (n + opened opening) inside)) in (
       joined-fine (repeated piece times) (pieces (n + opened opening + groups inside) rest).first
           (repeated-fine piece times
-          (paren-fine opening (n + opened opening) (whole (pieces (n + opened opening) inside)) (is_plain inside) front.0 plain held)) behind.0,
+          (paren-fine opening (n + opened opening) (whole (pieces (n + opened opening) inside)) (is_plain inside) front.0 plain held))
+          behind.0,
       behind.1,
     )
 

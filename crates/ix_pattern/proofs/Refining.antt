@@ -1,5 +1,6 @@
 -- The list of a text that is continued or closed.
-use Rattle.std.proofs.Common.{◌≡◌, ℕ, zero, suc, ◌+◌, ◌-◌, ◌<◌, ◌≤◌, Bool, true, false, List, [], ◌∷◌, ◌++◌, length, take, Option, Some, None, if◌then◌else◌, refl, sym, ◌∙◌, ap, arith, nat_le, ◌&&◌, ◌⊎◌, inl, inr, append_assoc}
+use Rattle.std.proofs.Common.{◌≡◌, ℕ, zero, suc, ◌+◌, ◌-◌, ◌<◌, ◌≤◌, Bool, true, false, List, [], ◌∷◌, ◌++◌, length, take, Option, Some}
+use Rattle.std.proofs.Common.{None, if◌then◌else◌, refl, sym, ◌∙◌, ap, arith, nat_le, ◌&&◌, ◌⊎◌, inl, inr, append_assoc}
 use Rattle.std.specs.Prelude.{slice_get, ◌==◌}
 use Rattle.std.proofs.lemmas.Option.{slice_get_within}
 use Rattle.std.proofs.lemmas.List.{append-nil, length-append, take-append-le, length-take-le}
@@ -7,7 +8,9 @@ use Rattle.std.proofs.Math.Seq.{take-append-add}
 use Rattle.std.proofs.lemmas.Bool.{leb-true, leb-false, le-leb}
 use Rattle.std.proofs.lemmas.Bool.Decides.{Decides-eqb}
 use Rattle.ix_pattern.specs.Piece.{nothing, byte_in, start, finish, word, seq, either, count, group, ahead, in_set, least_length}
-use Rattle.ix_pattern.specs.Ways.{Text, Reached, Way, ends_at, edge, onward, required, prefer, optional, byte_before, at_end, here, byte_ways, is_start, finish_ways, is_word_byte, is_word, differ, word_ways, sight, look, close_group, ways}
+use Rattle.ix_pattern.specs.Ways.{Text, Reached, Way, ends_at, edge, onward, required, prefer, optional, byte_before, at_end, here}
+use Rattle.ix_pattern.specs.Ways.{byte_ways, is_start, finish_ways, is_word_byte, is_word, differ, word_ways, sight, look, close_group}
+use Rattle.ix_pattern.specs.Ways.{ways}
 use Rattle.ix_pattern.specs.Laws.{Continues, Refines, EdgesAreReplaced}
 use Rattle.ix_pattern.proofs.Ends.{EachEnd, Within, Takes, ways-ends}
 
@@ -81,10 +84,12 @@ slice_get-append [] ys k h = absurd (omega arith)
 slice_get-append (x ∷ xs) ys zero h = refl
 slice_get-append (x ∷ xs) ys (suc k) h = slice_get-append xs ys k (omega arith)
 
-same-get : (text longer : Text) → Continues text longer → (k : ℕ) → k < length text.bytes → slice_get longer.bytes k ≡ slice_get text.bytes k
+same-get : (text longer : Text) → Continues text longer → (k : ℕ) → k < length text.bytes →
+    slice_get longer.bytes k ≡ slice_get text.bytes k
 same-get text longer c k h = ap (λ l. slice_get l k) c.bytes ∙ slice_get-append text.bytes c.more k h
 
-same-before : (text longer : Text) → Continues text longer → (k : ℕ) → k ≤ length text.bytes → byte_before longer.before longer.bytes k ≡ byte_before text.before text.bytes k
+same-before : (text longer : Text) → Continues text longer → (k : ℕ) → k ≤ length text.bytes →
+    byte_before longer.before longer.bytes k ≡ byte_before text.before text.bytes k
 same-before text longer c zero h = c.before
 same-before text longer c (suc k) h = same-get text longer c k (omega arith)
 
@@ -104,7 +109,8 @@ byte-step f g text longer c k at_edge at_byte = by (slice_get text.bytes k) refl
         let same : slice_get longer.bytes k ≡ Some b = same-get text longer c k lt ∙ e in
         rw same (at_byte b e)
 
-finish-improves : (lines : Bool) (text longer : Text) → Continues text longer → (r : Reached) (b : ℕ) → slice_get text.bytes r.place ≡ Some b →
+finish-improves : (lines : Bool) (text longer : Text) → Continues text longer → (r : Reached) (b : ℕ) →
+    slice_get text.bytes r.place ≡ Some b →
     Refines (finish_ways lines text r (Some b)) (finish_ways lines longer r (Some b))
 finish-improves true text longer c r b e = Refines-refl (here (b == 10) r)
 finish-improves false text longer c r b e =
@@ -159,7 +165,8 @@ sight-improves n text longer c = by (nat_le n (length text.bytes)) refl (nat_le 
 pub sight-room : (n : ℕ) (text : Text) (k : ℕ) → k ≤ n → k ≤ length text.bytes → k ≤ length (sight n text).bytes
 sight-room n text k a b = by (nat_le n (length text.bytes)) refl
   where
-    by : (t : Bool) → nat_le n (length text.bytes) ≡ t → k ≤ length (if t then record text { bytes = take n text.bytes; unfinished = false } else text).bytes
+    by : (t : Bool) → nat_le n (length text.bytes) ≡ t →
+        k ≤ length (if t then record text { bytes = take n text.bytes; unfinished = false } else text).bytes
     by true e = omega (arith, length-take-le n text.bytes (leb-true n (length text.bytes) e))
     by false e = b
 
@@ -187,9 +194,11 @@ edges-replaced (finish lines) sound text longer c r h =
 edges-replaced word sound text longer c r h =
     byte-step (word_ways text r) (word_ways longer r) text longer c r.place
     (λ ys. at_end-improves text (here (is_word (byte_before text.before text.bytes r.place)) r) ys c.unfinished)
-    (λ b e. rw (same-before text longer c r.place h) (Refines-refl (here (differ (is_word (byte_before text.before text.bytes r.place)) (is_word_byte b)) r)))
+    (λ b e. rw (same-before text longer c r.place h) (Refines-refl
+    (here (differ (is_word (byte_before text.before text.bytes r.place)) (is_word_byte b)) r)))
 edges-replaced (seq first rest) sound text longer c r h =
-    Refines-onward (Within text (r.place + least_length first)) (ways rest text) (ways rest longer) (ways first text r) (ways first longer r)
+    Refines-onward (Within text (r.place + least_length first)) (ways rest text) (ways rest longer) (ways first text r)
+    (ways first longer r)
     (ways-ends first text r h) (edges-replaced first sound.0 text longer c r h)
     (λ e w. edges-replaced rest sound.1 text longer c e w.high)
 edges-replaced (either first other) sound text longer c r h =
@@ -206,7 +215,8 @@ edges-replaced (count inside least None lazy) sound text longer c r h =
     required-improves text (least_length inside) (ways inside text) (ways inside longer)
     (optional lazy (ways inside text) (suc (length text.bytes))) (optional lazy (ways inside longer) (suc (length longer.bytes)))
     (ways-ends inside text) (edges-replaced inside sound.0 text longer c)
-    (λ e w. unlimited-improves text longer lazy (least_length inside) (ways inside text) (ways inside longer) sound.1 (ways-ends inside text)
+    (λ e w. unlimited-improves text longer lazy (least_length inside) (ways inside text) (ways inside longer) sound.1
+    (ways-ends inside text)
     (edges-replaced inside sound.0 text longer c) (suc (length text.bytes)) (suc (length longer.bytes)) e w
     (omega arith) (omega (arith, ap length c.bytes, length-append text.bytes c.more)))
     least r h

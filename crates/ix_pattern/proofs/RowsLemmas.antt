@@ -1,5 +1,6 @@
 -- Each tree of the list is made of its node, and the list may grow.
-use Rattle.std.proofs.Common.{◌≡◌, ℕ, zero, suc, ◌+◌, ◌<◌, ◌≤◌, Bool, List, [], ◌∷◌, ◌++◌, length, take, drop, get_or, Some, refl, sym, ◌∙◌, ap, subst, arith}
+use Rattle.std.proofs.Common.{◌≡◌, ℕ, zero, suc, ◌+◌, ◌<◌, ◌≤◌, Bool, List, [], ◌∷◌, ◌++◌, length, take, drop, get_or, Some, refl, sym}
+use Rattle.std.proofs.Common.{◌∙◌, ap, subst, arith}
 use Rattle.std.specs.Prelude.{slice_get, unwrap_or}
 use Rattle.std.specs.Option.{option_map}
 use Rattle.std.proofs.lemmas.List.{length-append, length-map, map-append, length-take-le, take-append-drop, take-map}
@@ -10,20 +11,24 @@ use Rattle.ix_pattern.specs.Parts.{GrewBy}
 use Rattle.ix_pattern.specs.declared.pattern.Node.{Node}
 use Rattle.ix_pattern.specs.declared.pattern.Node.TheVariants.{Nothing, Bytes, Start, Finish, Word, Seq, Either, Count, Group, Ahead}
 use Rattle.ix_pattern.specs.declared.pattern.Row.{Row}
-use Rattle.ix_pattern.specs.Rows.{Rows, tree, rows_of, piece_at, piece_in, made, pieces_from, pieces, IsInside, AllInside, set_at, set_of, node_of, node_at, Shape, IsPattern, one_if_bytes, byte_pieces}
+use Rattle.ix_pattern.specs.Rows.{Rows, tree, rows_of, piece_at, piece_in, made, pieces_from, pieces, IsInside, AllInside, set_at, set_of}
+use Rattle.ix_pattern.specs.Rows.{node_of, node_at, Shape, IsPattern, one_if_bytes, byte_pieces}
 
-pub AllInside-push : (groups : ℕ) (k : ℕ) (rows : Rows) (node : Node) (set : List Bool) → AllInside groups k rows → IsInside groups node (k + length rows) →
+pub AllInside-push : (groups : ℕ) (k : ℕ) (rows : Rows) (node : Node) (set : List Bool) → AllInside groups k rows →
+    IsInside groups node (k + length rows) →
     AllInside groups k (rows ++ (node, set) ∷ [])
 AllInside-push groups k [] node set all h = (subst (IsInside groups node) (omega arith) h, tt)
 AllInside-push groups k (row ∷ rows) node set all h =
     (all.0, AllInside-push groups (suc k) rows node set all.1 (subst (IsInside groups node) (omega arith) h))
 
-pub AllInside-at : (groups : ℕ) (k : ℕ) (rows : Rows) (j : ℕ) (row : Node × List Bool) → AllInside groups k rows → slice_get rows j ≡ Some row → IsInside groups row.0 (k + j)
+pub AllInside-at : (groups : ℕ) (k : ℕ) (rows : Rows) (j : ℕ) (row : Node × List Bool) → AllInside groups k rows →
+    slice_get rows j ≡ Some row → IsInside groups row.0 (k + j)
 AllInside-at groups k [] j row all e = absurd (cc)
 AllInside-at groups k (first ∷ rows) zero row all e =
     let same : first ≡ row = cc in
     subst (λ r. IsInside groups r.0 (k + 0)) same (subst (IsInside groups first.0) (omega arith) all.0)
-AllInside-at groups k (first ∷ rows) (suc j) row all e = subst (IsInside groups row.0) (omega arith) (AllInside-at groups (suc k) rows j row all.1 e)
+AllInside-at groups k (first ∷ rows) (suc j) row all e =
+    subst (IsInside groups row.0) (omega arith) (AllInside-at groups (suc k) rows j row all.1 e)
 
 slice_get-append : (xs ys : List Piece) (k : ℕ) → k < length xs → slice_get (xs ++ ys) k ≡ slice_get xs k
 slice_get-append [] ys k h = absurd (omega arith)
@@ -53,14 +58,16 @@ made-same groups xs ys (Count inside least most lazy) set k h same = cc (same in
 made-same groups xs ys (Group number inside) set k h same = cc (same inside h.0)
 made-same groups xs ys (Ahead inside wanted) set k h same = cc (same inside h)
 
-pub piece_in-made : (groups : ℕ) (done : List Piece) (rows : Rows) (j : ℕ) (row : Node × List Bool) → AllInside groups (length done) rows → slice_get rows j ≡ Some row →
+pub piece_in-made : (groups : ℕ) (done : List Piece) (rows : Rows) (j : ℕ) (row : Node × List Bool) → AllInside groups (length done) rows →
+    slice_get rows j ≡ Some row →
     piece_in (pieces_from done rows) (length done + j) ≡ made (pieces_from done rows) row.0 row.1
 piece_in-made groups done [] j row all e = absurd (cc)
 piece_in-made groups done (first ∷ rows) zero row all e =
     let same : first ≡ row = cc in
     let m : Piece = made done first.0 first.1 in
     ap (piece_in (pieces_from done (first ∷ rows))) (omega arith)
-    ∙ piece_in-from (done ++ made done first.0 first.1 ∷ []) rows (length done) (omega (arith, length-append done (made done first.0 first.1 ∷ [])))
+    ∙ piece_in-from (done ++ made done first.0 first.1 ∷ []) rows (length done)
+    (omega (arith, length-append done (made done first.0 first.1 ∷ [])))
     ∙ ap (λ o. unwrap_or o nothing) (slice_get-seam done [] (made done first.0 first.1))
     ∙ made-same groups done (pieces_from done (first ∷ rows)) first.0 first.1 (length done) all.0
     (λ i lt. sym (piece_in-from done (first ∷ rows) i lt))
@@ -80,7 +87,8 @@ row-at rows value k row is lt read =
     (omega (arith, ap length is, length-map {B = Node × List Bool} rows (λ (r : Row). (r.node, r.set)))) read)
 
 -- what the node at a number is, as the model has it
-pub row-is : (rows : List Row) (shape : Shape) (k : ℕ) (row : Row) → rows_of rows ≡ shape.rows → k < length shape.rows → row ≡ get_or rows k row →
+pub row-is : (rows : List Row) (shape : Shape) (k : ℕ) (row : Row) → rows_of rows ≡ shape.rows → k < length shape.rows →
+    row ≡ get_or rows k row →
     node_at shape.rows k ≡ Some row.node
 row-is rows shape k row is lt read = ap node_of (row-at rows shape.rows k row is lt read)
 
@@ -92,7 +100,8 @@ node-is rows shape k row is all lt read =
     ∙ piece_in-made shape.groups [] shape.rows k (row.node, row.set) all.inside at
     ∙ ap (λ o. made (pieces shape.rows) row.node (set_of o)) (sym at)
 
-pub node-inside : (rows : List Row) (shape : Shape) (k : ℕ) (row : Row) → rows_of rows ≡ shape.rows → IsPattern shape → k < length shape.rows →
+pub node-inside : (rows : List Row) (shape : Shape) (k : ℕ) (row : Row) → rows_of rows ≡ shape.rows → IsPattern shape →
+    k < length shape.rows →
     row ≡ get_or rows k row → IsInside shape.groups row.node k
 node-inside rows shape k row is all lt read =
     subst (IsInside shape.groups row.node) (omega arith)
@@ -126,7 +135,8 @@ byte_pieces-append : (xs ys : Rows) → byte_pieces (xs ++ ys) ≡ byte_pieces x
 byte_pieces-append [] ys = omega arith
 byte_pieces-append (x ∷ xs) ys = omega (arith, byte_pieces-append xs ys)
 
-pub push-grew : (old new : Made) (row : Node × List Bool) → new.groups ≡ old.groups → new.rows ≡ old.rows ++ row ∷ [] → GrewBy (one_if_bytes row.0) old new
+pub push-grew : (old new : Made) (row : Node × List Bool) → new.groups ≡ old.groups → new.rows ≡ old.rows ++ row ∷ [] →
+    GrewBy (one_if_bytes row.0) old new
 push-grew old new row g e = record {
   groups = g;
   longer = omega (arith, ap length e, length-append old.rows (row ∷ []));
@@ -147,7 +157,8 @@ work-inside rows more groups now row is all h e =
     (AllInside-push groups 0 (rows_of rows) row.node row.set all
     (subst (λ n. IsInside n row.node (0 + length (rows_of rows))) g (subst (λ k. IsInside now.groups row.node k) l h)))
 
-pub work-made : (rows more : List Row) (groups : ℕ) (now : Made) (row : Row) (k : ℕ) → record { rows = rows_of rows; groups = groups } ≡ now →
+pub work-made : (rows more : List Row) (groups : ℕ) (now : Made) (row : Row) (k : ℕ) →
+    record { rows = rows_of rows; groups = groups } ≡ now →
     k ≡ length now.rows → more ≡ rows ++ row ∷ [] → piece_at (rows_of more) k ≡ made (pieces now.rows) row.node row.set
 work-made rows more groups now row k is at e =
     ap (λ r. piece_at r k) (rows-more rows more row e ∙ ap (λ (m : Made). m.rows ++ (row.node, row.set) ∷ []) is)
@@ -185,7 +196,8 @@ cut-tree rows made k is lt =
     ∙ sym (piece-front (take (k + 1) made.rows) (drop (k + 1) made.rows) k (omega (arith, long)))
     ∙ ap (λ r. piece_at r k) (take-append-drop (k + 1) made.rows)
 
-pub cut-rooted : (rows : List Row) (made : Made) (k : ℕ) → rows_of rows ≡ made.rows → k < length made.rows → 0 < length (rows_of (take (k + 1) rows))
+pub cut-rooted : (rows : List Row) (made : Made) (k : ℕ) → rows_of rows ≡ made.rows → k < length made.rows →
+    0 < length (rows_of (take (k + 1) rows))
 cut-rooted rows made k is lt =
     let cut : rows_of (take (k + 1) rows) ≡ take (k + 1) made.rows =
     sym (take-map (λ (r : Row). (r.node, r.set)) (k + 1) rows) ∙ ap (take (k + 1)) is in
@@ -194,7 +206,8 @@ cut-rooted rows made k is lt =
 pub cut-inside : (rows : List Row) (groups : ℕ) (n : ℕ) → AllInside groups 0 (rows_of rows) → AllInside groups 0 (rows_of (take n rows))
 cut-inside rows groups n all =
     subst (AllInside groups 0) (take-map (λ (r : Row). (r.node, r.set)) n rows)
-    (AllInside-front groups 0 (take n (rows_of rows)) (drop n (rows_of rows)) (subst (AllInside groups 0) (sym (take-append-drop n (rows_of rows))) all))
+    (AllInside-front groups 0 (take n (rows_of rows)) (drop n (rows_of rows))
+    (subst (AllInside groups 0) (sym (take-append-drop n (rows_of rows))) all))
 
 pub cut-bytes : (rows : List Row) (value : Rows) (n : ℕ) → rows_of rows ≡ value → byte_pieces (rows_of (take n rows)) ≤ byte_pieces value
 cut-bytes rows value n is =

@@ -6,7 +6,8 @@ use Rattle.std.proofs.lemmas.Option.{unwrap_or-slice_get}
 use Rattle.ix_pattern.specs.Piece.{in_set}
 use Rattle.ix_pattern.specs.Sets.{bytes_where}
 
-pub same-set : (test : ℕ → Bool) (xs : List Bool) → length xs ≡ 256 → ((k : ℕ) → k < 256 → get_or xs k false ≡ test k) → xs ≡ bytes_where test
+pub same-set : (test : ℕ → Bool) (xs : List Bool) → length xs ≡ 256 → ((k : ℕ) → k < 256 → get_or xs k false ≡ test k) →
+    xs ≡ bytes_where test
 unfolding bytes_where
 same-set test xs len each = fill_by_all test xs 256 false len each
 
@@ -14,6 +15,8 @@ pub read-set : (set : List Bool) (b : ℕ) → get_or set b false ≡ in_set set
 read-set set b = sym (unwrap_or-slice_get set b false)
 
 -- one place more of it is written
-pub more-set : (test : ℕ → Bool) (xs : List Bool) (i : ℕ) (value : Bool) → i < length xs → value ≡ test i → ((k : ℕ) → k < i → get_or xs k false ≡ test k) →
+pub more-set : (test : ℕ → Bool) (xs : List Bool) (i : ℕ) (value : Bool) → i < length xs → value ≡ test i →
+    ((k : ℕ) → k < i → get_or xs k false ≡ test k) →
     (k : ℕ) → k < i + 1 → get_or (set xs i value) k false ≡ test k
-more-set test xs i value long is each k below = subst (λ v. get_or (set xs i v) k false ≡ test k) (sym is) (fill_by_more test xs i false long each k below)
+more-set test xs i value long is each k below = subst (λ v. get_or (set xs i v) k false ≡ test k) (sym is)
+    (fill_by_more test xs i false long each k below)

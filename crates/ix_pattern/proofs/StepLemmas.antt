@@ -1,5 +1,6 @@
 -- What a step of the reader comes to.
-use Rattle.std.proofs.Common.{◌≡◌, ℕ, ◌+◌, ◌≤◌, true, false, List, [], ◌∷◌, ◌++◌, Option, Some, None, Vec, Global, refl, sym, ◌∙◌, ap, subst, arith, add-zero}
+use Rattle.std.proofs.Common.{◌≡◌, ℕ, ◌+◌, ◌≤◌, true, false, List, [], ◌∷◌, ◌++◌, Option, Some, None, Vec, Global, refl, sym, ◌∙◌, ap}
+use Rattle.std.proofs.Common.{subst, arith, add-zero}
 use Rattle.std.specs.Option.{is_some}
 use Rattle.ix_pattern.specs.Rows.{Rows, byte_pieces}
 use Rattle.ix_pattern.specs.Made.{Made}
@@ -19,12 +20,16 @@ pub reading-holds : (reader : Reader) (st : State) → IsReading reader st → H
 reading-holds reader (state (level times s) levels) r = frame-holds reader.work reader.opened reader.here times s r.0
 
 pub leaf-stepped : (old : Reader) (work : Made) (here : Frame) (l : Leaf) → GrewBy 1 old.work work →
-    ((n : ℕ) (times : Option Repeat) (s : Syntax) → IsFrame old.work.rows n old.here times s → IsFrame work.rows n here None (leaf l times s)) →
+    ((n : ℕ) (times : Option Repeat) (s : Syntax) → IsFrame old.work.rows n old.here times s →
+    IsFrame work.rows n here None (leaf l times s)) →
     Stepped (token.Leaf l) true old (record old { work = work; here = here })
 leaf-stepped old work here l g m = record { goes = goes; left = λ t. add-zero old.opened; known = g.groups; bytes = g.bytes }
   where
     goes : (st : State) → IsReading old st → Goes true (step (token.Leaf l) st) (record old { work = work; here = here })
-    goes (state (level times s) levels) r = (m old.opened times s r.0, lift-frames old.work work (old.opened + groups s) old.outer.items levels g r.1)
+    goes (state (level times s) levels) r = (
+      m old.opened times s r.0,
+      lift-frames old.work work (old.opened + groups s) old.outer.items levels g r.1,
+    )
 
 pub bar-stepped : (old : Reader) (work : Made) (here : Frame) → old.here.waiting ≡ None → Grew old.work work →
     ((n : ℕ) (s : Syntax) → IsFrame old.work.rows n old.here None s → IsFrame work.rows n here None (bar s)) →
@@ -32,7 +37,10 @@ pub bar-stepped : (old : Reader) (work : Made) (here : Frame) → old.here.waiti
 bar-stepped old work here e g m = record { goes = goes; left = λ t. add-zero old.opened; known = g.groups; bytes = g.bytes }
   where
     goes : (st : State) → IsReading old st → Goes true (step token.Bar st) (record old { work = work; here = here })
-    goes (state (level None s) levels) r = (m old.opened s r.0, lift-frames old.work work (old.opened + groups s) old.outer.items levels g r.1)
+    goes (state (level None s) levels) r = (
+      m old.opened s r.0,
+      lift-frames old.work work (old.opened + groups s) old.outer.items levels g r.1,
+    )
     goes (state (level (Some times) s) levels) r = absurd (let w = r.0.waits in cc)
 
 pub close-stepped : (old : Reader) (outer : Vec Frame Global) (here : Frame) → outer.items ≡ old.outer.items ++ old.here ∷ [] →
@@ -86,7 +94,8 @@ popped rows n items front f (level times s ∷ rest) a e =
       outer = subst (λ g. AreFrames rows (n + groups s) g rest) same.0 a.4;
     }
 
-pub popped-holds : (reader : Reader) (st : State) (front : List Frame) (f : Frame) → IsReading reader st → reader.outer.items ≡ front ++ f ∷ [] →
+pub popped-holds : (reader : Reader) (st : State) (front : List Frame) (f : Frame) → IsReading reader st → reader.outer.items ≡ front ++ f
+    ∷ [] →
     Holds reader.work.rows f
 popped-holds reader (state (level times s) levels) front f r e =
     let p = popped reader.work.rows (reader.opened + groups s) reader.outer.items front f levels r.1 e in
@@ -128,7 +137,8 @@ outermost-stepped old outer opening e = not-opened old (record old { outer = out
 pub open-stepped : (old : Reader) (work : Made) (here f : Frame) (outer : Vec Frame Global) (left : ℕ) (opening : Opening) →
     old.here.waiting ≡ None → may_hold opening old.here.plain ≡ true → old.outer.items ≡ outer.items ++ f ∷ [] → Grew old.work work →
     left + opened opening ≡ old.opened →
-    ((n : ℕ) (times : Option Repeat) (within s : Syntax) → old.opened ≡ n + opened opening → IsFrame old.work.rows old.opened old.here None within →
+    ((n : ℕ) (times : Option Repeat) (within s : Syntax) → old.opened ≡ n + opened opening →
+    IsFrame old.work.rows old.opened old.here None within →
     IsFrame old.work.rows (old.opened + groups within) f times s → IsFrame work.rows n here None (paren opening within times s)) →
     Stepped (token.Open opening) true old (record { work = work; here = here; outer = outer; opened = left })
 open-stepped old work here f outer left opening w h e g l m = record { goes = goes; left = λ t. l; known = g.groups; bytes = g.bytes }
@@ -143,7 +153,8 @@ open-stepped old work here f outer left opening w h e g l m = record { goes = go
               (lift-frames old.work work (old.opened + groups within + groups p.s) outer.items p.rest g p.outer),
         )
 
-    goes : (st : State) → IsReading old st → Goes true (step (token.Open opening) st) (record { work = work; here = here; outer = outer; opened = left })
+    goes : (st : State) → IsReading old st → Goes true (step (token.Open opening) st)
+        (record { work = work; here = here; outer = outer; opened = left })
     goes (state (level None within) levels) r =
         go within levels r.0 (popped old.work.rows (old.opened + groups within) old.outer.items outer.items f levels r.1 e)
     goes (state (level (Some times) within) levels) r = absurd (let v = r.0.waits in cc)

@@ -24,11 +24,13 @@ pub record IsFrame (rows : Rows) (n : ℕ) (frame : Frame) (times : Option Repea
 abbrev pub AreFrames : Rows → ℕ → List Frame → List Level → Type 0
 AreFrames rows n frames [] = frames ≡ []
 AreFrames rows n frames (level times s ∷ levels) =
-    (outer : List Frame) × (frame : Frame) × (frames ≡ outer ++ frame ∷ []) × IsFrame rows n frame times s × AreFrames rows (n + groups s) outer levels
+    (outer : List Frame) × (frame : Frame) × (frames ≡ outer ++ frame ∷ []) × IsFrame rows n frame times s
+    × AreFrames rows (n + groups s) outer levels
 
 abbrev pub IsReading : Reader → State → Type 0
 IsReading reader (state (level times s) levels) =
-    IsFrame reader.work.rows reader.opened reader.here times s × AreFrames reader.work.rows (reader.opened + groups s) reader.outer.items levels
+    IsFrame reader.work.rows reader.opened reader.here times s
+    × AreFrames reader.work.rows (reader.opened + groups s) reader.outer.items levels
 
 -- the numbers in a frame are of pieces that there are
 pub record Holds (rows : Rows) (frame : Frame) : Type 0 where

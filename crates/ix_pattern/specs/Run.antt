@@ -7,7 +7,8 @@ use Rattle.ix_pattern.specs.declared.tokens.Token.TheVariants.{Leaf, Open, Close
 use Rattle.ix_pattern.specs.Tokens.{◌>>=◌}
 use Rattle.ix_pattern.specs.Syntax.{Syntax, done, bar, leaf, paren, may_hold, is_plain}
 
--- what has been read of one level of parentheses: its syntax, and before that a count whose piece is still to come
+-- what has been read of one level of parentheses: its syntax, and before that a count whose piece
+-- is still to come
 pub data Level : Type 0 where
   level : Option Repeat → Syntax → Level
 

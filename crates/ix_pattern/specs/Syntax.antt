@@ -1,5 +1,6 @@
 -- The grammar of patterns: their syntax, how it is spelled, and what it means.
-use Rattle.std.specs.Prelude.{◌≡◌, ℕ, ◌+◌, ◌*◌, Bool, true, false, ◌&&◌, ◌||◌, nat_lt, max, List, [], ◌∷◌, ◌++◌, Option, Some, None, unwrap_or, ◌==◌}
+use Rattle.std.specs.Prelude.{◌≡◌, ℕ, ◌+◌, ◌*◌, Bool, true, false, ◌&&◌, ◌||◌, nat_lt, max, List, [], ◌∷◌, ◌++◌, Option, Some, None}
+use Rattle.std.specs.Prelude.{unwrap_or, ◌==◌}
 use Rattle.ix_pattern.specs.Piece.{Piece, nothing, byte_in, start, finish, word, seq, either, count, group, ahead, least_length}
 use Rattle.ix_pattern.specs.declared.tokens.Leaf.{Leaf}
 use Rattle.ix_pattern.specs.declared.tokens.Leaf.TheVariants.{Bytes, Start, Finish, Word}
@@ -161,7 +162,8 @@ alternatives_weight first (Some others) more = first + others + more
 abbrev pub whole_weight : Halves ℕ → ℕ
 whole_weight h = alternatives_weight (unwrap_or h.first 1) h.others 1
 
--- the weight of the first alternative, if it is not empty, and the sum of the others', if there are any
+-- the weight of the first alternative, if it is not empty, and the sum of the others', if there are
+-- any
 abbrev pub weights : Syntax → Halves ℕ
 weights done = record { first = None; others = None }
 weights (bar rest) =
@@ -172,7 +174,10 @@ weights (leaf l times rest) =
     record { first = Some (repeated_weight 1 times + unwrap_or behind.first 0); others = behind.others }
 weights (paren opening inside times rest) =
     let behind : Halves ℕ = weights rest in
-    record { first = Some (repeated_weight (paren_weight opening (whole_weight (weights inside))) times + unwrap_or behind.first 0); others = behind.others }
+    record {
+      first = Some (repeated_weight (paren_weight opening (whole_weight (weights inside))) times + unwrap_or behind.first 0);
+      others = behind.others;
+    }
 
 abbrev pub weight_of : Syntax → ℕ
 weight_of syntax = whole_weight (weights syntax)

@@ -1,5 +1,6 @@
 -- The tokens of a pattern's text. A text that has no tokens is not in the grammar.
-use Rattle.std.specs.Prelude.{ℕ, suc, zero, ◌+◌, ◌-◌, ◌*◌, Bool, true, false, ◌&&◌, ◌||◌, not, ◌==◌, if◌then◌else◌, nat_le, List, [], ◌∷◌, length, Option, Some, None, option_and_then}
+use Rattle.std.specs.Prelude.{ℕ, suc, zero, ◌+◌, ◌-◌, ◌*◌, Bool, true, false, ◌&&◌, ◌||◌, not, ◌==◌, if◌then◌else◌, nat_le, List, [], ◌∷◌}
+use Rattle.std.specs.Prelude.{length, Option, Some, None, option_and_then}
 use Rattle.ix_pattern.specs.Sets.{none, with_range, union, folded, complement, digits, words, spaces, is_upper, is_lower}
 use Rattle.ix_pattern.specs.declared.tokens.Flags.{Flags}
 use Rattle.ix_pattern.specs.declared.tokens.Leaf.{Leaf}
@@ -21,7 +22,8 @@ o >>= f = option_and_then f o
 abbrev pub is_digit : ℕ → Bool
 is_digit b = nat_le 48 b && nat_le b 57
 
--- a number of 1 to 4 digits, of which so many, with this value, have been read, and what is behind it
+-- a number of 1 to 4 digits, of which so many, with this value, have been read, and what is behind
+-- it
 abbrev pub number_from : ℕ → ℕ → List ℕ → Option (ℕ × List ℕ)
 number_from seen value [] = if seen == 0 then None else Some (value, [])
 number_from seen value (b ∷ bytes) =

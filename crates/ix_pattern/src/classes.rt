@@ -2,7 +2,8 @@
 
 ghost use Rattle.std.specs.Prelude.{◌≡◌};
 ghost use Rattle.std.specs.Option.{option_map};
-ghost use Rattle.ix_pattern.specs.Tokens.{hex_digit, hex_byte, escape_of, escape_at, begins_name, single, range_end, range, behind_byte, member_from, member, turn, members, class_set, class};
+ghost use Rattle.ix_pattern.specs.Tokens.{hex_digit, hex_byte, escape_of, escape_at, begins_name, single, range_end, range, behind_byte};
+ghost use Rattle.ix_pattern.specs.Tokens.{member_from, member, turn, members, class_set, class};
 
 use crate::sets::{ByteSet, complement, digits, folded, none, spaces, union, with_range, words};
 use crate::tokens::{Leaf, Token};

@@ -6,7 +6,8 @@ ghost use Rattle.ix_pattern.specs.Tokens.{number, number_from, closing, upper_li
 
 use crate::tokens::{Repeat, Times, Token};
 
-/// A number of 1 to 4 digits, of which so many, with this value, have been read, and what is behind it.
+/// A number of 1 to 4 digits, of which so many, with this value, have been read, and what is behind
+/// it.
 fn number_from(seen: u32, value: u32, bytes: &[u8]) -> Option<(u32, &[u8])>
     requires seen { seen ≤ 4 }
     requires value { value < 10 ^ seen }

@@ -12,8 +12,8 @@ pub enum PatternFault {
     /// The text is not in the grammar.
     #[error("the text is no pattern")]
     Syntax,
-    /// The text is longer than 4,096 bytes; or a number of a count is above 1,000, there are more than 32 capturing
-    /// groups, parentheses nest deeper than 64, or the weight is above 200,000.
+    /// The text is longer than 4,096 bytes; or a number of a count is above 1,000, there are more
+    /// than 32 capturing groups, parentheses nest deeper than 64, or the weight is above 200,000.
     #[error("the pattern is too large")]
     TooLarge,
     /// A piece that may take no byte has `*`, `+` or `{m,}`.

@@ -2,7 +2,8 @@
 
 ghost use Rattle.std.specs.Prelude.{◌≡◌, IfOk};
 ghost use Rattle.std.specs.Option.{option_map};
-ghost use Rattle.ix_pattern.specs.Tokens.{special_opening, opening, brace, escaped, escape_token, literal, dot, token_at, token_front, tokens, tokens_of};
+ghost use Rattle.ix_pattern.specs.Tokens.{special_opening, opening, brace, escaped, escape_token, literal, dot, token_at, token_front};
+ghost use Rattle.ix_pattern.specs.Tokens.{tokens, tokens_of};
 
 use crate::classes::{Escape, class, escape_at};
 use crate::counts::{count, in_order, limits};

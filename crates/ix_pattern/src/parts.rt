@@ -2,7 +2,8 @@
 
 ghost use Rattle.std.specs.Prelude.{◌≡◌, ◌+◌, ◌<◌, ◌≤◌, ◌*◌, ℕ, Option, length, IfOk, min, unwrap_or, Some, None};
 ghost use Rattle.ix_pattern.specs.Piece.{Piece, nothing, seq, either, count, group, ahead};
-ghost use Rattle.ix_pattern.specs.Syntax.{opened, joined, leaf_piece, is_none, least_of, most_of, repeated, paren_piece, times_weight, paren_weight, repeated_weight, alternatives, alternatives_weight};
+ghost use Rattle.ix_pattern.specs.Syntax.{opened, joined, leaf_piece, is_none, least_of, most_of, repeated, paren_piece, times_weight};
+ghost use Rattle.ix_pattern.specs.Syntax.{paren_weight, repeated_weight, alternatives, alternatives_weight};
 ghost use Rattle.ix_pattern.specs.Parts.{IsPart, IsOptional, IsBelow, Grew, Adds, AddsBy};
 
 use crate::part::Part;
@@ -222,7 +223,8 @@ pub fn joined(work: &mut Work, part: Part, rest: Option<Part>) -> Result<Part, N
     requires part { part.piece < length work.old.rows }
     requires rest { IsBelow work.old.rows rest }
     ensures kept { IfOk result (λ x. Grew work.old work.new × (x.piece < length work.new.rows)) }
-    ensures meaning { (p : Piece) → (w : ℕ) → (q : Option Piece) → (v : Option ℕ) → IsPart work.old.rows part p w → IsOptional work.old.rows rest q v →
+    ensures meaning { (p : Piece) → (w : ℕ) → (q : Option Piece) → (v : Option ℕ) → IsPart work.old.rows part p w →
+        IsOptional work.old.rows rest q v →
         IfOk result (λ x. Adds work.old work.new x (joined p q) (w + unwrap_or v 0)) }
 {
     match rest {
@@ -244,8 +246,8 @@ pub fn first_of(work: &mut Work, part: Option<Part>) -> Result<Part, NoMemory>
     }
 }
 
-/// The alternative before the others. What they weigh beside their sum is given: alternatives have one, however many
-/// they are.
+/// The alternative before the others. What they weigh beside their sum is given: alternatives have
+/// one, however many they are.
 pub fn alternatives(
     work: &mut Work,
     first: Part,
@@ -256,7 +258,8 @@ pub fn alternatives(
     requires others { IsBelow work.old.rows others }
     requires own_weight { own_weight ≤ 1 }
     ensures kept { IfOk result (λ x. Grew work.old work.new × (x.piece < length work.new.rows)) }
-    ensures meaning { (p : Piece) → (w : ℕ) → (q : Option Piece) → (v : Option ℕ) → IsPart work.old.rows first p w → IsOptional work.old.rows others q v →
+    ensures meaning { (p : Piece) → (w : ℕ) → (q : Option Piece) → (v : Option ℕ) → IsPart work.old.rows first p w →
+        IsOptional work.old.rows others q v →
         IfOk result (λ x. Adds work.old work.new x (alternatives p q) (alternatives_weight w v own_weight)) }
 {
     match others {

@@ -61,8 +61,8 @@ pub struct Row {
     pub set: [bool; 256],
 }
 
-/// A pattern. Contracts see it as its pieces by number, with their sets, the number of its capturing groups, and its
-/// weight.
+/// A pattern. Contracts see it as its pieces by number, with their sets, the number of its
+/// capturing groups, and its weight.
 #[derive(Drop)]
 pub struct Pattern {
     rows: Vec<Row>,
@@ -85,7 +85,8 @@ impl Model for Pattern {
 }
 
 impl Pattern {
-    /// The pattern of these pieces, the last of which is the whole; `takes` tells whether it takes at least one byte.
+    /// The pattern of these pieces, the last of which is the whole; `takes` tells whether it takes
+    /// at least one byte.
     pub(crate) fn from_rows(rows: Vec<Row>, groups: usize, weight: u64, takes: bool) -> Pattern
         requires pattern { IsPattern (record { rows = rows_of rows.items; groups = groups; weight = weight }) }
         requires takes { takes ≡ nat_lt 0 (least_length (tree (rows_of rows.items))) }

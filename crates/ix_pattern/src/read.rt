@@ -46,10 +46,12 @@ fn is_too_large(here: Frame, count: usize, weight: u64) -> bool
 /// The pattern that was read, if it is within the limits and no empty piece repeats.
 fn finish(reader: Reader) -> Result<Pattern, PatternFault>
     requires { (s : Syntax) × Came reader s }
-    ensures found { IfOk result (λ p. (s : Syntax) → Came reader s → (is_too_large s ≡ false) × (repeats_empty (tree_of s) ≡ false) × IsPatternOf s p) }
+    ensures found { IfOk result (λ p. (s : Syntax) → Came reader s → (is_too_large s ≡ false) × (repeats_empty (tree_of s) ≡ false)
+        × IsPatternOf s p) }
     ensures too_large { IsErrOf result PatternFault.TooLarge → (s : Syntax) → Came reader s → is_too_large s ≡ true }
     ensures syntax { IsErrOf result PatternFault.Syntax → ⊥ }
-    ensures empty_repeat { IsErrOf result PatternFault.EmptyRepeat → (s : Syntax) → Came reader s → (is_too_large s ≡ false) × (repeats_empty (tree_of s) ≡ true) }
+    ensures empty_repeat { IsErrOf result PatternFault.EmptyRepeat → (s : Syntax) → Came reader s → (is_too_large s ≡ false)
+        × (repeats_empty (tree_of s) ≡ true) }
 {
     let Reader {
         mut work,
@@ -72,9 +74,10 @@ fn finish(reader: Reader) -> Result<Pattern, PatternFault>
 impl Pattern {
     /// Reads the text of a pattern.
     ///
-    /// `TooLarge` comes first where the text is longer than 4,096 bytes; then `Syntax` where it is not in the grammar;
-    /// then `TooLarge` for the other limits; then `EmptyRepeat`. There is one syntax of each text (see `one_syntax`), so
-    /// these exclude each other. `NoMemory` may come at any time.
+    /// `TooLarge` comes first where the text is longer than 4,096 bytes; then `Syntax` where it is
+    /// not in the grammar; then `TooLarge` for the other limits; then `EmptyRepeat`. There is one
+    /// syntax of each text (see `one_syntax`), so these exclude each other. `NoMemory` may come at
+    /// any time.
     pub fn read(alloc: Global, text: &[u8]) -> Result<Pattern, PatternFault>
         ensures found { IfOk result (λ p. (s : Syntax) × IsReadAs text.now s p) }
         ensures too_large { IsErrOf result PatternFault.TooLarge → IsTooLarge text.now }
@@ -90,7 +93,8 @@ impl Pattern {
         finish(reader)
     }
 
-    /// Reads the text of a pattern for breaks, which has a capturing group and takes at least one byte.
+    /// Reads the text of a pattern for breaks, which has a capturing group and takes at least one
+    /// byte.
     ///
     /// The faults of `read` come first, then `NoGroup`, then `MatchesEmpty`.
     pub fn for_breaks(alloc: Global, text: &[u8]) -> Result<Pattern, BreakFault>

@@ -2,7 +2,9 @@
 
 ghost use Rattle.std.specs.Prelude.{◌≡◌, ◌+◌, ◌-◌, ◌<◌, ◌≤◌, ℕ, List, Option, length, IfOk, Some, None, unwrap_or};
 ghost use Rattle.ix_pattern.specs.Piece.{Piece};
-ghost use Rattle.ix_pattern.specs.Syntax.{Syntax, done, bar, leaf, paren, groups, pieces, weights, whole, whole_weight, repeated, repeated_weight, joined, is_high, is_high_times, opened, paren_piece, paren_weight, is_plain_opening, leaf_piece, alternatives_weight};
+ghost use Rattle.ix_pattern.specs.Syntax.{Syntax, done, bar, leaf, paren, groups, pieces, weights, whole, whole_weight, repeated};
+ghost use Rattle.ix_pattern.specs.Syntax.{repeated_weight, joined, is_high, is_high_times, opened, paren_piece, paren_weight};
+ghost use Rattle.ix_pattern.specs.Syntax.{is_plain_opening, leaf_piece, alternatives_weight};
 ghost use Rattle.ix_pattern.specs.Parts.{IsPart, IsOptional, IsBelow, Grew, GrewBy, Adds};
 ghost use Rattle.ix_pattern.specs.Rows.{Rows};
 ghost use Rattle.ix_pattern.specs.declared.tokens.Repeat.{Repeat};
@@ -78,20 +80,23 @@ fn before(work: &mut Work, part: Part, frame: Frame) -> Result<Part, NoMemory>
     requires part { part.piece < length work.old.rows }
     requires holds { Holds work.old.rows frame }
     ensures kept { IfOk result (λ x. Grew work.old work.new × (x.piece < length work.new.rows)) }
-    ensures meaning { (p : Piece) → (w : ℕ) → (q : Option Piece) → (v : Option ℕ) → IsPart work.old.rows part p w → IsOptional work.old.rows frame.sequence q v →
+    ensures meaning { (p : Piece) → (w : ℕ) → (q : Option Piece) → (v : Option ℕ) → IsPart work.old.rows part p w →
+        IsOptional work.old.rows frame.sequence q v →
         IfOk result (λ x. Adds work.old work.new x (joined (repeated p frame.waiting) q) (repeated_weight w frame.waiting + unwrap_or v 0)) }
 {
     let part = counted(work, part, frame.waiting)?;
     joined(work, part, frame.sequence)
 }
 
-/// All alternatives of a level. What they weigh beside their sum is given: 1, or 0 where others come before them.
+/// All alternatives of a level. What they weigh beside their sum is given: 1, or 0 where others
+/// come before them.
 pub fn whole(work: &mut Work, frame: Frame, own_weight: u64) -> Result<Part, NoMemory>
     requires holds { Holds work.old.rows frame }
     requires own_weight { own_weight ≤ 1 }
     ensures kept { IfOk result (λ x. Grew work.old work.new × (x.piece < length work.new.rows)) }
     ensures meaning { (n : ℕ) → (s : Syntax) → (times : Option Repeat) → IsFrame work.old.rows n frame times s →
-        IfOk result (λ x. Adds work.old work.new x (whole (pieces n s)) (alternatives_weight (unwrap_or (weights s).first 1) (weights s).others own_weight)) }
+        IfOk result (λ x. Adds work.old work.new x (whole (pieces n s))
+        (alternatives_weight (unwrap_or (weights s).first 1) (weights s).others own_weight)) }
 {
     let first = first_of(work, frame.sequence)?;
     alternatives(work, first, frame.others, own_weight)
@@ -101,7 +106,8 @@ pub fn whole(work: &mut Work, frame: Frame, own_weight: u64) -> Result<Part, NoM
 pub fn with_bar(work: &mut Work, here: Frame) -> Result<Frame, NoMemory>
     requires { Holds work.old.rows here }
     ensures kept { IfOk result (λ f. Grew work.old work.new) }
-    ensures meaning { (n : ℕ) → (s : Syntax) → IsFrame work.old.rows n here None s → IfOk result (λ f. IsFrame work.new.rows n f None (bar s)) }
+    ensures meaning { (n : ℕ) → (s : Syntax) → IsFrame work.old.rows n here None s →
+        IfOk result (λ f. IsFrame work.new.rows n f None (bar s)) }
 {
     let others = whole(work, here, 0)?;
     Ok(Frame {

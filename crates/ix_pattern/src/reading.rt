@@ -26,7 +26,8 @@ fn captures(tokens: &[Token]) -> usize
     tokens.iter().filter(|token| is_capture(token)).count()
 }
 
-/// Reads all tokens from the last to the first. There is no answer where that is an error of syntax.
+/// Reads all tokens from the last to the first. There is no answer where that is an error of
+/// syntax.
 pub fn read_tokens(alloc: Global, mut tokens: Vec<Token>) -> Result<Option<Reader>, NoMemory>
     ensures { IfOk result (λ found. ReadsAll found tokens.items) }
 {

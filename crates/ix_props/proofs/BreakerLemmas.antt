@@ -1,4 +1,5 @@
--- The pattern for breaks of the settings of a channel is sound, as every pattern is that was read: for the law `settings_are_usable`.
+-- The pattern for breaks of the settings of a channel is sound, as every pattern is that was read:
+-- for the law `settings_are_usable`.
 use Rattle.std.proofs.Common.{◌≡◌, ℕ, Bool, true, false, List, [], ◌∷◌, Some, None, refl, sym, ap, ◌∙◌, subst, codes}
 use Rattle.std.specs.Prelude.{Option, ◌&&◌, bytes_eq, if◌then◌else◌}
 use Rattle.std.specs.Option.{option_map}
@@ -18,9 +19,9 @@ use Rattle.ix_props.specs.declared.props.PropsEntry.{PropsEntry}
 use Rattle.ix_props.specs.declared.settings.Settings.{Settings}
 use Rattle.ix_props.specs.declared.values.Value.{Value}
 use Rattle.ix_props.specs.declared.values.Value.TheVariants as value
-use Rattle.ix_values.specs.Formats.{format}
-use Rattle.ix_values.specs.Patterns.{ReadsAs}
-use Rattle.ix_values.specs.Plain.{boolean, count_in, number_in}
+use Rattle.ix_conf_values.specs.Formats.{format}
+use Rattle.ix_conf_values.specs.Patterns.{ReadsAs}
+use Rattle.ix_conf_values.specs.Plain.{boolean, count_in, number_in}
 
 -- what is read is sound
 read_sound : (text : List ℕ) (p : Shape) → ReadsAs text p → IsSound (tree p.rows)
@@ -54,12 +55,14 @@ of_kind ts zs kind.Change e p is = absurd is
 of_kind ts zs kind.Transforms e p is = absurd is
 of_kind ts zs kind.Name e p is = absurd (no_map value.Name (name e.value) (value.Pattern p) (λ x h. cc) is)
 
-by_value : (t : Bool) (v : Value) (o : Option Value) (p : Shape) → (v ≡ value.Pattern p → IsSound (tree p.rows)) → (o ≡ Some (value.Pattern p) → IsSound (tree p.rows)) →
+by_value : (t : Bool) (v : Value) (o : Option Value) (p : Shape) → (v ≡ value.Pattern p → IsSound (tree p.rows)) →
+    (o ≡ Some (value.Pattern p) → IsSound (tree p.rows)) →
     (if t then Some v else o) ≡ Some (value.Pattern p) → IsSound (tree p.rows)
 by_value true v o p here there e = here (cc)
 by_value false v o p here there e = there e
 
-among : (ts zs es : List MergedEntry) (entries : List PropsEntry) (stanza key : List ℕ) (p : Shape) → AreRead ts zs es entries → value_in stanza key entries ≡ Some (value.Pattern p) → IsSound (tree p.rows)
+among : (ts zs es : List MergedEntry) (entries : List PropsEntry) (stanza key : List ℕ) (p : Shape) → AreRead ts zs es entries →
+    value_in stanza key entries ≡ Some (value.Pattern p) → IsSound (tree p.rows)
 among ts zs es [] stanza key p read e = absurd (f e)
   where
     f : None ≡ Some (value.Pattern p) → ⊥
@@ -70,7 +73,8 @@ among ts zs (m ∷ es) (x ∷ xs) stanza key p read e =
     (λ h. of_kind ts zs (entry_kind m) m p (subst (IsOfKind ts zs (entry_kind m) m) h read.0.value))
     (λ h. among ts zs es xs stanza key p read.1 h) e
 
-of_breaker : (v : Option Value) (q : Shape) → ((p : Shape) → v ≡ Some (value.Pattern p) → IsSound (tree p.rows)) → IsBreakerOf v q → IsSound (tree q.rows)
+of_breaker : (v : Option Value) (q : Shape) → ((p : Shape) → v ≡ Some (value.Pattern p) → IsSound (tree p.rows)) → IsBreakerOf v q →
+    IsSound (tree q.rows)
 of_breaker None q read is = read_sound (codes "([\\r\\n]+)") q is.is_read
 of_breaker (Some value.Nothing) q read is = read_sound (codes "([\\r\\n]+)") q is.is_read
 of_breaker (Some (value.Source x)) q read is = read_sound (codes "([\\r\\n]+)") q is.is_read
@@ -85,15 +89,19 @@ of_breaker (Some (value.Change x)) q read is = read_sound (codes "([\\r\\n]+)") 
 of_breaker (Some (value.Transforms x)) q read is = read_sound (codes "([\\r\\n]+)") q is.is_read
 of_breaker (Some (value.Name x)) q read is = read_sound (codes "([\\r\\n]+)") q is.is_read
 
-chosen_sound : (ts zs es : List MergedEntry) (entries : List PropsEntry) (meta : ChannelMeta) (sourcetype : List ℕ) (v : Option Value) → AreRead ts zs es entries →
-    IsChosen entries (Holds entries (origin_of meta sourcetype)) (codes "LINE_BREAKER") v → (p : Shape) → v ≡ Some (value.Pattern p) → IsSound (tree p.rows)
+chosen_sound : (ts zs es : List MergedEntry) (entries : List PropsEntry) (meta : ChannelMeta) (sourcetype : List ℕ) (v : Option Value) →
+    AreRead ts zs es entries →
+    IsChosen entries (Holds entries (origin_of meta sourcetype)) (codes "LINE_BREAKER") v → (p : Shape) → v ≡ Some (value.Pattern p) →
+    IsSound (tree p.rows)
 chosen_sound ts zs es entries meta sourcetype None read is p e = absurd (f e)
   where
     f : None ≡ Some (value.Pattern p) → ⊥
     f h = cc
-chosen_sound ts zs es entries meta sourcetype (Some w) read is p e = among ts zs es entries is.stanza (codes "LINE_BREAKER") p read (is.has ∙ e)
+chosen_sound ts zs es entries meta sourcetype (Some w) read is p e =
+    among ts zs es entries is.stanza (codes "LINE_BREAKER") p read (is.has ∙ e)
 
-pub breaker_sound : (ts zs es : List MergedEntry) (entries : List PropsEntry) (meta : ChannelMeta) (s : Settings) → AreRead ts zs es entries → AreSettings entries meta s → IsSound (tree s.breaker.rows)
+pub breaker_sound : (ts zs es : List MergedEntry) (entries : List PropsEntry) (meta : ChannelMeta) (s : Settings) →
+    AreRead ts zs es entries → AreSettings entries meta s → IsSound (tree s.breaker.rows)
 breaker_sound ts zs es entries meta s read is =
     of_breaker (is.set (codes "LINE_BREAKER")) s.breaker
     (chosen_sound ts zs es entries meta s.sourcetype (is.set (codes "LINE_BREAKER")) read (is.chosen (codes "LINE_BREAKER"))) is.breaker

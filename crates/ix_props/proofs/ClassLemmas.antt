@@ -11,8 +11,8 @@ use Rattle.std.proofs.Math.Seq.{drop-cons}
 use Rattle.std.proofs.lemmas.Map.Text.{is_eq-slice_cmp}
 use Rattle.ix_props.specs.Kinds.{begins_with}
 use Rattle.ix_props.specs.Ranking.{lent, set_in, AreInOrder, classes_in}
-use Rattle.ix_values.specs.declared.seds.Sed.{Sed}
-use Rattle.ix_values.specs.declared.transforms.Transform.{Transform}
+use Rattle.ix_conf_values.specs.declared.seds.Sed.{Sed}
+use Rattle.ix_conf_values.specs.declared.transforms.Transform.{Transform}
 use Rattle.ix_props.specs.Settings.{Class, AreRising, AreClasses, change_of, changes, transforms_of, chain}
 use Rattle.ix_props.specs.declared.props.PropsEntry.{PropsEntry}
 use Rattle.ix_props.specs.declared.values.Value.{Value}
@@ -24,14 +24,18 @@ Later key c = slice_cmp nat_cmp key c.0 ≡ Less
 abbrev IsSetIn : List ℕ → List PropsEntry → Class → Type 0
 IsSetIn prefix es c = (begins_with prefix c.0 ≡ true) × (set_in es c.0 ≡ Some c.1)
 
-with_class : (x : Bool) (P : Class → Type 0) (c : Class) (cs : List Class) → P c → AllByRecursion P cs → AllByRecursion P (if x then c ∷ cs else cs)
+with_class : (x : Bool) (P : Class → Type 0) (c : Class) (cs : List Class) → P c → AllByRecursion P cs →
+    AllByRecursion P (if x then c ∷ cs else cs)
 with_class true P c cs here rest = (here, rest)
 with_class false P c cs here rest = rest
 
 classes_later : (prefix key : List ℕ) (es : List PropsEntry) → AllByRecursion (λ (d : PropsEntry). slice_cmp nat_cmp key d.key ≡ Less) es →
     AllByRecursion (Later key) (classes_in prefix es)
 classes_later prefix key [] less = tt
-classes_later prefix key (e ∷ es) less = with_class (begins_with prefix e.key) (Later key) (e.key, e.value) (classes_in prefix es) less.0 (classes_later prefix key es less.1)
+classes_later prefix key (e ∷ es) less = with_class (begins_with prefix e.key) (Later key) (
+  e.key,
+  e.value,
+) (classes_in prefix es) less.0 (classes_later prefix key es less.1)
 
 risen : (x : Bool) (c : Class) (cs : List Class) → AllByRecursion (Later c.0) cs → AreRising cs → AreRising (if x then c ∷ cs else cs)
 risen true c cs later rest = (later, rest)
@@ -40,12 +44,14 @@ risen false c cs later rest = rest
 classes_rise : (prefix : List ℕ) (es : List PropsEntry) → AreInOrder es → AreRising (classes_in prefix es)
 classes_rise prefix [] order = tt
 classes_rise prefix (e ∷ es) order =
-    risen (begins_with prefix e.key) (e.key, e.value) (classes_in prefix es) (classes_later prefix e.key es order.0) (classes_rise prefix es order.1)
+    risen (begins_with prefix e.key) (e.key, e.value) (classes_in prefix es) (classes_later prefix e.key es order.0)
+    (classes_rise prefix es order.1)
 
 differ : (a b : List ℕ) → slice_cmp nat_cmp a b ≡ Less → bytes_eq b a ≡ false
 differ a b less = nat_list_eq_equiv.symm b a ∙ sym (is_eq-slice_cmp a b) ∙ ap is_eq less
 
-widen : (prefix : List ℕ) (e : PropsEntry) (es : List PropsEntry) (cs : List Class) → AllByRecursion (Later e.key) cs → AllByRecursion (IsSetIn prefix es) cs →
+widen : (prefix : List ℕ) (e : PropsEntry) (es : List PropsEntry) (cs : List Class) → AllByRecursion (Later e.key) cs →
+    AllByRecursion (IsSetIn prefix es) cs →
     AllByRecursion (IsSetIn prefix (e ∷ es)) cs
 widen prefix e es [] later set = tt
 widen prefix e es (c ∷ cs) later set = ((set.0.0, rw (differ e.key c.0 later.0) set.0.1), widen prefix e es cs later.1 set.1)
@@ -72,7 +78,8 @@ more : (x : Bool) (c d : Class) (cs : List Class) → Contains cs d → Contains
 more true c d cs rest = Contains-append_right (c ∷ []) cs d rest
 more false c d cs rest = rest
 
-all_step : (prefix key : List ℕ) (v : Value) (e : PropsEntry) (es : List PropsEntry) (x : Bool) → bytes_eq key e.key ≡ x → begins_with prefix key ≡ true →
+all_step : (prefix key : List ℕ) (v : Value) (e : PropsEntry) (es : List PropsEntry) (x : Bool) → bytes_eq key e.key ≡ x →
+    begins_with prefix key ≡ true →
     (if x then Some e.value else set_in es key) ≡ Some v → (set_in es key ≡ Some v → Contains (classes_in prefix es) (key, v)) →
     Contains (classes_in prefix (e ∷ es)) (key, v)
 all_step prefix key v e es true p begins set ih =
@@ -115,7 +122,8 @@ chain_cons prefix e es = by (begins_with prefix e.key)
     by false = refl
 
 -- the rest of lent entries, and the first of it
-pub rest_of : (es : List (Bor PropsEntry)) (i : ℕ) (d b : Bor PropsEntry) → i < length es → b ≡ get_or es i d → lent (drop i es) ≡ b.now ∷ lent (drop (i + 1) es)
+pub rest_of : (es : List (Bor PropsEntry)) (i : ℕ) (d b : Bor PropsEntry) → i < length es → b ≡ get_or es i d → lent (drop i es) ≡ b.now
+    ∷ lent (drop (i + 1) es)
 rest_of es i d b within is = rw (add-one, drop-cons es i d, ← is) refl
 
 pub changes_step : (prefix : List ℕ) (old new : List Sed) (rest next whole : List PropsEntry) (e : PropsEntry) → rest ≡ e ∷ next →

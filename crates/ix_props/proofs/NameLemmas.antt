@@ -1,5 +1,6 @@
 -- A list of names is read one byte after the other.
-use Rattle.std.proofs.Common.{◌≡◌, ◌≢◌, ℕ, suc, ◌+◌, ◌<◌, List, [], ◌∷◌, ◌++◌, get_or, length, drop, refl, ◌≤◌, add-one, append_assoc, append-nil}
+use Rattle.std.proofs.Common.{◌≡◌, ◌≢◌, ℕ, suc, ◌+◌, ◌<◌, List, [], ◌∷◌, ◌++◌, get_or, length, drop, refl, ◌≤◌, add-one, append_assoc}
+use Rattle.std.proofs.Common.{append-nil}
 use Rattle.std.proofs.lemmas.Bool.{eq-eqb, ne_eqb}
 use Rattle.std.proofs.Math.Seq.{drop-cons}
 use Rattle.std.proofs.Math.ListN.{drop_of_length-le}
@@ -28,10 +29,16 @@ ends text front i here comma =
 pub goes_on : (text front : List ℕ) (i : ℕ) → i < length text → get_or text i 0 ≢ 44 →
     with_front front (pieces (drop i text)) ≡ with_front (front ++ get_or text i 0 ∷ []) (pieces (drop (i + 1) text))
 goes_on text front i here other =
-    rw (add-one, drop-cons text i 0, ne_eqb (get_or text i 0) 44 other, with_front-more front (get_or text i 0) (pieces (drop (suc i) text))) refl
+    rw (
+      add-one,
+      drop-cons text i 0,
+      ne_eqb (get_or text i 0) 44 other,
+      with_front-more front (get_or text i 0) (pieces (drop (suc i) text)),
+    ) refl
 
 pub ends_piece : (found : List (List ℕ)) (text front : List ℕ) (i : ℕ) → i < length text → get_or text i 0 ≡ 44 →
-    found ++ names_in (with_front front (pieces (drop i text))) ≡ (found ++ name_in (trimmed front)) ++ names_in (with_front [] (pieces (drop (i + 1) text)))
+    found ++ names_in (with_front front (pieces (drop i text))) ≡ (found ++ name_in (trimmed front))
+    ++ names_in (with_front [] (pieces (drop (i + 1) text)))
 ends_piece found text front i here comma = rw (ends text front i here comma) (simp append_assoc)
 
 -- the end of the text ends the last piece

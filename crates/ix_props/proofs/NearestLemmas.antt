@@ -1,5 +1,6 @@
 -- The nearest entry of a key is that of the first stanza that holds and has the key.
-use Rattle.std.proofs.Common.{◌≡◌, ◌≢◌, ℕ, ◌&&◌, Bool, true, false, List, [], ◌∷◌, Some, None, refl, sym, ap, ◌∙◌, subst, IsSome, Ordering, bytes_eq}
+use Rattle.std.proofs.Common.{◌≡◌, ◌≢◌, ℕ, ◌&&◌, Bool, true, false, List, [], ◌∷◌, Some, None, refl, sym, ap, ◌∙◌, subst, IsSome, Ordering}
+use Rattle.std.proofs.Common.{bytes_eq}
 use Rattle.std.specs.Prelude.{Option, if◌then◌else◌}
 use Rattle.std.specs.Option.{option_map}
 use Rattle.std.specs.declared.cmp.Ordering.TheVariants.{Less, Equal, Greater}
@@ -22,7 +23,8 @@ bytes_same a b e = (bytes_eq-Decides a b).1 e
 -- the ranks are those of the stanzas that hold, or nearer ones of the same stanzas
 pub record AreRanksOf (H : List ℕ → Rank → Type 0) (ranks : Ranks) : Type 0 where
   pub sound : (stanza : List ℕ) (rank : Rank) → ranks stanza ≡ Some rank → H stanza rank
-  pub least : (stanza : List ℕ) (rank : Rank) → H stanza rank → (r : Rank) × (ranks stanza ≡ Some r) × (order (stanza, r) (stanza, rank) ≢ Greater)
+  pub least : (stanza : List ℕ) (rank : Rank) → H stanza rank → (r : Rank) × (ranks stanza ≡ Some r)
+      × (order (stanza, r) (stanza, rank) ≢ Greater)
 
 -- an entry that is ranked, and the value of its stanza
 pub record IsIn (f : Ranks) (key : List ℕ) (es : List PropsEntry) (c : Ranked) : Type 0 where
@@ -30,7 +32,8 @@ pub record IsIn (f : Ranks) (key : List ℕ) (es : List PropsEntry) (c : Ranked)
   pub key_is : key ≡ c.0.key
   pub has : value_in c.0.stanza key es ≡ Some c.0.value
 
-not_at : (f : Ranks) (s key : List ℕ) (e : PropsEntry) (r : Rank) → f s ≡ Some r → ranked f key e ≡ None → (bytes_eq s e.stanza && bytes_eq key e.key) ≡ false
+not_at : (f : Ranks) (s key : List ℕ) (e : PropsEntry) (r : Rank) → f s ≡ Some r → ranked f key e ≡ None →
+    (bytes_eq s e.stanza && bytes_eq key e.key) ≡ false
 not_at f s key e r known none = by (bytes_eq s e.stanza) (bytes_eq key e.key) refl refl
   where
     by : (a b : Bool) → bytes_eq s e.stanza ≡ a → bytes_eq key e.key ≡ b → (bytes_eq s e.stanza && bytes_eq key e.key) ≡ false
@@ -91,7 +94,8 @@ apart f key e es x d is in_es gives = by (bytes_eq d.0.stanza e.stanza) refl
         absurd (tied (order (place x) (place d)) gives (subst (λ p. order (place x) p ≢ Greater) one (itself (place x))))
 
 is_in_step : (f : Ranks) (key : List ℕ) (e : PropsEntry) (es : List PropsEntry) (c : Ranked) (x n : Option Ranked) →
-    ((d : Ranked) → nearest f key es ≡ Some d → IsIn f key es d) → ranked f key e ≡ x → nearest f key es ≡ n → nearest f key (e ∷ es) ≡ Some c → IsIn f key (e ∷ es) c
+    ((d : Ranked) → nearest f key es ≡ Some d → IsIn f key es d) → ranked f key e ≡ x → nearest f key es ≡ n →
+    nearest f key (e ∷ es) ≡ Some c → IsIn f key (e ∷ es) c
 is_in_step f key e es c None n ih p q is =
     let in_es = ih c (rw p at is) in
     later f key e es c (not_at f c.0.stanza key e c.1 in_es.rank_is p) in_es
@@ -114,7 +118,8 @@ is_in_step f key e es c (Some x) (Some d) ih p q is = choice (is_gt (order (plac
 
 pub nearest_is_in : (f : Ranks) (key : List ℕ) (es : List PropsEntry) (c : Ranked) → nearest f key es ≡ Some c → IsIn f key es c
 nearest_is_in f key [] c is = cc
-nearest_is_in f key (e ∷ es) c is = is_in_step f key e es c (ranked f key e) (nearest f key es) (λ d known. nearest_is_in f key es d known) refl refl is
+nearest_is_in f key (e ∷ es) c is = is_in_step f key e es c (ranked f key e) (nearest f key es) (λ d known. nearest_is_in f key es d known)
+    refl refl is
 
 -- the nearest entry is there and comes no later
 pub record IsLeast (f : Ranks) (key : List ℕ) (es : List PropsEntry) (s : List ℕ) (r : Rank) : Type 0 where
@@ -173,12 +178,15 @@ least_step f key e es s r true known p ih has =
     let two = both (bytes_eq s e.stanza) (bytes_eq key e.key) p in
     let same : s ≡ e.stanza = same_bytes s e.stanza two.0 in
     let known' : f e.stanza ≡ Some r = ap f (sym same) ∙ known in
-    with_entry f key e es s r (e, r) (rw (two.1, known') refl) (subst (λ n. order (e.stanza, r) (n, r) ≢ Greater) (sym same) (itself (e.stanza, r)))
+    with_entry f key e es s r (e, r) (rw (two.1, known') refl)
+    (subst (λ n. order (e.stanza, r) (n, r) ≢ Greater) (sym same) (itself (e.stanza, r)))
 
-pub nearest_is_least : (f : Ranks) (key : List ℕ) (es : List PropsEntry) (s : List ℕ) (r : Rank) → f s ≡ Some r → IsSome (value_in s key es) → IsLeast f key es s r
+pub nearest_is_least : (f : Ranks) (key : List ℕ) (es : List PropsEntry) (s : List ℕ) (r : Rank) → f s ≡ Some r →
+    IsSome (value_in s key es) → IsLeast f key es s r
 nearest_is_least f key [] s r known has = absurd (true≢false (sym has))
 nearest_is_least f key (e ∷ es) s r known has =
-    least_step f key e es s r (bytes_eq s e.stanza && bytes_eq key e.key) known refl (λ there. nearest_is_least f key es s r known there) has
+    least_step f key e es s r (bytes_eq s e.stanza && bytes_eq key e.key) known refl (λ there. nearest_is_least f key es s r known there)
+    has
 
 nothing_there : (o : Option Value) → (IsSome o → ⊥) → o ≡ None
 nothing_there None never = refl
@@ -192,7 +200,8 @@ chosen_by entries H f key ranks = by (nearest f key entries) refl
     by : (n : Option Ranked) → nearest f key entries ≡ n → IsChosen entries H key (option_map value_of n)
     by None p = λ stanza rank holds.
         let least = ranks.least stanza rank holds in
-        nothing_there (value_in stanza key entries) (λ has. let found = nearest_is_least f key entries stanza least.0 least.1 has in absurd (cc (p, found.is)))
+        nothing_there (value_in stanza key entries) (λ has. let found = nearest_is_least f key entries stanza least.0 least.1 has in
+        absurd (cc (p, found.is)))
     by (Some c) p =
         let is = nearest_is_in f key entries c p in
         record {
@@ -204,5 +213,8 @@ chosen_by entries H f key ranks = by (nearest f key entries) refl
               let least = ranks.least other r holds in
               let found = nearest_is_least f key entries other least.0 least.1 has in
               let one : place found.c ≡ (c.0.stanza, c.1) = cc (p, found.is) in
-              not_greater_trans (c.0.stanza, c.1) (other, least.0) (other, r) (subst (λ a. order a (other, least.0) ≢ Greater) one found.before) least.2;
+              not_greater_trans (c.0.stanza, c.1) (other, least.0) (
+                other,
+                r,
+              ) (subst (λ a. order a (other, least.0) ≢ Greater) one found.before) least.2;
         }

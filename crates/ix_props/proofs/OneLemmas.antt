@@ -29,17 +29,23 @@ same_stanza : (a b : Place) → order a b ≢ Greater → order b a ≢ Greater 
 same_stanza a b h g =
     let equal : order a b ≡ Equal = tied (order a b) (order b a) (order_total.antisymm a b) h g in
     exact_bytes a.0 b.0
-    (last_tied (nat_cmp (step_of a.1.nearness) (step_of b.1.nearness)) (int_cmp b.1.priority a.1.priority) (slice_cmp nat_cmp a.0 b.0) equal)
+    (last_tied (nat_cmp (step_of a.1.nearness) (step_of b.1.nearness)) (int_cmp b.1.priority a.1.priority) (slice_cmp nat_cmp a.0 b.0)
+    equal)
 
-one_first : (entries : List PropsEntry) (H : List ℕ → Rank → Type 0) (key : List ℕ) (v w : Value) → IsFirst entries H key v → IsFirst entries H key w →
+one_first : (entries : List PropsEntry) (H : List ℕ → Rank → Type 0) (key : List ℕ) (v w : Value) → IsFirst entries H key v →
+    IsFirst entries H key w →
     Some v ≡ Some w
 one_first entries H key v w a b =
     let there : IsSome (value_in a.stanza key entries) = rw a.has refl in
     let here : IsSome (value_in b.stanza key entries) = rw b.has refl in
-    let same : a.stanza ≡ b.stanza = same_stanza (a.stanza, a.rank) (b.stanza, b.rank) (a.first b.stanza b.rank b.holds here) (b.first a.stanza a.rank a.holds there) in
+    let same : a.stanza ≡ b.stanza = same_stanza (a.stanza, a.rank) (
+      b.stanza,
+      b.rank,
+    ) (a.first b.stanza b.rank b.holds here) (b.first a.stanza a.rank a.holds there) in
     sym a.has ∙ ap (λ s. value_in s key entries) same ∙ b.has
 
-pub one_chosen : (entries : List PropsEntry) (H : List ℕ → Rank → Type 0) (key : List ℕ) (found other : Option Value) → IsChosen entries H key found →
+pub one_chosen : (entries : List PropsEntry) (H : List ℕ → Rank → Type 0) (key : List ℕ) (found other : Option Value) →
+    IsChosen entries H key found →
     IsChosen entries H key other → found ≡ other
 one_chosen entries H key None None a b = refl
 one_chosen entries H key (Some v) (Some w) a b = one_first entries H key v w a b

@@ -41,22 +41,29 @@ same_text : (a b : List ℕ) → Some a ≡ Some b → a ≡ b
 same_text a b is = cc
 
 -- what fits such a pattern fits the stanza's own
-fits_own : (found : Option (List ℕ)) (fold : Bool) (rule : NameRule) (name text : List ℕ) → IsOwn found fold rule → found ≡ Some text → FitsRule (rule_at fold text) name → FitsRule rule name
+fits_own : (found : Option (List ℕ)) (fold : Bool) (rule : NameRule) (name text : List ℕ) → IsOwn found fold rule → found ≡ Some text →
+    FitsRule (rule_at fold text) name → FitsRule rule name
 fits_own found fold rule name text own is fits =
     subst (λ r. FitsRule r name) (ap (rule_at fold) (same_text text own.text (sym is ∙ own.is_behind)) ∙ sym own.rule_is) fits
 
-no_source : (stated : Option ℤ) (source host stanza : List ℕ) (rule : NameRule) → IsOwn (behind (codes "source::") stanza) false rule → (FitsRule rule source → ⊥) →
+no_source : (stated : Option ℤ) (source host stanza : List ℕ) (rule : NameRule) → IsOwn (behind (codes "source::") stanza) false rule →
+    (FitsRule rule source → ⊥) →
     (rank : Rank) → FitsEither stated source host stanza rank → ⊥
-no_source stated source host stanza rule own none rank (inl by) = none (fits_own (behind (codes "source::") stanza) false rule source by.text own by.is_behind by.fits)
+no_source stated source host stanza rule own none rank (inl by) =
+    none (fits_own (behind (codes "source::") stanza) false rule source by.text own by.is_behind by.fits)
 no_source stated source host stanza rule own none rank (inr by) = apart stanza own.text by.text own.is_behind by.is_behind
 
-no_host : (stated : Option ℤ) (source host stanza : List ℕ) (rule : NameRule) → IsOwn (behind (codes "host::") stanza) true rule → (FitsRule rule host → ⊥) →
+no_host : (stated : Option ℤ) (source host stanza : List ℕ) (rule : NameRule) → IsOwn (behind (codes "host::") stanza) true rule →
+    (FitsRule rule host → ⊥) →
     (rank : Rank) → FitsEither stated source host stanza rank → ⊥
 no_host stated source host stanza rule own none rank (inl by) = apart stanza by.text own.text by.is_behind own.is_behind
-no_host stated source host stanza rule own none rank (inr by) = none (fits_own (behind (codes "host::") stanza) true rule host by.text own by.is_behind by.fits)
+no_host stated source host stanza rule own none rank (inr by) =
+    none (fits_own (behind (codes "host::") stanza) true rule host by.text own by.is_behind by.fits)
 
-source_rank : (stated : Option ℤ) (source host stanza : List ℕ) (rule : NameRule) → IsStanza (behind (codes "source::") stanza) (behind (codes "host::") stanza) (value.Source rule) →
-    (rank : Option Rank) → IsRankIf Source (priority_or stated (behind_or (codes "source::") stanza)) rule source rank → IsRankBy stated source host stanza rank
+source_rank : (stated : Option ℤ) (source host stanza : List ℕ) (rule : NameRule) →
+    IsStanza (behind (codes "source::") stanza) (behind (codes "host::") stanza) (value.Source rule) →
+    (rank : Option Rank) → IsRankIf Source (priority_or stated (behind_or (codes "source::") stanza)) rule source rank →
+    IsRankBy stated source host stanza rank
 source_rank stated source host stanza rule is (Some rank) fits =
     let own = own_source (behind (codes "source::") stanza) (behind (codes "host::") stanza) rule is in
     inl (record {
@@ -68,8 +75,10 @@ source_rank stated source host stanza rule is (Some rank) fits =
 source_rank stated source host stanza rule is None none =
     no_source stated source host stanza rule (own_source (behind (codes "source::") stanza) (behind (codes "host::") stanza) rule is) none
 
-host_rank : (stated : Option ℤ) (source host stanza : List ℕ) (rule : NameRule) → IsStanza (behind (codes "source::") stanza) (behind (codes "host::") stanza) (value.Host rule) →
-    (rank : Option Rank) → IsRankIf Host (priority_or stated (behind_or (codes "host::") stanza)) rule host rank → IsRankBy stated source host stanza rank
+host_rank : (stated : Option ℤ) (source host stanza : List ℕ) (rule : NameRule) →
+    IsStanza (behind (codes "source::") stanza) (behind (codes "host::") stanza) (value.Host rule) →
+    (rank : Option Rank) → IsRankIf Host (priority_or stated (behind_or (codes "host::") stanza)) rule host rank →
+    IsRankBy stated source host stanza rank
 host_rank stated source host stanza rule is (Some rank) fits =
     let own = own_host (behind (codes "source::") stanza) (behind (codes "host::") stanza) rule is in
     inr (record {
@@ -81,18 +90,27 @@ host_rank stated source host stanza rule is (Some rank) fits =
 host_rank stated source host stanza rule is None none =
     no_host stated source host stanza rule (own_host (behind (codes "source::") stanza) (behind (codes "host::") stanza) rule is) none
 
-pub source_ranked : {E : Type 0} (result : Result (Option Rank) E) (stated : Option ℤ) (source host stanza : List ℕ) (v : Value) (rule : NameRule) →
-    IfOk result (λ rank. IsRankIf Source (priority_or stated (behind_or (codes "source::") stanza)) rule source rank) → v ≡ value.Source rule →
-    IsStanza (behind (codes "source::") stanza) (behind (codes "host::") stanza) v → IfOk result (λ rank. IsRankBy stated source host stanza rank)
+pub source_ranked : {E : Type 0} (result : Result (Option Rank) E) (stated : Option ℤ) (source host stanza : List ℕ) (v : Value)
+    (rule : NameRule) →
+    IfOk result (λ rank. IsRankIf Source (priority_or stated (behind_or (codes "source::") stanza)) rule source rank) →
+    v ≡ value.Source rule →
+    IsStanza (behind (codes "source::") stanza) (behind (codes "host::") stanza) v →
+    IfOk result (λ rank. IsRankBy stated source host stanza rank)
 source_ranked result stated source host stanza v rule told is sound =
-    IfOk-weaker result (λ rank. IsRankIf Source (priority_or stated (behind_or (codes "source::") stanza)) rule source rank) (λ rank. IsRankBy stated source host stanza rank)
-    (λ rank fits. source_rank stated source host stanza rule (subst (λ x. IsStanza (behind (codes "source::") stanza) (behind (codes "host::") stanza) x) is sound) rank fits)
+    IfOk-weaker result (λ rank. IsRankIf Source (priority_or stated (behind_or (codes "source::") stanza)) rule source rank)
+    (λ rank. IsRankBy stated source host stanza rank)
+    (λ rank fits. source_rank stated source host stanza rule
+    (subst (λ x. IsStanza (behind (codes "source::") stanza) (behind (codes "host::") stanza) x) is sound) rank fits)
     told
 
-pub host_ranked : {E : Type 0} (result : Result (Option Rank) E) (stated : Option ℤ) (source host stanza : List ℕ) (v : Value) (rule : NameRule) →
+pub host_ranked : {E : Type 0} (result : Result (Option Rank) E) (stated : Option ℤ) (source host stanza : List ℕ) (v : Value)
+    (rule : NameRule) →
     IfOk result (λ rank. IsRankIf Host (priority_or stated (behind_or (codes "host::") stanza)) rule host rank) → v ≡ value.Host rule →
-    IsStanza (behind (codes "source::") stanza) (behind (codes "host::") stanza) v → IfOk result (λ rank. IsRankBy stated source host stanza rank)
+    IsStanza (behind (codes "source::") stanza) (behind (codes "host::") stanza) v →
+    IfOk result (λ rank. IsRankBy stated source host stanza rank)
 host_ranked result stated source host stanza v rule told is sound =
-    IfOk-weaker result (λ rank. IsRankIf Host (priority_or stated (behind_or (codes "host::") stanza)) rule host rank) (λ rank. IsRankBy stated source host stanza rank)
-    (λ rank fits. host_rank stated source host stanza rule (subst (λ x. IsStanza (behind (codes "source::") stanza) (behind (codes "host::") stanza) x) is sound) rank fits)
+    IfOk-weaker result (λ rank. IsRankIf Host (priority_or stated (behind_or (codes "host::") stanza)) rule host rank)
+    (λ rank. IsRankBy stated source host stanza rank)
+    (λ rank fits. host_rank stated source host stanza rule
+    (subst (λ x. IsStanza (behind (codes "source::") stanza) (behind (codes "host::") stanza) x) is sound) rank fits)
     told

@@ -1,10 +1,11 @@
 -- Entries are read one after the other.
-use Rattle.std.proofs.Common.{◌≡◌, ℕ, ◌+◌, ◌<◌, List, [], ◌∷◌, ◌++◌, get_or, length, take, sym, subst, ap, ◌∙◌, add-one, length-append, arith, Some, None}
+use Rattle.std.proofs.Common.{◌≡◌, ℕ, ◌+◌, ◌<◌, List, [], ◌∷◌, ◌++◌, get_or, length, take, sym, subst, ap, ◌∙◌, add-one, length-append}
+use Rattle.std.proofs.Common.{arith, Some, None}
 use Rattle.std.specs.Prelude.{slice_get}
 use Rattle.std.proofs.Math.Seq.{take-suc}
 use Rattle.std.proofs.lemmas.Option.{slice_get-get_or}
 use Rattle.ix_conf.specs.declared.layers.MergedEntry.{MergedEntry}
-use Rattle.ix_values.specs.declared.transforms.Transform.{Transform}
+use Rattle.ix_conf_values.specs.declared.transforms.Transform.{Transform}
 use Rattle.ix_props.specs.declared.props.PropsEntry.{PropsEntry}
 use Rattle.ix_props.specs.Lists.{AreTransforms, IsTransformNamed, RefusesTransformNamed, RefusesNames, first}
 use Rattle.ix_props.specs.declared.faults.SettingFault.{SettingFault}
@@ -37,18 +38,21 @@ AreTransforms-more ts [] (x ∷ found) name t are is = absurd are
 AreTransforms-more ts (n ∷ names) [] name t are is = absurd are
 AreTransforms-more ts (n ∷ names) (x ∷ found) name t are is = (are.0, AreTransforms-more ts names found name t are.1 is)
 
-pub AreTransforms-next : (ts : List MergedEntry) (names : List (List ℕ)) (found : List Transform) (i : ℕ) (d name : List ℕ) (t : Transform) →
+pub AreTransforms-next : (ts : List MergedEntry) (names : List (List ℕ)) (found : List Transform) (i : ℕ) (d name : List ℕ)
+    (t : Transform) →
     i < length names → name ≡ get_or names i d → AreTransforms ts (take i names) found → IsTransformNamed ts name t →
     AreTransforms ts (take (i + 1) names) (found ++ t ∷ [])
 AreTransforms-next ts names found i d name t here same are is =
     rw (add-one, take-suc names i d, ← same) (AreTransforms-more ts (take i names) found name t are is)
 
 -- a name behind transforms is refused
-pub refused : (ts : List MergedEntry) (e : MergedEntry) (names items : List (List ℕ)) (found : List Transform) (i : ℕ) (d name : List ℕ) (why : SettingFault) →
+pub refused : (ts : List MergedEntry) (e : MergedEntry) (names items : List (List ℕ)) (found : List Transform) (i : ℕ) (d name : List ℕ)
+    (why : SettingFault) →
     items ≡ names → i < length items → name ≡ get_or items i d → AreTransforms ts (take i items) found →
     RefusesTransformNamed ts e name why → RefusesNames ts e names why
 refused ts e names items found i d name why same here is are why_not =
-    subst (λ xs. RefusesNames ts e xs why) same (first i name found (slice_get-get_or items i d here ∙ ap (λ n. Some n) (sym is)) are why_not)
+    subst (λ xs. RefusesNames ts e xs why) same (first i name found (slice_get-get_or items i d here
+    ∙ ap (λ n. Some n) (sym is)) are why_not)
 
 pub longer : {A : Type 0} (xs new : List A) (x : A) → new ≡ xs ++ x ∷ [] → length new ≡ length xs + 1
 longer xs new x is = rw is (omega (arith, length-append xs (x ∷ [])))

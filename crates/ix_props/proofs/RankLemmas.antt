@@ -1,5 +1,6 @@
 -- Stanzas are ranked one after the other, from the last entry to the first.
-use Rattle.std.proofs.Common.{◌≡◌, ◌≢◌, ℕ, ℤ, pos, ◌==◌, ◌&&◌, inl, inr, Bool, true, false, List, [], ◌∷◌, Some, None, refl, sym, ap, ◌∙◌, subst, IsSome, bytes_eq, codes, length}
+use Rattle.std.proofs.Common.{◌≡◌, ◌≢◌, ℕ, ℤ, pos, ◌==◌, ◌&&◌, inl, inr, Bool, true, false, List, [], ◌∷◌, Some, None, refl, sym, ap, ◌∙◌}
+use Rattle.std.proofs.Common.{subst, IsSome, bytes_eq, codes, length}
 use Rattle.std.specs.Prelude.{Option, if◌then◌else◌}
 use Rattle.std.proofs.Common.{arith}
 use Rattle.std.proofs.lemmas.Bool.Decides.{nat_tests}
@@ -9,7 +10,8 @@ use Rattle.std.specs.declared.cmp.Ordering.TheVariants.{Less, Greater}
 use Rattle.std.specs.Ordering.{nat_cmp}
 use Rattle.std.proofs.lemmas.Bool.{true≢false, ne_eqb}
 use Rattle.ix_props.specs.Kinds.{behind}
-use Rattle.ix_props.specs.Choice.{Origin, value_in, number_of, stated_priority, HoldsForSource, IsThere, names_source_type, Holds, step_of, order}
+use Rattle.ix_props.specs.Choice.{Origin, value_in, number_of, stated_priority, HoldsForSource, IsThere, names_source_type, Holds, step_of}
+use Rattle.ix_props.specs.Choice.{order}
 use Rattle.ix_props.specs.Choice.Holds.{for_source, for_host, for_source_type, for_everything}
 use Rattle.ix_props.specs.Ranking.{Ranks, FitsEither, IsRankBy, AreRanks, if_source, plain_rank, rank_for}
 use Rattle.ix_props.specs.declared.props.PropsEntry.{PropsEntry}
@@ -31,7 +33,8 @@ apart (b ∷ bs) t u p q = by (b == 115) (b == 104) refl refl
     by true true e g = absurd (grind (arith, nat_tests))
 
 -- a stanza has one rank
-fits_one : (stated : Option ℤ) (source host s : List ℕ) (r q : Rank) → FitsEither stated source host s r → FitsEither stated source host s q → r ≡ q
+fits_one : (stated : Option ℤ) (source host s : List ℕ) (r q : Rank) → FitsEither stated source host s r →
+    FitsEither stated source host s q → r ≡ q
 fits_one stated source host s r q (inl a) (inl b) =
     let same : Some a.text ≡ Some b.text = sym a.is_behind ∙ b.is_behind in
     let texts : a.text ≡ b.text = cc in
@@ -48,7 +51,8 @@ fits_one stated source host s r q (inl a) (inr b) = absurd (apart s a.text b.tex
 fits_one stated source host s r q (inr a) (inl b) = absurd (apart s b.text a.text b.is_behind a.is_behind)
 
 -- an entry of a key says nothing of whether a stanza is there
-pub key_skipped : (b : ℕ) (key s : List ℕ) (e : PropsEntry) (part : List PropsEntry) → e.key ≡ b ∷ key → value_in s [] (e ∷ part) ≡ value_in s [] part
+pub key_skipped : (b : ℕ) (key s : List ℕ) (e : PropsEntry) (part : List PropsEntry) → e.key ≡ b ∷ key →
+    value_in s [] (e ∷ part) ≡ value_in s [] part
 key_skipped b key s e part is = by (bytes_eq s e.stanza)
   where
     by : (x : Bool) → (if x && bytes_eq [] e.key then Some e.value else value_in s [] part) ≡ value_in s [] part
@@ -59,7 +63,8 @@ key_skipped b key s e part is = by (bytes_eq s e.stanza)
 own_there : (s : List ℕ) (e : PropsEntry) (part : List PropsEntry) → e.key ≡ [] → s ≡ e.stanza → IsThere (e ∷ part) s
 own_there s e part is same = rw (bytes_same s e.stanza same, is) refl
 
-other_there : (s : List ℕ) (e : PropsEntry) (part : List PropsEntry) → bytes_eq s e.stanza ≡ false → value_in s [] (e ∷ part) ≡ value_in s [] part
+other_there : (s : List ℕ) (e : PropsEntry) (part : List PropsEntry) → bytes_eq s e.stanza ≡ false →
+    value_in s [] (e ∷ part) ≡ value_in s [] part
 other_there s e part p = rw p refl
 
 still_there : (s : List ℕ) (e : PropsEntry) (part : List PropsEntry) → IsThere part s → IsThere (e ∷ part) s
@@ -69,7 +74,8 @@ still_there s e part is = by (bytes_eq s e.stanza && bytes_eq [] e.key)
     by false = is
     by true = refl
 
-pub ranks-key : (b : ℕ) (key : List ℕ) (e : PropsEntry) (part entries : List PropsEntry) (source host : List ℕ) (f : Ranks) → e.key ≡ b ∷ key →
+pub ranks-key : (b : ℕ) (key : List ℕ) (e : PropsEntry) (part entries : List PropsEntry) (source host : List ℕ) (f : Ranks) → e.key ≡ b
+    ∷ key →
     AreRanks part entries source host f → AreRanks (e ∷ part) entries source host f
 ranks-key b key e part entries source host f is ranks = record {
   sound = λ s r known. let old = ranks.sound s r known in (still_there s e part old.0, old.1);
@@ -84,7 +90,8 @@ ranks-none e part entries source host f is never ranks = record {
   whole = λ s r there fits. by s r there fits (bytes_eq s e.stanza) refl;
 }
   where
-    by : (s : List ℕ) (r : Rank) → IsThere (e ∷ part) s → FitsEither (stated_priority entries s) source host s r → (x : Bool) → bytes_eq s e.stanza ≡ x → f s ≡ Some r
+    by : (s : List ℕ) (r : Rank) → IsThere (e ∷ part) s → FitsEither (stated_priority entries s) source host s r → (x : Bool) →
+        bytes_eq s e.stanza ≡ x → f s ≡ Some r
     by s r there fits true p =
         absurd (never r (subst (λ n. FitsEither (stated_priority entries n) source host n r) (same_bytes s e.stanza p) fits))
     by s r there fits false p = ranks.whole s r (subst (λ v. IsSome v) (other_there s e part p) there) fits
@@ -98,7 +105,8 @@ ranks-some e part entries source host f g rank is fits_here put ranks = record {
   whole = λ s r there fits. whole s r there fits (bytes_eq e.stanza s) refl;
 }
   where
-    sound : (s : List ℕ) (r : Rank) → g s ≡ Some r → (x : Bool) → bytes_eq e.stanza s ≡ x → IsThere (e ∷ part) s × FitsEither (stated_priority entries s) source host s r
+    sound : (s : List ℕ) (r : Rank) → g s ≡ Some r → (x : Bool) → bytes_eq e.stanza s ≡ x → IsThere (e ∷ part) s
+        × FitsEither (stated_priority entries s) source host s r
     sound s r known true p =
         let same : e.stanza ≡ s = same_bytes e.stanza s p in
         let at : Some rank ≡ Some r = sym (rw p at (put s)) ∙ known in
@@ -118,7 +126,8 @@ ranks-some e part entries source host f g rank is fits_here put ranks = record {
         by false q = refl
         by true q = absurd (true≢false (sym (bytes_same e.stanza s (sym (same_bytes s e.stanza q))) ∙ p))
 
-    whole : (s : List ℕ) (r : Rank) → IsThere (e ∷ part) s → FitsEither (stated_priority entries s) source host s r → (x : Bool) → bytes_eq e.stanza s ≡ x → g s ≡ Some r
+    whole : (s : List ℕ) (r : Rank) → IsThere (e ∷ part) s → FitsEither (stated_priority entries s) source host s r → (x : Bool) →
+        bytes_eq e.stanza s ≡ x → g s ≡ Some r
     whole s r there fits true p =
         let same : e.stanza ≡ s = same_bytes e.stanza s p in
         let one : rank ≡ r = fits_one (stated_priority entries s) source host s rank r
@@ -128,7 +137,8 @@ ranks-some e part entries source host f g rank is fits_here put ranks = record {
         let old : f s ≡ Some r = ranks.whole s r (subst (λ v. IsSome v) (other_there s e part (apart_back s p)) there) fits in
         rw p at (put s) ∙ old
 
-pub ranks-start : (entries : List PropsEntry) (source host : List ℕ) (f : Ranks) → ((s : List ℕ) → f s ≡ None) → AreRanks [] entries source host f
+pub ranks-start : (entries : List PropsEntry) (source host : List ℕ) (f : Ranks) → ((s : List ℕ) → f s ≡ None) →
+    AreRanks [] entries source host f
 ranks-start entries source host f none = record {
   sound = λ s r known. let never : None ≡ Some r = sym (none s) ∙ known in absurd (cc);
   whole = λ s r there fits. absurd (true≢false (sym there));
@@ -181,7 +191,8 @@ nearer_kind : (s : List ℕ) (q r : Rank) → nat_cmp (step_of q.nearness) (step
 nearer_kind s q r less = λ e. let never : Less ≡ Greater = rw less at e in absurd (cc)
 
 -- a stanza with a pattern is nearer than any without
-patterns_first : (stated : Option ℤ) (source host s : List ℕ) (q r : Rank) (n : Nearness) → FitsEither stated source host s q → r.nearness ≡ n →
+patterns_first : (stated : Option ℤ) (source host s : List ℕ) (q r : Rank) (n : Nearness) → FitsEither stated source host s q →
+    r.nearness ≡ n →
     nat_cmp 0 (step_of n) ≡ Less → nat_cmp 1 (step_of n) ≡ Less → order (s, q) (s, r) ≢ Greater
 patterns_first stated source host s q r n (inl a) is l0 l1 =
     let near : q.nearness ≡ Source = ap (λ (x : Rank). x.nearness) a.rank_is in
@@ -221,18 +232,26 @@ all_ranks entries o f ranks = record {
           | inr b ↦ for_host old.0 b
         ]
 
-    by_pattern : (s : List ℕ) (r : Rank) → f s ≡ Some r → (q : Rank) × (rank_for f (Some o.sourcetype) s ≡ Some q) × (order (s, q) (s, r) ≢ Greater)
+    by_pattern : (s : List ℕ) (r : Rank) → f s ≡ Some r → (q : Rank) × (rank_for f (Some o.sourcetype) s ≡ Some q)
+        × (order (s, q) (s, r) ≢ Greater)
     by_pattern s r at = (r, rw at refl, itself (s, r))
 
     for_type : (s : List ℕ) (r : Rank) (x : Option Rank) → f s ≡ x → s ≡ o.sourcetype → names_source_type s ≡ true →
-        r ≡ record { nearness = SourceType; priority = pos 0 } → (q : Rank) × (rank_for f (Some o.sourcetype) s ≡ Some q) × (order (s, q) (s, r) ≢ Greater)
+        r ≡ record { nearness = SourceType; priority = pos 0 } → (q : Rank) × (rank_for f (Some o.sourcetype) s ≡ Some q)
+        × (order (s, q) (s, r) ≢ Greater)
     for_type s r None e same names is = (r, rw (e, bytes_same s o.sourcetype same, names, is) refl, itself (s, r))
     for_type s r (Some q) e same names is =
-        let old = ranks.sound s q e in
-        (q, rw e refl, patterns_first (stated_priority entries s) o.source o.host s q r SourceType old.1 (ap (λ (x : Rank). x.nearness) is) refl refl)
+        let old = ranks.sound s q e in (
+          q,
+          rw e refl,
+          patterns_first (stated_priority entries s) o.source o.host s q r SourceType old.1 (ap (λ (x : Rank). x.nearness) is)
+              refl refl,
+        )
 
-    plain_last : (s : List ℕ) (r : Rank) (x y : Bool) → bytes_eq s o.sourcetype ≡ x → names_source_type s ≡ y → f s ≡ None → s ≡ codes "default" →
-        r ≡ record { nearness = Everything; priority = pos 0 } → (q : Rank) × (rank_for f (Some o.sourcetype) s ≡ Some q) × (order (s, q) (s, r) ≢ Greater)
+    plain_last : (s : List ℕ) (r : Rank) (x y : Bool) → bytes_eq s o.sourcetype ≡ x → names_source_type s ≡ y → f s ≡ None →
+        s ≡ codes "default" →
+        r ≡ record { nearness = Everything; priority = pos 0 } → (q : Rank) × (rank_for f (Some o.sourcetype) s ≡ Some q)
+        × (order (s, q) (s, r) ≢ Greater)
     plain_last s r true true p n e same is =
         let q : Rank = record { nearness = SourceType; priority = pos 0 } in
         (q, rw (e, p, n) refl, nearer_kind s q r (rw is refl))
@@ -240,13 +259,19 @@ all_ranks entries o f ranks = record {
     plain_last s r false y p n e same is = (r, rw (e, p, bytes_same s (codes "default") same, is) refl, itself (s, r))
 
     for_all : (s : List ℕ) (r : Rank) (x : Option Rank) → f s ≡ x → s ≡ codes "default" →
-        r ≡ record { nearness = Everything; priority = pos 0 } → (q : Rank) × (rank_for f (Some o.sourcetype) s ≡ Some q) × (order (s, q) (s, r) ≢ Greater)
+        r ≡ record { nearness = Everything; priority = pos 0 } → (q : Rank) × (rank_for f (Some o.sourcetype) s ≡ Some q)
+        × (order (s, q) (s, r) ≢ Greater)
     for_all s r None e same is = plain_last s r (bytes_eq s o.sourcetype) (names_source_type s) refl refl e same is
     for_all s r (Some q) e same is =
-        let old = ranks.sound s q e in
-        (q, rw e refl, patterns_first (stated_priority entries s) o.source o.host s q r Everything old.1 (ap (λ (x : Rank). x.nearness) is) refl refl)
+        let old = ranks.sound s q e in (
+          q,
+          rw e refl,
+          patterns_first (stated_priority entries s) o.source o.host s q r Everything old.1 (ap (λ (x : Rank). x.nearness) is)
+              refl refl,
+        )
 
-    least : (s : List ℕ) (r : Rank) → Holds entries o s r → (q : Rank) × (rank_for f (Some o.sourcetype) s ≡ Some q) × (order (s, q) (s, r) ≢ Greater)
+    least : (s : List ℕ) (r : Rank) → Holds entries o s r → (q : Rank) × (rank_for f (Some o.sourcetype) s ≡ Some q)
+        × (order (s, q) (s, r) ≢ Greater)
     least s r (for_source h) = by_pattern s r (ranks.whole s r h.0 (inl h.1))
     least s r (for_host there h) = by_pattern s r (ranks.whole s r there (inr h))
     least s r (for_source_type same names is) = for_type s r (f s) refl same names is
@@ -273,12 +298,15 @@ stated_is None = refl
 stated_is (Some v) = refl
 
 -- the priority that was found is the one that is stated
-pub stated_here : (entries : List PropsEntry) (s t : List ℕ) (f : List ℕ → Option (Option ℤ)) (n : Option ℤ) → t ≡ s → n ≡ option_and_then (λ (p : Option ℤ). p) (f t) →
+pub stated_here : (entries : List PropsEntry) (s t : List ℕ) (f : List ℕ → Option (Option ℤ)) (n : Option ℤ) → t ≡ s →
+    n ≡ option_and_then (λ (p : Option ℤ). p) (f t) →
     ((s : List ℕ) → f s ≡ option_map number_of (value_in s (codes "priority") entries)) → n ≡ stated_priority entries s
 stated_here entries s t f n same is found =
-    is ∙ ap (λ (o : Option (Option ℤ)). option_and_then (λ (p : Option ℤ). p) o) (ap f same ∙ found s) ∙ stated_is (value_in s (codes "priority") entries)
+    is ∙ ap (λ (o : Option (Option ℤ)). option_and_then (λ (p : Option ℤ). p) o) (ap f same ∙ found s)
+    ∙ stated_is (value_in s (codes "priority") entries)
 
-pub ranks-put : (e : PropsEntry) (part entries : List PropsEntry) (source host : List ℕ) (f g : Ranks) (rank : Rank) (n : Option ℤ) (t : List ℕ) →
+pub ranks-put : (e : PropsEntry) (part entries : List PropsEntry) (source host : List ℕ) (f g : Ranks) (rank : Rank) (n : Option ℤ)
+    (t : List ℕ) →
     (length e.key == 0) ≡ true → n ≡ stated_priority entries e.stanza → IsRankBy n source host e.stanza (Some rank) → t ≡ e.stanza →
     ((name : List ℕ) → g name ≡ update bytes_eq f t (Some rank) name) →
     AreRanks part entries source host f → AreRanks (e ∷ part) entries source host g

@@ -1,6 +1,8 @@
--- What is read of props.conf is one, up to the numbers of the nodes of patterns: the law `readings_are_one`. A reading is made here by a function: each
--- tree is numbered in one way, and the value of each key is read of its text.
-use Rattle.std.proofs.Common.{◌≡◌, ℕ, ◌<◌, ◌≤◌, ◌+◌, ◌-◌, Bool, true, false, List, [], ◌∷◌, ◌++◌, map, refl, sym, ap, ◌∙◌, subst, length, arith, codes, length-append}
+-- What is read of props.conf is one, up to the numbers of the nodes of patterns: the law
+-- `readings_are_one`. A reading is made here by a function: each tree is numbered in one way, and
+-- the value of each key is read of its text.
+use Rattle.std.proofs.Common.{◌≡◌, ℕ, ◌<◌, ◌≤◌, ◌+◌, ◌-◌, Bool, true, false, List, [], ◌∷◌, ◌++◌, map, refl, sym, ap, ◌∙◌, subst, length}
+use Rattle.std.proofs.Common.{arith, codes, length-append}
 use Rattle.std.specs.Prelude.{Option, Some, None, IsSome, unwrap_or, slice_get, option_and_then}
 use Rattle.std.specs.Option.{option_map}
 use Rattle.std.specs.List.{AllZip}
@@ -24,7 +26,8 @@ use Rattle.ix_props.specs.Names.{names}
 use Rattle.ix_props.specs.Props.{IsOfKind, IsRead, AreRead}
 use Rattle.ix_props.specs.Same.{MeanSame, IsSameSed, IsSameTransform, IsSameValue, IsSameEntry}
 use Rattle.ix_props.specs.Settings.{AreSettings}
-use Rattle.ix_props.specs.Values.{IsNamePattern, source_pattern, host_pattern, IsStanza, IsPattern, IsBreaker, IsChange, IsZoneNamed, name, plain_value}
+use Rattle.ix_props.specs.Values.{IsNamePattern, source_pattern, host_pattern, IsStanza, IsPattern, IsBreaker, IsChange, IsZoneNamed, name}
+use Rattle.ix_props.specs.Values.{plain_value}
 use Rattle.ix_props.specs.Zones.{rule_of, IsZone}
 use Rattle.ix_props.specs.Same.{ReadingsAreOne}
 use Rattle.ix_props.specs.declared.kinds.Kind.{Kind}
@@ -34,15 +37,16 @@ use Rattle.ix_props.specs.declared.settings.Settings.{Settings}
 use Rattle.ix_props.specs.declared.values.Value.{Value}
 use Rattle.ix_props.specs.declared.values.Value.TheVariants as value
 use Rattle.ix_props.proofs.SameLemmas.{one, same_value}
-use Rattle.ix_values.specs.Formats.{format}
-use Rattle.ix_values.specs.Patterns.{ReadsAs}
-use Rattle.ix_values.specs.Seds.{Form, replace, swap, form, IsSedOf, IsOfForm}
-use Rattle.ix_values.specs.Transforms.{Values, values_of, source_of, dest_of, write_meta_of, lookahead_of, format_from, RegexIs, IsTransformOf}
-use Rattle.ix_values.specs.declared.seds.Sed.{Sed}
-use Rattle.ix_values.specs.declared.seds.Sed.TheVariants.{Replace, Swap}
-use Rattle.ix_values.specs.declared.transforms.Key.{Key}
-use Rattle.ix_values.specs.declared.transforms.Key.TheVariants.{Raw}
-use Rattle.ix_values.specs.declared.transforms.Transform.{Transform}
+use Rattle.ix_conf_values.specs.Formats.{format}
+use Rattle.ix_conf_values.specs.Patterns.{ReadsAs}
+use Rattle.ix_conf_values.specs.Seds.{Form, replace, swap, form, IsSedOf, IsOfForm}
+use Rattle.ix_conf_values.specs.Transforms.{Values, values_of, source_of, dest_of, write_meta_of, lookahead_of, format_from, RegexIs}
+use Rattle.ix_conf_values.specs.Transforms.{IsTransformOf}
+use Rattle.ix_conf_values.specs.declared.seds.Sed.{Sed}
+use Rattle.ix_conf_values.specs.declared.seds.Sed.TheVariants.{Replace, Swap}
+use Rattle.ix_conf_values.specs.declared.transforms.Key.{Key}
+use Rattle.ix_conf_values.specs.declared.transforms.Key.TheVariants.{Raw}
+use Rattle.ix_conf_values.specs.declared.transforms.Transform.{Transform}
 
 -- ---- each tree can be numbered
 
@@ -91,28 +95,33 @@ lay (seq p q) rows =
     let m = lay q l.now in
     let here : piece_at m.now l.last ≡ p = m.stay l.last (let a = l.long in omega (arith, a)) ∙ l.is in
     behind rows p (seq p q) l (behind l.now q (seq p q) m
-    (as_tree m.now (seq (piece_at m.now l.last) (piece_at m.now m.last)) (seq p q) (ap (λ (x : Piece). seq x (piece_at m.now m.last)) here ∙ ap (seq p) m.is)
+    (as_tree m.now (seq (piece_at m.now l.last) (piece_at m.now m.last)) (seq p q) (ap (λ (x : Piece). seq x (piece_at m.now m.last)) here
+    ∙ ap (seq p) m.is)
     (pushed m.now (node.Seq l.last m.last, []))))
 lay (either p q) rows =
     let l = lay p rows in
     let m = lay q l.now in
     let here : piece_at m.now l.last ≡ p = m.stay l.last (let a = l.long in omega (arith, a)) ∙ l.is in
     behind rows p (either p q) l (behind l.now q (either p q) m
-    (as_tree m.now (either (piece_at m.now l.last) (piece_at m.now m.last)) (either p q) (ap (λ (x : Piece). either x (piece_at m.now m.last)) here ∙ ap (either p) m.is)
+    (as_tree m.now (either (piece_at m.now l.last) (piece_at m.now m.last)) (either p q)
+    (ap (λ (x : Piece). either x (piece_at m.now m.last)) here ∙ ap (either p) m.is)
     (pushed m.now (node.Either l.last m.last, []))))
 lay (count p least most lazy) rows =
     let l = lay p rows in
     behind rows p (count p least most lazy) l
-    (as_tree l.now (count (piece_at l.now l.last) least most lazy) (count p least most lazy) (ap (λ (x : Piece). count x least most lazy) l.is)
+    (as_tree l.now (count (piece_at l.now l.last) least most lazy) (count p least most lazy)
+    (ap (λ (x : Piece). count x least most lazy) l.is)
     (pushed l.now (node.Count l.last least most lazy, [])))
 lay (group number p) rows =
     let l = lay p rows in
     behind rows p (group number p) l
-    (as_tree l.now (group number (piece_at l.now l.last)) (group number p) (ap (group number) l.is) (pushed l.now (node.Group number l.last, [])))
+    (as_tree l.now (group number (piece_at l.now l.last)) (group number p) (ap (group number) l.is)
+    (pushed l.now (node.Group number l.last, [])))
 lay (ahead p wanted) rows =
     let l = lay p rows in
     behind rows p (ahead p wanted) l
-    (as_tree l.now (ahead (piece_at l.now l.last) wanted) (ahead p wanted) (ap (λ (x : Piece). ahead x wanted) l.is) (pushed l.now (node.Ahead l.last wanted, [])))
+    (as_tree l.now (ahead (piece_at l.now l.last) wanted) (ahead p wanted) (ap (λ (x : Piece). ahead x wanted) l.is)
+    (pushed l.now (node.Ahead l.last wanted, [])))
 
 tree_laid : (p : Piece) → tree (lay p []).now ≡ p
 tree_laid p =
@@ -264,7 +273,8 @@ of_zone : (rule : Option (List ℕ)) (z : List ℕ) → IsZone rule z → value.
 of_zone None z is = absurd is
 of_zone (Some rule) z is = ap (λ (x : List ℕ). value.Zone x) is.0
 
-of_zone_named : (zones : List MergedEntry) (text : List ℕ) (v : Value) → IsZoneNamed zones text v → IsSameValue v (zone_value (rule_of zones text))
+of_zone_named : (zones : List MergedEntry) (text : List ℕ) (v : Value) → IsZoneNamed zones text v →
+    IsSameValue v (zone_value (rule_of zones text))
 of_zone_named zones text value.Nothing is = absurd is
 of_zone_named zones text (value.Source x) is = absurd is
 of_zone_named zones text (value.Host x) is = absurd is
@@ -331,7 +341,8 @@ of_transforms transforms (n ∷ ns) [] is = absurd is
 of_transforms transforms (n ∷ ns) (t ∷ ts) is =
     (of_transform n (values_of transforms n) t is.0.is_read, of_transforms transforms ns ts is.1)
 
-of_kind : (transforms zones : List MergedEntry) (k : Kind) (e : MergedEntry) (v : Value) → IsOfKind transforms zones k e v → IsSameValue v (value_by transforms zones k e)
+of_kind : (transforms zones : List MergedEntry) (k : Kind) (e : MergedEntry) (v : Value) → IsOfKind transforms zones k e v →
+    IsSameValue v (value_by transforms zones k e)
 of_kind transforms zones kind.Unread e v is = subst (λ (x : Value). IsSameValue x value.Nothing) (sym is) refl
 of_kind transforms zones kind.Stanza e v is = of_stanza (source_pattern e) (host_pattern e) v is
 of_kind transforms zones kind.Breaker e v is = of_breaker e.value v is
@@ -362,12 +373,15 @@ of_kind transforms zones kind.Transforms e (value.Name x) is = absurd is
 abbrev entry_by : List MergedEntry → List MergedEntry → MergedEntry → PropsEntry
 entry_by transforms zones e = record { stanza = e.stanza; key = e.key; value = value_by transforms zones (entry_kind e) e }
 
-of_read : (transforms zones es : List MergedEntry) (loaded : List PropsEntry) → AreRead transforms zones es loaded → AllZip IsSameEntry loaded (map (entry_by transforms zones) es)
+of_read : (transforms zones es : List MergedEntry) (loaded : List PropsEntry) → AreRead transforms zones es loaded →
+    AllZip IsSameEntry loaded (map (entry_by transforms zones) es)
 of_read transforms zones [] [] is = tt
 of_read transforms zones [] (l ∷ loaded) is = absurd is
 of_read transforms zones (e ∷ es) [] is = absurd is
-of_read transforms zones (e ∷ es) (l ∷ loaded) is =
-    (record { stanza = is.0.stanza; key = is.0.key; value = of_kind transforms zones (entry_kind e) e l.value is.0.value }, of_read transforms zones es loaded is.1)
+of_read transforms zones (e ∷ es) (l ∷ loaded) is = (
+  record { stanza = is.0.stanza; key = is.0.key; value = of_kind transforms zones (entry_kind e) e l.value is.0.value },
+  of_read transforms zones es loaded is.1,
+)
 
 pub readings_one : ReadingsAreOne
 readings_one transforms zones es = record { entries = map (entry_by transforms zones) es; one = of_read transforms zones es }

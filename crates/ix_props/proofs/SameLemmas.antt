@@ -1,5 +1,6 @@
 -- The settings of a channel are one.
-use Rattle.std.proofs.Common.{◌≡◌, ◌⊎◌, inl, inr, ℕ, ℤ, Bool, true, false, List, [], ◌∷◌, ◌++◌, Some, None, refl, sym, ap, ◌∙◌, subst, codes, IsSome}
+use Rattle.std.proofs.Common.{◌≡◌, ◌⊎◌, inl, inr, ℕ, ℤ, Bool, true, false, List, [], ◌∷◌, ◌++◌, Some, None, refl, sym, ap, ◌∙◌, subst}
+use Rattle.std.proofs.Common.{codes, IsSome}
 use Rattle.std.specs.Prelude.{Option, ◌&&◌, is_some, bytes_eq, if◌then◌else◌}
 use Rattle.std.specs.Option.{option_and_then}
 use Rattle.std.specs.List.{AllByRecursion, AllZip, Contains}
@@ -10,10 +11,14 @@ use Rattle.ix_base.specs.declared.events.ChannelMeta.{ChannelMeta}
 use Rattle.ix_pattern.specs.Reads.{OneSyntax}
 use Rattle.ix_pattern.specs.Rows.{Shape}
 use Rattle.ix_pattern.specs.Syntax.{groups, tree_of, weight_of}
-use Rattle.ix_props.specs.Choice.{Origin, IsThere, HoldsForSource, Holds, for_source, for_host, for_source_type, for_everything, IsFirst, IsChosen, value_in, number_of, stated_priority, FitsStanza, order}
+use Rattle.ix_props.specs.Choice.{Origin, IsThere, HoldsForSource, Holds, for_source, for_host, for_source_type, for_everything, IsFirst}
+use Rattle.ix_props.specs.Choice.{IsChosen, value_in, number_of, stated_priority, FitsStanza, order}
 use Rattle.ix_props.specs.Kinds.{begins_with}
-use Rattle.ix_props.specs.Same.{MeanSame, BothMeanSame, AreSameMerge, AreSameTime, IsSameSed, IsSameTransform, AreSame, IsSamePattern, IsSameChange, AreSameTransforms, IsSameValue, IsSameEntry, SettingsAreOne}
-use Rattle.ix_props.specs.Settings.{Class, Chosen, boolean_or, count_or, name_or, zone_or, format_of, lookahead_of, pattern_of, IsBreakerOf, AreMergeSettings, AreTimeSettings, AreClasses, AreRising, change_of, changes, transforms_of, chain, IsSourceType, origin_of, AreSettings}
+use Rattle.ix_props.specs.Same.{MeanSame, BothMeanSame, AreSameMerge, AreSameTime, IsSameSed, IsSameTransform, AreSame, IsSamePattern}
+use Rattle.ix_props.specs.Same.{IsSameChange, AreSameTransforms, IsSameValue, IsSameEntry, SettingsAreOne}
+use Rattle.ix_props.specs.Settings.{Class, Chosen, boolean_or, count_or, name_or, zone_or, format_of, lookahead_of, pattern_of}
+use Rattle.ix_props.specs.Settings.{IsBreakerOf, AreMergeSettings, AreTimeSettings, AreClasses, AreRising, change_of, changes}
+use Rattle.ix_props.specs.Settings.{transforms_of, chain, IsSourceType, origin_of, AreSettings}
 use Rattle.ix_props.specs.Values.{IsBreakerShape}
 use Rattle.ix_props.specs.declared.props.PropsEntry.{PropsEntry}
 use Rattle.ix_props.specs.declared.ranks.Nearness.TheVariants.{Source, Host}
@@ -23,10 +28,10 @@ use Rattle.ix_props.specs.declared.settings.Settings.{Settings}
 use Rattle.ix_props.specs.declared.settings.TimeSettings.{TimeSettings}
 use Rattle.ix_props.specs.declared.values.Value.{Value}
 use Rattle.ix_props.specs.declared.values.Value.TheVariants as value
-use Rattle.ix_values.specs.declared.formats.Directive.{Directive}
-use Rattle.ix_values.specs.declared.seds.Sed.{Sed}
-use Rattle.ix_values.specs.declared.seds.Sed.TheVariants.{Replace, Swap}
-use Rattle.ix_values.specs.declared.transforms.Transform.{Transform}
+use Rattle.ix_conf_values.specs.declared.formats.Directive.{Directive}
+use Rattle.ix_conf_values.specs.declared.seds.Sed.{Sed}
+use Rattle.ix_conf_values.specs.declared.seds.Sed.TheVariants.{Replace, Swap}
+use Rattle.ix_conf_values.specs.declared.transforms.Transform.{Transform}
 use Rattle.ix_props.proofs.OneLemmas.{one_chosen}
 use Rattle.ix_props.proofs.RisingLemmas.{member, front_or_rest, first, behind, no_member, one_list}
 
@@ -36,7 +41,8 @@ use Rattle.ix_props.proofs.RisingLemmas.{member, front_or_rest, first, behind, n
 
 by_kind : (P : Value → Value → Type 0) → ((v : Value) → P v v) → ((p q : Shape) → MeanSame p q → P (value.Pattern p) (value.Pattern q)) →
     ((a b : Sed) → IsSameSed a b → P (value.Change a) (value.Change b)) →
-    ((a b : List Transform) → AllZip IsSameTransform a b → P (value.Transforms a) (value.Transforms b)) → (v w : Value) → IsSameValue v w → P v w
+    ((a b : List Transform) → AllZip IsSameTransform a b → P (value.Transforms a) (value.Transforms b)) → (v w : Value) → IsSameValue v w →
+    P v w
 by_kind P same pattern change transforms value.Nothing w is = subst (P value.Nothing) is (same value.Nothing)
 by_kind P same pattern change transforms (value.Source x) w is = subst (P (value.Source x)) is (same (value.Source x))
 by_kind P same pattern change transforms (value.Host x) w is = subst (P (value.Host x)) is (same (value.Host x))
@@ -93,7 +99,8 @@ SameChoice (Some v) (Some w) = IsSameValue v w
 -- what is the same of both, whatever it is read for
 same_read : {X : Type 0} (f : Option Value → X) → ((p q : Shape) → f (Some (value.Pattern p)) ≡ f (Some (value.Pattern q))) →
     ((a b : Sed) → f (Some (value.Change a)) ≡ f (Some (value.Change b))) →
-    ((a b : List Transform) → f (Some (value.Transforms a)) ≡ f (Some (value.Transforms b))) → (v w : Option Value) → SameChoice v w → f v ≡ f w
+    ((a b : List Transform) → f (Some (value.Transforms a)) ≡ f (Some (value.Transforms b))) → (v w : Option Value) → SameChoice v w →
+    f v ≡ f w
 same_read f p c t None None is = refl
 same_read f p c t None (Some w) is = absurd is
 same_read f p c t (Some v) None is = absurd is
@@ -116,7 +123,8 @@ same_pattern None None is = tt
 same_pattern None (Some w) is = absurd is
 same_pattern (Some v) None is = absurd is
 same_pattern (Some v) (Some w) is =
-    by_kind (λ (x y : Value). BothMeanSame (pattern_of (Some x)) (pattern_of (Some y))) self (λ p q same. same) (λ a b same. tt) (λ a b same. tt) v w is
+    by_kind (λ (x y : Value). BothMeanSame (pattern_of (Some x)) (pattern_of (Some y))) self (λ p q same. same) (λ a b same. tt)
+    (λ a b same. tt) v w is
   where
     self : (x : Value) → BothMeanSame (pattern_of (Some x)) (pattern_of (Some x))
     self value.Nothing = tt
@@ -134,7 +142,8 @@ same_pattern (Some v) (Some w) is =
 
 same_change : (v w : Value) → IsSameValue v w → AllZip IsSameSed (change_of v) (change_of w)
 same_change v w is =
-    by_kind (λ (x y : Value). AllZip IsSameSed (change_of x) (change_of y)) self (λ p q same. tt) (λ a b same. (same, tt)) (λ a b same. tt) v w is
+    by_kind (λ (x y : Value). AllZip IsSameSed (change_of x) (change_of y)) self (λ p q same. tt) (λ a b same. (same, tt)) (λ a b same. tt)
+    v w is
   where
     self : (x : Value) → AllZip IsSameSed (change_of x) (change_of x)
     self value.Nothing = tt
@@ -152,7 +161,8 @@ same_change v w is =
 
 same_transforms : (v w : Value) → IsSameValue v w → AllZip IsSameTransform (transforms_of v) (transforms_of w)
 same_transforms v w is =
-    by_kind (λ (x y : Value). AllZip IsSameTransform (transforms_of x) (transforms_of y)) self (λ p q same. tt) (λ a b same. tt) (λ a b same. same) v w is
+    by_kind (λ (x y : Value). AllZip IsSameTransform (transforms_of x) (transforms_of y)) self (λ p q same. tt) (λ a b same. tt)
+    (λ a b same. same) v w is
   where
     self : (x : Value) → AllZip IsSameTransform (transforms_of x) (transforms_of x)
     self value.Nothing = tt
@@ -170,19 +180,23 @@ same_transforms v w is =
 
 -- ---- what is chosen of entries that mean the same
 
-value_by : (t : Bool) (v w : Value) (o p : Option Value) → IsSameValue v w → SameChoice o p → SameChoice (if t then Some v else o) (if t then Some w else p)
+value_by : (t : Bool) (v w : Value) (o p : Option Value) → IsSameValue v w → SameChoice o p →
+    SameChoice (if t then Some v else o) (if t then Some w else p)
 value_by true v w o p h g = h
 value_by false v w o p h g = g
 
-same_value_in : (stanza key : List ℕ) (xs ys : List PropsEntry) → AllZip IsSameEntry xs ys → SameChoice (value_in stanza key xs) (value_in stanza key ys)
+same_value_in : (stanza key : List ℕ) (xs ys : List PropsEntry) → AllZip IsSameEntry xs ys →
+    SameChoice (value_in stanza key xs) (value_in stanza key ys)
 same_value_in stanza key [] [] same = tt
 same_value_in stanza key [] (b ∷ ys) same = absurd same
 same_value_in stanza key (a ∷ xs) [] same = absurd same
 same_value_in stanza key (a ∷ xs) (b ∷ ys) same =
     let there : (bytes_eq stanza a.stanza && bytes_eq key a.key) ≡ (bytes_eq stanza b.stanza && bytes_eq key b.key) =
     λ i. bytes_eq stanza (same.0.stanza i) && bytes_eq key (same.0.key i) in
-    subst (λ (t : Bool). SameChoice (if bytes_eq stanza a.stanza && bytes_eq key a.key then Some a.value else value_in stanza key xs) (if t then Some b.value else value_in stanza key ys)) there
-    (value_by (bytes_eq stanza a.stanza && bytes_eq key a.key) a.value b.value (value_in stanza key xs) (value_in stanza key ys) same.0.value
+    subst (λ (t : Bool). SameChoice (if bytes_eq stanza a.stanza && bytes_eq key a.key then Some a.value else value_in stanza key xs)
+    (if t then Some b.value else value_in stanza key ys)) there
+    (value_by (bytes_eq stanza a.stanza && bytes_eq key a.key) a.value b.value (value_in stanza key xs) (value_in stanza key ys)
+    same.0.value
     (same_value_in stanza key xs ys same.1))
 
 same_there : (v w : Option Value) → SameChoice v w → is_some v ≡ is_some w
@@ -197,7 +211,8 @@ none_same (Some w) is = absurd is
 
 module _ (xs ys : List PropsEntry) (same : AllZip IsSameEntry xs ys) where
   priorities : (stanza : List ℕ) → stated_priority xs stanza ≡ stated_priority ys stanza
-  priorities stanza = same_priority (value_in stanza (codes "priority") xs) (value_in stanza (codes "priority") ys) (same_value_in stanza (codes "priority") xs ys same)
+  priorities stanza = same_priority (value_in stanza (codes "priority") xs) (value_in stanza (codes "priority") ys)
+      (same_value_in stanza (codes "priority") xs ys same)
 
   theres : (stanza key : List ℕ) → is_some (value_in stanza key xs) ≡ is_some (value_in stanza key ys)
   theres stanza key = same_there (value_in stanza key xs) (value_in stanza key ys) (same_value_in stanza key xs ys same)
@@ -211,7 +226,8 @@ module _ (xs ys : List PropsEntry) (same : AllZip IsSameEntry xs ys) where
   holds : (o : Origin) (stanza : List ℕ) (rank : Rank) → Holds xs o stanza rank → Holds ys o stanza rank
   holds o stanza rank (for_source h) = for_source (holds_source o.source stanza rank h)
   holds o stanza rank (for_host there h) =
-      for_host (sym (theres stanza []) ∙ there) (subst (λ (p : Option ℤ). FitsStanza p Host (codes "host::") true o.host stanza rank) (priorities stanza) h)
+      for_host (sym (theres stanza []) ∙ there) (subst (λ (p : Option ℤ). FitsStanza p Host (codes "host::") true o.host stanza rank)
+      (priorities stanza) h)
   holds o stanza rank (for_source_type is names rank_is) = for_source_type is names rank_is
   holds o stanza rank (for_everything is rank_is) = for_everything is rank_is
 
@@ -221,16 +237,19 @@ module _ (xs ys : List PropsEntry) (same : AllZip IsSameEntry xs ys) where
     is : IsChosen ys Hb key now
     same_as : SameChoice v now
 
-  chosen_moved : (Ha Hb : List ℕ → Rank → Type 0) → ((s : List ℕ) (r : Rank) → Ha s r → Hb s r) → ((s : List ℕ) (r : Rank) → Hb s r → Ha s r) → (key : List ℕ) (v : Option Value) →
+  chosen_moved : (Ha Hb : List ℕ → Rank → Type 0) → ((s : List ℕ) (r : Rank) → Ha s r → Hb s r) →
+      ((s : List ℕ) (r : Rank) → Hb s r → Ha s r) → (key : List ℕ) (v : Option Value) →
       IsChosen xs Ha key v → IsMoved Hb key v
   chosen_moved Ha Hb to from key None is = record {
     now = None;
     is = λ stanza rank h. none_same (value_in stanza key ys)
-        (subst (λ (o : Option Value). SameChoice o (value_in stanza key ys)) (is stanza rank (from stanza rank h)) (same_value_in stanza key xs ys same));
+        (subst (λ (o : Option Value). SameChoice o (value_in stanza key ys)) (is stanza rank (from stanza rank h))
+        (same_value_in stanza key xs ys same));
     same_as = tt;
   }
   chosen_moved Ha Hb to from key (Some v) is =
-      by (value_in is.stanza key ys) refl (subst (λ (o : Option Value). SameChoice o (value_in is.stanza key ys)) is.has (same_value_in is.stanza key xs ys same))
+      by (value_in is.stanza key ys) refl (subst (λ (o : Option Value). SameChoice o (value_in is.stanza key ys)) is.has
+      (same_value_in is.stanza key xs ys same))
     where
       by : (o : Option Value) → value_in is.stanza key ys ≡ o → SameChoice (Some v) o → IsMoved Hb key (Some v)
       by None e s = absurd s
@@ -246,7 +265,8 @@ module _ (xs ys : List PropsEntry) (same : AllZip IsSameEntry xs ys) where
         same_as = s;
       }
 
-  chosen_same : (Ha Hb : List ℕ → Rank → Type 0) → ((s : List ℕ) (r : Rank) → Ha s r → Hb s r) → ((s : List ℕ) (r : Rank) → Hb s r → Ha s r) → (key : List ℕ) (v w : Option Value) →
+  chosen_same : (Ha Hb : List ℕ → Rank → Type 0) → ((s : List ℕ) (r : Rank) → Ha s r → Hb s r) →
+      ((s : List ℕ) (r : Rank) → Hb s r → Ha s r) → (key : List ℕ) (v w : Option Value) →
       IsChosen xs Ha key v → IsChosen ys Hb key w → SameChoice v w
   chosen_same Ha Hb to from key v w is is' =
       let m = chosen_moved Ha Hb to from key v is in
@@ -303,21 +323,26 @@ turned (x ∷ xs) (y ∷ ys) same =
     turned_value v w h = by_kind (λ (a b : Value). IsSameValue b a) same_value turned_shape turned_sed turned_all v w h
 
 module _ (xs ys : List PropsEntry) (same : AllZip IsSameEntry xs ys) where
-  one_choice : (o : Origin) (key : List ℕ) (v w : Option Value) → IsChosen xs (Holds xs o) key v → IsChosen ys (Holds ys o) key w → SameChoice v w
+  one_choice : (o : Origin) (key : List ℕ) (v w : Option Value) → IsChosen xs (Holds xs o) key v → IsChosen ys (Holds ys o) key w →
+      SameChoice v w
   one_choice o = chosen_same xs ys same (Holds xs o) (Holds ys o) (holds xs ys same o) (holds ys xs (turned xs ys same) o)
 
-  one_source : (source key : List ℕ) (v w : Option Value) → IsChosen xs (HoldsForSource xs source) key v → IsChosen ys (HoldsForSource ys source) key w → SameChoice v w
+  one_source : (source key : List ℕ) (v w : Option Value) → IsChosen xs (HoldsForSource xs source) key v →
+      IsChosen ys (HoldsForSource ys source) key w → SameChoice v w
   one_source source =
-      chosen_same xs ys same (HoldsForSource xs source) (HoldsForSource ys source) (holds_source xs ys same source) (holds_source ys xs (turned xs ys same) source)
+      chosen_same xs ys same (HoldsForSource xs source) (HoldsForSource ys source) (holds_source xs ys same source)
+      (holds_source ys xs (turned xs ys same) source)
 
   one_type : (stated : Option (List ℕ)) (source a b : List ℕ) → IsSourceType xs stated source a → IsSourceType ys stated source b → a ≡ b
   one_type (Some stated) source a b is is' = is ∙ sym is'
   one_type None source a b is is' =
       is.2
-      ∙ same_read (name_or (codes "unknown")) (λ p q. refl) (λ p q. refl) (λ p q. refl) is.0 is'.0 (one_source source (codes "sourcetype") is.0 is'.0 is.1 is'.1)
+      ∙ same_read (name_or (codes "unknown")) (λ p q. refl) (λ p q. refl) (λ p q. refl) is.0 is'.0
+      (one_source source (codes "sourcetype") is.0 is'.0 is.1 is'.1)
       ∙ sym is'.2
 
-  same_set : (meta : ChannelMeta) (a b : Settings) (is : AreSettings xs meta a) (is' : AreSettings ys meta b) → a.sourcetype ≡ b.sourcetype →
+  same_set : (meta : ChannelMeta) (a b : Settings) (is : AreSettings xs meta a) (is' : AreSettings ys meta b) →
+      a.sourcetype ≡ b.sourcetype →
       (key : List ℕ) → SameChoice (is.set key) (is'.set key)
   same_set meta a b is is' types key =
       one_choice (origin_of meta b.sourcetype) key (is.set key) (is'.set key)
@@ -420,7 +445,8 @@ module _ (set set' : Chosen) (same : (key : List ℕ) → SameChoice (set key) (
 -- ---- classes
 
 -- a class of the one list is of the other
-shared : (set : Chosen) (prefix : List ℕ) (cs ds : List Class) → AreClasses set prefix cs → AreClasses set prefix ds → (c : Class) → Contains cs c → Contains ds c
+shared : (set : Chosen) (prefix : List ℕ) (cs ds : List Class) → AreClasses set prefix cs → AreClasses set prefix ds → (c : Class) →
+    Contains cs c → Contains ds c
 shared set prefix cs ds is is' c there =
     let each = member (λ (d : Class). (begins_with prefix d.0 ≡ true) × (set d.0 ≡ Some d.1)) cs c is.each there in
     is'.all c.0 c.1 each.0 each.1
@@ -464,7 +490,8 @@ module _ (set set' : Chosen) (same : (key : List ℕ) → SameChoice (set key) (
       let rest = others cs is.1 in
       record { now = first.now ∷ rest.now; each = (first.is, rest.each); classes = (first.class, rest.classes) }
 
-  later : (c d : Class) (cs ds : List Class) → c.0 ≡ d.0 → AllZip IsSameClass cs ds → AllByRecursion (λ x. slice_cmp nat_cmp c.0 x.0 ≡ Less) cs →
+  later : (c d : Class) (cs ds : List Class) → c.0 ≡ d.0 → AllZip IsSameClass cs ds →
+      AllByRecursion (λ x. slice_cmp nat_cmp c.0 x.0 ≡ Less) cs →
       AllByRecursion (λ x. slice_cmp nat_cmp d.0 x.0 ≡ Less) ds
   later c d [] [] e z h = tt
   later c d [] (y ∷ ys) e z h = absurd z
@@ -477,7 +504,8 @@ module _ (set set' : Chosen) (same : (key : List ℕ) → SameChoice (set key) (
   rising (c ∷ cs) [] z h = absurd z
   rising (c ∷ cs) (d ∷ ds) z h = (later c d cs ds z.0.key z.1 h.0, rising cs ds z.1 h.1)
 
-  held : (cs ds : List Class) → AllZip IsSameClass cs ds → AllByRecursion IsClass' ds → (key : List ℕ) (u v : Value) → set' key ≡ Some v → Contains cs (key, u) → Contains ds (key, v)
+  held : (cs ds : List Class) → AllZip IsSameClass cs ds → AllByRecursion IsClass' ds → (key : List ℕ) (u v : Value) → set' key ≡ Some v →
+      Contains cs (key, u) → Contains ds (key, v)
   held [] [] z is key u v e there = absurd (no_member (key, u) there)
   held [] (d ∷ ds) z is key u v e there = absurd z
   held (c ∷ cs) [] z is key u v e there = absurd z
@@ -499,7 +527,8 @@ module _ (set set' : Chosen) (same : (key : List ℕ) → SameChoice (set key) (
     all = λ key v begins e. by key v begins e (set key) refl (subst (SameChoice (set key)) e (same key));
   }
     where
-      by : (key : List ℕ) (v : Value) → begins_with prefix key ≡ true → set' key ≡ Some v → (o' : Option Value) → set key ≡ o' → SameChoice (set key) (Some v) →
+      by : (key : List ℕ) (v : Value) → begins_with prefix key ≡ true → set' key ≡ Some v → (o' : Option Value) → set key ≡ o' →
+          SameChoice (set key) (Some v) →
           Contains o.now (key, v)
       by key v begins e None f s = absurd (subst (λ (x : Option Value). SameChoice x (Some v)) f s)
       by key v begins e (Some u) f s = held cs o.now o.classes o.each key u v e (is.all key u begins f)
@@ -527,7 +556,8 @@ all_transforms [] [] z = tt
 all_transforms [] (d ∷ ds) z = absurd z
 all_transforms (c ∷ cs) [] z = absurd z
 all_transforms (c ∷ cs) (d ∷ ds) z =
-    joined IsSameTransform (transforms_of c.1) (transforms_of d.1) (chain cs) (chain ds) (same_transforms c.1 d.1 z.0.same_value) (all_transforms cs ds z.1)
+    joined IsSameTransform (transforms_of c.1) (transforms_of d.1) (chain cs) (chain ds) (same_transforms c.1 d.1 z.0.same_value)
+    (all_transforms cs ds z.1)
 
 moved_all : {X : Type 0} (R : X → X → Type 0) (a b c d : List X) → a ≡ c → b ≡ d → AllZip R c d → AllZip R a b
 moved_all R a b c d e f z = subst (λ x. AllZip R x b) (sym e) (subst (AllZip R c) (sym f) z)
@@ -536,17 +566,21 @@ moved_all R a b c d e f z = subst (λ x. AllZip R x b) (sym e) (subst (AllZip R 
 
 pub one : OneSyntax → SettingsAreOne
 one law entries others meta a b entries_same is is' =
-    let types : a.sourcetype ≡ b.sourcetype = one_type entries others entries_same meta.sourcetype meta.source a.sourcetype b.sourcetype is.sourcetype is'.sourcetype in
+    let types : a.sourcetype ≡ b.sourcetype = one_type entries others entries_same meta.sourcetype meta.source a.sourcetype b.sourcetype
+    is.sourcetype is'.sourcetype in
     let same : (key : List ℕ) → SameChoice (is.set key) (is'.set key) = same_set entries others entries_same meta a b is is' types in
     let truncate : a.truncate ≡ b.truncate = is.truncate ∙ counts is.set is'.set same 10_000 (codes "TRUNCATE") ∙ sym is'.truncate in
     record {
-      breaker = one_breaker law (is.set (codes "LINE_BREAKER")) (is'.set (codes "LINE_BREAKER")) a.breaker b.breaker (same (codes "LINE_BREAKER")) is.breaker is'.breaker;
+      breaker = one_breaker law (is.set (codes "LINE_BREAKER")) (is'.set (codes "LINE_BREAKER")) a.breaker b.breaker
+          (same (codes "LINE_BREAKER")) is.breaker is'.breaker;
       merge = one_merge is.set is'.set same a.merge b.merge is.merge is'.merge;
       time = one_time is.set is'.set same a.time b.time is.time is'.time;
       seds = moved_all IsSameSed a.seds b.seds (changes is.seds.0) (changes is'.seds.0) is.seds.2 is'.seds.2
           (all_changes is.seds.0 is'.seds.0 (same_classes is.set is'.set same (codes "SEDCMD-") is.seds.0 is'.seds.0 is.seds.1 is'.seds.1));
-      transforms = moved_all IsSameTransform a.transforms b.transforms (chain is.transforms.0) (chain is'.transforms.0) is.transforms.2 is'.transforms.2
-          (all_transforms is.transforms.0 is'.transforms.0 (same_classes is.set is'.set same (codes "TRANSFORMS-") is.transforms.0 is'.transforms.0 is.transforms.1 is'.transforms.1));
+      transforms = moved_all IsSameTransform a.transforms b.transforms (chain is.transforms.0) (chain is'.transforms.0) is.transforms.2
+          is'.transforms.2
+          (all_transforms is.transforms.0 is'.transforms.0
+          (same_classes is.set is'.set same (codes "TRANSFORMS-") is.transforms.0 is'.transforms.0 is.transforms.1 is'.transforms.1));
       others = λ i. record {
         sourcetype = types i;
         breaker = a.breaker;

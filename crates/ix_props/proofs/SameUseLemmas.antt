@@ -9,12 +9,12 @@ use Rattle.ix_props.specs.Settings.{AreUsable}
 use Rattle.ix_props.specs.declared.settings.MergeSettings.{MergeSettings}
 use Rattle.ix_props.specs.declared.settings.Settings.{Settings}
 use Rattle.ix_props.specs.declared.settings.TimeSettings.{TimeSettings}
-use Rattle.ix_values.specs.Seds.{IsNumbered, IsApplicable}
-use Rattle.ix_values.specs.Transforms.{HasDestination}
-use Rattle.ix_values.specs.declared.seds.Sed.{Sed}
-use Rattle.ix_values.specs.declared.seds.Sed.TheVariants.{Replace, Swap}
-use Rattle.ix_values.specs.declared.seds.Which.{Which}
-use Rattle.ix_values.specs.declared.transforms.Transform.{Transform}
+use Rattle.ix_conf_values.specs.Seds.{IsNumbered, IsApplicable}
+use Rattle.ix_conf_values.specs.Transforms.{HasDestination}
+use Rattle.ix_conf_values.specs.declared.seds.Sed.{Sed}
+use Rattle.ix_conf_values.specs.declared.seds.Sed.TheVariants.{Replace, Swap}
+use Rattle.ix_conf_values.specs.declared.seds.Which.{Which}
+use Rattle.ix_conf_values.specs.declared.transforms.Transform.{Transform}
 
 sed_same : (a b : Sed) → IsSameSed a b → IsApplicable a → IsApplicable b
 sed_same (Replace p parts which) (Replace q parts' which') same is = subst IsNumbered same.2 is
@@ -29,7 +29,8 @@ seds_same [] (b ∷ ys) same is = absurd same
 seds_same (a ∷ xs) [] same is = absurd same
 seds_same (a ∷ xs) (b ∷ ys) same is = (sed_same a b same.0 is.0, seds_same xs ys same.1 is.1)
 
-transforms_same : (xs ys : List Transform) → AllZip IsSameTransform xs ys → AllByRecursion HasDestination xs → AllByRecursion HasDestination ys
+transforms_same : (xs ys : List Transform) → AllZip IsSameTransform xs ys → AllByRecursion HasDestination xs →
+    AllByRecursion HasDestination ys
 transforms_same [] [] same is = tt
 transforms_same [] (b ∷ ys) same is = absurd same
 transforms_same (a ∷ xs) [] same is = absurd same
@@ -46,7 +47,8 @@ usable_same a b same is =
       few_lines = subst (λ (n : ℕ). n ≤ 1_000_000) lines is.few_lines;
       ago = subst (λ (n : ℕ). n ≤ 10_951) (ap (λ (t : TimeSettings). t.days_ago) same.time.others) is.ago;
       hence = subst (λ (n : ℕ). n ≤ 10_950) (ap (λ (t : TimeSettings). t.days_hence) same.time.others) is.hence;
-      lookahead = subst (λ (o : Option ℕ). IfSome o (λ n. (1 ≤ n) × (n ≤ 1_048_576))) (ap (λ (t : TimeSettings). t.lookahead) same.time.others) is.lookahead;
+      lookahead = subst (λ (o : Option ℕ). IfSome o (λ n. (1 ≤ n) × (n ≤ 1_048_576)))
+          (ap (λ (t : TimeSettings). t.lookahead) same.time.others) is.lookahead;
       seds = seds_same a.seds b.seds same.seds is.seds;
       transforms = transforms_same a.transforms b.transforms same.transforms is.transforms;
     }

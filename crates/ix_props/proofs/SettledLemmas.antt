@@ -12,8 +12,10 @@ use Rattle.ix_props.proofs.NearestLemmas.{chosen_by}
 use Rattle.ix_props.proofs.RankLemmas.{source_ranks, all_ranks}
 
 -- without a source type that is stated
-pub type_of_source : (entries : List PropsEntry) (source host : List ℕ) (f : Ranks) (list : List PropsEntry) (name : List ℕ) → AreRanks entries entries source host f →
-    AreNearest (rank_for f None) entries list → name ≡ name_or (codes "unknown") (set_in list (codes "sourcetype")) → IsSourceType entries None source name
+pub type_of_source : (entries : List PropsEntry) (source host : List ℕ) (f : Ranks) (list : List PropsEntry) (name : List ℕ) →
+    AreRanks entries entries source host f →
+    AreNearest (rank_for f None) entries list → name ≡ name_or (codes "unknown") (set_in list (codes "sourcetype")) →
+    IsSourceType entries None source name
 type_of_source entries source host f list name ranks near is =
     let key : List ℕ = codes "sourcetype" in (
       option_map value_of (nearest (rank_for f None) key entries),

@@ -1,5 +1,7 @@
--- What was read of props.conf is usable: breakers take something, counts are in their ranges, changes apply and transforms write.
-use Rattle.std.proofs.Common.{◌≡◌, ◌≢◌, ℕ, ℤ, pos, ◌≤◌, ◌<◌, ◌&&◌, ◌⊎◌, inl, inr, Bool, true, false, List, [], ◌∷◌, ◌++◌, Some, None, refl, sym, ap, ◌∙◌, subst, bytes_eq, codes, length, arith}
+-- What was read of props.conf is usable: breakers take something, counts are in their ranges,
+-- changes apply and transforms write.
+use Rattle.std.proofs.Common.{◌≡◌, ◌≢◌, ℕ, ℤ, pos, ◌≤◌, ◌<◌, ◌&&◌, ◌⊎◌, inl, inr, Bool, true, false, List, [], ◌∷◌, ◌++◌, Some, None, refl}
+use Rattle.std.proofs.Common.{sym, ap, ◌∙◌, subst, bytes_eq, codes, length, arith}
 use Rattle.std.specs.Prelude.{Option, if◌then◌else◌, IfSome, int_le, unsigned_abs, neg_ℤ, ◌==◌}
 use Rattle.std.specs.Option.{option_map}
 use Rattle.std.specs.List.{AllByRecursion}
@@ -9,12 +11,12 @@ use Rattle.std.proofs.lemmas.Int.{ints}
 use Rattle.ix_conf.specs.declared.layers.MergedEntry.{MergedEntry}
 use Rattle.ix_pattern.specs.Rows.{Shape, tree}
 use Rattle.ix_pattern.specs.Piece.{least_length}
-use Rattle.ix_values.specs.Plain.{boolean, number, count_in, number_in}
-use Rattle.ix_values.specs.Formats.{format}
-use Rattle.ix_values.specs.Seds.{IsApplicable}
-use Rattle.ix_values.specs.Transforms.{HasDestination}
-use Rattle.ix_values.specs.declared.seds.Sed.{Sed}
-use Rattle.ix_values.specs.declared.transforms.Transform.{Transform}
+use Rattle.ix_conf_values.specs.Plain.{boolean, number, count_in, number_in}
+use Rattle.ix_conf_values.specs.Formats.{format}
+use Rattle.ix_conf_values.specs.Seds.{IsApplicable}
+use Rattle.ix_conf_values.specs.Transforms.{HasDestination}
+use Rattle.ix_conf_values.specs.declared.seds.Sed.{Sed}
+use Rattle.ix_conf_values.specs.declared.transforms.Transform.{Transform}
 use Rattle.ix_base.specs.declared.events.ChannelMeta.{ChannelMeta}
 use Rattle.ix_props.specs.Choice.{value_in, Holds, IsChosen}
 use Rattle.ix_props.specs.Kinds.{behind, begins_with, is_ignored, time_kind, event_kind, key_kind, entry_kind}
@@ -22,7 +24,8 @@ use Rattle.ix_props.specs.Lists.{AreTransforms}
 use Rattle.ix_props.specs.Names.{names}
 use Rattle.ix_props.specs.Props.{IsOfKind, AreRead}
 use Rattle.ix_props.specs.Ranking.{Ranks, Ranked, nearest, value_of, set_in, AreNearest, IsSmall}
-use Rattle.ix_props.specs.Settings.{Class, Chosen, count_or, lookahead_of, IsBreakerOf, change_of, changes, transforms_of, chain, origin_of, AreSettings, AreUsable}
+use Rattle.ix_props.specs.Settings.{Class, Chosen, count_or, lookahead_of, IsBreakerOf, change_of, changes, transforms_of, chain}
+use Rattle.ix_props.specs.Settings.{origin_of, AreSettings, AreUsable}
 use Rattle.ix_props.specs.Sound.{IsSound, AreSound, IsOwnSound}
 use Rattle.ix_props.specs.Values.{IsStanza, source_pattern, host_pattern, name}
 use Rattle.ix_props.specs.declared.kinds.Kind.{Kind}
@@ -53,7 +56,8 @@ both : (a b : Bool) → (a && b) ≡ true → b ≡ true
 both true b h = h
 both false b h = absurd (true≢false (sym h))
 
-sourced_step : (s key : List ℕ) (v : Value) (e : PropsEntry) (es : List PropsEntry) (x : Bool) → IsSound e → (bytes_eq s e.stanza && bytes_eq key e.key) ≡ x →
+sourced_step : (s key : List ℕ) (v : Value) (e : PropsEntry) (es : List PropsEntry) (x : Bool) → IsSound e →
+    (bytes_eq s e.stanza && bytes_eq key e.key) ≡ x →
     (value_in s key es ≡ Some v → Sourced key v) → (if x then Some e.value else value_in s key es) ≡ Some v → Sourced key v
 sourced_step s key v e es true sound p ih is =
     record { entry = e; sound = sound; key_is = same_bytes key e.key (both (bytes_eq s e.stanza) (bytes_eq key e.key) p); value_is = cc }
@@ -71,13 +75,15 @@ record ReadAs (k : Kind) (v : Value) : Type 0 where
   is : IsOfKind transforms zones k said v
 
 -- a value of a key is empty, or of the kind of that key
-picked : (x y z : Bool) (k : Kind) → x ≡ false → y ≡ false → z ≡ false → (if x then kind.Unread else if y then kind.Stanza else if z then kind.Unread else k) ≡ k
+picked : (x y z : Bool) (k : Kind) → x ≡ false → y ≡ false → z ≡ false →
+    (if x then kind.Unread else if y then kind.Stanza else if z then kind.Unread else k) ≡ k
 picked false false false k p q r = refl
 picked true y z k p q r = absurd (true≢false p)
 picked false true z k p q r = absurd (true≢false q)
 picked false false true k p q r = absurd (true≢false r)
 
-passed : (x y z : Bool) (k : Kind) → y ≡ false → (x ≡ true) ⊎ (z ≡ true) → (if x then kind.Unread else if y then kind.Stanza else if z then kind.Unread else k) ≡ kind.Unread
+passed : (x y z : Bool) (k : Kind) → y ≡ false → (x ≡ true) ⊎ (z ≡ true) →
+    (if x then kind.Unread else if y then kind.Stanza else if z then kind.Unread else k) ≡ kind.Unread
 passed true y z k q r = refl
 passed false true z k q r = absurd (true≢false q)
 passed false false true k q r = refl
@@ -90,21 +96,29 @@ kind_of b key e is = by (is_ignored e.stanza) (length e.value == 0) refl refl
     named : (length e.key == 0) ≡ false
     named = ap (λ (k : List ℕ). length k == 0) (sym is) ∙ ne_eqb (length (b ∷ key)) 0 (λ e. omega arith)
 
-    by : (x y : Bool) → is_ignored e.stanza ≡ x → (length e.value == 0) ≡ y → (entry_kind e ≡ kind.Unread) ⊎ (entry_kind e ≡ key_kind (b ∷ key))
+    by : (x y : Bool) → is_ignored e.stanza ≡ x → (length e.value == 0) ≡ y → (entry_kind e ≡ kind.Unread)
+        ⊎ (entry_kind e ≡ key_kind (b ∷ key))
     by true y p q = inl (passed (is_ignored e.stanza) (length e.key == 0) (length e.value == 0) (key_kind e.key) named (inl p))
     by false true p q = inl (passed (is_ignored e.stanza) (length e.key == 0) (length e.value == 0) (key_kind e.key) named (inr q))
     by false false p q =
-        inr (picked (is_ignored e.stanza) (length e.key == 0) (length e.value == 0) (key_kind e.key) p named q ∙ ap (λ k. key_kind k) (sym is))
+        inr (picked (is_ignored e.stanza) (length e.key == 0) (length e.value == 0) (key_kind e.key) p named q
+        ∙ ap (λ k. key_kind k) (sym is))
 
 read_as : (b : ℕ) (key : List ℕ) (v : Value) → Sourced (b ∷ key) v → (v ≡ value.Nothing) ⊎ ReadAs (key_kind (b ∷ key)) v
 read_as b key v from =
     let read = from.sound.is_read in
     let of_kind : (k : Kind) → entry_kind from.sound.said ≡ k → IsOfKind from.sound.transforms from.sound.zones k from.sound.said v =
     λ k same. subst (λ x. IsOfKind from.sound.transforms from.sound.zones x from.sound.said v) same
-    (subst (λ w. IsOfKind from.sound.transforms from.sound.zones (entry_kind from.sound.said) from.sound.said w) from.value_is read.value) in
+    (subst (λ w. IsOfKind from.sound.transforms from.sound.zones (entry_kind from.sound.said) from.sound.said w) from.value_is read.value)
+    in
     elim (kind_of b key from.sound.said (from.key_is ∙ read.key)) [
       | inl none ↦ inl (of_kind kind.Unread none)
-      | inr same ↦ inr (record { transforms = from.sound.transforms; zones = from.sound.zones; said = from.sound.said; is = of_kind (key_kind (b ∷ key)) same })
+      | inr same ↦ inr (record {
+        transforms = from.sound.transforms;
+        zones = from.sound.zones;
+        said = from.sound.said;
+        is = of_kind (key_kind (b ∷ key)) same;
+      })
     ]
 
 -- ---- what values of a kind are
@@ -122,10 +136,14 @@ applies ts zs kind.Unread e sed is = absurd (cc)
 applies ts zs kind.Stanza e sed is = absurd (stanza_changes_nothing (source_pattern e) (host_pattern e) sed is)
 applies ts zs kind.Breaker e sed is = absurd is
 applies ts zs kind.Pattern e sed is = absurd is
-applies ts zs kind.Boolean e sed is = absurd (apart (λ (b : Bool). value.Boolean b) (boolean e.value) (value.Change sed) (λ a same. absurd (cc)) is)
-applies ts zs (kind.Count lo hi) e sed is = absurd (apart (λ (n : ℕ). value.Count n) (count_in lo hi e.value) (value.Change sed) (λ a same. absurd (cc)) is)
-applies ts zs kind.Lookahead e sed is = absurd (apart (λ (n : ℤ). value.Number n) (number_in (neg_ℤ (pos 1)) (pos 1_048_576) e.value) (value.Change sed) (λ a same. absurd (cc)) is)
-applies ts zs kind.Priority e sed is = absurd (apart (λ (n : ℤ). value.Number n) (number_in (neg_ℤ (pos 1_000_000)) (pos 1_000_000) e.value) (value.Change sed) (λ a same. absurd (cc)) is)
+applies ts zs kind.Boolean e sed is = absurd (apart (λ (b : Bool). value.Boolean b) (boolean e.value) (value.Change sed)
+    (λ a same. absurd (cc)) is)
+applies ts zs (kind.Count lo hi) e sed is = absurd (apart (λ (n : ℕ). value.Count n) (count_in lo hi e.value) (value.Change sed)
+    (λ a same. absurd (cc)) is)
+applies ts zs kind.Lookahead e sed is = absurd (apart (λ (n : ℤ). value.Number n) (number_in (neg_ℤ (pos 1)) (pos 1_048_576) e.value)
+    (value.Change sed) (λ a same. absurd (cc)) is)
+applies ts zs kind.Priority e sed is = absurd (apart (λ (n : ℤ). value.Number n) (number_in (neg_ℤ (pos 1_000_000)) (pos 1_000_000) e.value)
+    (value.Change sed) (λ a same. absurd (cc)) is)
 applies ts zs kind.Format e sed is = absurd (apart value.Format (format e.value) (value.Change sed) (λ a same. absurd (cc)) is)
 applies ts zs kind.Zone e sed is = absurd is
 applies ts zs kind.Change e sed is = is.1
@@ -137,21 +155,27 @@ stanza_names_nothing (Some text) b list is = is
 stanza_names_nothing None (Some text) list is = is
 stanza_names_nothing None None list is = absurd (cc)
 
-destinations : (ts : List MergedEntry) (names : List (List ℕ)) (list : List Transform) → AreTransforms ts names list → AllByRecursion HasDestination list
+destinations : (ts : List MergedEntry) (names : List (List ℕ)) (list : List Transform) → AreTransforms ts names list →
+    AllByRecursion HasDestination list
 destinations ts [] [] are = tt
 destinations ts [] (t ∷ list) are = absurd are
 destinations ts (n ∷ names) [] are = absurd are
 destinations ts (n ∷ names) (t ∷ list) are = (are.0.destination, destinations ts names list are.1)
 
-writes : (ts zs : List MergedEntry) (k : Kind) (e : MergedEntry) (list : List Transform) → IsOfKind ts zs k e (value.Transforms list) → AllByRecursion HasDestination list
+writes : (ts zs : List MergedEntry) (k : Kind) (e : MergedEntry) (list : List Transform) → IsOfKind ts zs k e (value.Transforms list) →
+    AllByRecursion HasDestination list
 writes ts zs kind.Unread e list is = absurd (cc)
 writes ts zs kind.Stanza e list is = absurd (stanza_names_nothing (source_pattern e) (host_pattern e) list is)
 writes ts zs kind.Breaker e list is = absurd is
 writes ts zs kind.Pattern e list is = absurd is
-writes ts zs kind.Boolean e list is = absurd (apart (λ (b : Bool). value.Boolean b) (boolean e.value) (value.Transforms list) (λ a same. absurd (cc)) is)
-writes ts zs (kind.Count lo hi) e list is = absurd (apart (λ (n : ℕ). value.Count n) (count_in lo hi e.value) (value.Transforms list) (λ a same. absurd (cc)) is)
-writes ts zs kind.Lookahead e list is = absurd (apart (λ (n : ℤ). value.Number n) (number_in (neg_ℤ (pos 1)) (pos 1_048_576) e.value) (value.Transforms list) (λ a same. absurd (cc)) is)
-writes ts zs kind.Priority e list is = absurd (apart (λ (n : ℤ). value.Number n) (number_in (neg_ℤ (pos 1_000_000)) (pos 1_000_000) e.value) (value.Transforms list) (λ a same. absurd (cc)) is)
+writes ts zs kind.Boolean e list is = absurd (apart (λ (b : Bool). value.Boolean b) (boolean e.value) (value.Transforms list)
+    (λ a same. absurd (cc)) is)
+writes ts zs (kind.Count lo hi) e list is = absurd (apart (λ (n : ℕ). value.Count n) (count_in lo hi e.value) (value.Transforms list)
+    (λ a same. absurd (cc)) is)
+writes ts zs kind.Lookahead e list is = absurd (apart (λ (n : ℤ). value.Number n) (number_in (neg_ℤ (pos 1)) (pos 1_048_576) e.value)
+    (value.Transforms list) (λ a same. absurd (cc)) is)
+writes ts zs kind.Priority e list is = absurd (apart (λ (n : ℤ). value.Number n) (number_in (neg_ℤ (pos 1_000_000)) (pos 1_000_000) e.value)
+    (value.Transforms list) (λ a same. absurd (cc)) is)
 writes ts zs kind.Format e list is = absurd (apart value.Format (format e.value) (value.Transforms list) (λ a same. absurd (cc)) is)
 writes ts zs kind.Zone e list is = absurd is
 writes ts zs kind.Change e list is = absurd is
@@ -162,7 +186,8 @@ writes ts zs kind.Name e list is = absurd (apart value.Name (name e.value) (valu
 in_range : (least most : ℤ) (text : List ℕ) (n : ℤ) → number_in least most text ≡ Some n → (int_le least n ≡ true) × (int_le n most ≡ true)
 in_range least most text n is = by (number text) refl
   where
-    test : (z : ℤ) (a b : Bool) → int_le least z ≡ a → int_le z most ≡ b → (if a && b then Some z else None) ≡ Some n → (int_le least n ≡ true) × (int_le n most ≡ true)
+    test : (z : ℤ) (a b : Bool) → int_le least z ≡ a → int_le z most ≡ b → (if a && b then Some z else None) ≡ Some n →
+        (int_le least n ≡ true) × (int_le n most ≡ true)
     test z true true p q is = let one : z ≡ n = cc in (subst (λ m. int_le least m ≡ true) one p, subst (λ m. int_le m most ≡ true) one q)
     test z true false p q is = absurd (cc)
     test z false b p q is = absurd (cc)
@@ -192,7 +217,8 @@ counts lo hi text n is = by (count_in lo hi text) refl
     by None p = let never = rw p at is in absurd (cc)
     by (Some m) p = let same = rw p at is in let one : m ≡ n = cc in count_within lo hi text n (p ∙ ap (λ x. Some x) one)
 
-numbers : (least most : ℤ) (text : List ℕ) (n : ℤ) → option_map value.Number (number_in least most text) ≡ Some (value.Number n) → int_le n most ≡ true
+numbers : (least most : ℤ) (text : List ℕ) (n : ℤ) → option_map value.Number (number_in least most text) ≡ Some (value.Number n) →
+    int_le n most ≡ true
 numbers least most text n is = by (number_in least most text) refl
   where
     by : (o : Option ℤ) → number_in least most text ≡ o → int_le n most ≡ true
@@ -201,9 +227,11 @@ numbers least most text n is = by (number_in least most text) refl
 
 -- ---- what settings come of it
 breaker_ok : (o : Option Value) (shape : Shape) → IsBreakerOf o shape →
-    ((p : Shape) → o ≡ Some (value.Pattern p) → (0 < p.groups) × (0 < least_length (tree p.rows))) → (0 < shape.groups) × (0 < least_length (tree shape.rows))
+    ((p : Shape) → o ≡ Some (value.Pattern p) → (0 < p.groups) × (0 < least_length (tree p.rows))) → (0 < shape.groups)
+    × (0 < least_length (tree shape.rows))
 breaker_ok None shape is ok = (is.groups, is.takes)
-breaker_ok (Some (value.Pattern p)) shape is ok = subst (λ (q : Shape). (0 < q.groups) × (0 < least_length (tree q.rows))) (sym is) (ok p refl)
+breaker_ok (Some (value.Pattern p)) shape is ok = subst (λ (q : Shape). (0 < q.groups)
+    × (0 < least_length (tree q.rows))) (sym is) (ok p refl)
 breaker_ok (Some value.Nothing) shape is ok = (is.groups, is.takes)
 breaker_ok (Some (value.Source x)) shape is ok = (is.groups, is.takes)
 breaker_ok (Some (value.Host x)) shape is ok = (is.groups, is.takes)
@@ -216,7 +244,8 @@ breaker_ok (Some (value.Change x)) shape is ok = (is.groups, is.takes)
 breaker_ok (Some (value.Transforms x)) shape is ok = (is.groups, is.takes)
 breaker_ok (Some (value.Name x)) shape is ok = (is.groups, is.takes)
 
-count_ok : (o : Option Value) (lo hi d : ℕ) → lo ≤ d → d ≤ hi → ((n : ℕ) → o ≡ Some (value.Count n) → (lo ≤ n) × (n ≤ hi)) → (lo ≤ count_or d o) × (count_or d o ≤ hi)
+count_ok : (o : Option Value) (lo hi d : ℕ) → lo ≤ d → d ≤ hi → ((n : ℕ) → o ≡ Some (value.Count n) → (lo ≤ n) × (n ≤ hi)) →
+    (lo ≤ count_or d o) × (count_or d o ≤ hi)
 count_ok None lo hi d p q ok = (p, q)
 count_ok (Some (value.Count n)) lo hi d p q ok = ok n refl
 count_ok (Some value.Nothing) lo hi d p q ok = (p, q)
@@ -282,7 +311,8 @@ change_ok (value.Zone x) ok = tt
 change_ok (value.Transforms x) ok = tt
 change_ok (value.Name x) ok = tt
 
-transforms_ok : (v : Value) → ((list : List Transform) → v ≡ value.Transforms list → AllByRecursion HasDestination list) → AllByRecursion HasDestination (transforms_of v)
+transforms_ok : (v : Value) → ((list : List Transform) → v ≡ value.Transforms list → AllByRecursion HasDestination list) →
+    AllByRecursion HasDestination (transforms_of v)
 transforms_ok (value.Transforms list) ok = ok list refl
 transforms_ok value.Nothing ok = tt
 transforms_ok (value.Source x) ok = tt
@@ -304,7 +334,8 @@ all_append P (x ∷ xs) ys a b = (a.0, all_append P xs ys a.1 b)
 by_kind : (key : List ℕ) (v : Value) (from : Sourced key v) →
     IsOfKind from.sound.transforms from.sound.zones (entry_kind from.sound.said) from.sound.said v
 by_kind key v from =
-    subst (λ w. IsOfKind from.sound.transforms from.sound.zones (entry_kind from.sound.said) from.sound.said w) from.value_is from.sound.is_read.value
+    subst (λ w. IsOfKind from.sound.transforms from.sound.zones (entry_kind from.sound.said) from.sound.said w) from.value_is
+    from.sound.is_read.value
 
 abbrev AreSourced : Chosen → Type 0
 AreSourced set = (key : List ℕ) (v : Value) → set key ≡ Some v → Sourced key v
@@ -314,7 +345,8 @@ change_applies key v sed from is =
     applies from.sound.transforms from.sound.zones (entry_kind from.sound.said) from.sound.said sed
     (subst (λ w. IsOfKind from.sound.transforms from.sound.zones (entry_kind from.sound.said) from.sound.said w) is (by_kind key v from))
 
-transforms_write : (key : List ℕ) (v : Value) (list : List Transform) → Sourced key v → v ≡ value.Transforms list → AllByRecursion HasDestination list
+transforms_write : (key : List ℕ) (v : Value) (list : List Transform) → Sourced key v → v ≡ value.Transforms list →
+    AllByRecursion HasDestination list
 transforms_write key v list from is =
     writes from.sound.transforms from.sound.zones (entry_kind from.sound.said) from.sound.said list
     (subst (λ w. IsOfKind from.sound.transforms from.sound.zones (entry_kind from.sound.said) from.sound.said w) is (by_kind key v from))
@@ -386,7 +418,8 @@ small_lookahead f entries list sound near =
     small_ok (set_in list (codes "MAX_TIMESTAMP_LOOKAHEAD")) (λ n is.
     lookahead_read n (near_sourced f entries list sound near (codes "MAX_TIMESTAMP_LOOKAHEAD") (value.Number n) is))
 
-chosen_sourced : (entries : List PropsEntry) (H : List ℕ → Rank → Type 0) (key : List ℕ) (v : Value) → AreSound entries → IsChosen entries H key (Some v) → Sourced key v
+chosen_sourced : (entries : List PropsEntry) (H : List ℕ → Rank → Type 0) (key : List ℕ) (v : Value) → AreSound entries →
+    IsChosen entries H key (Some v) → Sourced key v
 chosen_sourced entries H key v sound is = sourced is.stanza key v entries sound is.has
 
 pub usable : (entries : List PropsEntry) (meta : ChannelMeta) (s : Settings) → AreSound entries → AreSettings entries meta s → AreUsable s
@@ -394,10 +427,14 @@ usable entries meta s sound a =
     let H : List ℕ → Rank → Type 0 = Holds entries (origin_of meta s.sourcetype) in
     let from : AreSourced a.set =
     λ key v is. chosen_sourced entries H key v sound (subst (λ o. IsChosen entries H key o) is (a.chosen key)) in
-    let breaker = breaker_ok (a.set (codes "LINE_BREAKER")) s.breaker a.breaker (λ p is. breaker_read p (from (codes "LINE_BREAKER") (value.Pattern p) is)) in
-    let lines = count_ok (a.set (codes "MAX_EVENTS")) 1 1_000_000 256 (omega arith) (omega arith) (λ n is. events_read n (from (codes "MAX_EVENTS") (value.Count n) is)) in
-    let ago = count_ok (a.set (codes "MAX_DAYS_AGO")) 0 10_951 2000 (omega arith) (omega arith) (λ n is. ago_read n (from (codes "MAX_DAYS_AGO") (value.Count n) is)) in
-    let hence = count_ok (a.set (codes "MAX_DAYS_HENCE")) 0 10_950 2 (omega arith) (omega arith) (λ n is. hence_read n (from (codes "MAX_DAYS_HENCE") (value.Count n) is)) in
+    let breaker = breaker_ok (a.set (codes "LINE_BREAKER")) s.breaker a.breaker
+    (λ p is. breaker_read p (from (codes "LINE_BREAKER") (value.Pattern p) is)) in
+    let lines = count_ok (a.set (codes "MAX_EVENTS")) 1 1_000_000 256 (omega arith) (omega arith)
+    (λ n is. events_read n (from (codes "MAX_EVENTS") (value.Count n) is)) in
+    let ago = count_ok (a.set (codes "MAX_DAYS_AGO")) 0 10_951 2000 (omega arith) (omega arith)
+    (λ n is. ago_read n (from (codes "MAX_DAYS_AGO") (value.Count n) is)) in
+    let hence = count_ok (a.set (codes "MAX_DAYS_HENCE")) 0 10_950 2 (omega arith) (omega arith)
+    (λ n is. hence_read n (from (codes "MAX_DAYS_HENCE") (value.Count n) is)) in
     let look = lookahead_ok (a.set (codes "MAX_TIMESTAMP_LOOKAHEAD")) (small_ok (a.set (codes "MAX_TIMESTAMP_LOOKAHEAD"))
     (λ n is. lookahead_read n (from (codes "MAX_TIMESTAMP_LOOKAHEAD") (value.Number n) is))) in
     record {
@@ -408,8 +445,10 @@ usable entries meta s sound a =
       ago = subst (λ n. n ≤ 10_951) (sym a.time.days_ago) ago.1;
       hence = subst (λ n. n ≤ 10_950) (sym a.time.days_hence) hence.1;
       lookahead = subst (λ o. Within o) (sym a.time.lookahead) look;
-      seds = subst (λ xs. AllByRecursion IsApplicable xs) (sym a.seds.2) (changes_apply a.set (codes "SEDCMD-") a.seds.0 from a.seds.1.each);
-      transforms = subst (λ xs. AllByRecursion HasDestination xs) (sym a.transforms.2) (chain_writes a.set (codes "TRANSFORMS-") a.transforms.0 from a.transforms.1.each);
+      seds = subst (λ xs. AllByRecursion IsApplicable xs) (sym a.seds.2)
+          (changes_apply a.set (codes "SEDCMD-") a.seds.0 from a.seds.1.each);
+      transforms = subst (λ xs. AllByRecursion HasDestination xs) (sym a.transforms.2)
+          (chain_writes a.set (codes "TRANSFORMS-") a.transforms.0 from a.transforms.1.each);
     }
 
 -- ---- a stanza's own entry
@@ -420,7 +459,8 @@ ignored : (s : List ℕ) → is_ignored s ≡ true → (behind (codes "source::"
 ignored [] is = (refl, refl)
 ignored (c ∷ s) is = by (c == 114) (c == 100) refl refl
   where
-    by : (x y : Bool) → (c == 114) ≡ x → (c == 100) ≡ y → (behind (codes "source::") (c ∷ s) ≡ None) × (behind (codes "host::") (c ∷ s) ≡ None)
+    by : (x y : Bool) → (c == 114) ≡ x → (c == 100) ≡ y → (behind (codes "source::") (c ∷ s) ≡ None)
+        × (behind (codes "host::") (c ∷ s) ≡ None)
     by true y p q =
         let a : (c == 115) ≡ false = grind (arith, nat_tests) in
         let b : (c == 104) ≡ false = grind (arith, nat_tests) in

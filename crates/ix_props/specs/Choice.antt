@@ -1,5 +1,7 @@
--- Which stanza's value holds for a channel. From Splunk's Admin Manual, props.conf, and "Configuration file precedence".
-use Rattle.std.specs.Prelude.{◌≡◌, ◌≢◌, ◌==◌, ◌&&◌, ◌||◌, not, if◌then◌else◌, ℕ, ℤ, pos, Bool, true, false, List, [], ◌∷◌, Option, Some, None, IsSome, bytes_eq, codes}
+-- Which stanza's value holds for a channel. From Splunk's Admin Manual, props.conf, and
+-- "Configuration file precedence".
+use Rattle.std.specs.Prelude.{◌≡◌, ◌≢◌, ◌==◌, ◌&&◌, ◌||◌, not, if◌then◌else◌, ℕ, ℤ, pos, Bool, true, false, List, [], ◌∷◌, Option, Some}
+use Rattle.std.specs.Prelude.{None, IsSome, bytes_eq, codes}
 use Rattle.std.specs.Option.{option_and_then}
 use Rattle.std.specs.declared.cmp.Ordering.{Ordering}
 use Rattle.std.specs.declared.cmp.Ordering.TheVariants.{Greater}
@@ -51,7 +53,8 @@ priority_or None text = default_priority text
 priority_or (Some n) text = n
 
 -- a name fits the pattern that stands behind the prefix of a stanza's
-pub record FitsStanza (stated : Option ℤ) (nearness : Nearness) (prefix : List ℕ) (fold : Bool) (name stanza : List ℕ) (rank : Rank) : Type 0 where
+pub record FitsStanza (stated : Option ℤ) (nearness : Nearness) (prefix : List ℕ) (fold : Bool) (name stanza : List ℕ) (rank : Rank) : Type
+    0 where
   pub text : List ℕ
   pub is_behind : behind prefix stanza ≡ Some text
   pub fits : FitsRule (record { tokens = tokens text; fold = fold }) name
@@ -82,7 +85,8 @@ pub data Holds (entries : List PropsEntry) (o : Origin) (stanza : List ℕ) (ran
       Holds entries o stanza rank
   for_everything : stanza ≡ codes "default" → rank ≡ record { nearness = Everything; priority = pos 0 } → Holds entries o stanza rank
 
--- the nearest stanzas first: those for sources, for hosts, for the source type, and the one for everything
+-- the nearest stanzas first: those for sources, for hosts, for the source type, and the one for
+-- everything
 abbrev pub step_of : Nearness → ℕ
 step_of Source = 0
 step_of Host = 1
@@ -103,11 +107,13 @@ pub record IsFirst (entries : List PropsEntry) (H : List ℕ → Rank → Type 0
   pub has : value_in stanza key entries ≡ Some v
   pub first : (other : List ℕ) (r : Rank) → H other r → IsSome (value_in other key entries) → order (stanza, rank) (other, r) ≢ Greater
 
--- the value of a key in the first stanza that holds and has one; none where no stanza that holds has one
+-- the value of a key in the first stanza that holds and has one; none where no stanza that holds
+-- has one
 abbrev pub IsChosen : List PropsEntry → (List ℕ → Rank → Type 0) → List ℕ → Option Value → Type 0
 IsChosen entries H key None = (stanza : List ℕ) (rank : Rank) → H stanza rank → value_in stanza key entries ≡ None
 IsChosen entries H key (Some v) = IsFirst entries H key v
 
 -- a key has one value, or none
 abbrev pub IsOneChoice : List PropsEntry → (List ℕ → Rank → Type 0) → Type 0
-IsOneChoice entries H = (key : List ℕ) (found other : Option Value) → IsChosen entries H key found → IsChosen entries H key other → found ≡ other
+IsOneChoice entries H = (key : List ℕ) (found other : Option Value) → IsChosen entries H key found → IsChosen entries H key other →
+    found ≡ other

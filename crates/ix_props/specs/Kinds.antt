@@ -3,7 +3,8 @@ use Rattle.std.specs.Prelude.{ℕ, ◌==◌, ◌||◌, if◌then◌else◌, Bool
 use Rattle.std.specs.Option.{option_and_then}
 use Rattle.ix_conf.specs.declared.layers.MergedEntry.{MergedEntry}
 use Rattle.ix_props.specs.declared.kinds.Kind.{Kind}
-use Rattle.ix_props.specs.declared.kinds.Kind.TheVariants.{Unread, Stanza, Breaker, Pattern, Boolean, Count, Lookahead, Priority, Format, Zone, Change, Transforms, Name}
+use Rattle.ix_props.specs.declared.kinds.Kind.TheVariants.{Unread, Stanza, Breaker, Pattern, Boolean, Count, Lookahead, Priority, Format}
+use Rattle.ix_props.specs.declared.kinds.Kind.TheVariants.{Zone, Change, Transforms, Name}
 
 -- what stands behind a byte in front
 abbrev pub after : ℕ → List ℕ → Option (List ℕ)

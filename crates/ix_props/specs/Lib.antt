@@ -1,4 +1,5 @@
 pub mod Choice
+pub mod FaultNames
 pub mod Kinds
 pub mod Lists
 pub mod Names

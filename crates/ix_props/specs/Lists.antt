@@ -3,8 +3,8 @@ use Rattle.std.specs.Prelude.{◌≡◌, ℕ, List, [], ◌∷◌, Some, None, I
 use Rattle.ix_pattern.specs.declared.faults.BreakFault.TheVariants as breaks
 use Rattle.ix_conf.specs.Value.{entry_at}
 use Rattle.ix_conf.specs.declared.layers.MergedEntry.{MergedEntry}
-use Rattle.ix_values.specs.declared.transforms.Transform.{Transform}
-use Rattle.ix_values.specs.Transforms.{IsTransformOf, HasDestination, RefusesKey, RefusesRegex, values_of}
+use Rattle.ix_conf_values.specs.declared.transforms.Transform.{Transform}
+use Rattle.ix_conf_values.specs.Transforms.{IsTransformOf, HasDestination, RefusesKey, RefusesRegex, values_of}
 use Rattle.ix_props.specs.Names.{names}
 use Rattle.ix_props.specs.declared.values.Value.{Value}
 use Rattle.ix_props.specs.declared.values.Value.TheVariants as value
@@ -24,7 +24,8 @@ AreTransforms transforms [] (t ∷ ts) = ⊥
 AreTransforms transforms (name ∷ names) [] = ⊥
 AreTransforms transforms (name ∷ names) (t ∷ ts) = IsTransformNamed transforms name t × AreTransforms transforms names ts
 
--- a name of an entry's value is that of no transform, or its transform is refused; want of memory may be answered at any time
+-- a name of an entry's value is that of no transform, or its transform is refused; want of memory
+-- may be answered at any time
 abbrev pub RefusesTransformNamed : List MergedEntry → MergedEntry → List ℕ → SettingFault → Type 0
 RefusesTransformNamed transforms e name (fault.UnknownTransform stanza key unknown) =
     (stanza ≡ e.stanza) × (key ≡ e.key) × (unknown ≡ name) × (entry_at name [] transforms ≡ None)

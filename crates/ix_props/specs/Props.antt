@@ -2,11 +2,12 @@
 use Rattle.std.specs.Prelude.{◌≡◌, List, [], ◌∷◌, Some, None, slice_get, take, length}
 use Rattle.std.specs.Option.{option_map}
 use Rattle.ix_conf.specs.declared.layers.MergedEntry.{MergedEntry}
-use Rattle.ix_values.specs.Formats.{format}
+use Rattle.ix_conf_values.specs.Formats.{format}
 use Rattle.ix_props.specs.Kinds.{entry_kind}
 use Rattle.ix_props.specs.Names.{names}
 use Rattle.ix_props.specs.Lists.{IsTransformList, RefusesNames}
-use Rattle.ix_props.specs.Values.{IsBad, source_pattern, host_pattern, IsStanza, IsNoStanza, RefusesStanza, IsPattern, RefusesPattern, IsBreaker, RefusesBreaker, IsChange, RefusesChange, IsZoneNamed, RefusesZoneName, name, plain_value}
+use Rattle.ix_props.specs.Values.{IsBad, source_pattern, host_pattern, IsStanza, IsNoStanza, RefusesStanza, IsPattern, RefusesPattern}
+use Rattle.ix_props.specs.Values.{IsBreaker, RefusesBreaker, IsChange, RefusesChange, IsZoneNamed, RefusesZoneName, name, plain_value}
 use Rattle.ix_props.specs.declared.kinds.Kind.{Kind}
 use Rattle.ix_props.specs.declared.kinds.Kind.TheVariants as kind
 use Rattle.ix_props.specs.declared.values.Value.{Value}
@@ -60,8 +61,10 @@ AreRead transforms zones [] (entry ∷ entries) = ⊥
 AreRead transforms zones (e ∷ es) [] = ⊥
 AreRead transforms zones (e ∷ es) (entry ∷ entries) = IsRead transforms zones e entry × AreRead transforms zones es entries
 
--- the first entry that is refused, behind such as were read; want of memory may be answered at any time
+-- the first entry that is refused, behind such as were read; want of memory may be answered at any
+-- time
 pub data RefusesProps (transforms zones es : List MergedEntry) (why : SettingFault) : Type 0 where
   no_memory : why ≡ fault.NoMemory → RefusesProps transforms zones es why
   first : (e : MergedEntry) (before : List PropsEntry) → slice_get es (length before) ≡ Some e →
-      AreRead transforms zones (take (length before) es) before → RefusesKind transforms zones (entry_kind e) e why → RefusesProps transforms zones es why
+      AreRead transforms zones (take (length before) es) before → RefusesKind transforms zones (entry_kind e) e why →
+      RefusesProps transforms zones es why

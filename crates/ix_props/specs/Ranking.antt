@@ -1,5 +1,6 @@
 -- How the stanzas that hold for a channel are ranked, and the nearest value of each key is found.
-use Rattle.std.specs.Prelude.{◌≡◌, ◌&&◌, ◌⊎◌, if◌then◌else◌, ℕ, ℤ, pos, Bool, true, false, List, [], ◌∷◌, Option, Some, None, int_le, bytes_eq, codes, map}
+use Rattle.std.specs.Prelude.{◌≡◌, ◌&&◌, ◌⊎◌, if◌then◌else◌, ℕ, ℤ, pos, Bool, true, false, List, [], ◌∷◌, Option, Some, None, int_le}
+use Rattle.std.specs.Prelude.{bytes_eq, codes, map}
 use Rattle.std.specs.Option.{option_map, option_or, unwrap_or}
 use Rattle.std.specs.List.{AllByRecursion}
 use Rattle.std.specs.BTreeMap.{BTreeMap, get_by}
@@ -48,8 +49,10 @@ behind_or prefix stanza = unwrap_or (behind prefix stanza) stanza
 
 -- the stanzas of `part` whose patterns fit, with their ranks
 pub record AreRanks (part entries : List PropsEntry) (source host : List ℕ) (ranks : Ranks) : Type 0 where
-  pub sound : (stanza : List ℕ) (rank : Rank) → ranks stanza ≡ Some rank → IsThere part stanza × FitsEither (stated_priority entries stanza) source host stanza rank
-  pub whole : (stanza : List ℕ) (rank : Rank) → IsThere part stanza → FitsEither (stated_priority entries stanza) source host stanza rank → ranks stanza ≡ Some rank
+  pub sound : (stanza : List ℕ) (rank : Rank) → ranks stanza ≡ Some rank → IsThere part stanza
+      × FitsEither (stated_priority entries stanza) source host stanza rank
+  pub whole : (stanza : List ℕ) (rank : Rank) → IsThere part stanza → FitsEither (stated_priority entries stanza) source host stanza rank →
+      ranks stanza ≡ Some rank
 
 -- the rank of a stanza without a pattern
 abbrev pub plain_rank : List ℕ → List ℕ → Option Rank

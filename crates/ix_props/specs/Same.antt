@@ -13,9 +13,9 @@ use Rattle.ix_props.specs.declared.settings.Settings.{Settings}
 use Rattle.ix_props.specs.declared.settings.TimeSettings.{TimeSettings}
 use Rattle.ix_props.specs.declared.values.Value.{Value}
 use Rattle.ix_props.specs.declared.values.Value.TheVariants as value
-use Rattle.ix_values.specs.declared.seds.Sed.{Sed}
-use Rattle.ix_values.specs.declared.seds.Sed.TheVariants.{Replace, Swap}
-use Rattle.ix_values.specs.declared.transforms.Transform.{Transform}
+use Rattle.ix_conf_values.specs.declared.seds.Sed.{Sed}
+use Rattle.ix_conf_values.specs.declared.seds.Sed.TheVariants.{Replace, Swap}
+use Rattle.ix_conf_values.specs.declared.transforms.Transform.{Transform}
 
 -- patterns mean the same, however their nodes are numbered
 pub record MeanSame (p q : Shape) : Type 0 where

@@ -1,5 +1,6 @@
 -- The settings of a channel. From Splunk's Admin Manual, props.conf.
-use Rattle.std.specs.Prelude.{◌≡◌, ◌≤◌, ◌<◌, if◌then◌else◌, int_le, unsigned_abs, ℕ, ℤ, pos, Bool, true, List, [], ◌∷◌, ◌++◌, Option, Some, None, IfSome, codes}
+use Rattle.std.specs.Prelude.{◌≡◌, ◌≤◌, ◌<◌, if◌then◌else◌, int_le, unsigned_abs, ℕ, ℤ, pos, Bool, true, List, [], ◌∷◌, ◌++◌, Option, Some}
+use Rattle.std.specs.Prelude.{None, IfSome, codes}
 use Rattle.std.specs.List.{AllByRecursion, Contains}
 use Rattle.std.specs.declared.cmp.Ordering.TheVariants.{Less}
 use Rattle.std.specs.Ordering.{nat_cmp}
@@ -7,11 +8,11 @@ use Rattle.std.specs.Cmp.Lexicographic.{slice_cmp}
 use Rattle.ix_base.specs.declared.events.ChannelMeta.{ChannelMeta}
 use Rattle.ix_pattern.specs.Rows.{Shape, tree}
 use Rattle.ix_pattern.specs.Piece.{least_length}
-use Rattle.ix_values.specs.Seds.{IsApplicable}
-use Rattle.ix_values.specs.Transforms.{HasDestination}
-use Rattle.ix_values.specs.declared.formats.Directive.{Directive}
-use Rattle.ix_values.specs.declared.seds.Sed.{Sed}
-use Rattle.ix_values.specs.declared.transforms.Transform.{Transform}
+use Rattle.ix_conf_values.specs.Seds.{IsApplicable}
+use Rattle.ix_conf_values.specs.Transforms.{HasDestination}
+use Rattle.ix_conf_values.specs.declared.formats.Directive.{Directive}
+use Rattle.ix_conf_values.specs.declared.seds.Sed.{Sed}
+use Rattle.ix_conf_values.specs.declared.transforms.Transform.{Transform}
 use Rattle.ix_props.specs.Choice.{Origin, HoldsForSource, Holds, IsChosen}
 use Rattle.ix_props.specs.Kinds.{begins_with}
 use Rattle.ix_props.specs.Values.{IsBreakerShape}
@@ -89,7 +90,8 @@ abbrev pub AreRising : List Class → Type 0
 AreRising [] = Unit {0}
 AreRising (c ∷ cs) = AllByRecursion (λ d. slice_cmp nat_cmp c.0 d.0 ≡ Less) cs × AreRising cs
 
--- the classes whose keys begin so are those that are set, each once, in the order of the bytes of their keys
+-- the classes whose keys begin so are those that are set, each once, in the order of the bytes of
+-- their keys
 pub record AreClasses (set : Chosen) (prefix : List ℕ) (classes : List Class) : Type 0 where
   pub rising : AreRising classes
   pub each : AllByRecursion (λ c. (begins_with prefix c.0 ≡ true) × (set c.0 ≡ Some c.1)) classes
@@ -116,7 +118,8 @@ chain (c ∷ cs) = transforms_of c.1 ++ chain cs
 abbrev pub IsSourceType : List PropsEntry → Option (List ℕ) → List ℕ → List ℕ → Type 0
 IsSourceType entries (Some stated) source sourcetype = sourcetype ≡ stated
 IsSourceType entries None source sourcetype =
-    (found : Option Value) × IsChosen entries (HoldsForSource entries source) (codes "sourcetype") found × (sourcetype ≡ name_or (codes "unknown") found)
+    (found : Option Value) × IsChosen entries (HoldsForSource entries source) (codes "sourcetype") found
+    × (sourcetype ≡ name_or (codes "unknown") found)
 
 -- where the bytes of a channel of this source type come from
 abbrev pub origin_of : ChannelMeta → List ℕ → Origin

@@ -1,5 +1,6 @@
 -- What the entries of props.conf are read as, and why one is refused.
-use Rattle.std.specs.Prelude.{◌≡◌, ◌&&◌, ◌<◌, if◌then◌else◌, nat_le, false, true, neg_ℤ, pos, Bool, ℕ, List, Option, Some, None, codes, length}
+use Rattle.std.specs.Prelude.{◌≡◌, ◌&&◌, ◌<◌, if◌then◌else◌, nat_le, false, true, neg_ℤ, pos, Bool, ℕ, List, Option, Some, None, codes}
+use Rattle.std.specs.Prelude.{length}
 use Rattle.std.specs.Option.{option_map}
 use Rattle.ix_pattern.specs.Rows.{Shape, tree}
 use Rattle.ix_pattern.specs.Piece.{least_length}
@@ -9,9 +10,9 @@ use Rattle.ix_pattern.specs.declared.faults.BreakFault.{BreakFault}
 use Rattle.ix_pattern.specs.declared.faults.BreakFault.TheVariants as breaks
 use Rattle.ix_conf.specs.Names.{NameRule, tokens, are_pattern}
 use Rattle.ix_conf.specs.declared.layers.MergedEntry.{MergedEntry}
-use Rattle.ix_values.specs.Patterns.{ReadsAs, HasFault, Refuses}
-use Rattle.ix_values.specs.Plain.{boolean, count_in, number_in}
-use Rattle.ix_values.specs.Seds.{form, IsSedOf, PatternHasFault, IsApplicable}
+use Rattle.ix_conf_values.specs.Patterns.{ReadsAs, HasFault, Refuses}
+use Rattle.ix_conf_values.specs.Plain.{boolean, count_in, number_in}
+use Rattle.ix_conf_values.specs.Seds.{form, IsSedOf, PatternHasFault, IsApplicable}
 use Rattle.ix_props.specs.Zones.{rule_of, IsZone, IsBadRule}
 use Rattle.ix_props.specs.Kinds.{behind}
 use Rattle.ix_props.specs.declared.kinds.Kind.{Kind}
@@ -98,7 +99,8 @@ IsChange text other = ⊥
 
 abbrev pub RefusesChange : MergedEntry → SettingFault → Type 0
 RefusesChange e (fault.BadValue stanza key) = (stanza ≡ e.stanza) × (key ≡ e.key) × (form e.value ≡ None)
-RefusesChange e (fault.BadPattern stanza key (breaks.Pattern fault)) = (stanza ≡ e.stanza) × (key ≡ e.key) × PatternHasFault (form e.value) fault
+RefusesChange e (fault.BadPattern stanza key (breaks.Pattern fault)) = (stanza ≡ e.stanza) × (key ≡ e.key)
+    × PatternHasFault (form e.value) fault
 RefusesChange e fault.NoMemory = Unit {0}
 RefusesChange e other = ⊥
 

@@ -2,7 +2,7 @@
 use Rattle.std.specs.Prelude.{◌≡◌, ℕ, List, Option, Some, None, IsSome, codes}
 use Rattle.jiff_tz.specs.PosixReader.{read_whole}
 use Rattle.ix_conf.specs.declared.layers.MergedEntry.{MergedEntry}
-use Rattle.ix_values.specs.Values.{own_value, stated}
+use Rattle.ix_conf_values.specs.Values.{own_value, stated}
 use Rattle.ix_props.specs.declared.zones.RuleFault.{RuleFault}
 use Rattle.ix_props.specs.declared.zones.RuleFault.TheVariants as rule_fault
 use Rattle.ix_props.specs.declared.zones.ZoneFault.{ZoneFault}

@@ -1,9 +1,11 @@
-//! The value of each key that is the nearest to a channel, for `settling` and for the settings that are read of it.
+//! The value of each key that is the nearest to a channel, for `settling` and for the settings that
+//! are read of it.
 
 ghost use Rattle.std.specs.Prelude.{◌≡◌, List, ℕ, Option, Some, IfOk, OnOk, bytes_eq};
 ghost use Rattle.std.specs.Option.{option_map, option_copied};
 ghost use Rattle.std.specs.Map.{update};
-ghost use Rattle.ix_props.specs.Ranking.{found, rank_for, for_source, Ranked, lent_candidate, at_key, gives_way, nearer, nearest, lent, set_in, AreNearest};
+ghost use Rattle.ix_props.specs.Ranking.{found, rank_for, for_source, Ranked, lent_candidate, at_key, gives_way, nearer, nearest, lent};
+ghost use Rattle.ix_props.specs.Ranking.{set_in, AreNearest};
 ghost use Rattle.ix_props.specs.declared.props.PropsEntry.{PropsEntry};
 ghost use Rattle.ix_props.specs.declared.ranks.Rank.{Rank};
 
@@ -75,7 +77,8 @@ fn put_candidate<'a>(
     key: &'a [u8],
     candidate: Candidate<'a>,
 ) -> Result<(), NoMemory>
-    ensures { OnOk result ((name : List ℕ) → found nearest.new name ≡ update bytes_eq (found nearest.old) key.now (Some candidate.entry) name) }
+    ensures { OnOk result ((name : List ℕ) → found nearest.new name ≡ update bytes_eq (found nearest.old) key.now (Some candidate.entry)
+        name) }
 {
     nearest.insert(key, candidate)?;
     Ok(())
@@ -126,7 +129,8 @@ fn list_of<'a>(alloc: Global, map: &Nearest<'a>) -> Result<Vec<&'a PropsEntry>, 
     Ok(list)
 }
 
-/// The nearest entry of each key, in the order of the keys, for a channel of this source type; without one, for its source alone.
+/// The nearest entry of each key, in the order of the keys, for a channel of this source type;
+/// without one, for its source alone.
 pub(crate) fn choose<'a>(
     alloc: Global,
     entries: &'a [PropsEntry],

@@ -1,4 +1,5 @@
-//! The classes of changes and of transforms that are set for a channel, in the order of their keys, for `settling`.
+//! The classes of changes and of transforms that are set for a channel, in the order of their keys,
+//! for `settling`.
 
 ghost use Rattle.std.specs.Prelude.{◌≡◌, ◌++◌, ◌∷◌, [], OnOk, codes};
 ghost use Rattle.ix_props.specs.Ranking.{lent, classes_in};
@@ -8,7 +9,7 @@ use crate::kinds::begins_with;
 use crate::props::PropsEntry;
 use crate::values::Value;
 use ix_base::NoMemory;
-use ix_values::{SedList, Transform, TransformList};
+use ix_conf_values::{SedList, Transform, TransformList};
 use std::alloc::Global;
 
 fn add_change(alloc: Global, seds: &mut SedList, entry: &PropsEntry) -> Result<(), NoMemory>

@@ -1,9 +1,11 @@
-//! Single settings of a channel, each read of the value that is chosen for it, or else its default. `settling` calls them.
+//! Single settings of a channel, each read of the value that is chosen for it, or else its default.
+//! `settling` calls them.
 
 ghost use Rattle.std.specs.Prelude.{◌≡◌, IfOk, codes};
 ghost use Rattle.std.specs.Option.{option_copied};
 ghost use Rattle.ix_props.specs.Ranking.{lent, set_in, IsSmall};
-ghost use Rattle.ix_props.specs.Settings.{boolean_or, count_or, name_or, zone_or, pattern_of, format_of, lookahead_of, IsBreakerOf, AreMergeSettings, AreTimeSettings};
+ghost use Rattle.ix_props.specs.Settings.{boolean_or, count_or, name_or, zone_or, pattern_of, format_of, lookahead_of, IsBreakerOf};
+ghost use Rattle.ix_props.specs.Settings.{AreMergeSettings, AreTimeSettings};
 
 use crate::choosing::find;
 use crate::props::PropsEntry;
@@ -11,8 +13,8 @@ use crate::settings::{MergeSettings, TimeSettings};
 use crate::values::{Value, read_breaks};
 use crate::zones::Zone;
 use ix_base::{Bytes, NoMemory};
+use ix_conf_values::TimeFormat;
 use ix_pattern::Pattern;
-use ix_values::TimeFormat;
 use std::alloc::Global;
 
 fn boolean_or(default: bool, value: Option<&Value>) -> bool

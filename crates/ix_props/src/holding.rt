@@ -1,4 +1,5 @@
-//! The stanzas of props.conf whose patterns the source or the host of a channel fits, for `settling`.
+//! The stanzas of props.conf whose patterns the source or the host of a channel fits, for
+//! `settling`.
 
 ghost use Rattle.std.specs.Prelude.{◌≡◌, List, ℕ, Some, [], IfOk, OnOk, codes, bytes_eq};
 ghost use Rattle.std.specs.Option.{option_map, option_and_then};
@@ -36,7 +37,8 @@ fn put_priority<'a>(
     stanza: &'a [u8],
     priority: Option<i64>,
 ) -> Result<(), NoMemory>
-    ensures { OnOk result ((name : List ℕ) → found priorities.new name ≡ update bytes_eq (found priorities.old) stanza.now (Some priority) name) }
+    ensures { OnOk result ((name : List ℕ) → found priorities.new name ≡ update bytes_eq (found priorities.old) stanza.now (Some priority)
+        name) }
 {
     priorities.insert(stanza, priority)?;
     Ok(())
@@ -70,7 +72,8 @@ fn stated<'a>(priorities: &Priorities<'a>, stanza: &'a [u8]) -> Option<i64>
     }
 }
 
-/// The priority of a stanza with a pattern: what it states, or else that of the pattern behind the prefix.
+/// The priority of a stanza with a pattern: what it states, or else that of the pattern behind the
+/// prefix.
 fn priority_of(stated: Option<i64>, prefix: &[u8], stanza: &[u8]) -> i64
     ensures { result ≡ priority_or stated (behind_or prefix.now stanza.now) }
 {

@@ -10,8 +10,8 @@ use crate::names::read_names;
 use crate::values::Value;
 use ix_base::{Bytes, Sequence};
 use ix_conf::{Item, Merged};
+use ix_conf_values::{Transform, TransformFault};
 use ix_pattern::BreakFault;
-use ix_values::{Transform, TransformFault};
 use std::alloc::Global;
 
 /// Reads the transform of this name, which the value of the item has.

@@ -29,8 +29,8 @@ pub struct PropsEntry {
     pub value: Value,
 }
 
-/// The settings of all channels. Contracts see them as the list of the entries of props.conf, each with the value that was read of
-/// its text.
+/// The settings of all channels. Contracts see them as the list of the entries of props.conf, each
+/// with the value that was read of its text.
 #[derive(Drop)]
 pub struct Props {
     entries: Sequence<PropsEntry>,
@@ -96,9 +96,10 @@ fn read_entries(
 }
 
 impl Props {
-    /// Judges the values of all keys of props.conf, in the order of the bytes of stanzas and keys, and at the place of a value also the
-    /// transforms and the zone that it names. The first fault is answered. Transforms and zones that no value names are not judged, nor
-    /// are stanzas whose names begin with `rule::` or `delayedrule::`.
+    /// Judges the values of all keys of props.conf, in the order of the bytes of stanzas and keys,
+    /// and at the place of a value also the transforms and the zone that it names. The first fault
+    /// is answered. Transforms and zones that no value names are not judged, nor are stanzas whose
+    /// names begin with `rule::` or `delayedrule::`.
     pub fn load(
         alloc: Global,
         props: &Merged,
@@ -112,8 +113,9 @@ impl Props {
         Ok(Props { entries })
     }
 
-    /// The settings of a channel, each by the nearest stanza that has its key: those whose pattern its source fits, then those whose
-    /// pattern its host fits, then that of its source type, then `default`. An empty value, or none, gives the default of the key.
+    /// The settings of a channel, each by the nearest stanza that has its key: those whose pattern
+    /// its source fits, then those whose pattern its host fits, then that of its source type, then
+    /// `default`. An empty value, or none, gives the default of the key.
     pub fn settings(&self, alloc: Global, meta: &ChannelMeta) -> Result<Settings, NoMemory>
         ensures chosen { IfOk result (λ settings. AreSettings self.now meta.now settings) }
         ensures usable { IfOk result (λ settings. AreUsable settings) }

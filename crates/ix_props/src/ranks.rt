@@ -1,4 +1,5 @@
-//! How near a stanza of props.conf is to a channel for which it holds. `holding` and `choosing` stand on it.
+//! How near a stanza of props.conf is to a channel for which it holds. `holding` and `choosing`
+//! stand on it.
 
 ghost use Rattle.std.specs.Prelude.{◌≡◌, codes};
 ghost use Rattle.ix_props.specs.Choice.{is_wild, has_wildcard, default_priority, names_source_type, step_of, order};
@@ -41,7 +42,8 @@ impl Nearness {
     }
 }
 
-/// Which of two stanzas comes first: the nearer one, then that of the greater priority, then that of the lesser name.
+/// Which of two stanzas comes first: the nearer one, then that of the greater priority, then that
+/// of the lesser name.
 pub(crate) fn compare(stanza: &[u8], rank: Rank, other: &[u8], other_rank: Rank) -> Ordering
     ensures { result ≡ order (stanza.now, rank) (other.now, other_rank) }
 {

@@ -6,8 +6,8 @@ ghost use Rattle.std.specs.Option.{option_copied};
 use crate::classes::add_transforms;
 use crate::zones::Zone;
 use ix_base::{Bytes, NoMemory, Sequence};
+use ix_conf_values::{Sed, SedList, TimeFormat, TransformList};
 use ix_pattern::Pattern;
-use ix_values::{Sed, SedList, TimeFormat, TransformList};
 use std::alloc::Global;
 
 /// How lines are merged to events.
@@ -20,7 +20,8 @@ pub struct MergeSettings {
     pub before: Option<Pattern>,
     /// `MUST_BREAK_AFTER`: the line behind one that matches starts an event.
     pub break_after: Option<Pattern>,
-    /// `MUST_NOT_BREAK_AFTER`: behind a line that matches no event starts until one that matches `break_after`.
+    /// `MUST_NOT_BREAK_AFTER`: behind a line that matches no event starts until one that matches
+    /// `break_after`.
     pub hold_after: Option<Pattern>,
     /// `MUST_NOT_BREAK_BEFORE`: a line that matches starts no event.
     pub veto: Option<Pattern>,
@@ -48,7 +49,8 @@ pub struct TimeSettings {
     pub prefix: Option<Pattern>,
     /// `TIME_FORMAT`: how the time is written.
     pub format: Option<TimeFormat>,
-    /// `MAX_TIMESTAMP_LOOKAHEAD`: in how many bytes the time is looked for, up to 1,048,576; `None` for all of them.
+    /// `MAX_TIMESTAMP_LOOKAHEAD`: in how many bytes the time is looked for, up to 1,048,576; `None`
+    /// for all of them.
     pub lookahead: Option<u32>,
     /// `TZ`: the zone of a time that names none.
     pub zone: Zone,
@@ -73,9 +75,11 @@ impl Drop for TimeSettings {
 
 /// All settings of a channel.
 pub struct Settings {
-    /// The source type that holds: the stated one, else that of the source's stanzas, else `unknown`.
+    /// The source type that holds: the stated one, else that of the source's stanzas, else
+    /// `unknown`.
     pub sourcetype: Bytes,
-    /// `LINE_BREAKER`: what stands between lines. It has a capturing group and takes at least one byte.
+    /// `LINE_BREAKER`: what stands between lines. It has a capturing group and takes at least one
+    /// byte.
     pub breaker: Pattern,
     /// `TRUNCATE`: how many bytes a line has at the most. 0 stands for no such bound.
     pub truncate: u32,
@@ -145,9 +149,18 @@ fn add_seds(alloc: Global, list: &mut SedList, seds: &[Sed]) -> Result<(), NoMem
 }
 
 impl MergeSettings {
-    /// Settings without a pattern. The patterns are put there one by one, so that what was made so far is let go by one call.
+    /// Settings without a pattern. The patterns are put there one by one, so that what was made so
+    /// far is let go by one call.
     pub(crate) fn plain(on: bool, before_date: bool, max_lines: u32) -> MergeSettings
-        ensures { result ≡ record { on = on; before_date = before_date; before = None; break_after = None; hold_after = None; veto = None; max_lines = max_lines } }
+        ensures { result ≡ record {
+          on = on;
+          before_date = before_date;
+          before = None;
+          break_after = None;
+          hold_after = None;
+          veto = None;
+          max_lines = max_lines;
+        } }
     {
         MergeSettings {
             on,

@@ -14,7 +14,8 @@ use crate::settings::Settings;
 use ix_base::{Bytes, ChannelMeta, NoMemory, Sequence};
 use std::alloc::Global;
 
-/// The source type that a channel states, or else that of the stanzas for its source, or else `unknown`.
+/// The source type that a channel states, or else that of the stanzas for its source, or else
+/// `unknown`.
 fn sourcetype_of<'a>(
     alloc: Global,
     entries: &'a [PropsEntry],

@@ -3,8 +3,10 @@
 ghost use Rattle.std.specs.Prelude.{◌≡◌, ◌⊎◌, IfOk, IfErr, None, Some, false};
 ghost use Rattle.std.specs.Option.{option_map};
 ghost use Rattle.ix_conf.specs.Lent.{item_entry};
-ghost use Rattle.ix_values.specs.Formats.{format};
-ghost use Rattle.ix_props.specs.Values.{IsBad, plain_value, IsNamePattern, source_pattern, host_pattern, IsStanza, IsNoStanza, RefusesStanza, IsPattern, RefusesPattern, IsBreakerShape, IsBreaker, HasBreakFault, RefusesBreaks, RefusesBreaker, IsChange, RefusesChange, IsZoneNamed, RefusesZoneName, name};
+ghost use Rattle.ix_conf_values.specs.Formats.{format};
+ghost use Rattle.ix_props.specs.Values.{IsBad, plain_value, IsNamePattern, source_pattern, host_pattern, IsStanza, IsNoStanza};
+ghost use Rattle.ix_props.specs.Values.{RefusesStanza, IsPattern, RefusesPattern, IsBreakerShape, IsBreaker, HasBreakFault, RefusesBreaks};
+ghost use Rattle.ix_props.specs.Values.{RefusesBreaker, IsChange, RefusesChange, IsZoneNamed, RefusesZoneName, name};
 ghost use Rattle.ix_conf.specs.Names.{tokens, are_pattern};
 ghost use Rattle.ix_props.specs.declared.faults.SettingFault.TheVariants as fault;
 ghost use Rattle.ix_props.specs.declared.values.Value.TheVariants as value;
@@ -14,11 +16,11 @@ use crate::kinds::{Kind, behind};
 use crate::zones::{Zone, ZoneFault, find_zone};
 use ix_base::Bytes;
 use ix_conf::{Item, Merged, NameFault, NamePattern};
-use ix_pattern::{BreakFault, Pattern, PatternFault};
-use ix_values::{
+use ix_conf_values::{
     FormatFault, Sed, SedFault, TimeFormat, TransformList, read_boolean, read_count, read_number,
     read_pattern,
 };
+use ix_pattern::{BreakFault, Pattern, PatternFault};
 use std::alloc::Global;
 
 /// The value of an entry of props.conf.

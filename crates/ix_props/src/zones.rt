@@ -7,7 +7,7 @@ ghost use Rattle.ix_props.specs.Zones.{rule_of, IsZone, RefusesRule, RefusesZone
 
 use ix_base::NoMemory;
 use ix_conf::Merged;
-use ix_values::own_value;
+use ix_conf_values::own_value;
 use jiff_tz::posix;
 use std::alloc::Global;
 use std::marker::Model;
@@ -58,7 +58,8 @@ pub enum ZoneFault {
 }
 
 impl Zone {
-    /// Reads a POSIX rule, as `EST5EDT,M3.2.0,M11.1.0`. `BadRule` comes exactly where the text is none.
+    /// Reads a POSIX rule, as `EST5EDT,M3.2.0,M11.1.0`. `BadRule` comes exactly where the text is
+    /// none.
     pub fn read(alloc: Global, text: &[u8]) -> Result<Zone, RuleFault>
         ensures rule { IfOk result (λ zone. zone ≡ text.now) }
         ensures ok { IfOk result (λ zone. IsSome (read_whole text.now)) }
@@ -73,7 +74,8 @@ impl Zone {
         Ok(Zone { rule, zone })
     }
 
-    /// The zone of universal time, of the rule `UTC0`, which is a rule: so there is no other fault than want of memory.
+    /// The zone of universal time, of the rule `UTC0`, which is a rule: so there is no other fault
+    /// than want of memory.
     pub fn utc(alloc: Global) -> Result<Zone, NoMemory>
         ensures zone { IfOk result (λ zone. zone ≡ codes "UTC0") }
         ensures is_rule { IsSome (read_whole (codes "UTC0")) }

@@ -1,5 +1,6 @@
 -- How often a number stands in a list, and what a list in order says of that; sums up to a bound.
-use Rattle.std.proofs.Common.{◌≡◌, ◌≢◌, ◌⊎◌, inl, inr, ℕ, zero, suc, ◌+◌, ◌-◌, ◌<◌, ◌≤◌, ◌^◌, List, [], ◌∷◌, ◌++◌, Bool, true, false, take, length, get_or, refl, ap, subst, ◌∙◌, arith}
+use Rattle.std.proofs.Common.{◌≡◌, ◌≢◌, ◌⊎◌, inl, inr, ℕ, zero, suc, ◌+◌, ◌-◌, ◌<◌, ◌≤◌, ◌^◌, List, [], ◌∷◌, ◌++◌, Bool, true, false, take}
+use Rattle.std.proofs.Common.{length, get_or, refl, ap, subst, ◌∙◌, arith}
 use Rattle.std.specs.Prelude.{◌==◌, cond}
 use Rattle.std.specs.List.{count_by}
 use Rattle.std.specs.List.Sorted.{IsPermutation, IsNonDecreasing}
@@ -31,12 +32,14 @@ often_push numbers m n = sum_by_push (mark n) numbers m
 pub often_moved : (xs ys : List ℕ) (n : ℕ) → IsPermutation xs ys → often ys n ≡ often xs n
 often_moved xs ys n moved = sum_by-IsPermutation (mark n) xs ys moved
 
-often_more : (numbers : List ℕ) (i n : ℕ) → i < length numbers → often (take (i + 1) numbers) n ≡ often (take i numbers) n + mark n (get_or numbers i 0)
+often_more : (numbers : List ℕ) (i n : ℕ) → i < length numbers →
+    often (take (i + 1) numbers) n ≡ often (take i numbers) n + mark n (get_or numbers i 0)
 often_more numbers i n within = sum_by_more (mark n) numbers i 0 within
 
 -- ---- numbers in order
 
--- the numbers before a place differ, and are below the least one that may come next; none is `next` or above
+-- the numbers before a place differ, and are below the least one that may come next; none is `next`
+-- or above
 pub record IsRising (numbers : List ℕ) (next i least : ℕ) : Type 0 where
   pub within : i ≤ length numbers
   pub from : 1 ≤ least
@@ -84,7 +87,8 @@ module _ (numbers : List ℕ) (next i least : ℕ) (rising : IsRising numbers ne
           let one = rising.apart.one_each n in
           omega (arith, more n, not.1, one)
 
-      other : (n : ℕ) → ((number ≡ n) × (mark n number ≡ 1)) ⊎ ((number ≢ n) × (mark n number ≡ 0)) → often (take i numbers) n ≤ 0 → number < n → often (take (i + 1) numbers) n ≤ 0
+      other : (n : ℕ) → ((number ≡ n) × (mark n number ≡ 1)) ⊎ ((number ≢ n) × (mark n number ≡ 0)) → often (take i numbers) n ≤ 0 →
+          number < n → often (take (i + 1) numbers) n ≤ 0
       other n (inl is) none above = absurd (omega (arith, is.0, above))
       other n (inr not) none above = omega (arith, more n, not.1, none)
 
@@ -96,7 +100,8 @@ module _ (numbers : List ℕ) (next i least : ℕ) (rising : IsRising numbers ne
           let none = rising.apart.from_one in
           omega (arith, more 0, not.1, none)
 
-  -- a number below the least that may come stood already, or is 0; one above the last that may come is one too many
+  -- a number below the least that may come stood already, or is 0; one above the last that may come
+  -- is one too many
   mine : mark number number ≡ 1
   mine = go (marks number number)
     where
@@ -129,7 +134,8 @@ module _ (numbers : List ℕ) (next i least : ℕ) (rising : IsRising numbers ne
           let last = rising.last some in
           let before = sorted (i - 1) i 0 (omega arith) within in
           let same : get_or numbers (i - 1) 0 ≡ number = omega (arith, last, low, before) in
-          let earlier = get_or-le-sum_by (mark number) (take i numbers) (i - 1) 0 (omega (arith, length-take-le i numbers (omega (arith, within)), some)) in
+          let earlier = get_or-le-sum_by (mark number) (take i numbers) (i - 1) 0
+          (omega (arith, length-take-le i numbers (omega (arith, within)), some)) in
           let read = get_or-take i numbers (i - 1) 0 (omega (arith, some)) in
           let one : mark number (get_or (take i numbers) (i - 1) 0) ≡ 1 = ap (mark number) (read ∙ same) ∙ mine in
           let more = often_more numbers i number within in

@@ -4,7 +4,7 @@ use Rattle.std.specs.List.{flat_map, sum_by}
 use Rattle.std.proofs.lemmas.List.Sums.{sum_by-cons}
 use Rattle.ix_base.specs.declared.events.ChannelMeta.{ChannelMeta}
 use Rattle.ix_base.specs.declared.events.Spot.{Spot}
-use Rattle.ix_fields.specs.Spelling.{byte, four, eight, signed, string, option, flag}
+use Rattle.ix_coding.specs.Spelling.{byte, four, eight, signed, string, option, flag}
 use Rattle.ix_items.specs.Spelling.{item_bytes, field_bytes, kept_bytes, settings_bytes, meta_bytes, bucket_bytes, entry_bytes, spot_bytes}
 use Rattle.ix_items.specs.declared.items.Bucket.{Bucket}
 use Rattle.ix_items.specs.declared.items.Entry.{Entry}
@@ -39,19 +39,22 @@ pub length_some : (text : List ℕ) → length (option string (Some text)) ≡ 5
 unfolding option flag byte string four
 length_some text = omega arith
 
-pub length_kept : (kept : Kept) → length (kept_bytes kept) ≡ 1 + (length (string kept.stanza) + length (string kept.key) + length (string kept.value))
+pub length_kept : (kept : Kept) → length (kept_bytes kept) ≡ 1 + (length (string kept.stanza) + length (string kept.key) + length
+    (string kept.value))
 length_kept kept = simp (length-append, length_byte) (omega arith)
 
 length_all : (kept : List Kept) → length (flat_map kept_bytes kept) ≡ sum_by (λ k. length (kept_bytes k)) kept
 length_all [] = refl
-length_all (one ∷ kept) = length-append (kept_bytes one) (flat_map kept_bytes kept) ∙ omega (arith, length_all kept, sum_by-cons (λ (k : Kept). length (kept_bytes k)) one kept)
+length_all (one ∷ kept) = length-append (kept_bytes one) (flat_map kept_bytes kept)
+    ∙ omega (arith, length_all kept, sum_by-cons (λ (k : Kept). length (kept_bytes k)) one kept)
 
 pub length_settings : (kept : List Kept) → length (item_bytes (items.Settings kept)) ≡ 5 + sum_by (λ k. length (kept_bytes k)) kept
 unfolding item_bytes field_bytes settings_bytes
 length_settings kept = simp (length-append, length_byte, length_four, length_all kept) (omega arith)
 
 pub length_channel : (name : List ℕ) (meta : ChannelMeta) → length (item_bytes (items.Channel name meta []))
-    ≡ 5 + (length (string name) + length (string meta.host) + length (string meta.source)) + (length (option string meta.sourcetype) + length (option string meta.index))
+    ≡ 5 + (length (string name) + length (string meta.host) + length (string meta.source)) + (length
+    (option string meta.sourcetype) + length (option string meta.index))
 unfolding item_bytes field_bytes meta_bytes
 length_channel name meta = simp (length-append, length_byte, length_string []) (omega arith)
 

@@ -1,17 +1,18 @@
 -- A list of what stands, one item a name: what an item changes there.
-use Rattle.std.proofs.Common.{◌≡◌, ℕ, ◌+◌, ◌<◌, length, get_or, take, drop, List, [], ◌∷◌, ◌++◌, Bool, true, false, Option, Some, None, if◌then◌else◌, refl, ap, subst, sym, ◌∙◌}
+use Rattle.std.proofs.Common.{◌≡◌, ℕ, ◌+◌, ◌<◌, length, get_or, take, drop, List, [], ◌∷◌, ◌++◌, Bool, true, false, Option, Some, None}
+use Rattle.std.proofs.Common.{if◌then◌else◌, refl, ap, subst, sym, ◌∙◌}
 use Rattle.std.specs.Prelude.{All}
 use Rattle.std.specs.List.{AllByRecursion}
 use Rattle.std.proofs.lemmas.List.{drop_more, take-append-drop}
 use Rattle.std.proofs.lemmas.List.Elements.{recursion_from_All}
 use Rattle.ix_items.specs.declared.items.Item.{Item}
 use Rattle.ix_items.specs.declared.items.Item.TheVariants as items
-use Rattle.ix_book.specs.Book.{Name, Book, NoneUnder, empty, name_of, is_same, is_there, left_by, after_item, replay}
-use Rattle.ix_book.specs.Slots.{AreOnce}
-use Rattle.ix_book.proofs.Applying.{replay_behind}
-use Rattle.ix_book.proofs.InPlace.{none_under, taken_out}
-use Rattle.ix_book.proofs.Once.{AreOther, once_push, once_moved}
-use Rattle.ix_book.proofs.Renaming.{same_name, chosen_other, replaced}
+use Rattle.ix_manifest.specs.Book.{Name, NamedItems, NoneUnder, empty, name_of, is_same, is_there, left_by, after_item, replay}
+use Rattle.ix_manifest.specs.Slots.{AreOnce}
+use Rattle.ix_manifest.proofs.Applying.{replay_behind}
+use Rattle.ix_manifest.proofs.InPlace.{none_under, taken_out}
+use Rattle.ix_manifest.proofs.Once.{AreOther, once_push, once_moved}
+use Rattle.ix_manifest.proofs.Renaming.{same_name, chosen_other, replaced}
 use Rattle.ix_replay.specs.Lists.{IsLeft, AreListed}
 
 -- ---- what an item leaves
@@ -92,22 +93,29 @@ module _ (xs ys : List Item) (x item : Item) (listed : AreListed (xs ++ x ∷ ys
   names = same_name (name_of x) (name_of item) same
 
   pub book_without : is_there (left_by item) ≡ false → replay (xs ++ ys) empty ≡ after_item item (replay (xs ++ x ∷ ys) empty)
-  book_without gone = taken_out xs ys x item same (none_there (left_by item) gone) (none_behind xs x ys listed.once) (subst (λ (n : Name). NoneUnder n (xs ++ ys)) names (others_of xs x ys listed.once))
+  book_without gone = taken_out xs ys x item same (none_there (left_by item) gone) (none_behind xs x ys listed.once)
+      (subst (λ (n : Name). NoneUnder n (xs ++ ys)) names (others_of xs x ys listed.once))
 
-pub list_push : (items : List Item) (item : Item) → AreListed items → AreOther (name_of item) items → is_there (left_by item) ≡ true → AreListed (items ++ item ∷ [])
-list_push items item listed other stays = record { once = once_push items item listed.once other; left = left_push items item (stays_so item stays) listed.left }
+pub list_push : (items : List Item) (item : Item) → AreListed items → AreOther (name_of item) items → is_there (left_by item) ≡ true →
+    AreListed (items ++ item ∷ [])
+list_push items item listed other stays = record {
+  once = once_push items item listed.once other;
+  left = left_push items item (stays_so item stays) listed.left;
+}
 
 pub book_push : (items : List Item) (item : Item) → replay (items ++ item ∷ []) empty ≡ after_item item (replay items empty)
 book_push items item = replay_behind items (item ∷ []) empty
 
 -- an item that leaves nothing changes nothing where none of its name stands
-pub book_same : (items : List Item) (item : Item) → AreOther (name_of item) items → is_there (left_by item) ≡ false → replay items empty ≡ after_item item (replay items empty)
+pub book_same : (items : List Item) (item : Item) → AreOther (name_of item) items → is_there (left_by item) ≡ false →
+    replay items empty ≡ after_item item (replay items empty)
 book_same items item other gone = λ i name. at name (is_same (name_of item) name) refl i
   where
     chosen : (test told : Bool) (x y : Option Item) → test ≡ told → (if test then x else y) ≡ (if told then x else y)
     chosen test told x y is = ap (λ (t : Bool). if t then x else y) is
 
-    at : (name : Name) (test : Bool) → is_same (name_of item) name ≡ test → replay items empty name ≡ after_item item (replay items empty) name
+    at : (name : Name) (test : Bool) → is_same (name_of item) name ≡ test →
+        replay items empty name ≡ after_item item (replay items empty) name
     at name true is =
         ap (λ (n : Name). replay items empty n) (sym (same_name (name_of item) name is)) ∙ none_under items (name_of item) empty other
         ∙ sym (chosen (is_same (name_of item) name) true (left_by item) (replay items empty name) is ∙ none_there (left_by item) gone)
@@ -118,7 +126,8 @@ book_same items item other gone = λ i name. at name (is_same (name_of item) nam
 pub split_at : (list : List Item) (at : ℕ) (d : Item) → at < length list → list ≡ take at list ++ get_or list at d ∷ drop (at + 1) list
 split_at list at d within = sym (take-append-drop at list) ∙ ap (λ (l : List Item). take at list ++ l) (drop_more list at d within)
 
-module _ (list : List Item) (at : ℕ) (item : Item) (within : at < length list) (listed : AreListed list) (same : is_same (name_of (get_or list at item)) (name_of item) ≡ true) where
+module _ (list : List Item) (at : ℕ) (item : Item) (within : at < length list) (listed : AreListed list)
+    (same : is_same (name_of (get_or list at item)) (name_of item) ≡ true) where
   abbrev front : List Item
   front = take at list
 
@@ -138,30 +147,39 @@ module _ (list : List Item) (at : ℕ) (item : Item) (within : at < length list)
   }
 
   pub book_moved : replay (front ++ rest ++ item ∷ []) empty ≡ after_item item (replay list empty)
-  book_moved = replaced front rest (get_or list at item) item empty same ∙ ap (λ (l : List Item). after_item item (replay l empty)) (sym whole)
+  book_moved = replaced front rest (get_or list at item) item empty same
+      ∙ ap (λ (l : List Item). after_item item (replay l empty)) (sym whole)
 
   pub list_removed : AreListed (front ++ rest)
   list_removed = list_without front (get_or list at item) rest here
 
   pub book_removed : is_there (left_by item) ≡ false → replay (front ++ rest) empty ≡ after_item item (replay list empty)
-  book_removed gone = book_without front rest (get_or list at item) item here same gone ∙ ap (λ (l : List Item). after_item item (replay l empty)) (sym whole)
+  book_removed gone = book_without front rest (get_or list at item) item here same gone
+      ∙ ap (λ (l : List Item). after_item item (replay l empty)) (sym whole)
 
-pub others_from_all : (list : List Item) (item : Item) → All (λ (x : Item). is_same (name_of x) (name_of item) ≡ false) list → AreOther (name_of item) list
+pub others_from_all : (list : List Item) (item : Item) → All (λ (x : Item). is_same (name_of x) (name_of item) ≡ false) list →
+    AreOther (name_of item) list
 others_from_all list item all = recursion_from_All (λ (x : Item). is_same (name_of x) (name_of item) ≡ false) list all
 
 -- ---- what stands under a name
 
-stands_in : (xs ys : List Item) (x : Item) (name : Name) → AreListed (xs ++ x ∷ ys) → is_same (name_of x) name ≡ true → replay (xs ++ x ∷ ys) empty name ≡ Some x
+stands_in : (xs ys : List Item) (x : Item) (name : Name) → AreListed (xs ++ x ∷ ys) → is_same (name_of x) name ≡ true →
+    replay (xs ++ x ∷ ys) empty name ≡ Some x
 stands_in xs ys x name listed same =
-    ap (λ (b : Book). b name) (replay_behind xs (x ∷ ys) empty)
-    ∙ none_under ys name (after_item x (replay xs empty)) (subst (λ (n : Name). NoneUnder n ys) (same_name (name_of x) name same) (none_behind xs x ys listed.once))
+    ap (λ (b : NamedItems). b name) (replay_behind xs (x ∷ ys) empty)
+    ∙ none_under ys name (after_item x (replay xs empty))
+    (subst (λ (n : Name). NoneUnder n ys) (same_name (name_of x) name same) (none_behind xs x ys listed.once))
     ∙ ap (λ (t : Bool). if t then left_by x else replay xs empty name) same
     ∙ left_at xs x ys listed.left
 
-pub stands_at : (list : List Item) (at : ℕ) (x : Item) (name : Name) → AreListed list → at < length list → x ≡ get_or list at x → is_same (name_of x) name ≡ true → replay list empty name ≡ Some x
+pub stands_at : (list : List Item) (at : ℕ) (x : Item) (name : Name) → AreListed list → at < length list → x ≡ get_or list at x →
+    is_same (name_of x) name ≡ true → replay list empty name ≡ Some x
 stands_at list at x name listed within is same =
-    let whole : list ≡ take at list ++ x ∷ drop (at + 1) list = split_at list at x within ∙ ap (λ (y : Item). take at list ++ y ∷ drop (at + 1) list) (sym is) in
-    ap (λ (l : List Item). replay l empty name) whole ∙ stands_in (take at list) (drop (at + 1) list) x name (subst AreListed whole listed) same
+    let whole : list ≡ take at list ++ x ∷ drop (at + 1) list = split_at list at x within
+    ∙ ap (λ (y : Item). take at list ++ y ∷ drop (at + 1) list) (sym is) in
+    ap (λ (l : List Item). replay l empty name) whole ∙ stands_in (take at list) (drop (at + 1) list) x name (subst AreListed whole listed)
+    same
 
-pub none_stands : (list : List Item) (name : Name) → All (λ (x : Item). is_same (name_of x) name ≡ false) list → replay list empty name ≡ None
+pub none_stands : (list : List Item) (name : Name) → All (λ (x : Item). is_same (name_of x) name ≡ false) list →
+    replay list empty name ≡ None
 none_stands list name all = none_under list name empty (recursion_from_All (λ (x : Item). is_same (name_of x) name ≡ false) list all)

@@ -1,5 +1,6 @@
 -- A list of what stands, whose places are known by the numbers of names.
-use Rattle.std.proofs.Common.{suc, ◌≡◌, ℕ, ◌+◌, ◌-◌, ◌<◌, ◌≤◌, length, get_or, set, take, drop, List, [], ◌∷◌, ◌++◌, Bool, true, false, Some, None, cond, refl, ap, subst, sym, ◌∙◌, arith, append_assoc, length-append, length-drop}
+use Rattle.std.proofs.Common.{suc, ◌≡◌, ℕ, ◌+◌, ◌-◌, ◌<◌, ◌≤◌, length, get_or, set, take, drop, List, [], ◌∷◌, ◌++◌, Bool, true, false}
+use Rattle.std.proofs.Common.{Some, None, cond, refl, ap, subst, sym, ◌∙◌, arith, append_assoc, length-append, length-drop}
 use Rattle.std.specs.Prelude.{All, IsSome}
 use Rattle.std.specs.BTreeMap.{BTreeMap, Updates, get, is_at}
 use Rattle.std.specs.List.{AllByRecursion, swap_remove}
@@ -7,31 +8,35 @@ use Rattle.std.specs.Ordering.{nat_cmp}
 use Rattle.std.proofs.lemmas.List.{set_split, set_at, take_at, take-set, get_or_at, length_push, length-take-le}
 use Rattle.std.proofs.lemmas.List.Elements.{All-set, All-push, All-take, All-weaker}
 use Rattle.ix_items.specs.declared.items.Item.{Item}
-use Rattle.ix_book.specs.Book.{Name, NoneUnder, empty, name_of, is_same, is_there, left_by, after_item, replay}
-use Rattle.ix_book.specs.Slots.{AreOnce}
-use Rattle.ix_book.proofs.Applying.{replay_behind}
-use Rattle.ix_book.proofs.InPlace.{in_place, inserted}
-use Rattle.ix_book.proofs.Renaming.{same_name}
-use Rattle.ix_book.specs.Keys.{key_in, key}
+use Rattle.ix_manifest.specs.Book.{Name, NoneUnder, empty, name_of, is_same, is_there, left_by, after_item, replay}
+use Rattle.ix_manifest.specs.Slots.{AreOnce}
+use Rattle.ix_manifest.proofs.Applying.{replay_behind}
+use Rattle.ix_manifest.proofs.InPlace.{in_place, inserted}
+use Rattle.ix_manifest.proofs.Renaming.{same_name}
+use Rattle.ix_manifest.specs.Keys.{key_in, key}
 use Rattle.ix_replay.specs.Known.{AreKnown}
 use Rattle.ix_replay.specs.Lists.{IsLeft, AreListed}
 use Rattle.ix_replay.proofs.ListSteps.{stays_so, none_behind, others_of, other_way, split_at, list_without, book_removed, list_removed}
 
 -- ---- in place
 
-none_named : (name : Name) (xs : List Item) (x : Item) (ys : List Item) (item : Item) → name_of x ≡ name_of item → NoneUnder name (xs ++ x ∷ ys) → NoneUnder name (xs ++ item ∷ ys)
+none_named : (name : Name) (xs : List Item) (x : Item) (ys : List Item) (item : Item) → name_of x ≡ name_of item →
+    NoneUnder name (xs ++ x ∷ ys) → NoneUnder name (xs ++ item ∷ ys)
 none_named name [] x ys item names none = (subst (λ (n : Name). is_same n name ≡ false) names none.0, none.1)
 none_named name (z ∷ xs) x ys item names none = (none.0, none_named name xs x ys item names none.1)
 
-once_named : (xs : List Item) (x : Item) (ys : List Item) (item : Item) → name_of x ≡ name_of item → AreOnce (xs ++ x ∷ ys) → AreOnce (xs ++ item ∷ ys)
+once_named : (xs : List Item) (x : Item) (ys : List Item) (item : Item) → name_of x ≡ name_of item → AreOnce (xs ++ x ∷ ys) →
+    AreOnce (xs ++ item ∷ ys)
 once_named [] x ys item names once = (subst (λ (n : Name). NoneUnder n ys) names once.0, once.1)
 once_named (z ∷ xs) x ys item names once = (none_named (name_of z) xs x ys item names once.0, once_named xs x ys item names once.1)
 
-left_named : (xs : List Item) (x : Item) (ys : List Item) (item : Item) → IsLeft item → AllByRecursion IsLeft (xs ++ x ∷ ys) → AllByRecursion IsLeft (xs ++ item ∷ ys)
+left_named : (xs : List Item) (x : Item) (ys : List Item) (item : Item) → IsLeft item → AllByRecursion IsLeft (xs ++ x ∷ ys) →
+    AllByRecursion IsLeft (xs ++ item ∷ ys)
 left_named [] x ys item is left = (is, left.1)
 left_named (z ∷ xs) x ys item is left = (left.0, left_named xs x ys item is left.1)
 
-module _ (list : List Item) (at : ℕ) (item : Item) (within : at < length list) (listed : AreListed list) (same : is_same (name_of (get_or list at item)) (name_of item) ≡ true) where
+module _ (list : List Item) (at : ℕ) (item : Item) (within : at < length list) (listed : AreListed list)
+    (same : is_same (name_of (get_or list at item)) (name_of item) ≡ true) where
   abbrev front : List Item
   front = take at list
 
@@ -71,7 +76,8 @@ module _ (list : List Item) (at : ℕ) (item : Item) (within : at < length list)
 
 -- ---- the last one goes to another place
 
-none_turned : (name : Name) (xs : List Item) (l : Item) (mid : List Item) → NoneUnder name (xs ++ mid ++ l ∷ []) → NoneUnder name (xs ++ l ∷ mid)
+none_turned : (name : Name) (xs : List Item) (l : Item) (mid : List Item) → NoneUnder name (xs ++ mid ++ l ∷ []) →
+    NoneUnder name (xs ++ l ∷ mid)
 none_turned name [] l [] none = none
 none_turned name [] l (m ∷ mid) none = let deep = none_turned name [] l mid none.1 in (deep.0, (none.0, deep.1))
 none_turned name (z ∷ xs) l mid none = (none.0, none_turned name xs l mid none.1)
@@ -91,7 +97,8 @@ once_turned : (xs : List Item) (l : Item) (mid : List Item) → AreOnce (xs ++ m
 once_turned [] l mid once = once_front mid l once
 once_turned (z ∷ xs) l mid once = (none_turned (name_of z) xs l mid once.0, once_turned xs l mid once.1)
 
-left_turned : (xs : List Item) (l : Item) (mid : List Item) → AllByRecursion IsLeft (xs ++ mid ++ l ∷ []) → AllByRecursion IsLeft (xs ++ l ∷ mid)
+left_turned : (xs : List Item) (l : Item) (mid : List Item) → AllByRecursion IsLeft (xs ++ mid ++ l ∷ []) →
+    AllByRecursion IsLeft (xs ++ l ∷ mid)
 left_turned [] l [] left = left
 left_turned [] l (m ∷ mid) left = let deep = left_turned [] l mid left.1 in (deep.0, (left.0, deep.1))
 left_turned (z ∷ xs) l mid left = (left.0, left_turned xs l mid left.1)
@@ -99,7 +106,8 @@ left_turned (z ∷ xs) l mid left = (left.0, left_turned xs l mid left.1)
 pub list_turned : (xs : List Item) (l : Item) (mid : List Item) → AreListed (xs ++ mid ++ l ∷ []) → AreListed (xs ++ l ∷ mid)
 list_turned xs l mid listed = record { once = once_turned xs l mid listed.once; left = left_turned xs l mid listed.left }
 
-pub book_turned : (xs : List Item) (l : Item) (mid : List Item) → AreListed (xs ++ mid ++ l ∷ []) → replay (xs ++ l ∷ mid) empty ≡ replay (xs ++ mid ++ l ∷ []) empty
+pub book_turned : (xs : List Item) (l : Item) (mid : List Item) → AreListed (xs ++ mid ++ l ∷ []) →
+    replay (xs ++ l ∷ mid) empty ≡ replay (xs ++ mid ++ l ∷ []) empty
 book_turned xs l mid listed =
     inserted xs mid l empty (none_behind xs l mid (once_turned xs l mid listed.once))
     ∙ sym (replay_behind (xs ++ mid) (l ∷ []) empty)
@@ -107,7 +115,8 @@ book_turned xs l mid listed =
 -- ---- places
 
 pub known_more : (m n : BTreeMap ℕ ℕ) (k v : ℕ) (items : List Item) → Updates nat_cmp m n k (Some v) → AreKnown m items → AreKnown n items
-known_more m n k v items up known = All-weaker (λ (x : Item). IsSome (get nat_cmp m (key_in x))) (λ (x : Item). IsSome (get nat_cmp n (key_in x))) (λ x is. more (key_in x) is) items known
+known_more m n k v items up known = All-weaker (λ (x : Item). IsSome (get nat_cmp m (key_in x)))
+    (λ (x : Item). IsSome (get nat_cmp n (key_in x))) (λ x is. more (key_in x) is) items known
   where
     chosen : (b : Bool) (q : ℕ) → IsSome (get nat_cmp m q) → IsSome (cond b (Some v) (get nat_cmp m q))
     chosen true q is = refl
@@ -120,12 +129,15 @@ pub known_at : (m n : BTreeMap ℕ ℕ) (k v : ℕ) → Updates nat_cmp m n k (S
 known_at m n k v up = subst IsSome (sym up.1) refl
 
 -- one of the name has the key
-pub known_placed : (list : List Item) (at : ℕ) (item : Item) (m : BTreeMap ℕ ℕ) → at < length list → is_same (name_of (get_or list at item)) (name_of item) ≡ true → AreKnown m list → AreKnown m (set list at item)
+pub known_placed : (list : List Item) (at : ℕ) (item : Item) (m : BTreeMap ℕ ℕ) → at < length list →
+    is_same (name_of (get_or list at item)) (name_of item) ≡ true → AreKnown m list → AreKnown m (set list at item)
 known_placed list at item m within same known =
     All-set (λ (x : Item). IsSome (get nat_cmp m (key_in x))) list at item
-    (subst (λ (n : Name). IsSome (get nat_cmp m (key n))) (same_name (name_of (get_or list at item)) (name_of item) same) (known at item within)) known
+    (subst (λ (n : Name). IsSome (get nat_cmp m (key n))) (same_name (name_of (get_or list at item)) (name_of item) same)
+    (known at item within)) known
 
-pub known_push : (list : List Item) (item : Item) (m : BTreeMap ℕ ℕ) → IsSome (get nat_cmp m (key_in item)) → AreKnown m list → AreKnown m (list ++ item ∷ [])
+pub known_push : (list : List Item) (item : Item) (m : BTreeMap ℕ ℕ) → IsSome (get nat_cmp m (key_in item)) → AreKnown m list →
+    AreKnown m (list ++ item ∷ [])
 known_push list item m here known = All-push (λ (x : Item). IsSome (get nat_cmp m (key_in x))) list item known here
 
 -- ---- the last one takes the place of one that goes
@@ -136,7 +148,8 @@ cut_last x (y ∷ ys) = let deep = cut_last y ys in (x ∷ deep.0, deep.1, ap (�
 
 -- what is left, and that it is one list in another order
 abbrev Left : List Item → List Item → List Item → Type 0
-Left front rest left = (AreListed (front ++ rest) → AreListed left) × (AreListed (front ++ rest) → replay left empty ≡ replay (front ++ rest) empty)
+Left front rest left = (AreListed (front ++ rest) → AreListed left)
+    × (AreListed (front ++ rest) → replay left empty ≡ replay (front ++ rest) empty)
 
 swapped_last : (list front : List Item) (x d : Item) (at : ℕ) → length front ≡ at → list ≡ front ++ x ∷ [] → swap_remove list at d ≡ front
 swapped_last list front x d at size whole =
@@ -145,7 +158,8 @@ swapped_last list front x d at size whole =
     let short : length list - 1 ≡ at = omega (arith, long) in
     ap (λ (n : ℕ). take n (set list at last)) short ∙ take-set list at last ∙ ap (take at) whole ∙ take_at front (x ∷ []) at size
 
-swapped_front : (list front mid : List Item) (x l d : Item) (at : ℕ) → length front ≡ at → list ≡ front ++ x ∷ (mid ++ l ∷ []) → swap_remove list at d ≡ front ++ l ∷ mid
+swapped_front : (list front mid : List Item) (x l d : Item) (at : ℕ) → length front ≡ at → list ≡ front ++ x ∷ (mid ++ l ∷ []) →
+    swap_remove list at d ≡ front ++ l ∷ mid
 swapped_front list front mid x l d at size whole =
     let turned : list ≡ (front ++ x ∷ mid) ++ l ∷ [] = whole ∙ sym (append_assoc front (x ∷ mid) (l ∷ [])) in
     let n = length list - 1 in
@@ -158,7 +172,8 @@ swapped_front list front mid x l d at size whole =
     ∙ ap (take n) (set_at front x (mid ++ l ∷ []) l at size ∙ sym (append_assoc front (l ∷ mid) (l ∷ [])))
     ∙ take_at (front ++ l ∷ mid) (l ∷ []) n same
 
-left_by_rest : (list front rest : List Item) (x d : Item) (at : ℕ) → length front ≡ at → list ≡ front ++ x ∷ rest → Left front rest (swap_remove list at d)
+left_by_rest : (list front rest : List Item) (x d : Item) (at : ℕ) → length front ≡ at → list ≡ front ++ x ∷ rest →
+    Left front rest (swap_remove list at d)
 left_by_rest list front [] x d at size whole =
     let is : swap_remove list at d ≡ front ++ [] = swapped_last list front x d at size whole ∙ sym (append_nil front) in
     ((λ listed. subst AreListed (sym is) listed), (λ listed. ap (λ (l : List Item). replay l empty) is))
@@ -166,15 +181,20 @@ left_by_rest list front (r ∷ rs) x d at size whole =
     let cut = cut_last r rs in
     let mid = cut.0 in
     let l = cut.1 in
-    let apart : front ++ (r ∷ rs) ≡ front ++ mid ++ l ∷ [] = ap (λ (m : List Item). front ++ m) cut.2 ∙ sym (append_assoc front mid (l ∷ [])) in
-    let is : swap_remove list at d ≡ front ++ l ∷ mid = swapped_front list front mid x l d at size (whole ∙ ap (λ (m : List Item). front ++ x ∷ m) cut.2) in (
+    let apart : front ++ (r ∷ rs) ≡ front ++ mid ++ l ∷ [] = ap (λ (m : List Item). front ++ m) cut.2
+    ∙ sym (append_assoc front mid (l ∷ [])) in
+    let is : swap_remove list at d ≡ front ++ l ∷ mid =
+    swapped_front list front mid x l d at size (whole ∙ ap (λ (m : List Item). front ++ x ∷ m) cut.2) in (
       (λ listed. subst AreListed (sym is) (list_turned front l mid (subst AreListed apart listed))),
-      (λ listed. ap (λ (l : List Item). replay l empty) is ∙ book_turned front l mid (subst AreListed apart listed) ∙ ap (λ (l : List Item). replay l empty) (sym apart)),
+      (λ listed. ap (λ (l : List Item). replay l empty) is ∙ book_turned front l mid (subst AreListed apart listed)
+          ∙ ap (λ (l : List Item). replay l empty) (sym apart)),
     )
 
-module _ (list : List Item) (at : ℕ) (gone d : Item) (within : at < length list) (listed : AreListed list) (same : is_same (name_of (get_or list at gone)) (name_of gone) ≡ true) where
+module _ (list : List Item) (at : ℕ) (gone d : Item) (within : at < length list) (listed : AreListed list)
+    (same : is_same (name_of (get_or list at gone)) (name_of gone) ≡ true) where
   left_there : Left (take at list) (drop (at + 1) list) (swap_remove list at d)
-  left_there = left_by_rest list (take at list) (drop (at + 1) list) (get_or list at gone) d at (length-take-le at list (omega (arith, within))) (split_at list at gone within)
+  left_there = left_by_rest list (take at list) (drop (at + 1) list) (get_or list at gone) d at
+      (length-take-le at list (omega (arith, within))) (split_at list at gone within)
 
   without : AreListed (take at list ++ drop (at + 1) list)
   without = list_removed list at gone within listed same
@@ -185,7 +205,8 @@ module _ (list : List Item) (at : ℕ) (gone d : Item) (within : at < length lis
   pub book_swapped : is_there (left_by gone) ≡ false → replay (swap_remove list at d) empty ≡ after_item gone (replay list empty)
   book_swapped leaves = left_there.1 without ∙ book_removed list at gone within listed same leaves
 
-pub known_swapped : (list : List Item) (at : ℕ) (d : Item) (m : BTreeMap ℕ ℕ) → at < length list → AreKnown m list → AreKnown m (swap_remove list at d)
+pub known_swapped : (list : List Item) (at : ℕ) (d : Item) (m : BTreeMap ℕ ℕ) → at < length list → AreKnown m list →
+    AreKnown m (swap_remove list at d)
 known_swapped list at d m within known =
     let P = λ (x : Item). IsSome (get nat_cmp m (key_in x)) in
     let n = length list - 1 in

@@ -19,7 +19,8 @@ body_sum (x ∷ xs) =
     let c = sum_by-cons long x xs in
     omega (arith, a, b, c)
 
-pub room_told : (total i : ℕ) (list : List Item) → total ≡ min (sum_by (λ (x : Item). length (item_bytes x)) (take i list)) (2 ^ 64 - 1) → length list ≤ i →
+pub room_told : (total i : ℕ) (list : List Item) → total ≡ min (sum_by (λ (x : Item). length (item_bytes x)) (take i list)) (2 ^ 64 - 1) →
+    length list ≤ i →
     IsTrue (nat_lt total (2 ^ 32 - 64)) ↔ length (body_bytes list) < 2 ^ 32 - 64
 room_told total i list is end =
     let whole = ap (sum_by long) (take_all i list end) in

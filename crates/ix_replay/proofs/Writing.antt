@@ -7,15 +7,16 @@ use Rattle.std.proofs.lemmas.List.{nil_from_length}
 use Rattle.std.proofs.lemmas.Bool.Decides.{Decides-and, Decides-like, Decides-ltb, Decides-eqb}
 use Rattle.ix_base.specs.declared.events.ChannelMeta.{ChannelMeta}
 use Rattle.ix_base.specs.declared.files.File.{File}
-use Rattle.ix_fields.specs.Spelling.{IsShort, IsShortOption, Is64, IsSigned64}
+use Rattle.ix_coding.specs.Spelling.{IsShort, IsShortOption, Is64, IsSigned64}
 use Rattle.ix_items.specs.Spelling.{archive_number, IsKept, IsMeta, BucketInRange, EntryInRange, IsWritable, IsInRange, HasSpelling}
 use Rattle.ix_items.specs.declared.items.Bucket.{Bucket}
 use Rattle.ix_items.specs.declared.items.Entry.{Entry}
 use Rattle.ix_items.specs.declared.items.Item.{Item}
 use Rattle.ix_items.specs.declared.items.Item.TheVariants as items
 use Rattle.ix_items.specs.declared.items.Kept.{Kept}
-use Rattle.ix_book.specs.Whole.{HasTold}
-use Rattle.ix_replay.specs.Writable.{is_short, is_short_option, is_kept, is_meta, is_archive, is_writable, is_64, is_signed, is_bucket, is_entry, is_numbered, is_in_range, can_write}
+use Rattle.ix_manifest.specs.Whole.{HasTold}
+use Rattle.ix_replay.specs.Writable.{is_short, is_short_option, is_kept, is_meta, is_archive, is_writable, is_64, is_signed, is_bucket}
+use Rattle.ix_replay.specs.Writable.{is_entry, is_numbered, is_in_range, can_write}
 
 some_same : {X : Type 0} {x y : X} → Some x ≡ Some y → x ≡ y
 some_same e = cc
@@ -34,7 +35,8 @@ both x y p q = Decides-and x y p q
 always : Decides true (Unit {0})
 always = (λ e. tt, λ u. refl)
 
-all_decided : {X : Type 0} (test : X → Bool) (P : X → Type 0) → ((x : X) → Decides (test x) (P x)) → (xs : List X) → Decides (list_all test xs) (AllByRecursion P xs)
+all_decided : {X : Type 0} (test : X → Bool) (P : X → Type 0) → ((x : X) → Decides (test x) (P x)) → (xs : List X) →
+    Decides (list_all test xs) (AllByRecursion P xs)
 all_decided test P each [] = (λ e. tt, λ u. refl)
 all_decided test P each (x ∷ xs) = both (test x) (list_all test xs) (each x) (all_decided test P each xs)
 
@@ -60,7 +62,8 @@ le_decided a b = (leb-true a b, le-leb a b)
 kept_decided : (k : Kept) → Decides (is_kept k) (IsKept k)
 kept_decided k =
     let t = both (nat_le 1 k.file) _ (le_decided 1 k.file) (both (nat_le k.file 4) _ (le_decided k.file 4)
-    (both (is_short k.stanza) _ (short_decided k.stanza) (both (is_short k.key) (is_short k.value) (short_decided k.key) (short_decided k.value)))) in
+    (both (is_short k.stanza) _ (short_decided k.stanza)
+    (both (is_short k.key) (is_short k.value) (short_decided k.key) (short_decided k.value)))) in
     Decides-like (is_kept k) (λ h. record { from = h.0; to = h.1.0; stanza = h.1.1.0; key = h.1.1.1.0; value = h.1.1.1.1 })
     (λ h. (h.from, (h.to, (h.stanza, (h.key, h.value))))) t
 
@@ -80,7 +83,8 @@ archive_decided (Some number) = (λ e q. true_false (sym e ∙ ap not ((Decides-
     by false e h = ap not e
 
 writable_decided : (item : Item) → Decides (is_writable item) (IsWritable item)
-writable_decided (items.Settings kept) = both (is_short kept) (list_all is_kept kept) (short_decided kept) (all_decided is_kept IsKept kept_decided kept)
+writable_decided (items.Settings kept) = both (is_short kept) (list_all is_kept kept) (short_decided kept)
+    (all_decided is_kept IsKept kept_decided kept)
 writable_decided (items.Run run) = always
 writable_decided (items.Moments last tick) = always
 writable_decided (items.Channel name meta carry) =
@@ -89,7 +93,8 @@ writable_decided (items.Channel name meta carry) =
 writable_decided (items.Ended name) = short_decided name
 writable_decided (items.Bucket index bucket) = short_decided index
 writable_decided (items.Gone index id) = short_decided index
-writable_decided (items.Ledger entry) = both (is_short entry.index) (is_archive entry.archive) (short_decided entry.index) (archive_decided entry.archive)
+writable_decided (items.Ledger entry) = both (is_short entry.index) (is_archive entry.archive) (short_decided entry.index)
+    (archive_decided entry.archive)
 writable_decided (items.Counts settled nulled dropped placed) = always
 writable_decided (items.Spot spot) = both (is_short spot.path) (is_short spot.head) (short_decided spot.path) (short_decided spot.head)
 writable_decided (items.NextFile number) = always
@@ -105,16 +110,34 @@ bucket_decided b =
     (both (is_signed b.newest) _ (signed_decided b.newest) (both (is_signed b.oldest) _ (signed_decided b.oldest)
     (both (is_64 b.used) (is_signed b.touched) (is_64_decided b.used) (signed_decided b.touched))))))) in
     Decides-like (is_bucket b)
-    (λ h. record { id = h.0; number = h.1.0; bytes = h.1.1.0; count = h.1.1.1.0; newest = h.1.1.1.1.0; oldest = h.1.1.1.1.1.0; used = h.1.1.1.1.1.1.0; touched = h.1.1.1.1.1.1.1 })
+    (λ h. record {
+      id = h.0;
+      number = h.1.0;
+      bytes = h.1.1.0;
+      count = h.1.1.1.0;
+      newest = h.1.1.1.1.0;
+      oldest = h.1.1.1.1.1.0;
+      used = h.1.1.1.1.1.1.0;
+      touched = h.1.1.1.1.1.1.1;
+    })
     (λ h. (h.id, (h.number, (h.bytes, (h.count, (h.newest, (h.oldest, (h.used, h.touched)))))))) t
 
 entry_decided : (e : Entry) → Decides (is_entry e) (EntryInRange e)
 entry_decided e =
     let t = both (is_64 e.id) _ (is_64_decided e.id) (both (is_signed e.moment) _ (signed_decided e.moment)
     (both (is_64 e.count) _ (is_64_decided e.count) (both (is_signed e.newest) _ (signed_decided e.newest)
-    (both (is_signed e.oldest) _ (signed_decided e.oldest) (both (is_64 e.bytes) (is_64 (archive_number e.archive)) (is_64_decided e.bytes) (is_64_decided (archive_number e.archive))))))) in
+    (both (is_signed e.oldest) _ (signed_decided e.oldest)
+    (both (is_64 e.bytes) (is_64 (archive_number e.archive)) (is_64_decided e.bytes) (is_64_decided (archive_number e.archive))))))) in
     Decides-like (is_entry e)
-    (λ h. record { id = h.0; moment = h.1.0; count = h.1.1.0; newest = h.1.1.1.0; oldest = h.1.1.1.1.0; bytes = h.1.1.1.1.1.0; archive = h.1.1.1.1.1.1 })
+    (λ h. record {
+      id = h.0;
+      moment = h.1.0;
+      count = h.1.1.0;
+      newest = h.1.1.1.0;
+      oldest = h.1.1.1.1.0;
+      bytes = h.1.1.1.1.1.0;
+      archive = h.1.1.1.1.1.1;
+    })
     (λ h. (h.id, (h.moment, (h.count, (h.newest, (h.oldest, (h.bytes, h.archive))))))) t
 
 range_decided : (item : Item) → Decides (is_in_range item) (IsInRange item)
@@ -127,8 +150,10 @@ range_decided (items.Bucket index bucket) = bucket_decided bucket
 range_decided (items.Gone index id) = is_64_decided id
 range_decided (items.Ledger entry) = entry_decided entry
 range_decided (items.Counts settled nulled dropped placed) =
-    Decides-like (is_in_range (items.Counts settled nulled dropped placed)) (λ h. (h.0, h.1.0, h.1.1.0, h.1.1.1)) (λ h. (h.0, (h.1, (h.2, h.3))))
-    (both (is_64 settled) _ (is_64_decided settled) (both (is_64 nulled) _ (is_64_decided nulled) (both (is_64 dropped) (is_64 placed) (is_64_decided dropped) (is_64_decided placed))))
+    Decides-like (is_in_range (items.Counts settled nulled dropped placed)) (λ h. (h.0, h.1.0, h.1.1.0, h.1.1.1))
+    (λ h. (h.0, (h.1, (h.2, h.3))))
+    (both (is_64 settled) _ (is_64_decided settled) (both (is_64 nulled) _ (is_64_decided nulled)
+    (both (is_64 dropped) (is_64 placed) (is_64_decided dropped) (is_64_decided placed))))
 range_decided (items.Spot spot) = is_64_decided spot.offset
 range_decided (items.NextFile number) = is_64_decided number
 range_decided (items.Removals files) = all_decided is_numbered (λ (f : File). Is64 f.number) (λ f. is_64_decided f.number) files
@@ -144,7 +169,8 @@ written_decided item =
 pub all_written : (list : List Item) → AllByRecursion HasSpelling list → list_all can_write list ≡ true
 all_written list h = (all_decided can_write HasSpelling written_decided list).1 h
 
-pub first_written : (item : Item) (list : List Item) → list_all can_write (item ∷ list) ≡ true → HasSpelling item × (list_all can_write list ≡ true)
+pub first_written : (item : Item) (list : List Item) → list_all can_write (item ∷ list) ≡ true → HasSpelling item
+    × (list_all can_write list ≡ true)
 first_written item list e =
     let d = (both (can_write item) (list_all can_write list) (written_decided item) ((λ t. t), (λ t. t))).0 e in
     d

@@ -5,7 +5,7 @@ use Rattle.ix_base.specs.declared.files.File.{File}
 use Rattle.ix_items.specs.declared.items.Item.{Item}
 use Rattle.ix_items.specs.declared.items.Item.TheVariants as items
 use Rattle.ix_items.specs.Spelling.{item_bytes}
-use Rattle.ix_book.specs.Book.{Book, named}
+use Rattle.ix_manifest.specs.Book.{NamedItems, named}
 use Rattle.ix_replay.specs.declared.amounts.Amount.{Amount}
 use Rattle.ix_replay.specs.declared.amounts.Amount.TheVariants as amounts
 
@@ -59,7 +59,7 @@ next_of (Some (items.NextFile number)) = number
 next_of (Some (items.Removals files)) = 1
 next_of (Some (items.NextId index id)) = 1
 
-abbrev pub next_in : Book → ℕ
+abbrev pub next_in : NamedItems → ℕ
 next_in book = next_of (book (named 11 [] 0))
 
 -- ---- sums
@@ -112,8 +112,8 @@ channels_in (items.NextFile number) = 0
 channels_in (items.Removals files) = 0
 channels_in (items.NextId index id) = 0
 
--- How many bytes an item has that a whole state is written with: a channel without what is carried of its stream, the next bucket of an
--- index where it has had one.
+-- How many bytes an item has that a whole state is written with: a channel without what is carried
+-- of its stream, the next bucket of an index where it has had one.
 abbrev pub size_in : Item → ℕ
 size_in (items.Settings kept) = length (item_bytes (items.Settings kept))
 size_in (items.Run run) = 0

@@ -8,7 +8,7 @@ use Rattle.ix_items.specs.declared.items.Bucket.{Bucket}
 use Rattle.ix_items.specs.declared.items.Entry.{Entry}
 use Rattle.ix_items.specs.declared.items.Item.{Item}
 use Rattle.ix_items.specs.declared.items.Item.TheVariants as items
-use Rattle.ix_book.specs.Book.{empty, replay, removals_in}
+use Rattle.ix_manifest.specs.Book.{empty, replay, removals_in}
 use Rattle.ix_replay.specs.Amounts.{file_in, uses, next_in, bytes_in, events_in, channels_in, size_in}
 
 -- ---- one item
@@ -44,7 +44,8 @@ pub record IsEntry (e : Entry) : Type 0 where
   pub oldest : IsTime e.oldest
   pub archive : IfSome e.archive IsNumber
 
--- Each number and time of the item is in its range; the bytes and events of buckets are bounded by their sums.
+-- Each number and time of the item is in its range; the bytes and events of buckets are bounded by
+-- their sums.
 abbrev pub IsWithin : Item → Type 0
 IsWithin (items.Settings kept) = Unit {0}
 IsWithin (items.Run run) = IsNumber run

@@ -1,4 +1,5 @@
-//! What an item counts for, and sums of it. The judgement of a state asks whether they stay within their bounds.
+//! What an item counts for, and sums of it. The judgement of a state asks whether they stay within
+//! their bounds.
 
 ghost use Rattle.std.specs.Prelude.{◌≡◌, ◌≤◌, ◌-◌, ◌^◌, ◌↔◌, IsTrue, min};
 ghost use Rattle.std.specs.List.{sum_by};

@@ -1,8 +1,9 @@
-//! Whether a list of items keeps the bounds of what a store can keep. The replayed state asks it behind each body.
+//! Whether a list of items keeps the bounds of what a store can keep. The replayed state asks it
+//! behind each body.
 
 ghost use Rattle.std.specs.Prelude.{◌↔◌, ◌<◌, ◌≤◌, ◌^◌, IsTrue, IfOk, All};
 ghost use Rattle.std.specs.List.{sum_by};
-ghost use Rattle.ix_book.specs.Book.{empty, replay, removals_in};
+ghost use Rattle.ix_manifest.specs.Book.{empty, replay, removals_in};
 ghost use Rattle.ix_replay.specs.Amounts.{bytes_in, events_in, channels_in, size_in};
 ghost use Rattle.ix_replay.specs.Bounds.{IsWithin, IsSpared, KeepsBounds};
 ghost use Rattle.ix_replay.specs.Lists.{AreListed};
@@ -19,7 +20,8 @@ use std::alloc::Global;
 /// Whether each item is in its range, and the last removals name no file of one.
 fn are_sound(alloc: Global, items: &[Item]) -> Result<bool, NoMemory>
     requires { AreListed items.now }
-    ensures { IfOk result (λ sound. IsTrue sound ↔ (All IsWithin items.now × All (IsSpared (removals_in (replay items.now empty))) items.now)) }
+    ensures { IfOk result (λ sound. IsTrue sound ↔ (All IsWithin items.now
+        × All (IsSpared (removals_in (replay items.now empty))) items.now)) }
 {
     if !are_within(items) {
         return Ok(false);

@@ -1,25 +1,28 @@
-//! A list of what stands, one item a name, and what a further item changes there. The replayed state keeps one.
+//! A list of what stands, one item a name, and what a further item changes there. The replayed
+//! state keeps one.
 
 ghost use Rattle.std.specs.Prelude.{◌≡◌, ◌≤◌, ◌<◌, List, length, get_or, true, false, All, IsSome, OnOk, OnErr};
 ghost use Rattle.std.specs.BTreeMap.{get};
 ghost use Rattle.std.specs.Ordering.{nat_cmp};
-ghost use Rattle.ix_book.specs.Book.{empty, replay, after_item, name_of, is_same, left_by, is_there};
-ghost use Rattle.ix_book.specs.Keys.{key_in};
+ghost use Rattle.ix_manifest.specs.Book.{empty, replay, after_item, name_of, is_same, left_by, is_there};
+ghost use Rattle.ix_manifest.specs.Keys.{key_in};
 ghost use Rattle.ix_items.specs.declared.items.Item.{Item};
 ghost use Rattle.ix_replay.specs.Known.{AreKnown};
 ghost use Rattle.ix_replay.specs.Lists.{AreListed};
 
 use ix_base::NoMemory;
-use ix_book::{key_of, same_name};
 use ix_items::Item;
+use ix_manifest::{key_of, same_name};
 use std::collections::BTreeMap;
 
-/// Where the items of a list are looked for, by the numbers of their names: a hint, which is tested and not trusted. Each item
-/// has an entry, so where there is none no item has the name. The place it tells is looked at, and where another item
-/// stands there, whose name has the same number, the list is gone through.
+/// Where the items of a list are looked for, by the numbers of their names: a hint, which is tested
+/// and not trusted. Each item has an entry, so where there is none no item has the name. The place
+/// it tells is looked at, and where another item stands there, whose name has the same number, the
+/// list is gone through.
 pub type Places = BTreeMap<u64, usize>;
 
-/// Whether the item is what stands under its name after it: not the end of a channel, nor a bucket that is gone.
+/// Whether the item is what stands under its name after it: not the end of a channel, nor a bucket
+/// that is gone.
 fn stays(item: &Item) -> bool
     ensures { result ≡ is_there (left_by item.now) }
 {
@@ -39,8 +42,9 @@ fn stays(item: &Item) -> bool
     }
 }
 
-/// The place of the item under the name of this one, or the length where there is none. It looks from the end on: most
-/// items of a body stand for what has changed a short while ago, and that is at the end.
+/// The place of the item under the name of this one, or the length where there is none. It looks
+/// from the end on: most items of a body stand for what has changed a short while ago, and that is
+/// at the end.
 fn walk_to(items: &[Item], item: &Item) -> usize
     ensures within { result ≤ length items.now }
     ensures found { (d : Item) → result < length items.now → is_same (name_of (get_or items.now result d)) (name_of item.now) ≡ true }
@@ -98,7 +102,8 @@ fn note(places: &mut Places, item: &Item, at: usize) -> Result<(), NoMemory>
     Ok(())
 }
 
-/// Takes the item at a place out, for one of its name that leaves nothing. The last one takes its place.
+/// Takes the item at a place out, for one of its name that leaves nothing. The last one takes its
+/// place.
 fn swap_out(items: &mut Vec<Item>, places: &Places, at: usize, gone: &Item)
     requires at { at < length items.old.items }
     requires listed { AreListed items.old.items }

@@ -1,4 +1,5 @@
-//! The files that removals name: none of them is that of a bucket or an archive. The judgement of a state asks so.
+//! The files that removals name: none of them is that of a bucket or an archive. The judgement of a
+//! state asks so.
 
 ghost use Rattle.std.specs.Prelude.{◌≡◌, ◌≢◌, ◌↔◌, IsTrue, IfOk, All, false, map};
 ghost use Rattle.std.specs.List.{Contains};
@@ -51,8 +52,8 @@ fn is_none_of(files: &[File], mine: File) -> bool
     true
 }
 
-/// Whether a file is none of these, of which the numbers are known. Files of one number are rare, so hardly any are
-/// compared.
+/// Whether a file is none of these, of which the numbers are known. Files of one number are rare,
+/// so hardly any are compared.
 fn is_apart(files: &[File], numbers: &[u64], mine: File) -> bool
     requires rises { IsNonDecreasing numbers.now }
     requires all { All (λ file. Contains numbers.now file.number) files.now }

@@ -1,4 +1,5 @@
-//! Whether a list of items has room in one body of a log. A state in memory that tells its items as a list asks it before a checkpoint.
+//! Whether a list of items has room in one body of a log. A state in memory that tells its items as
+//! a list asks it before a checkpoint.
 
 ghost use Rattle.std.specs.Prelude.{◌≡◌, ◌<◌, ◌-◌, ◌^◌, ◌↔◌, length, IfOk, IsTrue};
 ghost use Rattle.std.specs.List.{AllByRecursion};
@@ -8,7 +9,8 @@ use ix_base::{Bytes, NoMemory};
 use ix_items::{Item, write_item};
 use std::alloc::Global;
 
-/// What the items of a state may come to in a body: a run and the removal of a file stand beside them.
+/// What the items of a state may come to in a body: a run and the removal of a file stand beside
+/// them.
 const ROOM: u64 = (1 << 32) - 64;
 
 /// How many bytes an item is written with.
@@ -21,7 +23,8 @@ fn length_of(alloc: Global, item: &Item) -> Result<u64, NoMemory>
     Ok(bytes.len() as u64)
 }
 
-/// Whether the items have room in one body of a log, with a run and a file that is done with. One item at a time is written in memory.
+/// Whether the items have room in one body of a log, with a run and a file that is done with. One
+/// item at a time is written in memory.
 pub fn have_room(alloc: Global, items: &[Item]) -> Result<bool, NoMemory>
     requires { AllByRecursion HasSpelling items.now }
     ensures { IfOk result (λ room. IsTrue room ↔ length (body_bytes items.now) < 2 ^ 32 - 64) }

@@ -4,7 +4,7 @@ ghost use Rattle.std.specs.Prelude.{◌≡◌, ◌+◌, ◌-◌, ◌^◌, ◌<�
 ghost use Rattle.ix_items.specs.declared.items.Bucket.{Bucket};
 ghost use Rattle.ix_items.specs.declared.items.Item.TheVariants as items;
 ghost use Rattle.ix_items.specs.Spelling.{item_bytes, kept_bytes, meta_bytes};
-ghost use Rattle.ix_fields.specs.Spelling.{string, option};
+ghost use Rattle.ix_coding.specs.Spelling.{string, option};
 ghost use Rattle.ix_replay.specs.Amounts.{size_in};
 
 use ix_base::{Bytes, ChannelMeta, Spot};

@@ -1,13 +1,13 @@
 //! The items that stand once: the run, the settings, the next file number and the last removals.
 
 ghost use Rattle.std.specs.Prelude.{◌≡◌, [], option_copied};
-ghost use Rattle.ix_book.specs.Book.{empty, replay, named, name_of, is_same, run_in, removals_in, has_settings};
+ghost use Rattle.ix_manifest.specs.Book.{empty, replay, named, name_of, is_same, run_in, removals_in, has_settings};
 ghost use Rattle.ix_replay.specs.Amounts.{next_in};
 ghost use Rattle.ix_replay.specs.Lists.{AreListed};
 
 use ix_base::File;
-use ix_book::is_only;
 use ix_items::Item;
+use ix_manifest::is_only;
 
 /// The item of a kind of which one stands.
 fn standing(items: &[Item], kind: u8) -> Option<&Item>

@@ -1,15 +1,16 @@
-//! A walk over a list of items. A state in memory that tells its items as a list begins one for a checkpoint.
+//! A walk over a list of items. A state in memory that tells its items as a list begins one for a
+//! checkpoint.
 
 ghost use Rattle.std.specs.Prelude.{◌≡◌, true, length};
 ghost use Rattle.std.specs.List.{AllByRecursion, list_all};
 ghost use Rattle.std.specs.Vec.Iter.{into_iter_items, into_iter_len};
 ghost use Rattle.ix_items.specs.Spelling.{HasSpelling};
-ghost use Rattle.ix_book.specs.Whole.{HasTold};
+ghost use Rattle.ix_manifest.specs.Whole.{HasTold};
 ghost use Rattle.ix_replay.specs.Writable.{can_write};
 
 use ix_base::{NoMemory, Sequence};
-use ix_book::Whole;
 use ix_items::Item;
+use ix_manifest::Whole;
 use std::alloc::Global;
 use std::vec::IntoIter;
 

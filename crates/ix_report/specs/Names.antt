@@ -1,4 +1,5 @@
--- How buckets, their states and their times are written. From Splunk's "Managing Indexers and Clusters", bucket names.
+-- How buckets, their states and their times are written. From Splunk's "Managing Indexers and
+-- Clusters", bucket names.
 use Rattle.std.specs.Prelude.{ℕ, ℤ, pos, List, ◌++◌, codes, decimal, Option, Some, None}
 use Rattle.std.specs.Fmt.{signed_decimal}
 use Rattle.std.specs.Int.{int_div_euclid}

@@ -16,7 +16,8 @@ use ix_life::{IndexView, View};
 /// The row of an index.
 pub fn add_index_row(text: &mut Bytes, index: &IndexView, ledger: &[Entry]) -> Result<(), NoMemory>
     ensures { OnOk result (text.new ≡ text.old ++
-        defs.index_row index.now.name (stored_events index.now.buckets) (stored_bytes index.now.buckets) (frozen_events index.now.name ledger.now)) }
+        defs.index_row index.now.name (stored_events index.now.buckets) (stored_bytes index.now.buckets)
+        (frozen_events index.now.name ledger.now)) }
 {
     let name = index.name.as_slice();
     let buckets = index.buckets.as_slice();

@@ -45,17 +45,18 @@ fn add_ledger(text: &mut Bytes, ledger: &[Entry]) -> Result<(), NoMemory>
     Ok(())
 }
 
-/// The listing of what a store holds, in the orders of the view. Numbers are decimal, and times are whole seconds since 1970,
-/// rounded down also before it.
+/// The listing of what a store holds, in the orders of the view. Numbers are decimal, and times are
+/// whole seconds since 1970, rounded down also before it.
 ///
-/// For each index a line `index NAME stored EVENTS bytes BYTES frozen EVENTS`, and behind it for each of its buckets a line
-/// `bucket INDEX NAME STATE EVENTS BYTES`. What is stored are the hot, quarantine, warm and cold buckets; what is
-/// frozen is summed over the ledger, and a thawed bucket is part of that. Behind all indexes, for each entry of the ledger, a
-/// line `frozen INDEX NAME RULE MOMENT EVENTS archived`, or `deleted` at its end. The last line is
-/// `events settled N nulled N dropped N`.
+/// For each index a line `index NAME stored EVENTS bytes BYTES frozen EVENTS`, and behind it for
+/// each of its buckets a line `bucket INDEX NAME STATE EVENTS BYTES`. What is stored are the hot,
+/// quarantine, warm and cold buckets; what is frozen is summed over the ledger, and a thawed bucket
+/// is part of that. Behind all indexes, for each entry of the ledger, a line `frozen INDEX NAME
+/// RULE MOMENT EVENTS archived`, or `deleted` at its end. The last line is `events settled N nulled
+/// N dropped N`.
 ///
-/// A hot bucket's name is `hot_v1_ID`, a quarantine bucket's `hot_quar_v1_ID`, and that of any other, also of a frozen one,
-/// `db_NEWEST_OLDEST_ID`.
+/// A hot bucket's name is `hot_v1_ID`, a quarantine bucket's `hot_quar_v1_ID`, and that of any
+/// other, also of a frozen one, `db_NEWEST_OLDEST_ID`.
 pub fn listing(alloc: Global, view: &View) -> Result<Bytes, NoMemory>
     ensures { IfOk result (λ text. text ≡ defs.listing view.now) }
 {

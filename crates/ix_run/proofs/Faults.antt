@@ -2,9 +2,9 @@
 use Rattle.std.proofs.Common.{◌≡◌, ◌∙◌, false, refl, sym}
 use Rattle.std.proofs.lemmas.Bool.{true≢false}
 use Rattle.std.specs.Prelude.{Result, Ok, Err, IfErr}
-use Rattle.ix_keep.specs.declared.fault.CommitFault.{CommitFault}
-use Rattle.ix_machine.specs.declared.answers.Accepted.{Accepted}
-use Rattle.ix_machine.specs.declared.answers.Refusal.{Refusal}
+use Rattle.ix_commit.specs.declared.fault.CommitFault.{CommitFault}
+use Rattle.ix_model.specs.declared.answers.Accepted.{Accepted}
+use Rattle.ix_model.specs.declared.answers.Refusal.{Refusal}
 use Rattle.ix_run.specs.declared.giving.GiveFault.{GiveFault}
 use Rattle.ix_run.specs.declared.giving.GiveFault.TheVariants as faults
 use Rattle.ix_run.specs.Storing.{is_cut}
@@ -18,13 +18,15 @@ refused_or_commit is = cc
 pub commit_or_refused : {refusal : Refusal} {cause : CommitFault} → faults.Commit cause ≡ faults.Refused refusal → ⊥
 commit_or_refused is = cc
 
-pub not_commit : {refusal : Refusal} {cause : CommitFault} → (let result : Result Accepted GiveFault = Err (faults.Refused refusal) in result ≡ Err (faults.Commit cause)) → ⊥
+pub not_commit : {refusal : Refusal} {cause : CommitFault} →
+    (let result : Result Accepted GiveFault = Err (faults.Refused refusal) in result ≡ Err (faults.Commit cause)) → ⊥
 not_commit is = cc
 
 pub cause_is : (a b : CommitFault) → faults.Commit a ≡ faults.Commit b → a ≡ b
 cause_is a b is = cc
 
-pub cause_back : (a b : CommitFault) → (let result : Result Accepted GiveFault = Err (faults.Commit a) in result ≡ Err (faults.Commit b)) → a ≡ b
+pub cause_back : (a b : CommitFault) → (let result : Result Accepted GiveFault = Err (faults.Commit a) in result ≡ Err (faults.Commit b)) →
+    a ≡ b
 cause_back a b is = cc
 
 pub if_err : {T E : Type 0} {P Q : E → Type 0} (result : Result T E) → ((fault : E) → P fault → Q fault) → IfErr result P → IfErr result Q
@@ -40,9 +42,11 @@ pub fault_is : (a b : GiveFault) → (let result : Result Unit GiveFault = Err a
 fault_is a b is = cc
 
 -- what is refused is no fault of the disk
-pub refused_uncut : (fault : GiveFault) (refusal : Refusal) (cause : CommitFault) → fault ≡ faults.Refused refusal → (let result : Result Unit GiveFault = Err fault in result ≡ Err (faults.Commit cause)) → ⊥
+pub refused_uncut : (fault : GiveFault) (refusal : Refusal) (cause : CommitFault) → fault ≡ faults.Refused refusal →
+    (let result : Result Unit GiveFault = Err fault in result ≡ Err (faults.Commit cause)) → ⊥
 refused_uncut fault refusal cause refused is = refused_or_commit (sym refused ∙ fault_is fault (faults.Commit cause) is)
 
-pub uncut_refused : (fault : GiveFault) → (let result : Result Unit GiveFault = Err fault in is_cut result ≡ false) → (refusal : Refusal) × (fault ≡ faults.Refused refusal)
+pub uncut_refused : (fault : GiveFault) → (let result : Result Unit GiveFault = Err fault in is_cut result ≡ false) → (refusal : Refusal)
+    × (fault ≡ faults.Refused refusal)
 uncut_refused (faults.Refused refusal) uncut = (refusal, refl)
 uncut_refused (faults.Commit cause) uncut = absurd (true≢false uncut)

@@ -3,18 +3,19 @@ use Rattle.std.specs.Prelude.{◌≡◌, ℕ, Bool, true, false, Some, Result, O
 use Rattle.ix_disk.specs.Image.{Image, bytes_in}
 use Rattle.ix_disk.specs.declared.disk.Disk.{Ghosts}
 use Rattle.ix_log.specs.Log.{HasBodies}
-use Rattle.ix_book.specs.Root.{roots, current, log_file}
-use Rattle.ix_book.specs.declared.fault.CheckpointFault.{CheckpointFault}
-use Rattle.ix_book.specs.declared.fault.CheckpointFault.TheVariants as faults
-use Rattle.ix_keep.specs.Shortening.{IsLongLog}
-use Rattle.ix_keep.specs.Snapshot.{IsOver, IsIdle, IsMeasured}
-use Rattle.ix_keep.specs.declared.keeper.Keeper.{Keeper}
+use Rattle.ix_manifest.specs.Root.{roots, current, log_file}
+use Rattle.ix_manifest.specs.declared.fault.CheckpointFault.{CheckpointFault}
+use Rattle.ix_manifest.specs.declared.fault.CheckpointFault.TheVariants as faults
+use Rattle.ix_commit.specs.Shortening.{IsLongLog}
+use Rattle.ix_commit.specs.Snapshot.{LogsAtEnd, NothingStaged, KnowsLogLength}
+use Rattle.ix_commit.specs.declared.committer.Committer.{Committer}
 
--- Nothing is staged, the logs stand at the ends of their bodies, and the keeper knows how long the current one is.
-pub record IsAtRest {D : Type 0} (g : Ghosts D) (keeper : Keeper) (disk : D) : Type 0 where
-  pub over : IsOver g keeper disk
-  pub idle : IsIdle keeper
-  pub measured : IsMeasured g keeper disk
+-- Nothing is staged, the logs stand at the ends of their bodies, and the committer knows how long
+-- the current one is.
+pub record CheckpointReady {D : Type 0} (g : Ghosts D) (committer : Committer) (disk : D) : Type 0 where
+  pub over : LogsAtEnd g committer disk
+  pub idle : NothingStaged committer
+  pub measured : KnowsLogLength g committer disk
 
 -- The log that the root log of an image names is long.
 pub record HasLongLog (image : Image) : Type 0 where

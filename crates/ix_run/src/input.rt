@@ -1,4 +1,5 @@
-//! An input is stored: it is read to its end in blocks, as the stream of a channel. `preview --store` does so.
+//! An input is stored: it is read to its end in blocks, as the stream of a channel. `preview
+//! --store` does so.
 
 ghost use Rattle.std.specs.Prelude.{◌≡◌, ◌≤◌, ◌<◌, ℕ, List, [], ◌∷◌, length, map, false, Some, Err, IfOk, IfErr, IsErrOf, vec_len};
 ghost use Rattle.std.specs.List.{AllByRecursion};
@@ -6,21 +7,23 @@ ghost use Rattle.ix_base.specs.Faults.{Rose};
 ghost use Rattle.ix_base.specs.Told.{Told};
 ghost use Rattle.ix_base.specs.declared.files.File.{File};
 ghost use Rattle.ix_disk.specs.Image.{Image};
-ghost use Rattle.ix_keep.specs.Contents.{Anyhow};
-ghost use Rattle.ix_keep.specs.Snapshot.{IsOver, IsMeasured};
-ghost use Rattle.ix_machine.specs.Given.{Chooser};
-ghost use Rattle.ix_machine.specs.Judged.{is_begun};
-ghost use Rattle.ix_machine.specs.Step.{after};
-ghost use Rattle.ix_machine.specs.declared.commands.Order.{Order};
-ghost use Rattle.ix_run.specs.Resting.{IsAtRest};
-ghost use Rattle.ix_run.specs.Storing.{tilde, begin_order, block_order, end_order, opening, filling, IsBlock, HasRead, Gives, Feeds, Stores, is_cut, is_run_cut};
-ghost use Rattle.ix_store.specs.Holding.{Holds};
+ghost use Rattle.ix_commit.specs.Contents.{Anyhow};
+ghost use Rattle.ix_commit.specs.Snapshot.{LogsAtEnd, KnowsLogLength};
+ghost use Rattle.ix_model.specs.Given.{Chooser};
+ghost use Rattle.ix_model.specs.Judged.{is_begun};
+ghost use Rattle.ix_model.specs.Step.{state_after};
+ghost use Rattle.ix_model.specs.declared.commands.TimedCommand.{TimedCommand};
+ghost use Rattle.ix_run.specs.Placed.{ReadsEnd};
+ghost use Rattle.ix_run.specs.Resting.{CheckpointReady};
+ghost use Rattle.ix_run.specs.Storing.{tilde, begin_order, block_order, end_order, opening, filling, IsBlock, HasRead, Gives, Feeds};
+ghost use Rattle.ix_run.specs.Storing.{Stores, is_cut, is_run_cut};
+ghost use Rattle.ix_store.specs.Holding.{Represents};
 
 use crate::giving::{GiveFault, commit_all, give};
 use ix_base::{Bytes, ChannelMeta, Source};
+use ix_commit::CommitFault;
 use ix_disk::Disk;
-use ix_keep::CommitFault;
-use ix_machine::{Command, Refusal};
+use ix_model::{Command, Refusal};
 use ix_store::{Listing, Store};
 use std::alloc::Global;
 use thiserror::Error;
@@ -41,7 +44,8 @@ pub struct Arrival {
 /// Why an input was not stored to its end.
 #[derive(Clone, Copy, Debug, PartialEq, Eq, Error)]
 pub enum RunFault {
-    /// A command was not given. Where there was no room in memory for it, it is refused as the store refuses one.
+    /// A command was not given. Where there was no room in memory for it, it is refused as the
+    /// store refuses one.
     #[error("{0}")]
     Given(GiveFault),
     /// Reading failed. What was read before is stored, and the channel stays open.
@@ -66,18 +70,25 @@ fn give_one<M: Listing + Drop, D: Disk>(
     command: Command,
     moment: i64,
 ) -> Result<(), GiveFault>
-    requires over { IsOver D.Disk store.old.keeper disk.old }
+    requires over { LogsAtEnd D.Disk store.old.committer disk.old }
     requires takes { M.takes (record { command = command; moment = moment }) }
-    ensures given { (choose : Chooser) (history : List Order) (base k : ℕ) → M.is_chooser choose → AllByRecursion M.takes history →
-        Holds D.Disk M.Book.fits M.holds choose history base k store.old disk.old →
-        Gives D.Disk M.Book.fits store.old.run M.holds choose history base k store.new disk.old disk.new result (record { command = command; moment = moment } ∷ []) }
-    ensures over { is_cut result ≡ false → IsOver D.Disk store.new.keeper disk.new }
-    ensures measured { is_cut result ≡ false → IsMeasured D.Disk store.old.keeper disk.old → IsMeasured D.Disk store.new.keeper disk.new }
-    ensures undamaged { (file : File) (at : ℕ) → result ≡ Err (GiveFault.Commit (CommitFault.Damaged file at)) → (choose : Chooser) (history : List Order) (base k : ℕ) → M.is_chooser choose →
-        AllByRecursion M.takes history → Holds D.Disk M.Book.fits M.holds choose history base k store.old disk.old → (image : Image) → D.Disk.seen disk.new ≡ Some image → ⊥ }
+    ensures given { (choose : Chooser) (history : List TimedCommand) (base k : ℕ) → M.is_chooser choose → AllByRecursion M.takes history →
+        Represents D.Disk M.Book.fits M.holds choose history base k store.old disk.old →
+        Gives D.Disk M.Book.fits store.old.run M.holds choose history base k store.new disk.old disk.new result
+        (record { command = command; moment = moment } ∷ []) }
+    ensures over { is_cut result ≡ false → LogsAtEnd D.Disk store.new.committer disk.new }
+    ensures measured { is_cut result ≡ false → KnowsLogLength D.Disk store.old.committer disk.old →
+        KnowsLogLength D.Disk store.new.committer disk.new }
+    ensures undamaged { (file : File) (at : ℕ) → result ≡ Err (GiveFault.Commit (CommitFault.Damaged file at)) →
+        (choose : Chooser) (history : List TimedCommand) (base k : ℕ) → M.is_chooser choose →
+        AllByRecursion M.takes history → Represents D.Disk M.Book.fits M.holds choose history base k store.old disk.old → (image : Image) →
+        D.Disk.seen disk.new ≡ Some image → ⊥ }
+    ensures placed { (file : File) (at : ℕ) → result ≡ Err (GiveFault.Commit (CommitFault.Damaged file at)) →
+        ReadsEnd D.Disk disk.new file at }
     ensures told { Told Anyhow (D.Disk.seen disk.old) (D.Disk.seen disk.new) }
     ensures later { D.Disk.faults disk.old ≤ D.Disk.faults disk.new }
-    ensures cause { IfErr result (λ fault. fault ≡ GiveFault.Commit CommitFault.Disk → Rose (D.Disk.faults disk.old) (D.Disk.faults disk.new)) }
+    ensures cause { IfErr result (λ fault. fault ≡ GiveFault.Commit CommitFault.Disk →
+        Rose (D.Disk.faults disk.old) (D.Disk.faults disk.new)) }
 {
     match give(store, disk, command, moment) {
         Ok(_) => Ok(()),
@@ -115,18 +126,26 @@ impl Stream {
         store: &mut Store<M>,
         disk: &mut D,
     ) -> Result<(), GiveFault>
-        requires over { IsOver D.Disk store.old.keeper disk.old }
+        requires over { LogsAtEnd D.Disk store.old.committer disk.old }
         requires takes { M.takes (end_order self.moment) }
-        ensures given { (choose : Chooser) (history : List Order) (base k : ℕ) → M.is_chooser choose → AllByRecursion M.takes history →
-            Holds D.Disk M.Book.fits M.holds choose history base k store.old disk.old →
-            Gives D.Disk M.Book.fits store.old.run M.holds choose history base k store.new disk.old disk.new result (end_order self.moment ∷ []) }
-        ensures over { is_cut result ≡ false → IsOver D.Disk store.new.keeper disk.new }
-        ensures measured { is_cut result ≡ false → IsMeasured D.Disk store.old.keeper disk.old → IsMeasured D.Disk store.new.keeper disk.new }
-        ensures undamaged { (file : File) (at : ℕ) → result ≡ Err (GiveFault.Commit (CommitFault.Damaged file at)) → (choose : Chooser) (history : List Order) (base k : ℕ) → M.is_chooser choose →
-            AllByRecursion M.takes history → Holds D.Disk M.Book.fits M.holds choose history base k store.old disk.old → (image : Image) → D.Disk.seen disk.new ≡ Some image → ⊥ }
+        ensures given { (choose : Chooser) (history : List TimedCommand) (base k : ℕ) → M.is_chooser choose →
+            AllByRecursion M.takes history →
+            Represents D.Disk M.Book.fits M.holds choose history base k store.old disk.old →
+            Gives D.Disk M.Book.fits store.old.run M.holds choose history base k store.new disk.old disk.new result (end_order self.moment
+            ∷ []) }
+        ensures over { is_cut result ≡ false → LogsAtEnd D.Disk store.new.committer disk.new }
+        ensures measured { is_cut result ≡ false → KnowsLogLength D.Disk store.old.committer disk.old →
+            KnowsLogLength D.Disk store.new.committer disk.new }
+        ensures undamaged { (file : File) (at : ℕ) → result ≡ Err (GiveFault.Commit (CommitFault.Damaged file at)) →
+            (choose : Chooser) (history : List TimedCommand) (base k : ℕ) → M.is_chooser choose →
+            AllByRecursion M.takes history → Represents D.Disk M.Book.fits M.holds choose history base k store.old disk.old →
+            (image : Image) → D.Disk.seen disk.new ≡ Some image → ⊥ }
+        ensures placed { (file : File) (at : ℕ) → result ≡ Err (GiveFault.Commit (CommitFault.Damaged file at)) →
+            ReadsEnd D.Disk disk.new file at }
         ensures told { Told Anyhow (D.Disk.seen disk.old) (D.Disk.seen disk.new) }
         ensures later { D.Disk.faults disk.old ≤ D.Disk.faults disk.new }
-        ensures cause { IfErr result (λ fault. fault ≡ GiveFault.Commit CommitFault.Disk → Rose (D.Disk.faults disk.old) (D.Disk.faults disk.new)) }
+        ensures cause { IfErr result (λ fault. fault ≡ GiveFault.Commit CommitFault.Disk →
+            Rose (D.Disk.faults disk.old) (D.Disk.faults disk.new)) }
     {
         let channel = match name(self.alloc) {
             Ok(channel) => channel,
@@ -142,18 +161,26 @@ impl Stream {
         disk: &mut D,
         origin: ChannelMeta,
     ) -> Result<(), GiveFault>
-        requires over { IsOver D.Disk store.old.keeper disk.old }
+        requires over { LogsAtEnd D.Disk store.old.committer disk.old }
         requires takes { M.takes (begin_order origin self.moment) }
-        ensures given { (choose : Chooser) (history : List Order) (base k : ℕ) → M.is_chooser choose → AllByRecursion M.takes history →
-            Holds D.Disk M.Book.fits M.holds choose history base k store.old disk.old →
-            Gives D.Disk M.Book.fits store.old.run M.holds choose history base k store.new disk.old disk.new result (begin_order origin self.moment ∷ []) }
-        ensures over { is_cut result ≡ false → IsOver D.Disk store.new.keeper disk.new }
-        ensures measured { is_cut result ≡ false → IsMeasured D.Disk store.old.keeper disk.old → IsMeasured D.Disk store.new.keeper disk.new }
-        ensures undamaged { (file : File) (at : ℕ) → result ≡ Err (GiveFault.Commit (CommitFault.Damaged file at)) → (choose : Chooser) (history : List Order) (base k : ℕ) → M.is_chooser choose →
-            AllByRecursion M.takes history → Holds D.Disk M.Book.fits M.holds choose history base k store.old disk.old → (image : Image) → D.Disk.seen disk.new ≡ Some image → ⊥ }
+        ensures given { (choose : Chooser) (history : List TimedCommand) (base k : ℕ) → M.is_chooser choose →
+            AllByRecursion M.takes history →
+            Represents D.Disk M.Book.fits M.holds choose history base k store.old disk.old →
+            Gives D.Disk M.Book.fits store.old.run M.holds choose history base k store.new disk.old disk.new result
+            (begin_order origin self.moment ∷ []) }
+        ensures over { is_cut result ≡ false → LogsAtEnd D.Disk store.new.committer disk.new }
+        ensures measured { is_cut result ≡ false → KnowsLogLength D.Disk store.old.committer disk.old →
+            KnowsLogLength D.Disk store.new.committer disk.new }
+        ensures undamaged { (file : File) (at : ℕ) → result ≡ Err (GiveFault.Commit (CommitFault.Damaged file at)) →
+            (choose : Chooser) (history : List TimedCommand) (base k : ℕ) → M.is_chooser choose →
+            AllByRecursion M.takes history → Represents D.Disk M.Book.fits M.holds choose history base k store.old disk.old →
+            (image : Image) → D.Disk.seen disk.new ≡ Some image → ⊥ }
+        ensures placed { (file : File) (at : ℕ) → result ≡ Err (GiveFault.Commit (CommitFault.Damaged file at)) →
+            ReadsEnd D.Disk disk.new file at }
         ensures told { Told Anyhow (D.Disk.seen disk.old) (D.Disk.seen disk.new) }
         ensures later { D.Disk.faults disk.old ≤ D.Disk.faults disk.new }
-        ensures cause { IfErr result (λ fault. fault ≡ GiveFault.Commit CommitFault.Disk → Rose (D.Disk.faults disk.old) (D.Disk.faults disk.new)) }
+        ensures cause { IfErr result (λ fault. fault ≡ GiveFault.Commit CommitFault.Disk →
+            Rose (D.Disk.faults disk.old) (D.Disk.faults disk.new)) }
     {
         let channel = match name(self.alloc) {
             Ok(channel) => channel,
@@ -170,18 +197,26 @@ impl Stream {
         disk: &mut D,
         bytes: &[u8],
     ) -> Result<(), GiveFault>
-        requires over { IsOver D.Disk store.old.keeper disk.old }
+        requires over { LogsAtEnd D.Disk store.old.committer disk.old }
         requires takes { M.takes (block_order self.moment bytes.now) }
-        ensures given { (choose : Chooser) (history : List Order) (base k : ℕ) → M.is_chooser choose → AllByRecursion M.takes history →
-            Holds D.Disk M.Book.fits M.holds choose history base k store.old disk.old →
-            Gives D.Disk M.Book.fits store.old.run M.holds choose history base k store.new disk.old disk.new result (block_order self.moment bytes.now ∷ []) }
-        ensures over { is_cut result ≡ false → IsOver D.Disk store.new.keeper disk.new }
-        ensures measured { is_cut result ≡ false → IsMeasured D.Disk store.old.keeper disk.old → IsMeasured D.Disk store.new.keeper disk.new }
-        ensures undamaged { (file : File) (at : ℕ) → result ≡ Err (GiveFault.Commit (CommitFault.Damaged file at)) → (choose : Chooser) (history : List Order) (base k : ℕ) → M.is_chooser choose →
-            AllByRecursion M.takes history → Holds D.Disk M.Book.fits M.holds choose history base k store.old disk.old → (image : Image) → D.Disk.seen disk.new ≡ Some image → ⊥ }
+        ensures given { (choose : Chooser) (history : List TimedCommand) (base k : ℕ) → M.is_chooser choose →
+            AllByRecursion M.takes history →
+            Represents D.Disk M.Book.fits M.holds choose history base k store.old disk.old →
+            Gives D.Disk M.Book.fits store.old.run M.holds choose history base k store.new disk.old disk.new result
+            (block_order self.moment bytes.now ∷ []) }
+        ensures over { is_cut result ≡ false → LogsAtEnd D.Disk store.new.committer disk.new }
+        ensures measured { is_cut result ≡ false → KnowsLogLength D.Disk store.old.committer disk.old →
+            KnowsLogLength D.Disk store.new.committer disk.new }
+        ensures undamaged { (file : File) (at : ℕ) → result ≡ Err (GiveFault.Commit (CommitFault.Damaged file at)) →
+            (choose : Chooser) (history : List TimedCommand) (base k : ℕ) → M.is_chooser choose →
+            AllByRecursion M.takes history → Represents D.Disk M.Book.fits M.holds choose history base k store.old disk.old →
+            (image : Image) → D.Disk.seen disk.new ≡ Some image → ⊥ }
+        ensures placed { (file : File) (at : ℕ) → result ≡ Err (GiveFault.Commit (CommitFault.Damaged file at)) →
+            ReadsEnd D.Disk disk.new file at }
         ensures told { Told Anyhow (D.Disk.seen disk.old) (D.Disk.seen disk.new) }
         ensures later { D.Disk.faults disk.old ≤ D.Disk.faults disk.new }
-        ensures cause { IfErr result (λ fault. fault ≡ GiveFault.Commit CommitFault.Disk → Rose (D.Disk.faults disk.old) (D.Disk.faults disk.new)) }
+        ensures cause { IfErr result (λ fault. fault ≡ GiveFault.Commit CommitFault.Disk →
+            Rose (D.Disk.faults disk.old) (D.Disk.faults disk.new)) }
     {
         let channel = match name(self.alloc) {
             Ok(channel) => channel,
@@ -211,19 +246,27 @@ impl Stream {
         disk: &mut D,
         origin: ChannelMeta,
     ) -> Result<(), GiveFault>
-        requires over { IsOver D.Disk store.old.keeper disk.old }
+        requires over { LogsAtEnd D.Disk store.old.committer disk.old }
         requires ends { M.takes (end_order self.moment) }
         requires begins { M.takes (begin_order origin self.moment) }
-        ensures given { (choose : Chooser) (history : List Order) (base k : ℕ) → M.is_chooser choose → AllByRecursion M.takes history →
-            Holds D.Disk M.Book.fits M.holds choose history base k store.old disk.old →
-            Gives D.Disk M.Book.fits store.old.run M.holds choose history base k store.new disk.old disk.new result (opening (is_begun (after choose history) tilde) origin self.moment) }
-        ensures over { is_cut result ≡ false → IsOver D.Disk store.new.keeper disk.new }
-        ensures measured { is_cut result ≡ false → IsMeasured D.Disk store.old.keeper disk.old → IsMeasured D.Disk store.new.keeper disk.new }
-        ensures undamaged { (file : File) (at : ℕ) → result ≡ Err (GiveFault.Commit (CommitFault.Damaged file at)) → (choose : Chooser) (history : List Order) (base k : ℕ) → M.is_chooser choose →
-            AllByRecursion M.takes history → Holds D.Disk M.Book.fits M.holds choose history base k store.old disk.old → (image : Image) → D.Disk.seen disk.new ≡ Some image → ⊥ }
+        ensures given { (choose : Chooser) (history : List TimedCommand) (base k : ℕ) → M.is_chooser choose →
+            AllByRecursion M.takes history →
+            Represents D.Disk M.Book.fits M.holds choose history base k store.old disk.old →
+            Gives D.Disk M.Book.fits store.old.run M.holds choose history base k store.new disk.old disk.new result
+            (opening (is_begun (state_after choose history) tilde) origin self.moment) }
+        ensures over { is_cut result ≡ false → LogsAtEnd D.Disk store.new.committer disk.new }
+        ensures measured { is_cut result ≡ false → KnowsLogLength D.Disk store.old.committer disk.old →
+            KnowsLogLength D.Disk store.new.committer disk.new }
+        ensures undamaged { (file : File) (at : ℕ) → result ≡ Err (GiveFault.Commit (CommitFault.Damaged file at)) →
+            (choose : Chooser) (history : List TimedCommand) (base k : ℕ) → M.is_chooser choose →
+            AllByRecursion M.takes history → Represents D.Disk M.Book.fits M.holds choose history base k store.old disk.old →
+            (image : Image) → D.Disk.seen disk.new ≡ Some image → ⊥ }
+        ensures placed { (file : File) (at : ℕ) → result ≡ Err (GiveFault.Commit (CommitFault.Damaged file at)) →
+            ReadsEnd D.Disk disk.new file at }
         ensures told { Told Anyhow (D.Disk.seen disk.old) (D.Disk.seen disk.new) }
         ensures later { D.Disk.faults disk.old ≤ D.Disk.faults disk.new }
-        ensures cause { IfErr result (λ fault. fault ≡ GiveFault.Commit CommitFault.Disk → Rose (D.Disk.faults disk.old) (D.Disk.faults disk.new)) }
+        ensures cause { IfErr result (λ fault. fault ≡ GiveFault.Commit CommitFault.Disk →
+            Rose (D.Disk.faults disk.old) (D.Disk.faults disk.new)) }
     {
         if !store.has_channel(b"~") {
             return self.begin(store, disk, origin);
@@ -242,22 +285,30 @@ impl Stream {
         input: &mut S,
         room: &mut [u8],
     ) -> Result<(), RunFault>
-        requires over { IsOver D.Disk store.old.keeper disk.old }
+        requires over { LogsAtEnd D.Disk store.old.committer disk.old }
         requires some { 0 < length room.old }
         requires most { length room.old ≤ 1048576 }
         requires takes { (bytes : List ℕ) → IsBlock bytes → M.takes (block_order self.moment bytes) }
-        ensures read { HasRead result (λ blocks. (choose : Chooser) (history : List Order) (base k : ℕ) → M.is_chooser choose → AllByRecursion M.takes history →
-            Holds D.Disk M.Book.fits M.holds choose history base k store.old disk.old →
-            Feeds D.Disk M.Book.fits store.old.run M.holds choose history base k store.new disk.old disk.new result (map (block_order self.moment) blocks) [])
+        ensures read { HasRead result (λ blocks. (choose : Chooser) (history : List TimedCommand) (base k : ℕ) → M.is_chooser choose →
+            AllByRecursion M.takes history →
+            Represents D.Disk M.Book.fits M.holds choose history base k store.old disk.old →
+            Feeds D.Disk M.Book.fits store.old.run M.holds choose history base k store.new disk.old disk.new result
+            (map (block_order self.moment) blocks) [])
             (S.left input.old) (S.left input.new) (S.faults input.old) (S.faults input.new) }
-        ensures over { is_run_cut result ≡ false → IsOver D.Disk store.new.keeper disk.new }
-        ensures measured { is_run_cut result ≡ false → IsMeasured D.Disk store.old.keeper disk.old → IsMeasured D.Disk store.new.keeper disk.new }
-        ensures undamaged { (file : File) (at : ℕ) → result ≡ Err (RunFault.Given (GiveFault.Commit (CommitFault.Damaged file at))) → (choose : Chooser) (history : List Order) (base k : ℕ) → M.is_chooser choose →
-            AllByRecursion M.takes history → Holds D.Disk M.Book.fits M.holds choose history base k store.old disk.old → (image : Image) → D.Disk.seen disk.new ≡ Some image → ⊥ }
+        ensures over { is_run_cut result ≡ false → LogsAtEnd D.Disk store.new.committer disk.new }
+        ensures measured { is_run_cut result ≡ false → KnowsLogLength D.Disk store.old.committer disk.old →
+            KnowsLogLength D.Disk store.new.committer disk.new }
+        ensures undamaged { (file : File) (at : ℕ) → result ≡ Err (RunFault.Given (GiveFault.Commit (CommitFault.Damaged file at))) →
+            (choose : Chooser) (history : List TimedCommand) (base k : ℕ) → M.is_chooser choose →
+            AllByRecursion M.takes history → Represents D.Disk M.Book.fits M.holds choose history base k store.old disk.old →
+            (image : Image) → D.Disk.seen disk.new ≡ Some image → ⊥ }
+        ensures placed { (file : File) (at : ℕ) → result ≡ Err (RunFault.Given (GiveFault.Commit (CommitFault.Damaged file at))) →
+            ReadsEnd D.Disk disk.new file at }
         ensures told { Told Anyhow (D.Disk.seen disk.old) (D.Disk.seen disk.new) }
         ensures later { D.Disk.faults disk.old ≤ D.Disk.faults disk.new }
         ensures read_later { S.faults input.old ≤ S.faults input.new }
-        ensures cause { IsErrOf result (RunFault.Given (GiveFault.Commit CommitFault.Disk)) → Rose (D.Disk.faults disk.old) (D.Disk.faults disk.new) }
+        ensures cause { IsErrOf result (RunFault.Given (GiveFault.Commit CommitFault.Disk)) →
+            Rose (D.Disk.faults disk.old) (D.Disk.faults disk.new) }
     {
         let mut taken: u64 = 0;
         while taken < INPUT_LIMIT {
@@ -287,23 +338,30 @@ impl Stream {
         input: &mut S,
         origin: ChannelMeta,
     ) -> Result<(), RunFault>
-        requires over { IsOver D.Disk store.old.keeper disk.old }
+        requires over { LogsAtEnd D.Disk store.old.committer disk.old }
         requires ends { M.takes (end_order self.moment) }
         requires begins { M.takes (begin_order origin self.moment) }
         requires adds { (bytes : List ℕ) → IsBlock bytes → M.takes (block_order self.moment bytes) }
-        ensures read { HasRead result (λ blocks. (choose : Chooser) (history : List Order) (base k : ℕ) → M.is_chooser choose → AllByRecursion M.takes history →
-            Holds D.Disk M.Book.fits M.holds choose history base k store.old disk.old →
+        ensures read { HasRead result (λ blocks. (choose : Chooser) (history : List TimedCommand) (base k : ℕ) → M.is_chooser choose →
+            AllByRecursion M.takes history →
+            Represents D.Disk M.Book.fits M.holds choose history base k store.old disk.old →
             Feeds D.Disk M.Book.fits store.old.run M.holds choose history base k store.new disk.old disk.new result
-            (filling (is_begun (after choose history) tilde) origin self.moment blocks) (end_order self.moment ∷ []))
+            (filling (is_begun (state_after choose history) tilde) origin self.moment blocks) (end_order self.moment ∷ []))
             (S.left input.old) (S.left input.new) (S.faults input.old) (S.faults input.new) }
-        ensures over { is_run_cut result ≡ false → IsOver D.Disk store.new.keeper disk.new }
-        ensures measured { is_run_cut result ≡ false → IsMeasured D.Disk store.old.keeper disk.old → IsMeasured D.Disk store.new.keeper disk.new }
-        ensures undamaged { (file : File) (at : ℕ) → result ≡ Err (RunFault.Given (GiveFault.Commit (CommitFault.Damaged file at))) → (choose : Chooser) (history : List Order) (base k : ℕ) → M.is_chooser choose →
-            AllByRecursion M.takes history → Holds D.Disk M.Book.fits M.holds choose history base k store.old disk.old → (image : Image) → D.Disk.seen disk.new ≡ Some image → ⊥ }
+        ensures over { is_run_cut result ≡ false → LogsAtEnd D.Disk store.new.committer disk.new }
+        ensures measured { is_run_cut result ≡ false → KnowsLogLength D.Disk store.old.committer disk.old →
+            KnowsLogLength D.Disk store.new.committer disk.new }
+        ensures undamaged { (file : File) (at : ℕ) → result ≡ Err (RunFault.Given (GiveFault.Commit (CommitFault.Damaged file at))) →
+            (choose : Chooser) (history : List TimedCommand) (base k : ℕ) → M.is_chooser choose →
+            AllByRecursion M.takes history → Represents D.Disk M.Book.fits M.holds choose history base k store.old disk.old →
+            (image : Image) → D.Disk.seen disk.new ≡ Some image → ⊥ }
+        ensures placed { (file : File) (at : ℕ) → result ≡ Err (RunFault.Given (GiveFault.Commit (CommitFault.Damaged file at))) →
+            ReadsEnd D.Disk disk.new file at }
         ensures told { Told Anyhow (D.Disk.seen disk.old) (D.Disk.seen disk.new) }
         ensures later { D.Disk.faults disk.old ≤ D.Disk.faults disk.new }
         ensures read_later { S.faults input.old ≤ S.faults input.new }
-        ensures cause { IsErrOf result (RunFault.Given (GiveFault.Commit CommitFault.Disk)) → Rose (D.Disk.faults disk.old) (D.Disk.faults disk.new) }
+        ensures cause { IsErrOf result (RunFault.Given (GiveFault.Commit CommitFault.Disk)) →
+            Rose (D.Disk.faults disk.old) (D.Disk.faults disk.new) }
     {
         let mut room = match make_room(self.alloc) {
             Ok(room) => room,
@@ -335,8 +393,9 @@ fn is_run_cut(stored: &Result<(), RunFault>) -> bool
     }
 }
 
-/// Stores an input: ends the channel `~` where it is still open, begins it, adds the bytes of the input to its stream in blocks, and
-/// ends it. All that the store has accepted is committed then, also behind a fault, but where the disk fails.
+/// Stores an input: ends the channel `~` where it is still open, begins it, adds the bytes of the
+/// input to its stream in blocks, and ends it. All that the store has accepted is committed then,
+/// also behind a fault, but where the disk fails.
 pub fn store_input<M: Listing + Drop, D: Disk, S: Source>(
     alloc: Global,
     store: &mut Store<M>,
@@ -344,26 +403,34 @@ pub fn store_input<M: Listing + Drop, D: Disk, S: Source>(
     input: &mut S,
     arrival: Arrival,
 ) -> Result<(), RunFault>
-    requires over { IsOver D.Disk store.old.keeper disk.old }
+    requires over { LogsAtEnd D.Disk store.old.committer disk.old }
     requires ends { M.takes (end_order arrival.moment) }
     requires begins { M.takes (begin_order arrival.origin arrival.moment) }
     requires adds { (bytes : List ℕ) → IsBlock bytes → M.takes (block_order arrival.moment bytes) }
-    ensures stored { HasRead result (λ blocks. (choose : Chooser) (history : List Order) (base k : ℕ) → M.is_chooser choose → AllByRecursion M.takes history →
-        Holds D.Disk M.Book.fits M.holds choose history base k store.old disk.old →
+    ensures stored { HasRead result (λ blocks. (choose : Chooser) (history : List TimedCommand) (base k : ℕ) → M.is_chooser choose →
+        AllByRecursion M.takes history →
+        Represents D.Disk M.Book.fits M.holds choose history base k store.old disk.old →
         Stores D.Disk M.Book.fits store.old.run M.holds choose history base k store.new disk.old disk.new result
-        (filling (is_begun (after choose history) tilde) arrival.origin arrival.moment blocks) (end_order arrival.moment ∷ []))
+        (filling (is_begun (state_after choose history) tilde) arrival.origin arrival.moment blocks) (end_order arrival.moment ∷ []))
         (S.left input.old) (S.left input.new) (S.faults input.old) (S.faults input.new) }
-    ensures over { is_run_cut result ≡ false → IsOver D.Disk store.new.keeper disk.new }
+    ensures over { is_run_cut result ≡ false → LogsAtEnd D.Disk store.new.committer disk.new }
     // What `shorten` asks for.
-    ensures rest { is_run_cut result ≡ false → IsMeasured D.Disk store.old.keeper disk.old → IsAtRest D.Disk store.new.keeper disk.new }
+    ensures rest { is_run_cut result ≡ false → KnowsLogLength D.Disk store.old.committer disk.old →
+        CheckpointReady D.Disk store.new.committer disk.new }
     // A disk that keeps what was committed is not damaged.
-    ensures undamaged { (file : File) (at : ℕ) → result ≡ Err (RunFault.Given (GiveFault.Commit (CommitFault.Damaged file at))) → (choose : Chooser) (history : List Order) (base k : ℕ) → M.is_chooser choose →
-        AllByRecursion M.takes history → Holds D.Disk M.Book.fits M.holds choose history base k store.old disk.old → (image : Image) → D.Disk.seen disk.new ≡ Some image → ⊥ }
+    ensures undamaged { (file : File) (at : ℕ) → result ≡ Err (RunFault.Given (GiveFault.Commit (CommitFault.Damaged file at))) →
+        (choose : Chooser) (history : List TimedCommand) (base k : ℕ) → M.is_chooser choose →
+        AllByRecursion M.takes history → Represents D.Disk M.Book.fits M.holds choose history base k store.old disk.old → (image : Image) →
+        D.Disk.seen disk.new ≡ Some image → ⊥ }
+    // Damage is where the named file ends, as the disk reads, whatever was committed.
+    ensures placed { (file : File) (at : ℕ) → result ≡ Err (RunFault.Given (GiveFault.Commit (CommitFault.Damaged file at))) →
+        ReadsEnd D.Disk disk.new file at }
     // A disk that tells what it reads goes on telling.
     ensures told { Told Anyhow (D.Disk.seen disk.old) (D.Disk.seen disk.new) }
     ensures later { D.Disk.faults disk.old ≤ D.Disk.faults disk.new }
     ensures read_later { S.faults input.old ≤ S.faults input.new }
-    ensures cause { IsErrOf result (RunFault.Given (GiveFault.Commit CommitFault.Disk)) → Rose (D.Disk.faults disk.old) (D.Disk.faults disk.new) }
+    ensures cause { IsErrOf result (RunFault.Given (GiveFault.Commit CommitFault.Disk)) →
+        Rose (D.Disk.faults disk.old) (D.Disk.faults disk.new) }
 {
     let stream = Stream {
         alloc,

@@ -1,5 +1,5 @@
-//! Runs of a store: commands are given to it one by one, and committed where that is due, and a log that has grown long is made short. The
-//! program makes each of its commands of these.
+//! Runs of a store: commands are given to it one by one, and committed where that is due, and a log
+//! that has grown long is made short. The program makes each of its commands of these.
 #![tactic(auto)]
 
 mod giving;

@@ -1,13 +1,14 @@
 -- What is asked of a store.
-use Rattle.std.proofs.Common.{◌≡◌, ◌<◌, ◌≤◌, ◌+◌, ◌||◌, ◌∙◌, ℕ, Bool, true, false, get_or, List, [], ◌∷◌, ◌++◌, map, drop, length, refl, sym, ap, append_assoc, codes, Option, Some, Result}
+use Rattle.std.proofs.Common.{◌≡◌, ◌<◌, ◌≤◌, ◌+◌, ◌||◌, ◌∙◌, ℕ, Bool, true, false, get_or, List, [], ◌∷◌, ◌++◌, map, drop, length, refl}
+use Rattle.std.proofs.Common.{sym, ap, append_assoc, codes, Option, Some, Result}
 use Rattle.std.specs.List.{flat_map, list_any}
 use Rattle.std.proofs.lemmas.List.{drop_all, drop_more, append-nil}
-use Rattle.ix_book.specs.Book.{Book}
+use Rattle.ix_manifest.specs.Book.{NamedItems}
 use Rattle.ix_disk.specs.declared.disk.Disk.{Ghosts}
 use Rattle.ix_http.specs.declared.kinds.Ask.TheVariants as asks
-use Rattle.ix_machine.specs.Given.{Chooser}
-use Rattle.ix_machine.specs.declared.commands.Order.{Order}
-use Rattle.ix_store.specs.Holding.{Holds}
+use Rattle.ix_model.specs.Given.{Chooser}
+use Rattle.ix_model.specs.declared.commands.TimedCommand.{TimedCommand}
+use Rattle.ix_store.specs.Holding.{Represents}
 use Rattle.ix_store.specs.declared.store.Store.{Store}
 use Rattle.ix_serve.specs.Answer.{MayBe}
 use Rattle.ix_serve.specs.Bodies.{value_text, values_text}
@@ -33,18 +34,23 @@ all_values [] = refl
 all_values (value ∷ values) = ap (λ (l : List ℕ). value_text value ++ l) (with_commas values)
 
 -- one value more
-pub one_more : (body before next text : List ℕ) (value : Bool) (values : List Bool) → next ≡ (body ++ before) ++ text → text ≡ value_text value →
+pub one_more : (body before next text : List ℕ) (value : Bool) (values : List Bool) → next ≡ (body ++ before) ++ text →
+    text ≡ value_text value →
     next ++ values_behind (codes ",") values ≡ body ++ values_behind before (value ∷ values)
 one_more body before next text value values is same =
-    ap (λ (l : List ℕ). l ++ values_behind (codes ",") values) (is ∙ ap (λ (t : List ℕ). (body ++ before) ++ t) same ∙ append_assoc body before (value_text value))
+    ap (λ (l : List ℕ). l ++ values_behind (codes ",") values) (is ∙ ap (λ (t : List ℕ). (body ++ before) ++ t) same
+    ∙ append_assoc body before (value_text value))
     ∙ append_assoc body (before ++ value_text value) (values_behind (codes ",") values)
 
 -- a listing, as the answer to its ask
-pub listed_answers : {D : Type 0} (g : Ghosts D) {M : Type 0} (fits : Book → Type 0) (holds : Chooser → List Order → M → Type 0) (e : Entry) (clean : Type 0) (result : Result Served ServeFault)
-    (given given' : Option (List ℕ)) (store : Store M) (disk : D) → IsOpen result → store.run ≡ e.run → Holds g fits holds e.choose e.history e.base e.kept store disk → IsListed e clean result given given' →
+pub listed_answers : {D : Type 0} (g : Ghosts D) {M : Type 0} (fits : NamedItems → Type 0) (holds : Chooser → List TimedCommand → M →
+    Type 0) (e : Entry) (clean : Type 0) (result : Result Served ServeFault)
+    (given given' : Option (List ℕ)) (store : Store M) (disk : D) → IsOpen result → store.run ≡ e.run →
+    Represents g fits holds e.choose e.history e.base e.kept store disk → IsListed e clean result given given' →
     Answers g fits holds e (MayBe e (IsTold g disk) asks.Buckets result) true clean result given given' store disk disk
 listed_answers g fits holds e clean result given given' store disk stays run hold is =
-    idle g fits holds e (MayBe e (IsTold g disk) asks.Buckets result) true clean result given given' store disk (Some is.reply) is.may_be is.gave stays run hold
+    idle g fits holds e (MayBe e (IsTold g disk) asks.Buckets result) true clean result given given' store disk (Some is.reply) is.may_be
+    is.gave stays run hold
 
 module _ (test : ℕ → Bool) (xs : List ℕ) (i d : ℕ) (inside : i < length xs) where
   -- the values behind one more
@@ -56,17 +62,20 @@ module _ (test : ℕ → Bool) (xs : List ℕ) (i d : ℕ) (inside : i < length 
 
   -- one that fails the test is passed over
   pub any_next : (whole : Bool) → test (get_or xs i d) ≡ false → list_any test (drop i xs) ≡ whole → list_any test (drop (i + 1) xs) ≡ whole
-  any_next whole fails so = sym (ap (λ (b : Bool). b || list_any test (drop (i + 1) xs)) fails) ∙ sym (ap (list_any test) (drop_more xs i d inside)) ∙ so
+  any_next whole fails so = sym (ap (λ (b : Bool). b || list_any test (drop (i + 1) xs)) fails)
+      ∙ sym (ap (list_any test) (drop_more xs i d inside)) ∙ so
 
   -- one that passes it is found
   pub any_here : (whole : Bool) → test (get_or xs i d) ≡ true → list_any test (drop i xs) ≡ whole → true ≡ whole
-  any_here whole passes so = sym (ap (λ (b : Bool). b || list_any test (drop (i + 1) xs)) passes) ∙ sym (ap (list_any test) (drop_more xs i d inside)) ∙ so
+  any_here whole passes so = sym (ap (λ (b : Bool). b || list_any test (drop (i + 1) xs)) passes)
+      ∙ sym (ap (list_any test) (drop_more xs i d inside)) ∙ so
 
 -- all were passed over
 pub any_none : (test : ℕ → Bool) (xs : List ℕ) (i : ℕ) (whole : Bool) → length xs ≤ i → list_any test (drop i xs) ≡ whole → false ≡ whole
 any_none test xs i whole past so = sym (ap (list_any test) (drop_all i xs past)) ∙ so
 
 -- all values stand
-pub values_end : (test : ℕ → Bool) (xs : List ℕ) (i : ℕ) (body before whole : List ℕ) → length xs ≤ i → body ++ values_behind before (map test (drop i xs)) ≡ whole → body ≡ whole
+pub values_end : (test : ℕ → Bool) (xs : List ℕ) (i : ℕ) (body before whole : List ℕ) → length xs ≤ i → body
+    ++ values_behind before (map test (drop i xs)) ≡ whole → body ≡ whole
 values_end test xs i body before whole past so =
     sym (append-nil body) ∙ sym (ap (λ (l : List ℕ). body ++ values_behind before (map test l)) (drop_all i xs past)) ∙ so

@@ -9,15 +9,15 @@ use Rattle.ix_http.specs.declared.kinds.Ask.{Ask}
 use Rattle.ix_http.specs.declared.kinds.Ask.TheVariants as asks
 use Rattle.ix_http.specs.declared.kinds.Incoming.{Incoming}
 use Rattle.ix_http.specs.declared.kinds.Incoming.TheVariants as was
-use Rattle.ix_keep.specs.declared.fault.CommitFault.{CommitFault}
-use Rattle.ix_keep.specs.declared.fault.CommitFault.TheVariants as commits
-use Rattle.ix_machine.specs.Bounds.{IsAllowed, IsRefused}
-use Rattle.ix_machine.specs.Judged.{adds}
-use Rattle.ix_machine.specs.Shown.{view}
-use Rattle.ix_machine.specs.declared.answers.Refusal.{Refusal}
-use Rattle.ix_machine.specs.declared.commands.Command.{Command}
-use Rattle.ix_machine.specs.declared.commands.Command.TheVariants as commands
-use Rattle.ix_machine.specs.declared.commands.Order.{Order}
+use Rattle.ix_commit.specs.declared.fault.CommitFault.{CommitFault}
+use Rattle.ix_commit.specs.declared.fault.CommitFault.TheVariants as commits
+use Rattle.ix_model.specs.Bounds.{IsAllowed, IsRefused}
+use Rattle.ix_model.specs.Judged.{adds}
+use Rattle.ix_model.specs.Shown.{view}
+use Rattle.ix_model.specs.declared.answers.Refusal.{Refusal}
+use Rattle.ix_model.specs.declared.commands.Command.{Command}
+use Rattle.ix_model.specs.declared.commands.Command.TheVariants as commands
+use Rattle.ix_model.specs.declared.commands.TimedCommand.{TimedCommand}
 use Rattle.ix_report.specs.Listing.{listing}
 use Rattle.ix_store.specs.Counting.{is_due}
 use Rattle.ix_store.specs.Exporting.{is_seen, exported}
@@ -31,7 +31,7 @@ use Rattle.ix_serve.specs.declared.served.ServeFault.TheVariants as fault
 -- a reply or silence, the commands that are added, and whether all is committed then
 pub record Answer : Type 0 where
   pub reply : Option Reply
-  pub more : List Order
+  pub more : List TimedCommand
   pub commits : Bool
 
 abbrev pub says : Bool → Reply → Answer
@@ -65,7 +65,8 @@ MayChange e command good a =
 abbrev pub MayList : Entry → Answer → Type 0
 MayList e a = (a ≡ says false (plain (listing (view (state e))))) ⊎ (a ≡ declined)
 
--- What is said of an index: lines where it is seen, and where the disk tells what it reads they are those of its events.
+-- What is said of an index: lines where it is seen, and where the disk tells what it reads they are
+-- those of its events.
 pub record IsExport (told : Type 0) (e : Entry) (index : List ℕ) (range : Range) (reply : Reply) : Type 0 where
   pub lines : List ℕ
   pub is : reply ≡ events_reply (is_seen (state e) index) lines
@@ -75,7 +76,8 @@ abbrev pub answer_of_fault : CommitFault → ServeFault
 answer_of_fault commits.Disk = fault.Disk
 answer_of_fault (commits.Damaged file at) = fault.Damaged file at
 
--- the lines of an index, behind a commit of all; or the fault of the disk, which is answered behind its reply
+-- the lines of an index, behind a commit of all; or the fault of the disk, which is answered behind
+-- its reply
 abbrev pub MayExport : Entry → Type 0 → List ℕ → Range → Result Served ServeFault → Answer → Type 0
 MayExport e told index range result a =
     ((reply : Reply) × IsExport told e index range reply × (a ≡ says true reply))

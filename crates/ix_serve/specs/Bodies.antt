@@ -1,10 +1,10 @@
 -- The bodies of replies.
 use Rattle.std.specs.Prelude.{ℕ, Bool, true, false, List, [], ◌∷◌, ◌++◌, codes, decimal}
 use Rattle.std.specs.List.{flat_map}
-use Rattle.ix_keep.specs.declared.fault.CommitFault.{CommitFault}
-use Rattle.ix_keep.specs.declared.fault.CommitFault.TheVariants as commits
-use Rattle.ix_machine.specs.declared.answers.Refusal.{Refusal}
-use Rattle.ix_machine.specs.declared.answers.Refusal.TheVariants as refusals
+use Rattle.ix_commit.specs.declared.fault.CommitFault.{CommitFault}
+use Rattle.ix_commit.specs.declared.fault.CommitFault.TheVariants as commits
+use Rattle.ix_model.specs.declared.answers.Refusal.{Refusal}
+use Rattle.ix_model.specs.declared.answers.Refusal.TheVariants as refusals
 
 -- ---- of good replies
 
@@ -31,7 +31,8 @@ acks_body values = codes "{\"acks\":[" ++ values_text values ++ codes "]}"
 abbrev pub error_body : List ℕ → List ℕ
 error_body name = codes "{\"error\":\"" ++ name ++ codes "\"}"
 
--- A store is closed by a fault of its disk. No request gives a command that is refused for a bucket.
+-- A store is closed by a fault of its disk. No request gives a command that is refused for a
+-- bucket.
 abbrev pub refusal_name : Refusal → List ℕ
 refusal_name refusals.Closed = codes "Disk"
 refusal_name refusals.NoChannel = codes "NoChannel"

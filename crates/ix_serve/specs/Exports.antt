@@ -5,8 +5,9 @@ use Rattle.ix_base.specs.declared.files.File.{File}
 use Rattle.ix_disk.specs.Image.{Image}
 use Rattle.ix_disk.specs.declared.disk.Disk.{Ghosts}
 use Rattle.ix_http.specs.declared.kinds.HttpFault.TheVariants as http
-use Rattle.ix_keep.specs.declared.fault.CommitFault.{CommitFault}
-use Rattle.ix_keep.specs.declared.fault.CommitFault.TheVariants as commits
+use Rattle.ix_commit.specs.declared.fault.CommitFault.{CommitFault}
+use Rattle.ix_life.specs.declared.views.View.{View}
+use Rattle.ix_commit.specs.declared.fault.CommitFault.TheVariants as commits
 use Rattle.ix_serve.specs.Answer.{IsExport}
 use Rattle.ix_serve.specs.Entries.{Entry}
 use Rattle.ix_serve.specs.Serving.{IsBadPlace}
@@ -23,8 +24,9 @@ abbrev pub MayReply : Type 0 → Entry → List ℕ → Range → Reply → Type
 MayReply told e index range reply = (reply ≡ no_memory) ⊎ IsExport told e index range reply
 
 -- damage is named as the disk reads
-abbrev pub IsPlacedBy : {D : Type 0} → Ghosts D → D → CommitFault → Type 0
-IsPlacedBy d disk cause = (file : File) (at : ℕ) → cause ≡ commits.Damaged file at → (image : Image) → d.seen disk ≡ Some image → IsBadPlace image file at
+abbrev pub IsPlacedBy : {D : Type 0} → Ghosts D → View → D → CommitFault → Type 0
+IsPlacedBy d shown disk cause = (file : File) (at : ℕ) → cause ≡ commits.Damaged file at → (image : Image) → d.seen disk ≡ Some image →
+    IsBadPlace shown image file at
 
 -- the cause is no damage of a disk that tells what it reads
 abbrev pub IsNoDamage : {D : Type 0} → Ghosts D → D → CommitFault → Type 0

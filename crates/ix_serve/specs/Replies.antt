@@ -6,9 +6,9 @@ use Rattle.ix_http.specs.declared.kinds.HttpFault.{HttpFault}
 use Rattle.ix_http.specs.declared.kinds.HttpFault.TheVariants as http
 use Rattle.ix_http.specs.declared.kinds.Kind.{Kind}
 use Rattle.ix_http.specs.declared.kinds.Kind.TheVariants.{Json, Plain}
-use Rattle.ix_keep.specs.declared.fault.CommitFault.{CommitFault}
-use Rattle.ix_machine.specs.declared.answers.Refusal.{Refusal}
-use Rattle.ix_machine.specs.declared.answers.Refusal.TheVariants as refusals
+use Rattle.ix_commit.specs.declared.fault.CommitFault.{CommitFault}
+use Rattle.ix_model.specs.declared.answers.Refusal.{Refusal}
+use Rattle.ix_model.specs.declared.answers.Refusal.TheVariants as refusals
 use Rattle.ix_serve.specs.Bodies.{begun_body, acked_body, acks_body, error_body, refusal_name, commit_name}
 
 pub record Reply : Type 0 where

@@ -4,7 +4,7 @@ use Rattle.std.specs.List.{list_any}
 use Rattle.ix_base.specs.Faults.{Rose}
 use Rattle.ix_base.specs.Told.{Told, HasWritten, HasBegun}
 use Rattle.ix_base.specs.declared.files.File.{File}
-use Rattle.ix_book.specs.Book.{Book}
+use Rattle.ix_manifest.specs.Book.{NamedItems}
 use Rattle.ix_disk.specs.Image.{Image, bytes_in}
 use Rattle.ix_disk.specs.Moments.{Always}
 use Rattle.ix_disk.specs.declared.disk.Disk.{Ghosts}
@@ -12,13 +12,14 @@ use Rattle.ix_heads.specs.declared.faults.LinkFault.TheVariants as link
 use Rattle.ix_http.specs.Asked.{Fits}
 use Rattle.ix_http.specs.Limits.{IsWithin}
 use Rattle.ix_http.specs.declared.kinds.Incoming.TheVariants as was
-use Rattle.ix_keep.specs.Snapshot.{IsLong}
-use Rattle.ix_keep.specs.declared.keeper.Keeper.{Keeper}
-use Rattle.ix_link.specs.Links.{Standing}
-use Rattle.ix_machine.specs.Given.{Chooser}
-use Rattle.ix_machine.specs.declared.commands.Order.{Order}
-use Rattle.ix_store.specs.Exporting.{HasBadRecord}
-use Rattle.ix_store.specs.Holding.{Holds}
+use Rattle.ix_commit.specs.Snapshot.{IsLong}
+use Rattle.ix_commit.specs.declared.committer.Committer.{Committer}
+use Rattle.ix_net.specs.Links.{Standing}
+use Rattle.ix_life.specs.declared.views.View.{View}
+use Rattle.ix_model.specs.Given.{Chooser}
+use Rattle.ix_model.specs.declared.commands.TimedCommand.{TimedCommand}
+use Rattle.ix_store.specs.Exporting.{HasBadBucket}
+use Rattle.ix_store.specs.Holding.{Represents}
 use Rattle.ix_store.specs.declared.store.Store.{Store}
 use Rattle.ix_serve.specs.Answer.{Answer, Found, Says, MayList, says, declined, is_whole}
 use Rattle.ix_serve.specs.Entries.{Entry, is_acked, is_pending}
@@ -39,12 +40,15 @@ IsClean faults faults' standing standing' = (Rose faults faults' → ⊥) ⊎ (R
 
 -- ---- what is written
 
--- The reply was written. Where the link or the disk failed a front of it was, and all of it if the link is clean.
+-- The reply was written. Where the link or the disk failed a front of it was, and all of it if the
+-- link is clean.
 abbrev pub Wrote : Reply → Bool → Type 0 → Result Served ServeFault → Option (List ℕ) → Option (List ℕ) → Type 0
 Wrote r delimited clean (Ok served.Ended) given given' = ⊥
-Wrote r delimited clean (Ok (served.Reply status whole unshortened)) given given' = (status ≡ r.status) × (whole ≡ delimited) × HasWritten (text_of r) given given'
+Wrote r delimited clean (Ok (served.Reply status whole unshortened)) given given' = (status ≡ r.status) × (whole ≡ delimited)
+    × HasWritten (text_of r) given given'
 Wrote r delimited clean (Err fault.Disk) given given' = HasBegun (text_of r) given given' × (clean → HasWritten (text_of r) given given')
-Wrote r delimited clean (Err (fault.Damaged file at)) given given' = HasBegun (text_of r) given given' × (clean → HasWritten (text_of r) given given')
+Wrote r delimited clean (Err (fault.Damaged file at)) given given' = HasBegun (text_of r) given given'
+    × (clean → HasWritten (text_of r) given given')
 Wrote r delimited clean (Err fault.Link) given given' = HasBegun (text_of r) given given' × (clean → HasWritten (text_of r) given given')
 Wrote r delimited clean (Err fault.Cut) given given' = ⊥
 
@@ -70,19 +74,27 @@ still_open (Err fault.Link) = true
 still_open (Err fault.Cut) = true
 
 -- no fewer commands are committed than before, and at a commit point all are
-pub record HoldsFrom {D : Type 0} (d : Ghosts D) {M : Type 0} (fits : Book → Type 0) (holds : Chooser → List Order → M → Type 0) (e : Entry) (commits : Bool) (history : List Order) (store : Store M) (disk : D) : Type 0 where
+pub record HoldsFrom {D : Type 0} (d : Ghosts D) {M : Type 0} (fits : NamedItems → Type 0) (holds : Chooser → List TimedCommand → M →
+    Type 0) (e : Entry) (commits : Bool) (history : List TimedCommand) (store : Store M) (disk : D) : Type 0 where
   pub count : ℕ
   pub least : e.kept ≤ count
-  pub hold : Holds d fits holds e.choose history e.base count store disk
+  pub hold : Represents d fits holds e.choose history e.base count store disk
   pub all : commits ≡ true → count ≡ length history
 
--- as the disk reads, the file ends at the place, or no record of a bucket that counts stands there
-abbrev pub IsBadPlace : Image → File → ℕ → Type 0
-IsBadPlace image file at = (at ≡ length (bytes_in image file)) ⊎ HasBadRecord image file at
+-- as the disk reads, the file ends at the place, or it is that of a bucket that is shown, of which
+-- no record ends behind the place within the bytes that count
+abbrev pub IsBadPlace : View → Image → File → ℕ → Type 0
+IsBadPlace shown image file at = (at ≡ length (bytes_in image file)) ⊎ HasBadBucket shown image file at
 
 -- damage is named as the disk reads
-abbrev pub IsPlaced : {D : Type 0} → Ghosts D → D → Result Served ServeFault → Type 0
-IsPlaced d disk result = (file : File) (at : ℕ) → result ≡ Err (fault.Damaged file at) → (image : Image) → d.seen disk ≡ Some image → IsBadPlace image file at
+abbrev pub IsPlaced : {D : Type 0} → Ghosts D → View → D → Result Served ServeFault → Type 0
+IsPlaced d shown disk result = (file : File) (at : ℕ) → result ≡ Err (fault.Damaged file at) → (image : Image) →
+    d.seen disk ≡ Some image → IsBadPlace shown image file at
+
+-- damage that a commit meets is named where the file ends
+abbrev pub IsPlacedAtEnd : {D : Type 0} → Ghosts D → D → Result Served ServeFault → Type 0
+IsPlacedAtEnd d disk result = (file : File) (at : ℕ) → result ≡ Err (fault.Damaged file at) → (image : Image) →
+    d.seen disk ≡ Some image → at ≡ length (bytes_in image file)
 
 -- a listing, or want of memory, of which the disk is no part
 pub record IsListed (e : Entry) (clean : Type 0) (result : Result Served ServeFault) (given given' : Option (List ℕ)) : Type 0 where
@@ -90,15 +102,19 @@ pub record IsListed (e : Entry) (clean : Type 0) (result : Result Served ServeFa
   pub may_be : MayList e (says false reply)
   pub gave : Wrote reply true clean result given given'
 
--- What is told of numbers, or want of memory, of which the disk is no part; and whether a commit is due behind the reply.
-pub record AreTold (e : Entry) (run : ℕ) (numbers : List ℕ) (clean : Type 0) (result : Result Served ServeFault) (due : Bool) (given given' : Option (List ℕ)) : Type 0 where
+-- What is told of numbers, or want of memory, of which the disk is no part; and whether a commit is
+-- due behind the reply.
+pub record AreTold (e : Entry) (run : ℕ) (numbers : List ℕ) (clean : Type 0) (result : Result Served ServeFault) (due : Bool)
+    (given given' : Option (List ℕ)) : Type 0 where
   pub reply : Reply
-  pub may_be : (says due reply ≡ says (list_any (is_pending e run) numbers) (acks (map (is_acked e run) numbers))) ⊎ (says due reply ≡ declined)
+  pub may_be : (says due reply ≡ says (list_any (is_pending e run) numbers) (acks (map (is_acked e run) numbers)))
+      ⊎ (says due reply ≡ declined)
   pub gave : Wrote reply true clean result given given'
 
 -- ---- what comes of what was read, whatever the store holds
 
--- a reply was written, behind which another request may follow or not; or the link or the disk failed
+-- a reply was written, behind which another request may follow or not; or the link or the disk
+-- failed
 abbrev pub IsReplied : Bool → Result Served ServeFault → Type 0
 IsReplied delimited (Ok served.Ended) = ⊥
 IsReplied delimited (Ok (served.Reply status whole unshortened)) = whole ≡ delimited
@@ -130,21 +146,22 @@ pub record Reads (result : Result Served ServeFault) (left left' : Option (List 
 
 -- ---- how long the log is
 
--- A command is staged, or the log is not long, or it is told that there was no room for a checkpoint.
-abbrev pub IsShort : Bool → Keeper → Bool → Type 0
-IsShort staged keeper unshortened = (staged ≡ true) ⊎ (IsLong keeper.bytes keeper.first → ⊥) ⊎ (unshortened ≡ true)
+-- A command is staged, or the log is not long, or it is told that there was no room for a
+-- checkpoint.
+abbrev pub IsShort : Bool → Committer → Bool → Type 0
+IsShort staged committer unshortened = (staged ≡ true) ⊎ (IsLong committer.bytes committer.first → ⊥) ⊎ (unshortened ≡ true)
 
 -- so it is behind a reply
-abbrev pub IsShortBehind : Result Served ServeFault → Bool → Keeper → Type 0
-IsShortBehind (Ok served.Ended) staged keeper = Unit {0}
-IsShortBehind (Ok (served.Reply status whole unshortened)) staged keeper = IsShort staged keeper unshortened
-IsShortBehind (Err cause) staged keeper = Unit {0}
+abbrev pub IsShortBehind : Result Served ServeFault → Bool → Committer → Type 0
+IsShortBehind (Ok served.Ended) staged committer = Unit {0}
+IsShortBehind (Ok (served.Reply status whole unshortened)) staged committer = IsShort staged committer unshortened
+IsShortBehind (Err cause) staged committer = Unit {0}
 
 -- that there was no room is told only where the log is long
-abbrev pub IsLongStill : Result Served ServeFault → Keeper → Type 0
-IsLongStill (Ok served.Ended) keeper = Unit {0}
-IsLongStill (Ok (served.Reply status whole unshortened)) keeper = unshortened ≡ true → IsLong keeper.bytes keeper.first
-IsLongStill (Err cause) keeper = Unit {0}
+abbrev pub IsLongStill : Result Served ServeFault → Committer → Type 0
+IsLongStill (Ok served.Ended) committer = Unit {0}
+IsLongStill (Ok (served.Reply status whole unshortened)) committer = unshortened ≡ true → IsLong committer.bytes committer.first
+IsLongStill (Err cause) committer = Unit {0}
 
 -- ---- the whole
 
@@ -152,9 +169,10 @@ IsLongStill (Err cause) keeper = Unit {0}
 abbrev pub IsUndamaged : {D : Type 0} → Ghosts D → D → Result Served ServeFault → Type 0
 IsUndamaged d disk result = (file : File) (at : ℕ) → result ≡ Err (fault.Damaged file at) → (image : Image) → d.seen disk ≡ Some image → ⊥
 
--- One answer that may be given: what was written of it, what is held behind it, and that every image since the start stands for this run
--- and a prefix of the same history.
-pub record Answers {D : Type 0} (d : Ghosts D) {M : Type 0} (fits : Book → Type 0) (holds : Chooser → List Order → M → Type 0) (e : Entry) (may : Answer → Type 0) (delimited : Bool) (clean : Type 0)
+-- One answer that may be given: what was written of it, what is held behind it, and that every
+-- image since the start stands for this run and a prefix of the same history.
+pub record Answers {D : Type 0} (d : Ghosts D) {M : Type 0} (fits : NamedItems → Type 0) (holds : Chooser → List TimedCommand → M →
+    Type 0) (e : Entry) (may : Answer → Type 0) (delimited : Bool) (clean : Type 0)
     (result : Result Served ServeFault) (given given' : Option (List ℕ)) (store : Store M) (old new : D) : Type 0 where
   pub answer : Answer
   pub may_be : may answer
@@ -164,7 +182,8 @@ pub record Answers {D : Type 0} (d : Ghosts D) {M : Type 0} (fits : Book → Typ
   pub undamaged : IsUndamaged d new result
 
 -- One request: what was read of the bytes of the link, and what was answered to it.
-pub record Serves {D : Type 0} (d : Ghosts D) {M : Type 0} (fits : Book → Type 0) (holds : Chooser → List Order → M → Type 0) (e : Entry) (clean : Type 0)
+pub record Serves {D : Type 0} (d : Ghosts D) {M : Type 0} (fits : NamedItems → Type 0) (holds : Chooser → List TimedCommand → M →
+    Type 0) (e : Entry) (clean : Type 0)
     (result : Result Served ServeFault) (left left' given given' : Option (List ℕ)) (store : Store M) (old new : D) : Type 0 where
   pub read : Found
   pub took : Told (Fits read) left left'

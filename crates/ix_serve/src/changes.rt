@@ -4,16 +4,16 @@ ghost use Rattle.std.specs.Prelude.{◌≡◌, ℕ, List, None, true, false};
 ghost use Rattle.std.specs.List.{AllByRecursion};
 ghost use Rattle.ix_http.specs.declared.kinds.Ask.TheVariants as asks;
 ghost use Rattle.ix_http.specs.declared.kinds.Kind.TheVariants.{Json};
-ghost use Rattle.ix_keep.specs.Snapshot.{IsMeasured, IsOver};
-ghost use Rattle.ix_link.specs.Links.{Goes};
-ghost use Rattle.ix_machine.specs.Given.{Chooser};
-ghost use Rattle.ix_machine.specs.declared.commands.Command.TheVariants as commands;
-ghost use Rattle.ix_machine.specs.declared.commands.Order.{Order};
+ghost use Rattle.ix_commit.specs.Snapshot.{KnowsLogLength, LogsAtEnd};
+ghost use Rattle.ix_net.specs.Links.{LinkStep};
+ghost use Rattle.ix_model.specs.Given.{Chooser};
+ghost use Rattle.ix_model.specs.declared.commands.Command.TheVariants as commands;
+ghost use Rattle.ix_model.specs.declared.commands.TimedCommand.{TimedCommand};
 ghost use Rattle.ix_serve.specs.Answer.{MayChange, MayBe};
 ghost use Rattle.ix_serve.specs.Entries.{entry};
 ghost use Rattle.ix_serve.specs.Replies.{reply};
-ghost use Rattle.ix_serve.specs.Serving.{Answers, Comes, IsClean, IsOpen, IsPlaced, IsReplied, IsTold, still_open};
-ghost use Rattle.ix_store.specs.Holding.{Holds, is_closed};
+ghost use Rattle.ix_serve.specs.Serving.{Answers, Comes, IsClean, IsOpen, IsPlacedAtEnd, IsReplied, IsTold, still_open};
+ghost use Rattle.ix_store.specs.Holding.{Represents, is_closed};
 
 use crate::bodies::{acked_body, begun_body};
 use crate::keeping::settle;
@@ -22,13 +22,13 @@ use crate::served::{ServeFault, Served};
 use ix_base::{Bytes, ChannelMeta};
 use ix_disk::Disk;
 use ix_http::Kind;
-use ix_link::Link;
-use ix_machine::Command;
-use ix_store::{Memory, Store};
+use ix_model::Command;
+use ix_net::Link;
+use ix_store::{Store, StoreMemory};
 use std::alloc::Global;
 
 /// Has the store accept a command, writes the reply, and commits where the group is due.
-fn serve_change<K: Link, M: Memory + Drop, D: Disk>(
+fn serve_change<K: Link, M: StoreMemory + Drop, D: Disk>(
     store: &mut Store<M>,
     link: &mut K,
     command: Command,
@@ -37,22 +37,24 @@ fn serve_change<K: Link, M: Memory + Drop, D: Disk>(
     moment: i64,
     disk: &mut D,
 ) -> Result<Served, ServeFault>
-    requires over { IsOver D.Disk store.old.keeper disk.old }
+    requires over { LogsAtEnd D.Disk store.old.committer disk.old }
     requires takes { M.takes (record { command = command; moment = moment }) }
-    ensures answers { (choose : Chooser) (history : List Order) (base k : ℕ) → M.is_chooser choose → AllByRecursion M.takes history →
-        Holds D.Disk M.Book.fits M.holds choose history base k store.old disk.old →
+    ensures answers { (choose : Chooser) (history : List TimedCommand) (base k : ℕ) → M.is_chooser choose → AllByRecursion M.takes history →
+        Represents D.Disk M.Book.fits M.holds choose history base k store.old disk.old →
         Answers D.Disk M.Book.fits M.holds (entry choose history base k store.old.run moment)
-        (MayChange (entry choose history base k store.old.run moment) command (reply status Json body.now)) true (IsClean (K.faults link.old) (K.faults link.new) (K.standing link.old) (K.standing link.new))
+        (MayChange (entry choose history base k store.old.run moment) command (reply status Json body.now)) true
+        (IsClean (K.faults link.old) (K.faults link.new) (K.standing link.old) (K.standing link.new))
         result (K.given link.old) (K.given link.new) store.new disk.old disk.new }
     ensures left { K.left link.new ≡ K.left link.old }
-    ensures over { IsOpen result → IsOver D.Disk store.new.keeper disk.new }
-    ensures measured { IsMeasured D.Disk store.old.keeper disk.old → IsOpen result → IsMeasured D.Disk store.new.keeper disk.new }
+    ensures over { IsOpen result → LogsAtEnd D.Disk store.new.committer disk.new }
+    ensures measured { KnowsLogLength D.Disk store.old.committer disk.old → IsOpen result →
+        KnowsLogLength D.Disk store.new.committer disk.new }
     ensures closed { still_open result ≡ false → is_closed store.new ≡ true }
-    ensures placed { IsPlaced D.Disk disk.new result }
+    ensures placed { IsPlacedAtEnd D.Disk disk.new result }
     ensures replied { IsReplied true result }
     ensures run { store.new.run ≡ store.old.run }
     ensures told { IsTold D.Disk disk.old → IsTold D.Disk disk.new }
-    ensures goes { Goes (K.standing link.old) (K.standing link.new) }
+    ensures goes { LinkStep (K.standing link.old) (K.standing link.new) }
     ensures comes { Comes (K.faults link.old) (K.faults link.new) (D.Disk.faults disk.old) (D.Disk.faults disk.new) result }
 {
     match store.accept(command, moment) {
@@ -66,7 +68,7 @@ fn serve_change<K: Link, M: Memory + Drop, D: Disk>(
 }
 
 /// Begins a channel.
-pub(crate) fn serve_begin<K: Link, M: Memory + Drop, D: Disk>(
+pub(crate) fn serve_begin<K: Link, M: StoreMemory + Drop, D: Disk>(
     alloc: Global,
     store: &mut Store<M>,
     link: &mut K,
@@ -75,22 +77,24 @@ pub(crate) fn serve_begin<K: Link, M: Memory + Drop, D: Disk>(
     moment: i64,
     disk: &mut D,
 ) -> Result<Served, ServeFault>
-    requires over { IsOver D.Disk store.old.keeper disk.old }
+    requires over { LogsAtEnd D.Disk store.old.committer disk.old }
     requires takes { M.takes (record { command = commands.Begin channel meta; moment = moment }) }
-    ensures answers { (choose : Chooser) (history : List Order) (base k : ℕ) → M.is_chooser choose → AllByRecursion M.takes history →
-        Holds D.Disk M.Book.fits M.holds choose history base k store.old disk.old →
+    ensures answers { (choose : Chooser) (history : List TimedCommand) (base k : ℕ) → M.is_chooser choose → AllByRecursion M.takes history →
+        Represents D.Disk M.Book.fits M.holds choose history base k store.old disk.old →
         Answers D.Disk M.Book.fits M.holds (entry choose history base k store.old.run moment)
-        (MayBe (entry choose history base k store.old.run moment) (IsTold D.Disk disk.new) (asks.Begin channel meta) result) true (IsClean (K.faults link.old) (K.faults link.new) (K.standing link.old) (K.standing link.new))
+        (MayBe (entry choose history base k store.old.run moment) (IsTold D.Disk disk.new) (asks.Begin channel meta) result) true
+        (IsClean (K.faults link.old) (K.faults link.new) (K.standing link.old) (K.standing link.new))
         result (K.given link.old) (K.given link.new) store.new disk.old disk.new }
     ensures left { K.left link.new ≡ K.left link.old }
-    ensures over { IsOpen result → IsOver D.Disk store.new.keeper disk.new }
-    ensures measured { IsMeasured D.Disk store.old.keeper disk.old → IsOpen result → IsMeasured D.Disk store.new.keeper disk.new }
+    ensures over { IsOpen result → LogsAtEnd D.Disk store.new.committer disk.new }
+    ensures measured { KnowsLogLength D.Disk store.old.committer disk.old → IsOpen result →
+        KnowsLogLength D.Disk store.new.committer disk.new }
     ensures closed { still_open result ≡ false → is_closed store.new ≡ true }
-    ensures placed { IsPlaced D.Disk disk.new result }
+    ensures placed { IsPlacedAtEnd D.Disk disk.new result }
     ensures replied { IsReplied true result }
     ensures run { store.new.run ≡ store.old.run }
     ensures told { IsTold D.Disk disk.old → IsTold D.Disk disk.new }
-    ensures goes { Goes (K.standing link.old) (K.standing link.new) }
+    ensures goes { LinkStep (K.standing link.old) (K.standing link.new) }
     ensures comes { Comes (K.faults link.old) (K.faults link.new) (D.Disk.faults disk.old) (D.Disk.faults disk.new) result }
 {
     let Ok(body) = begun_body(alloc, channel.as_slice()) else {
@@ -101,7 +105,7 @@ pub(crate) fn serve_begin<K: Link, M: Memory + Drop, D: Disk>(
 }
 
 /// Gives a block to a channel.
-pub(crate) fn serve_block<K: Link, M: Memory + Drop, D: Disk>(
+pub(crate) fn serve_block<K: Link, M: StoreMemory + Drop, D: Disk>(
     alloc: Global,
     store: &mut Store<M>,
     link: &mut K,
@@ -110,22 +114,24 @@ pub(crate) fn serve_block<K: Link, M: Memory + Drop, D: Disk>(
     moment: i64,
     disk: &mut D,
 ) -> Result<Served, ServeFault>
-    requires over { IsOver D.Disk store.old.keeper disk.old }
+    requires over { LogsAtEnd D.Disk store.old.committer disk.old }
     requires takes { M.takes (record { command = commands.Block channel bytes None; moment = moment }) }
-    ensures answers { (choose : Chooser) (history : List Order) (base k : ℕ) → M.is_chooser choose → AllByRecursion M.takes history →
-        Holds D.Disk M.Book.fits M.holds choose history base k store.old disk.old →
+    ensures answers { (choose : Chooser) (history : List TimedCommand) (base k : ℕ) → M.is_chooser choose → AllByRecursion M.takes history →
+        Represents D.Disk M.Book.fits M.holds choose history base k store.old disk.old →
         Answers D.Disk M.Book.fits M.holds (entry choose history base k store.old.run moment)
-        (MayBe (entry choose history base k store.old.run moment) (IsTold D.Disk disk.new) (asks.Block channel bytes) result) true (IsClean (K.faults link.old) (K.faults link.new) (K.standing link.old) (K.standing link.new))
+        (MayBe (entry choose history base k store.old.run moment) (IsTold D.Disk disk.new) (asks.Block channel bytes) result) true
+        (IsClean (K.faults link.old) (K.faults link.new) (K.standing link.old) (K.standing link.new))
         result (K.given link.old) (K.given link.new) store.new disk.old disk.new }
     ensures left { K.left link.new ≡ K.left link.old }
-    ensures over { IsOpen result → IsOver D.Disk store.new.keeper disk.new }
-    ensures measured { IsMeasured D.Disk store.old.keeper disk.old → IsOpen result → IsMeasured D.Disk store.new.keeper disk.new }
+    ensures over { IsOpen result → LogsAtEnd D.Disk store.new.committer disk.new }
+    ensures measured { KnowsLogLength D.Disk store.old.committer disk.old → IsOpen result →
+        KnowsLogLength D.Disk store.new.committer disk.new }
     ensures closed { still_open result ≡ false → is_closed store.new ≡ true }
-    ensures placed { IsPlaced D.Disk disk.new result }
+    ensures placed { IsPlacedAtEnd D.Disk disk.new result }
     ensures replied { IsReplied true result }
     ensures run { store.new.run ≡ store.old.run }
     ensures told { IsTold D.Disk disk.old → IsTold D.Disk disk.new }
-    ensures goes { Goes (K.standing link.old) (K.standing link.new) }
+    ensures goes { LinkStep (K.standing link.old) (K.standing link.new) }
     ensures comes { Comes (K.faults link.old) (K.faults link.new) (D.Disk.faults disk.old) (D.Disk.faults disk.new) result }
 {
     let Ok(body) = acked_body(alloc, store.drawn(), store.run()) else {
@@ -140,7 +146,7 @@ pub(crate) fn serve_block<K: Link, M: Memory + Drop, D: Disk>(
 }
 
 /// Ends a channel.
-pub(crate) fn serve_end<K: Link, M: Memory + Drop, D: Disk>(
+pub(crate) fn serve_end<K: Link, M: StoreMemory + Drop, D: Disk>(
     alloc: Global,
     store: &mut Store<M>,
     link: &mut K,
@@ -148,22 +154,24 @@ pub(crate) fn serve_end<K: Link, M: Memory + Drop, D: Disk>(
     moment: i64,
     disk: &mut D,
 ) -> Result<Served, ServeFault>
-    requires over { IsOver D.Disk store.old.keeper disk.old }
+    requires over { LogsAtEnd D.Disk store.old.committer disk.old }
     requires takes { M.takes (record { command = commands.End channel; moment = moment }) }
-    ensures answers { (choose : Chooser) (history : List Order) (base k : ℕ) → M.is_chooser choose → AllByRecursion M.takes history →
-        Holds D.Disk M.Book.fits M.holds choose history base k store.old disk.old →
+    ensures answers { (choose : Chooser) (history : List TimedCommand) (base k : ℕ) → M.is_chooser choose → AllByRecursion M.takes history →
+        Represents D.Disk M.Book.fits M.holds choose history base k store.old disk.old →
         Answers D.Disk M.Book.fits M.holds (entry choose history base k store.old.run moment)
-        (MayBe (entry choose history base k store.old.run moment) (IsTold D.Disk disk.new) (asks.End channel) result) true (IsClean (K.faults link.old) (K.faults link.new) (K.standing link.old) (K.standing link.new))
+        (MayBe (entry choose history base k store.old.run moment) (IsTold D.Disk disk.new) (asks.End channel) result) true
+        (IsClean (K.faults link.old) (K.faults link.new) (K.standing link.old) (K.standing link.new))
         result (K.given link.old) (K.given link.new) store.new disk.old disk.new }
     ensures left { K.left link.new ≡ K.left link.old }
-    ensures over { IsOpen result → IsOver D.Disk store.new.keeper disk.new }
-    ensures measured { IsMeasured D.Disk store.old.keeper disk.old → IsOpen result → IsMeasured D.Disk store.new.keeper disk.new }
+    ensures over { IsOpen result → LogsAtEnd D.Disk store.new.committer disk.new }
+    ensures measured { KnowsLogLength D.Disk store.old.committer disk.old → IsOpen result →
+        KnowsLogLength D.Disk store.new.committer disk.new }
     ensures closed { still_open result ≡ false → is_closed store.new ≡ true }
-    ensures placed { IsPlaced D.Disk disk.new result }
+    ensures placed { IsPlacedAtEnd D.Disk disk.new result }
     ensures replied { IsReplied true result }
     ensures run { store.new.run ≡ store.old.run }
     ensures told { IsTold D.Disk disk.old → IsTold D.Disk disk.new }
-    ensures goes { Goes (K.standing link.old) (K.standing link.new) }
+    ensures goes { LinkStep (K.standing link.old) (K.standing link.new) }
     ensures comes { Comes (K.faults link.old) (K.faults link.new) (D.Disk.faults disk.old) (D.Disk.faults disk.new) result }
 {
     let Ok(body) = acked_body(alloc, store.drawn(), store.run()) else {

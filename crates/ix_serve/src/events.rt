@@ -1,40 +1,42 @@
 //! The lines of an index, kept in memory up to a limit before they are replied with.
 
-ghost use Rattle.std.specs.Prelude.{◌≡◌, ◌≤◌, ◌⊎◌, ℕ, List, [], Option, Some, Err, length, nat_le, if◌then◌else◌, true, IfOk, IfErr, OnOk, OnErr, false};
+ghost use Rattle.std.specs.Prelude.{◌≡◌, ◌≤◌, ◌⊎◌, ℕ, List, [], Option, Some, Err, length, nat_le, if◌then◌else◌, true, IfOk, IfErr, OnOk};
+ghost use Rattle.std.specs.Prelude.{OnErr, false};
 ghost use Rattle.std.specs.List.{AllByRecursion};
 ghost use Rattle.ix_base.specs.Faults.{HasCause, Rose};
 ghost use Rattle.ix_base.specs.Told.{HasWritten, HasBegun};
 ghost use Rattle.ix_disk.specs.Image.{Stays};
-ghost use Rattle.ix_disk.specs.Moments.{Always, Goes};
+ghost use Rattle.ix_disk.specs.Moments.{Always, ImagesStep};
 ghost use Rattle.ix_http.specs.declared.kinds.Ask.TheVariants as asks;
-ghost use Rattle.ix_keep.specs.Snapshot.{IsMeasured, IsOver};
-ghost use Rattle.ix_keep.specs.declared.fault.CommitFault.TheVariants as commits;
-ghost use Rattle.ix_link.specs.Links.{Goes as GoesLink};
-ghost use Rattle.ix_machine.specs.Given.{Chooser};
-ghost use Rattle.ix_machine.specs.declared.commands.Order.{Order};
+ghost use Rattle.ix_commit.specs.Snapshot.{KnowsLogLength, LogsAtEnd};
+ghost use Rattle.ix_commit.specs.declared.fault.CommitFault.TheVariants as commits;
+ghost use Rattle.ix_net.specs.Links.{LinkStep as GoesLink};
+ghost use Rattle.ix_model.specs.Given.{Chooser};
+ghost use Rattle.ix_model.specs.declared.commands.TimedCommand.{TimedCommand};
 ghost use Rattle.ix_serve.specs.Answer.{MayBe};
 ghost use Rattle.ix_serve.specs.Entries.{Entry, entry};
 ghost use Rattle.ix_serve.specs.Exports.{reply_of, MayReply, IsNoDamage, IsPlacedBy};
 ghost use Rattle.ix_serve.specs.Prefixes.{StandsIn};
 ghost use Rattle.ix_serve.specs.Replies.{most_lines};
 ghost use Rattle.ix_serve.specs.Serving.{Answers, Comes, Gave, IsClean, IsOpen, IsPlaced, IsReplied, IsTold, still_open};
-ghost use Rattle.ix_store.specs.Holding.{Holds, is_closed};
+ghost use Rattle.ix_store.specs.Holding.{Represents, is_closed};
 
 use crate::replies::{decline, give, give_refusal, give_unread, give_up};
 use crate::served::{ServeFault, Served};
 use ix_base::{Bytes, Failed, Range, Sink};
+use ix_commit::CommitFault;
 use ix_disk::Disk;
 use ix_http::{HttpFault, Kind};
-use ix_keep::CommitFault;
-use ix_link::Link;
-use ix_machine::Refusal;
-use ix_store::{ExportFault, Memory, Store};
+use ix_model::Refusal;
+use ix_net::Link;
+use ix_store::{ExportFault, Store, StoreMemory};
 use std::alloc::Global;
 
 /// The most bytes of lines that a reply has.
 const MOST: usize = 16_777_216;
 
-/// Lines in memory. It fails where there are more than `MOST` bytes of them, and keeps one more then.
+/// Lines in memory. It fails where there are more than `MOST` bytes of them, and keeps one more
+/// then.
 #[derive(Drop)]
 struct Lines {
     bytes: Bytes,
@@ -106,7 +108,7 @@ fn of_rest(lines: &Lines) -> Exported
 }
 
 /// The lines of an index, where nothing is staged.
-fn export_lines<M: Memory + Drop, D: Disk>(
+fn export_lines<M: StoreMemory + Drop, D: Disk>(
     alloc: Global,
     store: &mut Store<M>,
     index: &[u8],
@@ -114,20 +116,23 @@ fn export_lines<M: Memory + Drop, D: Disk>(
     disk: &mut D,
 ) -> Result<Exported, CommitFault>
     ensures reply { IfOk result (λ exported. (e : Entry) → M.is_chooser e.choose → AllByRecursion M.takes e.history →
-        Holds D.Disk M.Book.fits M.holds e.choose e.history e.base (length e.history) store.old disk.old → MayReply (IsTold D.Disk disk.new) e index.now range.now (reply_of exported)) }
-    ensures held { (choose : Chooser) (history : List Order) (base k : ℕ) → Holds D.Disk M.Book.fits M.holds choose history base k store.old disk.old →
-        OnOk result (Holds D.Disk M.Book.fits M.holds choose history base k store.new disk.new) }
-    ensures undamaged { IfErr result (λ cause. (choose : Chooser) (history : List Order) (base : ℕ) → M.is_chooser choose → AllByRecursion M.takes history →
-        Holds D.Disk M.Book.fits M.holds choose history base (length history) store.old disk.old → IsNoDamage D.Disk disk.new cause) }
-    ensures measured { IsMeasured D.Disk store.old.keeper disk.old → IsMeasured D.Disk store.new.keeper disk.new }
+        Represents D.Disk M.Book.fits M.holds e.choose e.history e.base (length e.history) store.old disk.old →
+        MayReply (IsTold D.Disk disk.new) e index.now range.now (reply_of exported)) }
+    ensures held { (choose : Chooser) (history : List TimedCommand) (base k : ℕ) →
+        Represents D.Disk M.Book.fits M.holds choose history base k store.old disk.old →
+        OnOk result (Represents D.Disk M.Book.fits M.holds choose history base k store.new disk.new) }
+    ensures undamaged { IfErr result (λ cause. (choose : Chooser) (history : List TimedCommand) (base : ℕ) → M.is_chooser choose →
+        AllByRecursion M.takes history →
+        Represents D.Disk M.Book.fits M.holds choose history base (length history) store.old disk.old → IsNoDamage D.Disk disk.new cause) }
+    ensures measured { KnowsLogLength D.Disk store.old.committer disk.old → KnowsLogLength D.Disk store.new.committer disk.new }
     ensures closed { OnErr result (is_closed store.new ≡ true) }
-    ensures placed { IfErr result (λ cause. IsPlacedBy D.Disk disk.new cause) }
+    ensures placed { IfErr result (λ cause. IsPlacedBy D.Disk (M.shown store.old.memory) disk.new cause) }
     ensures run { store.new.run ≡ store.old.run }
     ensures same { D.Disk.seen disk.new ≡ D.Disk.seen disk.old }
-    ensures over { IsOver D.Disk store.old.keeper disk.old → IsOver D.Disk store.new.keeper disk.new }
+    ensures over { LogsAtEnd D.Disk store.old.committer disk.old → LogsAtEnd D.Disk store.new.committer disk.new }
     ensures later { D.Disk.faults disk.old ≤ D.Disk.faults disk.new }
     ensures failed { IfErr result (λ cause. cause ≡ commits.Disk → Rose (D.Disk.faults disk.old) (D.Disk.faults disk.new)) }
-    ensures images { Goes D.Disk disk.old disk.new Stays }
+    ensures images { ImagesStep D.Disk disk.old disk.new Stays }
 {
     let mut lines = Lines {
         bytes: Bytes::new(alloc),
@@ -151,29 +156,34 @@ fn export_lines<M: Memory + Drop, D: Disk>(
 }
 
 /// Makes all durable, and then the lines of an index.
-fn committed_lines<M: Memory + Drop, D: Disk>(
+fn committed_lines<M: StoreMemory + Drop, D: Disk>(
     alloc: Global,
     store: &mut Store<M>,
     index: &[u8],
     range: &Range,
     disk: &mut D,
 ) -> Result<Exported, CommitFault>
-    requires over { IsOver D.Disk store.old.keeper disk.old }
+    requires over { LogsAtEnd D.Disk store.old.committer disk.old }
     ensures reply { IfOk result (λ exported. (e : Entry) → M.is_chooser e.choose → AllByRecursion M.takes e.history →
-        Holds D.Disk M.Book.fits M.holds e.choose e.history e.base e.kept store.old disk.old → MayReply (IsTold D.Disk disk.new) e index.now range.now (reply_of exported)) }
-    ensures held { (choose : Chooser) (history : List Order) (base k : ℕ) → Holds D.Disk M.Book.fits M.holds choose history base k store.old disk.old →
-        OnOk result (Holds D.Disk M.Book.fits M.holds choose history base (length history) store.new disk.new) }
-    ensures undamaged { IfErr result (λ cause. (choose : Chooser) (history : List Order) (base k : ℕ) → M.is_chooser choose → AllByRecursion M.takes history →
-        Holds D.Disk M.Book.fits M.holds choose history base k store.old disk.old → IsNoDamage D.Disk disk.new cause) }
-    ensures measured { IsMeasured D.Disk store.old.keeper disk.old → OnOk result (IsMeasured D.Disk store.new.keeper disk.new) }
+        Represents D.Disk M.Book.fits M.holds e.choose e.history e.base e.kept store.old disk.old →
+        MayReply (IsTold D.Disk disk.new) e index.now range.now (reply_of exported)) }
+    ensures held { (choose : Chooser) (history : List TimedCommand) (base k : ℕ) →
+        Represents D.Disk M.Book.fits M.holds choose history base k store.old disk.old →
+        OnOk result (Represents D.Disk M.Book.fits M.holds choose history base (length history) store.new disk.new) }
+    ensures undamaged { IfErr result (λ cause. (choose : Chooser) (history : List TimedCommand) (base k : ℕ) → M.is_chooser choose →
+        AllByRecursion M.takes history →
+        Represents D.Disk M.Book.fits M.holds choose history base k store.old disk.old → IsNoDamage D.Disk disk.new cause) }
+    ensures measured { KnowsLogLength D.Disk store.old.committer disk.old →
+        OnOk result (KnowsLogLength D.Disk store.new.committer disk.new) }
     ensures closed { OnErr result (is_closed store.new ≡ true) }
-    ensures placed { IfErr result (λ cause. IsPlacedBy D.Disk disk.new cause) }
+    ensures placed { IfErr result (λ cause. IsPlacedBy D.Disk (M.shown store.old.memory) disk.new cause) }
     ensures run { store.new.run ≡ store.old.run }
     ensures told { IsTold D.Disk disk.old → IsTold D.Disk disk.new }
-    ensures over { OnOk result (IsOver D.Disk store.new.keeper disk.new) }
+    ensures over { OnOk result (LogsAtEnd D.Disk store.new.committer disk.new) }
     ensures later { D.Disk.faults disk.old ≤ D.Disk.faults disk.new }
     ensures failed { IfErr result (λ cause. cause ≡ commits.Disk → Rose (D.Disk.faults disk.old) (D.Disk.faults disk.new)) }
-    ensures images { (choose : Chooser) (history : List Order) (base k : ℕ) → Holds D.Disk M.Book.fits M.holds choose history base k store.old disk.old →
+    ensures images { (choose : Chooser) (history : List TimedCommand) (base k : ℕ) →
+        Represents D.Disk M.Book.fits M.holds choose history base k store.old disk.old →
         Always D.Disk disk.old disk.new (StandsIn M.Book.fits store.old.run choose history k) }
 {
     match store.commit(disk) {
@@ -184,7 +194,9 @@ fn committed_lines<M: Memory + Drop, D: Disk>(
 
 /// Writes what an export comes to.
 fn give_exported<K: Link>(link: &mut K, exported: &Exported) -> Result<Served, ServeFault>
-    ensures gave { Gave (Some (reply_of exported.now)) true (IsClean (K.faults link.old) (K.faults link.new) (K.standing link.old) (K.standing link.new)) result (K.given link.old) (K.given link.new) }
+    ensures gave { Gave (Some (reply_of exported.now)) true
+        (IsClean (K.faults link.old) (K.faults link.new) (K.standing link.old) (K.standing link.new)) result (K.given link.old)
+        (K.given link.new) }
     ensures left { K.left link.new ≡ K.left link.old }
     ensures open { IsOpen result }
     ensures goes { GoesLink (K.standing link.old) (K.standing link.new) }
@@ -199,7 +211,7 @@ fn give_exported<K: Link>(link: &mut K, exported: &Exported) -> Result<Served, S
 }
 
 /// Makes all durable, and answers the lines of an index.
-pub(crate) fn serve_events<K: Link, M: Memory + Drop, D: Disk>(
+pub(crate) fn serve_events<K: Link, M: StoreMemory + Drop, D: Disk>(
     alloc: Global,
     store: &mut Store<M>,
     link: &mut K,
@@ -208,17 +220,19 @@ pub(crate) fn serve_events<K: Link, M: Memory + Drop, D: Disk>(
     moment: i64,
     disk: &mut D,
 ) -> Result<Served, ServeFault>
-    requires over { IsOver D.Disk store.old.keeper disk.old }
-    ensures answers { (choose : Chooser) (history : List Order) (base k : ℕ) → M.is_chooser choose → AllByRecursion M.takes history →
-        Holds D.Disk M.Book.fits M.holds choose history base k store.old disk.old →
+    requires over { LogsAtEnd D.Disk store.old.committer disk.old }
+    ensures answers { (choose : Chooser) (history : List TimedCommand) (base k : ℕ) → M.is_chooser choose → AllByRecursion M.takes history →
+        Represents D.Disk M.Book.fits M.holds choose history base k store.old disk.old →
         Answers D.Disk M.Book.fits M.holds (entry choose history base k store.old.run moment)
-        (MayBe (entry choose history base k store.old.run moment) (IsTold D.Disk disk.new) (asks.Events index.now range) result) true (IsClean (K.faults link.old) (K.faults link.new) (K.standing link.old) (K.standing link.new))
+        (MayBe (entry choose history base k store.old.run moment) (IsTold D.Disk disk.new) (asks.Events index.now range) result) true
+        (IsClean (K.faults link.old) (K.faults link.new) (K.standing link.old) (K.standing link.new))
         result (K.given link.old) (K.given link.new) store.new disk.old disk.new }
     ensures left { K.left link.new ≡ K.left link.old }
-    ensures over { IsOpen result → IsOver D.Disk store.new.keeper disk.new }
-    ensures measured { IsMeasured D.Disk store.old.keeper disk.old → IsOpen result → IsMeasured D.Disk store.new.keeper disk.new }
+    ensures over { IsOpen result → LogsAtEnd D.Disk store.new.committer disk.new }
+    ensures measured { KnowsLogLength D.Disk store.old.committer disk.old → IsOpen result →
+        KnowsLogLength D.Disk store.new.committer disk.new }
     ensures closed { still_open result ≡ false → is_closed store.new ≡ true }
-    ensures placed { IsPlaced D.Disk disk.new result }
+    ensures placed { IsPlaced D.Disk (M.shown store.old.memory) disk.new result }
     ensures replied { IsReplied true result }
     ensures run { store.new.run ≡ store.old.run }
     ensures told { IsTold D.Disk disk.old → IsTold D.Disk disk.new }

@@ -5,9 +5,9 @@ ghost use Rattle.ix_serve.specs.Bodies.{error_body, refusal_name, commit_name};
 ghost use Rattle.ix_serve.specs.Replies as defs;
 
 use arrayvec::ArrayString;
+use ix_commit::CommitFault;
 use ix_http::HttpFault;
-use ix_keep::CommitFault;
-use ix_machine::Refusal;
+use ix_model::Refusal;
 
 /// The status of a request that is refused before the store is asked.
 pub(crate) fn http_status(fault: HttpFault) -> u16
@@ -38,7 +38,8 @@ pub(crate) fn refusal_status(refusal: Refusal) -> u16
     }
 }
 
-/// The name that its reply has. A store is closed by a fault of its disk, and no request gives a command that is refused for a bucket.
+/// The name that its reply has. A store is closed by a fault of its disk, and no request gives a
+/// command that is refused for a bucket.
 pub(crate) fn refusal_name(refusal: Refusal) -> &'static str
     ensures name { result.now ≡ refusal_name refusal }
     ensures short { length result.now ≤ 20 }

@@ -1,5 +1,6 @@
-//! Requests served over a store: one request is read from a link, the store accepts its command, and the reply is written. Behind it a
-//! long log is made short. Whoever serves links calls `serve_one`.
+//! Requests served over a store: one request is read from a link, the store accepts its command,
+//! and the reply is written. Behind it a long log is made short. Whoever serves links calls
+//! `serve_one`.
 #![tactic(auto)]
 
 mod bodies;

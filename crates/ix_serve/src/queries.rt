@@ -4,15 +4,15 @@ ghost use Rattle.std.specs.Prelude.{◌≡◌, ◌≤◌, ◌&&◌, ℕ, List, m
 ghost use Rattle.std.specs.List.{AllByRecursion, list_any};
 ghost use Rattle.ix_base.specs.Faults.{Rose};
 ghost use Rattle.ix_http.specs.declared.kinds.Ask.TheVariants as asks;
-ghost use Rattle.ix_keep.specs.Snapshot.{Snapshot, IsMeasured, IsOver};
-ghost use Rattle.ix_link.specs.Links.{Goes};
-ghost use Rattle.ix_machine.specs.Given.{Chooser};
-ghost use Rattle.ix_machine.specs.declared.commands.Order.{Order};
+ghost use Rattle.ix_commit.specs.Snapshot.{Snapshot, KnowsLogLength, LogsAtEnd};
+ghost use Rattle.ix_net.specs.Links.{LinkStep};
+ghost use Rattle.ix_model.specs.Given.{Chooser};
+ghost use Rattle.ix_model.specs.declared.commands.TimedCommand.{TimedCommand};
 ghost use Rattle.ix_serve.specs.Answer.{MayBe};
 ghost use Rattle.ix_serve.specs.Bodies.{acks_body};
 ghost use Rattle.ix_serve.specs.Entries.{Entry, IsAt, entry, is_acked, is_pending};
-ghost use Rattle.ix_serve.specs.Serving.{Answers, AreTold, Comes, IsClean, IsListed, IsOpen, IsPlaced, IsReplied, IsTold, still_open};
-ghost use Rattle.ix_store.specs.Holding.{Holds, is_closed};
+ghost use Rattle.ix_serve.specs.Serving.{Answers, AreTold, Comes, IsClean, IsListed, IsOpen, IsPlacedAtEnd, IsReplied, IsTold, still_open};
+ghost use Rattle.ix_store.specs.Holding.{Represents, is_closed};
 
 use crate::bodies::add_value;
 use crate::keeping::settle;
@@ -21,19 +21,20 @@ use crate::served::{ServeFault, Served};
 use ix_base::{Bytes, NoMemory, NumberList};
 use ix_disk::Disk;
 use ix_http::Kind;
-use ix_link::Link;
+use ix_net::Link;
 use ix_report::listing;
-use ix_store::{Memory, Store};
+use ix_store::{Store, StoreMemory};
 use std::alloc::Global;
 
 /// The body of a reply that tells which of the numbers of a run are committed.
-fn acks_body<M: Memory + Drop>(
+fn acks_body<M: StoreMemory + Drop>(
     alloc: Global,
     store: &Store<M>,
     run: u64,
     numbers: &[u64],
 ) -> Result<Bytes, NoMemory>
-    ensures { IfOk result (λ body. (e : Entry) (old : Snapshot) → IsAt M.Book.fits M.holds e store.now old → body ≡ acks_body (map (is_acked e run) numbers.now)) }
+    ensures { IfOk result (λ body. (e : Entry) (old : Snapshot) → IsAt M.Book.fits M.holds e store.now old →
+        body ≡ acks_body (map (is_acked e run) numbers.now)) }
 {
     let mut body = Bytes::copy_of(alloc, b"{\"acks\":[")?;
     let mut before: &[u8] = b"";
@@ -53,7 +54,7 @@ fn is_waiting(is_own: bool, is_drawn: bool, is_acked: bool) -> bool
 }
 
 /// Whether this run has drawn the number, and it is not committed.
-fn is_pending<M: Memory + Drop>(store: &Store<M>, run: u64, number: u64) -> bool
+fn is_pending<M: StoreMemory + Drop>(store: &Store<M>, run: u64, number: u64) -> bool
     ensures { (e : Entry) (old : Snapshot) → IsAt M.Book.fits M.holds e store.now old → result ≡ is_pending e run number }
 {
     let own = store.run();
@@ -63,7 +64,7 @@ fn is_pending<M: Memory + Drop>(store: &Store<M>, run: u64, number: u64) -> bool
 }
 
 /// Whether this run has drawn one of the numbers, and it is not committed.
-fn has_pending<M: Memory + Drop>(store: &Store<M>, run: u64, numbers: &[u64]) -> bool
+fn has_pending<M: StoreMemory + Drop>(store: &Store<M>, run: u64, numbers: &[u64]) -> bool
     ensures { (e : Entry) (old : Snapshot) → IsAt M.Book.fits M.holds e store.now old → result ≡ list_any (is_pending e run) numbers.now }
 {
     for number in numbers {
@@ -74,9 +75,10 @@ fn has_pending<M: Memory + Drop>(store: &Store<M>, run: u64, numbers: &[u64]) ->
     false
 }
 
-/// Answers which numbers are committed, and whether a commit is due behind the reply: where this run has drawn one that is not. It has no disk,
-/// so what it replies is what was committed before any call of one.
-fn give_acks<K: Link, M: Memory + Drop>(
+/// Answers which numbers are committed, and whether a commit is due behind the reply: where this
+/// run has drawn one that is not. It has no disk, so what it replies is what was committed before
+/// any call of one.
+fn give_acks<K: Link, M: StoreMemory + Drop>(
     alloc: Global,
     store: &Store<M>,
     link: &mut K,
@@ -84,11 +86,12 @@ fn give_acks<K: Link, M: Memory + Drop>(
     numbers: &[u64],
 ) -> (Result<Served, ServeFault>, bool)
     ensures told { (e : Entry) (old : Snapshot) → IsAt M.Book.fits M.holds e store.now old →
-        AreTold e run numbers.now (IsClean (K.faults link.old) (K.faults link.new) (K.standing link.old) (K.standing link.new)) result.0 result.1 (K.given link.old) (K.given link.new) }
+        AreTold e run numbers.now (IsClean (K.faults link.old) (K.faults link.new) (K.standing link.old) (K.standing link.new)) result.0
+        result.1 (K.given link.old) (K.given link.new) }
     ensures left { K.left link.new ≡ K.left link.old }
     ensures replied { IsReplied true result.0 }
     ensures open { IsOpen result.0 }
-    ensures goes { Goes (K.standing link.old) (K.standing link.new) }
+    ensures goes { LinkStep (K.standing link.old) (K.standing link.new) }
     ensures later { K.faults link.old ≤ K.faults link.new }
     ensures failed { result.0 ≡ Err ServeFault.Link → Rose (K.faults link.old) (K.faults link.new) }
 {
@@ -99,8 +102,9 @@ fn give_acks<K: Link, M: Memory + Drop>(
     (give(link, 200, Kind::Json, body.as_slice(), true), due)
 }
 
-/// Answers which numbers are committed, and commits behind the reply where this run has drawn one that is not.
-pub(crate) fn serve_acks<K: Link, M: Memory + Drop, D: Disk>(
+/// Answers which numbers are committed, and commits behind the reply where this run has drawn one
+/// that is not.
+pub(crate) fn serve_acks<K: Link, M: StoreMemory + Drop, D: Disk>(
     alloc: Global,
     store: &mut Store<M>,
     link: &mut K,
@@ -109,21 +113,23 @@ pub(crate) fn serve_acks<K: Link, M: Memory + Drop, D: Disk>(
     moment: i64,
     disk: &mut D,
 ) -> Result<Served, ServeFault>
-    requires over { IsOver D.Disk store.old.keeper disk.old }
-    ensures answers { (choose : Chooser) (history : List Order) (base k : ℕ) → M.is_chooser choose → AllByRecursion M.takes history →
-        Holds D.Disk M.Book.fits M.holds choose history base k store.old disk.old →
+    requires over { LogsAtEnd D.Disk store.old.committer disk.old }
+    ensures answers { (choose : Chooser) (history : List TimedCommand) (base k : ℕ) → M.is_chooser choose → AllByRecursion M.takes history →
+        Represents D.Disk M.Book.fits M.holds choose history base k store.old disk.old →
         Answers D.Disk M.Book.fits M.holds (entry choose history base k store.old.run moment)
-        (MayBe (entry choose history base k store.old.run moment) (IsTold D.Disk disk.new) (asks.Acks run numbers.now) result) true (IsClean (K.faults link.old) (K.faults link.new) (K.standing link.old) (K.standing link.new))
+        (MayBe (entry choose history base k store.old.run moment) (IsTold D.Disk disk.new) (asks.Acks run numbers.now) result) true
+        (IsClean (K.faults link.old) (K.faults link.new) (K.standing link.old) (K.standing link.new))
         result (K.given link.old) (K.given link.new) store.new disk.old disk.new }
     ensures left { K.left link.new ≡ K.left link.old }
-    ensures over { IsOpen result → IsOver D.Disk store.new.keeper disk.new }
-    ensures measured { IsMeasured D.Disk store.old.keeper disk.old → IsOpen result → IsMeasured D.Disk store.new.keeper disk.new }
+    ensures over { IsOpen result → LogsAtEnd D.Disk store.new.committer disk.new }
+    ensures measured { KnowsLogLength D.Disk store.old.committer disk.old → IsOpen result →
+        KnowsLogLength D.Disk store.new.committer disk.new }
     ensures closed { still_open result ≡ false → is_closed store.new ≡ true }
-    ensures placed { IsPlaced D.Disk disk.new result }
+    ensures placed { IsPlacedAtEnd D.Disk disk.new result }
     ensures replied { IsReplied true result }
     ensures run { store.new.run ≡ store.old.run }
     ensures told { IsTold D.Disk disk.old → IsTold D.Disk disk.new }
-    ensures goes { Goes (K.standing link.old) (K.standing link.new) }
+    ensures goes { LinkStep (K.standing link.old) (K.standing link.new) }
     ensures comes { Comes (K.faults link.old) (K.faults link.new) (D.Disk.faults disk.old) (D.Disk.faults disk.new) result }
 {
     let (came, due) = give_acks(alloc, store, link, run, numbers.as_slice());
@@ -131,17 +137,18 @@ pub(crate) fn serve_acks<K: Link, M: Memory + Drop, D: Disk>(
 }
 
 /// Answers the listing of the buckets.
-pub(crate) fn serve_buckets<K: Link, M: Memory + Drop>(
+pub(crate) fn serve_buckets<K: Link, M: StoreMemory + Drop>(
     alloc: Global,
     store: &Store<M>,
     link: &mut K,
 ) -> Result<Served, ServeFault>
     ensures lists { (e : Entry) (old : Snapshot) → IsAt M.Book.fits M.holds e store.now old →
-        IsListed e (IsClean (K.faults link.old) (K.faults link.new) (K.standing link.old) (K.standing link.new)) result (K.given link.old) (K.given link.new) }
+        IsListed e (IsClean (K.faults link.old) (K.faults link.new) (K.standing link.old) (K.standing link.new)) result (K.given link.old)
+        (K.given link.new) }
     ensures left { K.left link.new ≡ K.left link.old }
     ensures replied { IsReplied true result }
     ensures open { IsOpen result }
-    ensures goes { Goes (K.standing link.old) (K.standing link.new) }
+    ensures goes { LinkStep (K.standing link.old) (K.standing link.new) }
     ensures later { K.faults link.old ≤ K.faults link.new }
     ensures failed { result ≡ Err ServeFault.Link → Rose (K.faults link.old) (K.faults link.new) }
 {

@@ -2,7 +2,7 @@
 
 ghost use Rattle.std.specs.Prelude.{◌≡◌, ◌≤◌, length, Some, Err, true};
 ghost use Rattle.ix_base.specs.Faults.{Rose};
-ghost use Rattle.ix_link.specs.Links.{Goes};
+ghost use Rattle.ix_net.specs.Links.{LinkStep};
 ghost use Rattle.ix_serve.specs.Answer.{answer_of_fault};
 ghost use Rattle.ix_serve.specs.Bodies.{error_body};
 ghost use Rattle.ix_serve.specs.Replies.{reply, unread, refused, broken, no_memory};
@@ -10,10 +10,10 @@ ghost use Rattle.ix_serve.specs.Serving.{Gave, IsClean, IsOpen};
 
 use crate::faults::{commit_name, error_body, http_status, refusal_name, refusal_status};
 use crate::served::{ServeFault, Served, answer_of_fault};
+use ix_commit::CommitFault;
 use ix_http::{HttpFault, Kind, write_reply};
-use ix_keep::CommitFault;
-use ix_link::Link;
-use ix_machine::Refusal;
+use ix_model::Refusal;
+use ix_net::Link;
 
 /// Writes a reply.
 pub(crate) fn give<K: Link>(
@@ -23,10 +23,12 @@ pub(crate) fn give<K: Link>(
     body: &[u8],
     delimited: bool,
 ) -> Result<Served, ServeFault>
-    ensures gave { Gave (Some (reply status kind body.now)) delimited (IsClean (K.faults link.old) (K.faults link.new) (K.standing link.old) (K.standing link.new)) result (K.given link.old) (K.given link.new) }
+    ensures gave { Gave (Some (reply status kind body.now)) delimited
+        (IsClean (K.faults link.old) (K.faults link.new) (K.standing link.old) (K.standing link.new)) result (K.given link.old)
+        (K.given link.new) }
     ensures left { K.left link.new ≡ K.left link.old }
     ensures open { IsOpen result }
-    ensures goes { Goes (K.standing link.old) (K.standing link.new) }
+    ensures goes { LinkStep (K.standing link.old) (K.standing link.new) }
     ensures later { K.faults link.old ≤ K.faults link.new }
     ensures failed { result ≡ Err ServeFault.Link → Rose (K.faults link.old) (K.faults link.new) }
 {
@@ -48,10 +50,12 @@ fn give_error<K: Link>(
     delimited: bool,
 ) -> Result<Served, ServeFault>
     requires { length name.now ≤ 20 }
-    ensures gave { Gave (Some (reply status Kind.Json (error_body name.now))) delimited (IsClean (K.faults link.old) (K.faults link.new) (K.standing link.old) (K.standing link.new)) result (K.given link.old) (K.given link.new) }
+    ensures gave { Gave (Some (reply status Kind.Json (error_body name.now))) delimited
+        (IsClean (K.faults link.old) (K.faults link.new) (K.standing link.old) (K.standing link.new)) result (K.given link.old)
+        (K.given link.new) }
     ensures left { K.left link.new ≡ K.left link.old }
     ensures open { IsOpen result }
-    ensures goes { Goes (K.standing link.old) (K.standing link.new) }
+    ensures goes { LinkStep (K.standing link.old) (K.standing link.new) }
     ensures later { K.faults link.old ≤ K.faults link.new }
     ensures failed { result ≡ Err ServeFault.Link → Rose (K.faults link.old) (K.faults link.new) }
 {
@@ -71,10 +75,12 @@ pub(crate) fn give_unread<K: Link>(
     fault: HttpFault,
     delimited: bool,
 ) -> Result<Served, ServeFault>
-    ensures gave { Gave (Some (unread fault)) delimited (IsClean (K.faults link.old) (K.faults link.new) (K.standing link.old) (K.standing link.new)) result (K.given link.old) (K.given link.new) }
+    ensures gave { Gave (Some (unread fault)) delimited
+        (IsClean (K.faults link.old) (K.faults link.new) (K.standing link.old) (K.standing link.new)) result (K.given link.old)
+        (K.given link.new) }
     ensures left { K.left link.new ≡ K.left link.old }
     ensures open { IsOpen result }
-    ensures goes { Goes (K.standing link.old) (K.standing link.new) }
+    ensures goes { LinkStep (K.standing link.old) (K.standing link.new) }
     ensures later { K.faults link.old ≤ K.faults link.new }
     ensures failed { result ≡ Err ServeFault.Link → Rose (K.faults link.old) (K.faults link.new) }
 {
@@ -83,10 +89,11 @@ pub(crate) fn give_unread<K: Link>(
 
 /// Writes why the store refuses a command.
 pub(crate) fn give_refusal<K: Link>(link: &mut K, refusal: Refusal) -> Result<Served, ServeFault>
-    ensures gave { Gave (Some (refused refusal)) true (IsClean (K.faults link.old) (K.faults link.new) (K.standing link.old) (K.standing link.new)) result (K.given link.old) (K.given link.new) }
+    ensures gave { Gave (Some (refused refusal)) true (IsClean (K.faults link.old) (K.faults link.new) (K.standing link.old)
+        (K.standing link.new)) result (K.given link.old) (K.given link.new) }
     ensures left { K.left link.new ≡ K.left link.old }
     ensures open { IsOpen result }
-    ensures goes { Goes (K.standing link.old) (K.standing link.new) }
+    ensures goes { LinkStep (K.standing link.old) (K.standing link.new) }
     ensures later { K.faults link.old ≤ K.faults link.new }
     ensures failed { result ≡ Err ServeFault.Link → Rose (K.faults link.old) (K.faults link.new) }
 {
@@ -95,10 +102,11 @@ pub(crate) fn give_refusal<K: Link>(link: &mut K, refusal: Refusal) -> Result<Se
 
 /// Writes that there was no room in memory.
 pub(crate) fn decline<K: Link>(link: &mut K, delimited: bool) -> Result<Served, ServeFault>
-    ensures gave { Gave (Some no_memory) delimited (IsClean (K.faults link.old) (K.faults link.new) (K.standing link.old) (K.standing link.new)) result (K.given link.old) (K.given link.new) }
+    ensures gave { Gave (Some no_memory) delimited (IsClean (K.faults link.old) (K.faults link.new) (K.standing link.old)
+        (K.standing link.new)) result (K.given link.old) (K.given link.new) }
     ensures left { K.left link.new ≡ K.left link.old }
     ensures open { IsOpen result }
-    ensures goes { Goes (K.standing link.old) (K.standing link.new) }
+    ensures goes { LinkStep (K.standing link.old) (K.standing link.new) }
     ensures later { K.faults link.old ≤ K.faults link.new }
     ensures failed { result ≡ Err ServeFault.Link → Rose (K.faults link.old) (K.faults link.new) }
 {
@@ -114,9 +122,10 @@ pub(crate) fn decline<K: Link>(link: &mut K, delimited: bool) -> Result<Served, 
 /// Writes that the disk has failed or is damaged, and answers why.
 pub(crate) fn give_up<K: Link>(link: &mut K, cause: CommitFault) -> Result<Served, ServeFault>
     ensures result { result ≡ Err (answer_of_fault cause) }
-    ensures gave { Gave (Some (broken cause)) true (IsClean (K.faults link.old) (K.faults link.new) (K.standing link.old) (K.standing link.new)) result (K.given link.old) (K.given link.new) }
+    ensures gave { Gave (Some (broken cause)) true (IsClean (K.faults link.old) (K.faults link.new) (K.standing link.old)
+        (K.standing link.new)) result (K.given link.old) (K.given link.new) }
     ensures left { K.left link.new ≡ K.left link.old }
-    ensures goes { Goes (K.standing link.old) (K.standing link.new) }
+    ensures goes { LinkStep (K.standing link.old) (K.standing link.new) }
     ensures later { K.faults link.old ≤ K.faults link.new }
 {
     let _ = give_error(link, 500, commit_name(cause), true);

@@ -3,15 +3,16 @@
 ghost use Rattle.std.specs.Prelude.{◌≡◌, ℕ, List, length, nat_lt, true, false};
 ghost use Rattle.std.specs.List.{AllByRecursion};
 ghost use Rattle.ix_http.specs.Limits.{KeepsLimits};
-ghost use Rattle.ix_keep.specs.Snapshot.{IsMeasured, IsOver};
-ghost use Rattle.ix_link.specs.Links.{Goes};
-ghost use Rattle.ix_machine.specs.Given.{Chooser};
-ghost use Rattle.ix_machine.specs.declared.commands.Order.{Order};
+ghost use Rattle.ix_commit.specs.Snapshot.{KnowsLogLength, LogsAtEnd};
+ghost use Rattle.ix_net.specs.Links.{LinkStep};
+ghost use Rattle.ix_model.specs.Given.{Chooser};
+ghost use Rattle.ix_model.specs.declared.commands.TimedCommand.{TimedCommand};
 ghost use Rattle.ix_serve.specs.Answer.{MayBe};
 ghost use Rattle.ix_serve.specs.Entries.{entry};
-ghost use Rattle.ix_serve.specs.Serving.{Answers, Comes, IsClean, IsLongStill, IsOpen, IsPlaced, IsReplied, IsShortBehind, IsTold, Reads, Serves, still_open};
+ghost use Rattle.ix_serve.specs.Serving.{Answers, Comes, IsClean, IsLongStill, IsOpen, IsPlaced, IsReplied, IsShortBehind, IsTold, Reads};
+ghost use Rattle.ix_serve.specs.Serving.{Serves, still_open};
 ghost use Rattle.ix_serve.specs.Taking.{TakesAsks};
-ghost use Rattle.ix_store.specs.Holding.{Holds, is_closed};
+ghost use Rattle.ix_store.specs.Holding.{Represents, is_closed};
 
 use crate::changes::{serve_begin, serve_block, serve_end};
 use crate::events::serve_events;
@@ -21,12 +22,12 @@ use crate::replies::{decline, give_unread};
 use crate::served::{ServeFault, Served};
 use ix_disk::Disk;
 use ix_http::{Ask, Incoming, LinkFault, Routes, read_request};
-use ix_link::Link;
-use ix_store::{Listing, Memory, Store};
+use ix_net::Link;
+use ix_store::{Listing, Store, StoreMemory};
 use std::alloc::Global;
 
 /// Serves what is asked.
-fn serve_ask<K: Link, M: Memory + Drop, D: Disk>(
+fn serve_ask<K: Link, M: StoreMemory + Drop, D: Disk>(
     alloc: Global,
     store: &mut Store<M>,
     link: &mut K,
@@ -34,23 +35,25 @@ fn serve_ask<K: Link, M: Memory + Drop, D: Disk>(
     moment: i64,
     disk: &mut D,
 ) -> Result<Served, ServeFault>
-    requires over { IsOver D.Disk store.old.keeper disk.old }
+    requires over { LogsAtEnd D.Disk store.old.committer disk.old }
     requires takes { TakesAsks M.takes }
     requires within { KeepsLimits ask }
-    ensures answers { (choose : Chooser) (history : List Order) (base k : ℕ) → M.is_chooser choose → AllByRecursion M.takes history →
-        Holds D.Disk M.Book.fits M.holds choose history base k store.old disk.old →
+    ensures answers { (choose : Chooser) (history : List TimedCommand) (base k : ℕ) → M.is_chooser choose → AllByRecursion M.takes history →
+        Represents D.Disk M.Book.fits M.holds choose history base k store.old disk.old →
         Answers D.Disk M.Book.fits M.holds (entry choose history base k store.old.run moment)
-        (MayBe (entry choose history base k store.old.run moment) (IsTold D.Disk disk.new) ask result) true (IsClean (K.faults link.old) (K.faults link.new) (K.standing link.old) (K.standing link.new))
+        (MayBe (entry choose history base k store.old.run moment) (IsTold D.Disk disk.new) ask result) true
+        (IsClean (K.faults link.old) (K.faults link.new) (K.standing link.old) (K.standing link.new))
         result (K.given link.old) (K.given link.new) store.new disk.old disk.new }
     ensures left { K.left link.new ≡ K.left link.old }
-    ensures over { IsOpen result → IsOver D.Disk store.new.keeper disk.new }
-    ensures measured { IsMeasured D.Disk store.old.keeper disk.old → IsOpen result → IsMeasured D.Disk store.new.keeper disk.new }
+    ensures over { IsOpen result → LogsAtEnd D.Disk store.new.committer disk.new }
+    ensures measured { KnowsLogLength D.Disk store.old.committer disk.old → IsOpen result →
+        KnowsLogLength D.Disk store.new.committer disk.new }
     ensures closed { still_open result ≡ false → is_closed store.new ≡ true }
-    ensures placed { IsPlaced D.Disk disk.new result }
+    ensures placed { IsPlaced D.Disk (M.shown store.old.memory) disk.new result }
     ensures replied { IsReplied true result }
     ensures run { store.new.run ≡ store.old.run }
     ensures told { IsTold D.Disk disk.old → IsTold D.Disk disk.new }
-    ensures goes { Goes (K.standing link.old) (K.standing link.new) }
+    ensures goes { LinkStep (K.standing link.old) (K.standing link.new) }
     ensures comes { Comes (K.faults link.old) (K.faults link.new) (D.Disk.faults disk.old) (D.Disk.faults disk.new) result }
 {
     match ask {
@@ -69,8 +72,9 @@ fn serve_ask<K: Link, M: Memory + Drop, D: Disk>(
     }
 }
 
-/// Reads a request from the link, serves what it asks, and commits where that is due. The log stays as long as it is.
-fn serve_request<K: Link, M: Memory + Drop, D: Disk>(
+/// Reads a request from the link, serves what it asks, and commits where that is due. The log stays
+/// as long as it is.
+fn serve_request<K: Link, M: StoreMemory + Drop, D: Disk>(
     alloc: Global,
     routes: &Routes,
     store: &mut Store<M>,
@@ -78,20 +82,22 @@ fn serve_request<K: Link, M: Memory + Drop, D: Disk>(
     moment: i64,
     disk: &mut D,
 ) -> Result<Served, ServeFault>
-    requires over { IsOver D.Disk store.old.keeper disk.old }
+    requires over { LogsAtEnd D.Disk store.old.committer disk.old }
     requires takes { TakesAsks M.takes }
-    ensures serves { (choose : Chooser) (history : List Order) (base k : ℕ) → M.is_chooser choose → AllByRecursion M.takes history →
-        Holds D.Disk M.Book.fits M.holds choose history base k store.old disk.old →
-        Serves D.Disk M.Book.fits M.holds (entry choose history base k store.old.run moment) (IsClean (K.faults link.old) (K.faults link.new) (K.standing link.old) (K.standing link.new))
+    ensures serves { (choose : Chooser) (history : List TimedCommand) (base k : ℕ) → M.is_chooser choose → AllByRecursion M.takes history →
+        Represents D.Disk M.Book.fits M.holds choose history base k store.old disk.old →
+        Serves D.Disk M.Book.fits M.holds (entry choose history base k store.old.run moment)
+        (IsClean (K.faults link.old) (K.faults link.new) (K.standing link.old) (K.standing link.new))
         result (K.left link.old) (K.left link.new) (K.given link.old) (K.given link.new) store.new disk.old disk.new }
-    ensures over { IsOpen result → IsOver D.Disk store.new.keeper disk.new }
-    ensures measured { IsMeasured D.Disk store.old.keeper disk.old → IsOpen result → IsMeasured D.Disk store.new.keeper disk.new }
+    ensures over { IsOpen result → LogsAtEnd D.Disk store.new.committer disk.new }
+    ensures measured { KnowsLogLength D.Disk store.old.committer disk.old → IsOpen result →
+        KnowsLogLength D.Disk store.new.committer disk.new }
     ensures closed { still_open result ≡ false → is_closed store.new ≡ true }
-    ensures placed { IsPlaced D.Disk disk.new result }
+    ensures placed { IsPlaced D.Disk (M.shown store.old.memory) disk.new result }
     ensures reads { Reads result (K.left link.old) (K.left link.new) }
     ensures run { store.new.run ≡ store.old.run }
     ensures told { IsTold D.Disk disk.old → IsTold D.Disk disk.new }
-    ensures goes { Goes (K.standing link.old) (K.standing link.new) }
+    ensures goes { LinkStep (K.standing link.old) (K.standing link.new) }
     ensures comes { Comes (K.faults link.old) (K.faults link.new) (D.Disk.faults disk.old) (D.Disk.faults disk.new) result }
 {
     match read_request(alloc, routes, link) {
@@ -104,10 +110,12 @@ fn serve_request<K: Link, M: Memory + Drop, D: Disk>(
     }
 }
 
-/// Serves one request: reads it from the link, has the store accept its command, writes the reply, and then commits where that is due, or
-/// where an acknowledgement was asked for that is not there yet. Before the lines of an index all is committed. Want of memory is replied
-/// with 503, and changes nothing. A fault of the disk is replied with 500 where no reply was written yet; it closes the store, which is to be
-/// mounted again. Last, behind a reply, the log is made short by a checkpoint where it is long and nothing is staged.
+/// Serves one request: reads it from the link, has the store accept its command, writes the reply,
+/// and then commits where that is due, or where an acknowledgement was asked for that is not there
+/// yet. Before the lines of an index all is committed. Want of memory is replied with 503, and
+/// changes nothing. A fault of the disk is replied with 500 where no reply was written yet; it
+/// closes the store, which is to be mounted again. Last, behind a reply, the log is made short by a
+/// checkpoint where it is long and nothing is staged.
 pub fn serve_one<K: Link, M: Listing + Drop, D: Disk>(
     alloc: Global,
     routes: &Routes,
@@ -116,31 +124,39 @@ pub fn serve_one<K: Link, M: Listing + Drop, D: Disk>(
     moment: i64,
     disk: &mut D,
 ) -> Result<Served, ServeFault>
-    requires over { IsOver D.Disk store.old.keeper disk.old }
+    requires over { LogsAtEnd D.Disk store.old.committer disk.old }
     // What requests ask for may be given to the store.
     requires takes { TakesAsks M.takes }
-    // For every history that store and disk hold, one answer says what is written, what is added and held, and what every image stands for.
-    ensures serves { (choose : Chooser) (history : List Order) (base k : ℕ) → M.is_chooser choose → AllByRecursion M.takes history →
-        Holds D.Disk M.Book.fits M.holds choose history base k store.old disk.old →
-        Serves D.Disk M.Book.fits M.holds (entry choose history base k store.old.run moment) (IsClean (K.faults link.old) (K.faults link.new) (K.standing link.old) (K.standing link.new))
+    // For every history that store and disk hold, one answer says what is written, what is added
+    // and held, and what every image stands for.
+    ensures serves { (choose : Chooser) (history : List TimedCommand) (base k : ℕ) → M.is_chooser choose → AllByRecursion M.takes history →
+        Represents D.Disk M.Book.fits M.holds choose history base k store.old disk.old →
+        Serves D.Disk M.Book.fits M.holds (entry choose history base k store.old.run moment)
+        (IsClean (K.faults link.old) (K.faults link.new) (K.standing link.old) (K.standing link.new))
         result (K.left link.old) (K.left link.new) (K.given link.old) (K.given link.new) store.new disk.old disk.new }
-    // What comes of a request goes by what was read, also where the disk holds no history: where it is cut or refused, and whether another may follow.
+    // What comes of a request goes by what was read, also where the disk holds no history: where it
+    // is cut or refused, and whether another may follow.
     ensures reads { Reads result (K.left link.old) (K.left link.new) }
-    // After a fault of the disk, or damage, the store is closed, and damage is named as the disk reads, whatever it stands for: the file ends at
-    // the place, or no record stands there.
+    // After a fault of the disk, or damage, the store is closed, and damage is named as the disk
+    // reads, whatever it stands for: the file ends at the place, or it is that of a bucket that
+    // memory shows, of which no record ends behind the place within the bytes that count.
     ensures closed { still_open result ≡ false → is_closed store.new ≡ true }
-    ensures placed { IsPlaced D.Disk disk.new result }
-    // Behind a reply the log is not long, unless a command is staged, or the reply comes with `unshortened`; and then it is long.
-    ensures short { (choose : Chooser) (history : List Order) (base k : ℕ) → Holds D.Disk M.Book.fits M.holds choose history base k store.new disk.new →
-        IsShortBehind result (nat_lt k (length history)) store.new.keeper }
-    ensures long { IsLongStill result store.new.keeper }
+    ensures placed { IsPlaced D.Disk (M.shown store.old.memory) disk.new result }
+    // Behind a reply the log is not long, unless a command is staged, or the reply comes with
+    // `unshortened`; and then it is long.
+    ensures short { (choose : Chooser) (history : List TimedCommand) (base k : ℕ) →
+        Represents D.Disk M.Book.fits M.holds choose history base k store.new disk.new →
+        IsShortBehind result (nat_lt k (length history)) store.new.committer }
+    ensures long { IsLongStill result store.new.committer }
     // What the next request, and a checkpoint, ask for.
-    ensures over { IsOpen result → IsOver D.Disk store.new.keeper disk.new }
-    ensures measured { IsMeasured D.Disk store.old.keeper disk.old → IsOpen result → IsMeasured D.Disk store.new.keeper disk.new }
-    // The run goes on, a disk that tells what it reads goes on telling, and the link is what it was when it began.
+    ensures over { IsOpen result → LogsAtEnd D.Disk store.new.committer disk.new }
+    ensures measured { KnowsLogLength D.Disk store.old.committer disk.old → IsOpen result →
+        KnowsLogLength D.Disk store.new.committer disk.new }
+    // The run goes on, a disk that tells what it reads goes on telling, and the link is what it was
+    // when it began.
     ensures run { store.new.run ≡ store.old.run }
     ensures told { IsTold D.Disk disk.old → IsTold D.Disk disk.new }
-    ensures goes { Goes (K.standing link.old) (K.standing link.new) }
+    ensures goes { LinkStep (K.standing link.old) (K.standing link.new) }
     // No count falls, and a fault of the link or the disk comes only where its count rose.
     ensures comes { Comes (K.faults link.old) (K.faults link.new) (D.Disk.faults disk.old) (D.Disk.faults disk.new) result }
 {

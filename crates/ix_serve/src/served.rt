@@ -4,7 +4,7 @@ ghost use Rattle.std.specs.Prelude.{◌≡◌};
 ghost use Rattle.ix_serve.specs.Answer as defs;
 
 use ix_base::File;
-use ix_keep::CommitFault;
+use ix_commit::CommitFault;
 use thiserror::Error;
 
 /// What came of a request.
@@ -16,10 +16,11 @@ pub enum Served {
     Reply {
         /// Its status.
         status: u16,
-        /// Whether it is known where the request ends and all of it was read. Then another one may follow.
+        /// Whether it is known where the request ends and all of it was read. Then another one may
+        /// follow.
         delimited: bool,
-        /// Whether the log is long still, since there was no room in memory for a checkpoint. The store is as it was before that, and
-        /// goes on.
+        /// Whether the log is long still, since there was no room in memory for a checkpoint. The
+        /// store is as it was before that, and goes on.
         unshortened: bool,
     },
 }
@@ -30,7 +31,8 @@ pub enum ServeFault {
     /// The disk has failed. The store is closed.
     #[error("the disk failed")]
     Disk,
-    /// This file ends at this place, before what was committed, or no record that counts stands there. The store is closed.
+    /// This file ends at this place, before what was committed, or no record that counts stands
+    /// there. The store is closed.
     #[error("the file {file:?} is damaged at byte {at}")]
     Damaged { file: File, at: u64 },
     /// The link has failed.

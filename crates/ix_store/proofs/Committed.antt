@@ -1,5 +1,6 @@
 -- A store that is committed, and one that is mounted.
-use Rattle.std.proofs.Common.{◌≡◌, ◌≢◌, ◌≤◌, ◌<◌, ◌^◌, ℕ, zero, suc, Bool, true, false, List, [], ◌∷◌, length, take, drop, refl, sym, ap, ◌∙◌, subst, arith, inl, inr}
+use Rattle.std.proofs.Common.{◌≡◌, ◌≢◌, ◌≤◌, ◌<◌, ◌^◌, ℕ, zero, suc, Bool, true, false, List, [], ◌∷◌, length, take, drop, refl, sym, ap}
+use Rattle.std.proofs.Common.{◌∙◌, subst, arith, inl, inr}
 use Rattle.std.specs.Prelude.{Option, Some, None, Result, Err, ◌⊎◌, ◌==◌, if◌then◌else◌, nat_lt}
 use Rattle.std.specs.List.{AllByRecursion}
 use Rattle.std.proofs.lemmas.Bool.Decides.{nat_tests}
@@ -8,51 +9,57 @@ use Rattle.ix_disk.specs.Image.{Image}
 use Rattle.ix_disk.specs.declared.disk.Disk.{Ghosts}
 use Rattle.ix_items.specs.declared.items.Item.{Item}
 use Rattle.ix_items.specs.declared.items.Item.TheVariants as items
-use Rattle.ix_book.specs.Book.{Name, Book, NoneUnder, named, name_of, is_same, run_of, run_in, removals_in, replay, empty, Replays}
-use Rattle.ix_book.specs.Root.{Taken}
-use Rattle.ix_book.specs.Slots.{items_of}
-use Rattle.ix_book.specs.declared.slot.Slot.{Slot}
-use Rattle.ix_book.proofs.InPlace.{none_under}
-use Rattle.ix_book.proofs.Renaming.{same_name}
-use Rattle.ix_keep.specs.Mounting.{IsFamily, IsMountedAt}
-use Rattle.ix_keep.specs.Snapshot.{Snapshot, KeepsEither, Held, IsIdle, IsLike, log_of}
-use Rattle.ix_keep.specs.declared.keeper.Keeper.{Keeper}
-use Rattle.ix_keep.specs.declared.mounting.MountFault.{MountFault as KeptFault}
-use Rattle.ix_keep.specs.declared.mounting.MountFault.TheVariants as kept
-use Rattle.ix_machine.specs.Done.{AreLetGo}
-use Rattle.ix_machine.specs.Given.{Chooser}
-use Rattle.ix_machine.specs.Step.{after}
-use Rattle.ix_machine.specs.declared.commands.Order.{Order}
-use Rattle.ix_machine.proofs.Named.{by_test}
-use Rattle.ix_machine.specs.Snap.{left, leaves}
-use Rattle.ix_machine.proofs.Family.{family}
+use Rattle.ix_manifest.specs.Book.{Name, NamedItems, NoneUnder, named, name_of, is_same, run_of, run_in, removals_in, replay, empty}
+use Rattle.ix_manifest.specs.Book.{Replays}
+use Rattle.ix_manifest.specs.Root.{Taken}
+use Rattle.ix_manifest.specs.Slots.{items_of}
+use Rattle.ix_manifest.specs.declared.staged_item.StagedItem.{StagedItem}
+use Rattle.ix_manifest.proofs.InPlace.{none_under}
+use Rattle.ix_manifest.proofs.Renaming.{same_name}
+use Rattle.ix_commit.specs.Mounting.{IsFamily, IsMountedAt}
+use Rattle.ix_commit.specs.Snapshot.{Snapshot, KeepsEither, Held, NothingStaged, IsLike, log_of}
+use Rattle.ix_commit.specs.declared.committer.Committer.{Committer}
+use Rattle.ix_commit.specs.declared.mounting.MountFault.{MountFault as KeptFault}
+use Rattle.ix_commit.specs.declared.mounting.MountFault.TheVariants as kept
+use Rattle.ix_model.specs.Done.{AreLetGo}
+use Rattle.ix_model.specs.Given.{Chooser}
+use Rattle.ix_model.specs.Step.{state_after}
+use Rattle.ix_model.specs.declared.commands.TimedCommand.{TimedCommand}
+use Rattle.ix_model.proofs.Named.{by_test}
+use Rattle.ix_model.specs.Snap.{snapshot_of, snapshot_of_prefix}
+use Rattle.ix_model.proofs.Family.{family}
 use Rattle.ix_store.specs.Counting.{numbers, weights, has_turn, capped}
 use Rattle.ix_store.specs.Faults.{fault_of}
-use Rattle.ix_store.specs.Written.{over, IsOf, Stands, AreDone}
-use Rattle.ix_store.specs.Holding.{AreCounted, IsReady, Holds, IsMounted}
+use Rattle.ix_store.specs.Written.{over, IsOf, RecoversTo, AreDone}
+use Rattle.ix_store.specs.Holding.{AreCounted, IsReady, Represents, IsMounted}
 use Rattle.ix_store.specs.declared.fault.MountFault.{MountFault}
 use Rattle.ix_store.specs.declared.fault.MountFault.TheVariants as faults
-use Rattle.ix_store.specs.declared.group.Group.{Group}
+use Rattle.ix_store.specs.declared.group.CommitGroup.{CommitGroup}
 use Rattle.ix_store.specs.declared.store.Store.{Store}
 use Rattle.ix_store.proofs.Going.{let_none_go}
 use Rattle.ix_store.proofs.Counted.{drop_taken, drop_whole, take_whole, take_taken, length_taken, not_below}
 
 -- ---- a commit
 
-pub held_of : {D : Type 0} (g : Ghosts D) {M : Type 0} (fits : Book → Type 0) (holds : Chooser → List Order → M → Type 0) (choose : Chooser) (h : List Order) (base k : ℕ) (store : Store M) (disk : D) →
-    (hold : Holds g fits holds choose h base k store disk) → Held g fits store.keeper disk hold.old hold.staged.new
+pub held_of : {D : Type 0} (g : Ghosts D) {M : Type 0} (fits : NamedItems → Type 0) (holds : Chooser → List TimedCommand → M →
+    Type 0) (choose : Chooser) (h : List TimedCommand) (base k : ℕ) (store : Store M) (disk : D) →
+    (hold : Represents g fits holds choose h base k store disk) → Held g fits store.committer disk hold.old hold.staged.new
 held_of g fits holds choose h base k store disk hold =
     let r = hold.staged.ready in
     record { usable = r.usable; committed = hold.committed; stages = r.stages; fit = r.fit; free = r.free }
 
-pub stands_either : {D : Type 0} (g : Ghosts D) {M : Type 0} (fits : Book → Type 0) (holds : Chooser → List Order → M → Type 0) (choose : Chooser) (h : List Order) (base k : ℕ) (store : Store M) (disk : D) →
-    (hold : Holds g fits holds choose h base k store disk) (image : Image) → KeepsEither fits hold.old hold.staged.new image →
-    Stands fits store.run choose (take k h) image ⊎ Stands fits store.run choose h image
-stands_either g fits holds choose h base k store disk hold image (inl keeps) = inl (record { snapshot = hold.old; written = hold.staged.old_is; keeps = keeps })
-stands_either g fits holds choose h base k store disk hold image (inr keeps) = inr (record { snapshot = hold.staged.new; written = hold.staged.new_is; keeps = keeps })
+pub stands_either : {D : Type 0} (g : Ghosts D) {M : Type 0} (fits : NamedItems → Type 0) (holds : Chooser → List TimedCommand → M →
+    Type 0) (choose : Chooser) (h : List TimedCommand) (base k : ℕ) (store : Store M) (disk : D) →
+    (hold : Represents g fits holds choose h base k store disk) (image : Image) → KeepsEither fits hold.old hold.staged.new image →
+    RecoversTo fits store.run choose (take k h) image ⊎ RecoversTo fits store.run choose h image
+stands_either g fits holds choose h base k store disk hold image (inl keeps) =
+    inl (record { snapshot = hold.old; written = hold.staged.old_is; keeps = keeps })
+stands_either g fits holds choose h base k store disk hold image (inr keeps) =
+    inr (record { snapshot = hold.staged.new; written = hold.staged.new_is; keeps = keeps })
 
-ready_of : {D : Type 0} (g : Ghosts D) (fits : Book → Type 0) (keeper : Keeper) (disk : D) (s : Snapshot) → Held g fits keeper disk s s → IsReady fits keeper s s
-ready_of g fits keeper disk s held = record {
+ready_of : {D : Type 0} (g : Ghosts D) (fits : NamedItems → Type 0) (committer : Committer) (disk : D) (s : Snapshot) →
+    Held g fits committer disk s s → IsReady fits committer s s
+ready_of g fits committer disk s held = record {
   usable = held.usable;
   logged = ap (λ (f : File). f.area) held.committed.file;
   stages = held.stages;
@@ -61,25 +68,29 @@ ready_of g fits keeper disk s held = record {
 }
 
 -- all is committed
-counted_all : (drawn : ℕ) (group next : Group) (h : List Order) (base k : ℕ) (committed new_drawn : ℕ) → AreCounted drawn committed group h base k → new_drawn ≡ drawn →
+counted_all : (drawn : ℕ) (group next : CommitGroup) (h : List TimedCommand) (base k : ℕ) (committed new_drawn : ℕ) →
+    AreCounted drawn committed group h base k → new_drawn ≡ drawn →
     next.weight ≡ 0 → next.turned ≡ false → next.waiting ≡ false → AreCounted new_drawn drawn next h base (length h)
 counted_all drawn group next h base k committed new_drawn counted same weight turned waiting = record {
   drawn_are = same ∙ counted.drawn_are;
-  committed_are = counted.drawn_are ∙ ap (λ (l : List Order). numbers (drop base l)) (sym (take_whole h));
-  weight = weight ∙ ap (λ (l : List Order). capped (weights l)) (sym (drop_whole h));
+  committed_are = counted.drawn_are ∙ ap (λ (l : List TimedCommand). numbers (drop base l)) (sym (take_whole h));
+  weight = weight ∙ ap (λ (l : List TimedCommand). capped (weights l)) (sym (drop_whole h));
   turned = turned ∙ ap has_turn (sym (drop_whole h));
   waiting = waiting ∙ sym (not_below (length h));
 }
 
-pub holds_all : {D : Type 0} (g : Ghosts D) {M : Type 0} (fits : Book → Type 0) (holds : Chooser → List Order → M → Type 0) (choose : Chooser) (h : List Order) (base k : ℕ) (before store : Store M) (was disk : D) →
-    (hold : Holds g fits holds choose h base k before was) → Held g fits store.keeper disk hold.staged.new hold.staged.new → IsIdle store.keeper →
-    store.memory ≡ before.memory → store.run ≡ before.run → store.drawn ≡ before.drawn → store.committed ≡ before.drawn → store.closed ≡ before.closed →
+pub holds_all : {D : Type 0} (g : Ghosts D) {M : Type 0} (fits : NamedItems → Type 0) (holds : Chooser → List TimedCommand → M →
+    Type 0) (choose : Chooser) (h : List TimedCommand) (base k : ℕ) (before store : Store M) (was disk : D) →
+    (hold : Represents g fits holds choose h base k before was) → Held g fits store.committer disk hold.staged.new hold.staged.new →
+    NothingStaged store.committer →
+    store.memory ≡ before.memory → store.run ≡ before.run → store.drawn ≡ before.drawn → store.committed ≡ before.drawn →
+    store.closed ≡ before.closed →
     store.group.done_with ≡ [] → store.group.weight ≡ 0 → store.group.turned ≡ false → store.group.waiting ≡ false →
-    Holds g fits holds choose h base (length h) store disk
+    Represents g fits holds choose h base (length h) store disk
 holds_all g fits holds choose h base k before store was disk hold held idle memory run drawn committed closed done weight turned waiting =
     let st = hold.staged in
-    let whole : left choose h ≡ leaves choose h (length h) = ap (left choose) (sym (take_whole h)) in
-    let is : IsOf store.run st.new (left choose h) = subst (λ (r : ℕ). IsOf r st.new (left choose h)) (sym run) st.new_is in
+    let whole : snapshot_of choose h ≡ snapshot_of_prefix choose h (length h) = ap (snapshot_of choose) (sym (take_whole h)) in
+    let is : IsOf store.run st.new (snapshot_of choose h) = subst (λ (r : ℕ). IsOf r st.new (snapshot_of choose h)) (sym run) st.new_is in
     record {
       old = st.new;
       committed = held.committed;
@@ -92,13 +103,15 @@ holds_all g fits holds choose h base k before store was disk hold held idle memo
         new_is = is;
         run = subst (λ (r : ℕ). r < 2 ^ 63) (sym run) st.run;
         is_open = closed ∙ st.is_open;
-        ready = ready_of g fits store.keeper disk st.new held;
+        ready = ready_of g fits store.committer disk st.new held;
         idle = λ whole. idle;
-        done = subst (AreDone (after choose h).catalog) (sym done) tt;
-        removals = ap (λ (l : List Slot). removals_in (replay (items_of l) empty)) idle.1.1 ∙ sym done;
-        let_go = subst (λ (l : List Order). AreLetGo (after choose l).catalog (after choose h).catalog store.group.done_with) (sym (take_whole h)) (let_none_go (after choose h).catalog store.group.done_with);
+        done = subst (AreDone (state_after choose h).catalog) (sym done) tt;
+        removals = ap (λ (l : List StagedItem). removals_in (replay (items_of l) empty)) idle.1.1 ∙ sym done;
+        let_go = subst (λ (l : List TimedCommand). AreLetGo (state_after choose l).catalog (state_after choose h).catalog
+            store.group.done_with) (sym (take_whole h)) (let_none_go (state_after choose h).catalog store.group.done_with);
         counted = subst (λ (n : ℕ). AreCounted store.drawn n store.group h base (length h)) (sym committed)
-            (counted_all before.drawn before.group store.group h base k before.committed store.drawn st.counted drawn weight turned waiting);
+            (counted_all before.drawn before.group store.group h base k before.committed store.drawn st.counted drawn weight turned
+            waiting);
       };
     }
 
@@ -143,21 +156,26 @@ none_of name each [] = tt
 none_of name each (x ∷ xs) = (each x, none_of name each xs)
 
 -- under a name that no item has nothing stands
-none_stands : (fits : Book → Type 0) (name : Name) → ((item : Item) → is_same (name_of item) name ≡ false) → (bodies : List (List ℕ)) (from to : Book) → from name ≡ None → Replays fits bodies from to → to name ≡ None
-none_stands fits name each [] from to none is = ap (λ (b : Book). b name) is ∙ none
+none_stands : (fits : NamedItems → Type 0) (name : Name) → ((item : Item) → is_same (name_of item) name ≡ false) →
+    (bodies : List (List ℕ)) (from to : NamedItems) → from name ≡ None → Replays fits bodies from to → to name ≡ None
+none_stands fits name each [] from to none is = ap (λ (b : NamedItems). b name) is ∙ none
 none_stands fits name each (body ∷ bodies) from to none is =
     none_stands fits name each bodies (replay is.0 from) to (none_under is.0 name from (none_of name each is.0) ∙ none) is.3
 
-run_none : (choose : Chooser) (h : List Order) (text : List ℕ) (number : ℕ) → (left choose h).book (named 2 text number) ≡ None
+run_none : (choose : Chooser) (h : List TimedCommand) (text : List ℕ) (number : ℕ) →
+    (snapshot_of choose h).book (named 2 text number) ≡ None
 run_none choose [] text number = refl
 run_none choose (o ∷ h) text number = refl
 
-removals_none : (choose : Chooser) (h : List Order) (text : List ℕ) (number : ℕ) → (left choose h).book (named 12 text number) ≡ None
+removals_none : (choose : Chooser) (h : List TimedCommand) (text : List ℕ) (number : ℕ) →
+    (snapshot_of choose h).book (named 12 text number) ≡ None
 removals_none choose [] text number = refl
 removals_none choose (o ∷ h) text number = refl
 
-left_none : (choose : Chooser) (h : List Order) (name : Name) (kind : ℕ) → ((text : List ℕ) (number : ℕ) → (left choose h).book (named kind text number) ≡ None) → name.kind ≡ kind → (left choose h).book name ≡ None
-left_none choose h name kind none is = ap (left choose h).book path ∙ none name.text name.number
+left_none : (choose : Chooser) (h : List TimedCommand) (name : Name) (kind : ℕ) →
+    ((text : List ℕ) (number : ℕ) → (snapshot_of choose h).book (named kind text number) ≡ None) → name.kind ≡ kind →
+    (snapshot_of choose h).book name ≡ None
+left_none choose h name kind none is = ap (snapshot_of choose h).book path ∙ none name.text name.number
   where
     path : name ≡ named kind name.text name.number
     path = λ i. record { kind = is i; text = name.text; number = name.number }
@@ -189,43 +207,52 @@ not_kind : (a b : ℕ) → (a == b) ≡ false → a ≢ b
 not_kind a b t = λ e. grind (arith, nat_tests)
 
 -- a snapshot that a log leads to, in a run
-module _ (fits : Book → Type 0) (choose : Chooser) (h : List Order) (bodies : List (List ℕ)) (now : Snapshot) (run : ℕ) (replayed : Replays fits bodies empty now.book) (like : IsLike now (left choose h)) (is : run_in now.book ≡ run) (some : 1 ≤ run) where
-  abbrev removed : Option Item
-  removed = now.book (named 12 [] 0)
+module _ (fits : NamedItems → Type 0) (choose : Chooser) (h : List TimedCommand) (bodies : List (List ℕ)) (now : Snapshot) (run : ℕ)
+    (replayed : Replays fits bodies empty now.book) (like : IsLike now (snapshot_of choose h)) (is : run_in now.book ≡ run) (some : 1 ≤ run)
+  where
+    abbrev removed : Option Item
+    removed = now.book (named 12 [] 0)
 
-  other_same : (name : Name) → is_same (named 2 [] 0) name ≡ false → is_same (named 12 [] 0) name ≡ false → now.book name ≡ (left choose h).book name
-  other_same name t u = by_test (name.kind == 2)
-      (λ a. let kind = is_kind name.kind 2 a in none_stands fits name (λ x. beside_run x name kind t) bodies empty now.book refl replayed ∙ sym (left_none choose h name 2 (run_none choose h) kind))
-      (λ a. by_test (name.kind == 12)
-      (λ b. let kind = is_kind name.kind 12 b in none_stands fits name (λ x. beside_removals x name kind u) bodies empty now.book refl replayed ∙ sym (left_none choose h name 12 (removals_none choose h) kind))
-      (λ b. like.books name (not_kind name.kind 2 a) (not_kind name.kind 12 b)))
+    other_same : (name : Name) → is_same (named 2 [] 0) name ≡ false → is_same (named 12 [] 0) name ≡ false →
+        now.book name ≡ (snapshot_of choose h).book name
+    other_same name t u = by_test (name.kind == 2)
+        (λ a. let kind = is_kind name.kind 2 a in none_stands fits name (λ x. beside_run x name kind t) bodies empty now.book refl replayed
+        ∙ sym (left_none choose h name 2 (run_none choose h) kind))
+        (λ a. by_test (name.kind == 12)
+        (λ b. let kind = is_kind name.kind 12 b in none_stands fits name (λ x. beside_removals x name kind u) bodies empty now.book refl
+        replayed ∙ sym (left_none choose h name 12 (removals_none choose h) kind))
+        (λ b. like.books name (not_kind name.kind 2 a) (not_kind name.kind 12 b)))
 
-  at_name : (name : Name) → now.book name ≡ over run removed (left choose h).book name
-  at_name name = by_test (is_same (named 2 [] 0) name)
-      (λ t. subst (λ (n : Name). now.book n ≡ over run removed (left choose h).book n) (same_name (named 2 [] 0) name t) (some_run (now.book (named 2 [] 0)) run is some))
-      (λ t. by_test (is_same (named 12 [] 0) name)
-      (λ u. subst (λ (n : Name). now.book n ≡ over run removed (left choose h).book n) (same_name (named 12 [] 0) name u) refl)
-      (λ u. other_same name t u ∙ sym (chosen (is_same (named 2 [] 0) name) (Some (items.Run run)) (if is_same (named 12 [] 0) name then removed else (left choose h).book name) t
-      ∙ chosen (is_same (named 12 [] 0) name) removed ((left choose h).book name) u)))
+    at_name : (name : Name) → now.book name ≡ over run removed (snapshot_of choose h).book name
+    at_name name = by_test (is_same (named 2 [] 0) name)
+        (λ t. subst (λ (n : Name). now.book n ≡ over run removed (snapshot_of choose h).book n) (same_name (named 2 [] 0) name t)
+        (some_run (now.book (named 2 [] 0)) run is some))
+        (λ t. by_test (is_same (named 12 [] 0) name)
+        (λ u. subst (λ (n : Name). now.book n ≡ over run removed (snapshot_of choose h).book n) (same_name (named 12 [] 0) name u) refl)
+        (λ u. other_same name t u ∙ sym (chosen (is_same (named 2 [] 0) name) (Some (items.Run run))
+        (if is_same (named 12 [] 0) name then removed else (snapshot_of choose h).book name) t
+        ∙ chosen (is_same (named 12 [] 0) name) removed ((snapshot_of choose h).book name) u)))
 
-  pub written_is : IsOf run now (left choose h)
-  written_is = record { removed = removed; book = λ i name. at_name name i; contents = like.contents }
+    pub written_is : IsOf run now (snapshot_of choose h)
+    written_is = record { removed = removed; book = λ i name. at_name name i; contents = like.contents }
 
 -- ---- a mount
 
-pub kept_damaged : {T : Type 0} (fault : KeptFault) (file : File) (at : ℕ) (shown : MountFault) → shown ≡ fault_of fault → ◌≡◌ {A = Result T MountFault} (Err shown) (Err (faults.Damaged file at)) → fault ≡ kept.Damaged file at
+pub kept_damaged : {T : Type 0} (fault : KeptFault) (file : File) (at : ℕ) (shown : MountFault) → shown ≡ fault_of fault →
+    ◌≡◌ {A = Result T MountFault} (Err shown) (Err (faults.Damaged file at)) → fault ≡ kept.Damaged file at
 kept_damaged kept.Disk file at shown is e = absurd cc
 kept_damaged (kept.Damaged f a) file at shown is e = cc
 kept_damaged kept.Full file at shown is e = absurd cc
 kept_damaged kept.NoMemory file at shown is e = absurd cc
 
-pub kept_full : {T : Type 0} (fault : KeptFault) (shown : MountFault) → shown ≡ fault_of fault → ◌≡◌ {A = Result T MountFault} (Err shown) (Err faults.Full) → fault ≡ kept.Full
+pub kept_full : {T : Type 0} (fault : KeptFault) (shown : MountFault) → shown ≡ fault_of fault →
+    ◌≡◌ {A = Result T MountFault} (Err shown) (Err faults.Full) → fault ≡ kept.Full
 kept_full kept.Disk shown is e = absurd cc
 kept_full (kept.Damaged f a) shown is e = absurd cc
 kept_full kept.Full shown is e = refl
 kept_full kept.NoMemory shown is e = absurd cc
 
-pub family_from : (choose : Chooser) (h : List Order) (k : ℕ) → IsFamily (leaves choose h) k (length h)
+pub family_from : (choose : Chooser) (h : List TimedCommand) (k : ℕ) → IsFamily (snapshot_of_prefix choose h) k (length h)
 family_from choose h k =
     let f = family choose h in
     record {
@@ -234,19 +261,21 @@ family_from choose h k =
       settled = λ i a b. f.settled i (omega arith) b;
     }
 
-counted_none : (group : Group) (h : List Order) (n : ℕ) → n ≤ length h → group.weight ≡ 0 → group.turned ≡ false → group.waiting ≡ false → AreCounted 0 0 group (take n h) n n
+counted_none : (group : CommitGroup) (h : List TimedCommand) (n : ℕ) → n ≤ length h → group.weight ≡ 0 → group.turned ≡ false →
+    group.waiting ≡ false → AreCounted 0 0 group (take n h) n n
 counted_none group h n le weight turned waiting =
     let none = drop_taken n h in
     record {
       drawn_are = ap numbers (sym none);
-      committed_are = ap numbers (sym none) ∙ ap (λ (l : List Order). numbers (drop n l)) (sym (take_taken n h));
-      weight = weight ∙ ap (λ (l : List Order). capped (weights l)) (sym none);
+      committed_are = ap numbers (sym none) ∙ ap (λ (l : List TimedCommand). numbers (drop n l)) (sym (take_taken n h));
+      weight = weight ∙ ap (λ (l : List TimedCommand). capped (weights l)) (sym none);
       turned = turned ∙ ap has_turn (sym none);
       waiting = waiting ∙ sym (ap (nat_lt n) (length_taken n h le) ∙ not_below n);
     }
 
 -- the book behind the last body was judged
-last_fits : (fits : Book → Type 0) (bodies : List (List ℕ)) (from to : Book) → Replays fits bodies from to → (to ≡ from) ⊎ fits to
+last_fits : (fits : NamedItems → Type 0) (bodies : List (List ℕ)) (from to : NamedItems) → Replays fits bodies from to → (to ≡ from)
+    ⊎ fits to
 last_fits fits [] from to is = inl is
 last_fits fits (body ∷ bodies) from to is = by (last_fits fits bodies (replay is.0 from) to is.3)
   where
@@ -260,8 +289,9 @@ all_taken P (suc n) [] all = tt
 all_taken P (suc n) (x ∷ xs) all = (all.0, all_taken P n xs all.1)
 
 -- what a mount finds
-module _ {D : Type 0} (g : Ghosts D) (fits : Book → Type 0) (keeper : Keeper) (disk : D) (book : Book) (choose : Chooser) (h : List Order) (k : ℕ) (image : Image)
-    (at : IsMountedAt g fits keeper disk book (leaves choose h) k (length h) image) where
+module _ {D : Type 0} (g : Ghosts D) (fits : NamedItems →
+    Type 0) (committer : Committer) (disk : D) (book : NamedItems) (choose : Chooser) (h : List TimedCommand) (k : ℕ) (image : Image)
+    (at : IsMountedAt g fits committer disk book (snapshot_of_prefix choose h) k (length h) image) where
   abbrev run : ℕ
   run = run_in book
 
@@ -271,40 +301,53 @@ module _ {D : Type 0} (g : Ghosts D) (fits : Book → Type 0) (keeper : Keeper) 
   begun_too : 1 ≤ run
   begun_too = let made = ap run_in at.made in omega (arith, begun, made)
 
-  replayed : Replays (Taken fits (log_of keeper)) at.held.committed.bodies empty at.now.book
-  replayed = subst (λ (f : File). Replays (Taken fits f) at.held.committed.bodies empty at.now.book) (sym at.held.committed.file) at.held.committed.replayed
+  replayed : Replays (Taken fits (log_of committer)) at.held.committed.bodies empty at.now.book
+  replayed = subst (λ (f : File). Replays (Taken fits f) at.held.committed.bodies empty at.now.book) (sym at.held.committed.file)
+      at.held.committed.replayed
 
-  pub found_is : IsOf run at.now (left choose (take at.which h))
-  found_is = written_is (Taken fits (log_of keeper)) choose (take at.which h) at.held.committed.bodies at.now run replayed at.like (sym (ap run_in at.made)) begun_too
+  pub found_is : IsOf run at.now (snapshot_of choose (take at.which h))
+  found_is = written_is (Taken fits (log_of committer)) choose (take at.which h) at.held.committed.bodies at.now run replayed at.like
+      (sym (ap run_in at.made)) begun_too
 
   pub found_fits : fits book
-  found_fits = by (last_fits (Taken fits (log_of keeper)) at.held.committed.bodies empty at.now.book replayed)
+  found_fits = by (last_fits (Taken fits (log_of committer)) at.held.committed.bodies empty at.now.book replayed)
     where
-      by : (at.now.book ≡ empty) ⊎ Taken fits (log_of keeper) at.now.book → fits book
+      by : (at.now.book ≡ empty) ⊎ Taken fits (log_of committer) at.now.book → fits book
       by (inl e) = absurd (let none = ap run_in e in omega (arith, begun, none))
       by (inr taken) = subst fits (sym at.made) taken.fit
 
-  pub found_book : book ≡ over run found_is.removed (left choose (take at.which h)).book
+  pub found_book : book ≡ over run found_is.removed (snapshot_of choose (take at.which h)).book
   found_book = at.made ∙ found_is.book
 
   -- a state that cannot be taken from the book
-  pub none_unsound : (is_chooser : Chooser → Type 0) (takes : Order → Type 0) → is_chooser choose → AllByRecursion takes h →
-      ((choose : Chooser) (history : List Order) (run : ℕ) (removed : Option Item) → is_chooser choose → AllByRecursion takes history → fits book → book ≡ over run removed (left choose history).book → ⊥) → ⊥
-  none_unsound is_chooser takes chooser given none = none choose (take at.which h) run found_is.removed chooser (all_taken takes at.which h given) found_fits found_book
+  pub none_unsound : (is_chooser : Chooser → Type 0) (takes : TimedCommand → Type 0) → is_chooser choose → AllByRecursion takes h →
+      ((choose : Chooser) (history : List TimedCommand) (run : ℕ) (removed : Option Item) → is_chooser choose →
+      AllByRecursion takes history → fits book → book ≡ over run removed (snapshot_of choose history).book → ⊥) → ⊥
+  none_unsound is_chooser takes chooser given none = none choose (take at.which h) run found_is.removed chooser
+      (all_taken takes at.which h given) found_fits found_book
 
-pub holds_mounted : {D : Type 0} (g : Ghosts D) {M : Type 0} (fits : Book → Type 0) (holds : Chooser → List Order → M → Type 0) (is_chooser : Chooser → Type 0) (takes : Order → Type 0) (choose : Chooser) (h : List Order) (k : ℕ) (image : Image) (store : Store M) (disk : D) (book : Book) →
-    is_chooser choose → AllByRecursion takes h → (at : IsMountedAt g fits store.keeper disk book (leaves choose h) k (length h) image) →
-    ((choose : Chooser) (history : List Order) (run : ℕ) (removed : Option Item) → is_chooser choose → AllByRecursion takes history → fits book → book ≡ over run removed (left choose history).book → holds choose history store.memory) →
-    store.run ≡ run_in book → run_in book < 2 ^ 63 → IsIdle store.keeper → store.drawn ≡ 0 → store.committed ≡ 0 → store.closed ≡ false →
+pub holds_mounted : {D : Type 0} (g : Ghosts D) {M : Type 0} (fits : NamedItems → Type 0) (holds : Chooser → List TimedCommand → M →
+    Type 0) (is_chooser : Chooser → Type 0) (takes : TimedCommand →
+    Type 0) (choose : Chooser) (h : List TimedCommand) (k : ℕ) (image : Image) (store : Store M) (disk : D) (book : NamedItems) →
+    is_chooser choose → AllByRecursion takes h → (at : IsMountedAt g fits store.committer disk book (snapshot_of_prefix choose h) k
+    (length h)
+    image) →
+    ((choose : Chooser) (history : List TimedCommand) (run : ℕ) (removed : Option Item) → is_chooser choose → AllByRecursion takes history →
+    fits book → book ≡ over run removed (snapshot_of choose history).book → holds choose history store.memory) →
+    store.run ≡ run_in book → run_in book < 2 ^ 63 → NothingStaged store.committer → store.drawn ≡ 0 → store.committed ≡ 0 →
+    store.closed ≡ false →
     store.group.done_with ≡ [] → store.group.weight ≡ 0 → store.group.turned ≡ false → store.group.waiting ≡ false →
     IsMounted g fits holds choose h k image store disk
-holds_mounted g fits holds is_chooser takes choose h k image store disk book chooser given at memory run small idle drawn committed closed done weight turned waiting =
+holds_mounted g fits holds is_chooser takes choose h k image store disk book chooser given at memory run small idle drawn committed closed
+    done weight turned waiting =
     let n = at.which in
     let prefix = take n h in
     let made = ap run_in at.made in
     let found = at.run in
     let same : run_in at.now.book ≡ store.run = sym made ∙ sym run in
-    let is : IsOf store.run at.now (left choose prefix) = subst (λ (r : ℕ). IsOf r at.now (left choose prefix)) (sym run) (found_is g fits store.keeper disk book choose h k image at) in
+    let is : IsOf store.run at.now (snapshot_of choose prefix) =
+    subst (λ (r : ℕ). IsOf r at.now (snapshot_of choose prefix)) (sym run) (found_is g fits store.committer disk book choose h k image at)
+    in
     record {
       count = n;
       least = at.least;
@@ -319,19 +362,22 @@ holds_mounted g fits holds is_chooser takes choose h k image store disk book cho
         staged = record {
           from_base = omega arith;
           within = (let l = length_taken n h at.most in omega (arith, l));
-          memory = memory choose prefix store.run is.removed chooser (all_taken takes n h given) (found_fits g fits store.keeper disk book choose h k image at) (at.made ∙ is.book);
-          old_is = subst (λ (l : List Order). IsOf store.run at.now (left choose l)) (sym (take_taken n h)) is;
+          memory = memory choose prefix store.run is.removed chooser (all_taken takes n h given)
+              (found_fits g fits store.committer disk book choose h k image at) (at.made ∙ is.book);
+          old_is = subst (λ (l : List TimedCommand). IsOf store.run at.now (snapshot_of choose l)) (sym (take_taken n h)) is;
           new = at.now;
           new_is = is;
           run = (omega (arith, small, run));
           is_open = closed;
-          ready = ready_of g fits store.keeper disk at.now at.held;
+          ready = ready_of g fits store.committer disk at.now at.held;
           idle = λ whole. idle;
-          done = subst (AreDone (after choose prefix).catalog) (sym done) tt;
-          removals = ap (λ (l : List Slot). removals_in (replay (items_of l) empty)) idle.1.1 ∙ sym done;
-          let_go = subst (λ (l : List Order). AreLetGo (after choose l).catalog (after choose prefix).catalog store.group.done_with) (sym (take_taken n h)) (let_none_go (after choose prefix).catalog store.group.done_with);
+          done = subst (AreDone (state_after choose prefix).catalog) (sym done) tt;
+          removals = ap (λ (l : List StagedItem). removals_in (replay (items_of l) empty)) idle.1.1 ∙ sym done;
+          let_go = subst (λ (l : List TimedCommand). AreLetGo (state_after choose l).catalog (state_after choose prefix).catalog
+              store.group.done_with) (sym (take_taken n h)) (let_none_go (state_after choose prefix).catalog store.group.done_with);
           counted = subst (λ (a : ℕ). AreCounted a store.committed store.group prefix n n) (sym drawn)
-              (subst (λ (a : ℕ). AreCounted 0 a store.group prefix n n) (sym committed) (counted_none store.group h n at.most weight turned waiting));
+              (subst (λ (a : ℕ). AreCounted 0 a store.group prefix n n) (sym committed)
+              (counted_none store.group h n at.most weight turned waiting));
         };
       };
     }

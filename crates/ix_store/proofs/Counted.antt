@@ -1,21 +1,22 @@
 -- What a store counts, behind a further command.
-use Rattle.std.proofs.Common.{◌≡◌, ◌≤◌, ◌<◌, ◌+◌, ℕ, zero, suc, true, false, List, [], ◌∷◌, ◌++◌, length, take, drop, refl, sym, ap, ◌∙◌, arith, append_assoc}
+use Rattle.std.proofs.Common.{◌≡◌, ◌≤◌, ◌<◌, ◌+◌, ℕ, zero, suc, true, false, List, [], ◌∷◌, ◌++◌, length, take, drop, refl, sym, ap, ◌∙◌}
+use Rattle.std.proofs.Common.{arith, append_assoc}
 use Rattle.std.specs.Prelude.{nat_lt, ◌||◌, get_or}
 use Rattle.std.specs.List.{AllByRecursion}
 use native.Mathlib.Numerals.{unary_clauses}
 use Rattle.std.proofs.lemmas.Bool.Decides.{nat_tests}
 use Rattle.std.proofs.lemmas.List.Folds.{list_any-append}
 use Rattle.std.proofs.lemmas.List.Sums.{sum_by-append}
-use Rattle.ix_machine.specs.declared.commands.Order.{Order}
+use Rattle.ix_model.specs.declared.commands.TimedCommand.{TimedCommand}
 use Rattle.ix_store.specs.Counting.{numbers, weights, has_turn, capped}
 
-pub numbers_more : (a b : List Order) → numbers (a ++ b) ≡ numbers a + numbers b
+pub numbers_more : (a b : List TimedCommand) → numbers (a ++ b) ≡ numbers a + numbers b
 numbers_more a b = sum_by-append _ a b
 
-pub weights_more : (a b : List Order) → weights (a ++ b) ≡ weights a + weights b
+pub weights_more : (a b : List TimedCommand) → weights (a ++ b) ≡ weights a + weights b
 weights_more a b = sum_by-append _ a b
 
-pub has_turn_more : (a b : List Order) → has_turn (a ++ b) ≡ (has_turn a || has_turn b)
+pub has_turn_more : (a b : List TimedCommand) → has_turn (a ++ b) ≡ (has_turn a || has_turn b)
 has_turn_more a b = list_any-append _ a b
 
 -- ---- lists
@@ -78,6 +79,8 @@ take_suc (x ∷ xs) (suc k) d l = ap (λ (l : List _). x ∷ l) (take_suc xs k d
 pub taken_one : {X : Type 0} (xs : List X) (k : ℕ) (d : X) → k < length xs → take (k + 1) xs ≡ take k xs ++ get_or xs k d ∷ []
 taken_one xs k d l = simp unary_clauses (take_suc xs k d l)
 
-pub appended : {X : Type 0} (base list now xs : List X) (i : ℕ) (d : X) → now ≡ list ++ get_or xs i d ∷ [] → list ≡ base ++ take i xs → i < length xs → now ≡ base ++ take (i + 1) xs
+pub appended : {X : Type 0} (base list now xs : List X) (i : ℕ) (d : X) → now ≡ list ++ get_or xs i d ∷ [] → list ≡ base ++ take i xs →
+    i < length xs → now ≡ base ++ take (i + 1) xs
 appended base list now xs i d is so_far l =
-    is ∙ ap (λ (l : List _). l ++ get_or xs i d ∷ []) so_far ∙ append_assoc base (take i xs) (get_or xs i d ∷ []) ∙ ap (λ (l : List _). base ++ l) (sym (taken_one xs i d l))
+    is ∙ ap (λ (l : List _). l ++ get_or xs i d ∷ []) so_far ∙ append_assoc base (take i xs) (get_or xs i d ∷ [])
+    ∙ ap (λ (l : List _). base ++ l) (sym (taken_one xs i d l))

@@ -1,11 +1,11 @@
 -- What a store counts of the commands that it accepted.
 use Rattle.std.specs.Prelude.{◌-◌, ◌^◌, ◌||◌, ℕ, Bool, true, false, if◌then◌else◌, min, nat_le, List, length}
 use Rattle.std.specs.List.{sum_by, list_any}
-use Rattle.ix_machine.specs.Judged.{draws}
-use Rattle.ix_machine.specs.declared.commands.Command.{Command}
-use Rattle.ix_machine.specs.declared.commands.Command.TheVariants.{Begin, Block, End, Tick, Roll, Thaw, Configure, Direct}
-use Rattle.ix_machine.specs.declared.commands.Direct.{Direct as DirectEvent}
-use Rattle.ix_machine.specs.declared.commands.Order.{Order}
+use Rattle.ix_model.specs.Judged.{draws}
+use Rattle.ix_model.specs.declared.commands.Command.{Command}
+use Rattle.ix_model.specs.declared.commands.Command.TheVariants.{Begin, Block, End, Tick, Roll, Thaw, Configure, Direct}
+use Rattle.ix_model.specs.declared.commands.Direct.{Direct as DirectEvent}
+use Rattle.ix_model.specs.declared.commands.TimedCommand.{TimedCommand}
 
 -- ---- of one command
 
@@ -40,19 +40,19 @@ is_turn (Direct events) = false
 -- ---- of several
 
 -- how many numbers they draw
-abbrev pub numbers : List Order → ℕ
-numbers orders = sum_by (λ (order : Order). number_of order.command) orders
+abbrev pub numbers : List TimedCommand → ℕ
+numbers orders = sum_by (λ (order : TimedCommand). number_of order.command) orders
 
-abbrev pub weights : List Order → ℕ
-weights orders = sum_by (λ (order : Order). weight_of order.command) orders
+abbrev pub weights : List TimedCommand → ℕ
+weights orders = sum_by (λ (order : TimedCommand). weight_of order.command) orders
 
-abbrev pub has_turn : List Order → Bool
-has_turn orders = list_any (λ (order : Order). is_turn order.command) orders
+abbrev pub has_turn : List TimedCommand → Bool
+has_turn orders = list_any (λ (order : TimedCommand). is_turn order.command) orders
 
 -- a count of 64 bits stands still at its end
 abbrev pub capped : ℕ → ℕ
 capped n = min n (2 ^ 64 - 1)
 
 -- whether these are to be committed at once
-abbrev pub is_due : List Order → Bool
+abbrev pub is_due : List TimedCommand → Bool
 is_due orders = nat_le 64 (numbers orders) || (nat_le 1048576 (weights orders) || has_turn orders)

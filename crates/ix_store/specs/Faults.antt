@@ -2,8 +2,8 @@
 use Rattle.std.specs.Prelude.{ℕ, Bool, true, false, Result, Ok, Err}
 use Rattle.ix_export.specs.declared.fault.BucketFault.{BucketFault}
 use Rattle.ix_export.specs.declared.fault.BucketFault.TheVariants as buckets
-use Rattle.ix_keep.specs.declared.mounting.MountFault.{MountFault as KeptFault}
-use Rattle.ix_keep.specs.declared.mounting.MountFault.TheVariants as kept
+use Rattle.ix_commit.specs.declared.mounting.MountFault.{MountFault as KeptFault}
+use Rattle.ix_commit.specs.declared.mounting.MountFault.TheVariants as kept
 use Rattle.ix_store.specs.declared.fault.ExportFault.{ExportFault}
 use Rattle.ix_store.specs.declared.fault.ExportFault.TheVariants as exports
 use Rattle.ix_store.specs.declared.fault.MountFault.{MountFault}

@@ -2,7 +2,7 @@
 use Rattle.std.specs.Prelude.{List}
 use Rattle.std.specs.List.{AllByRecursion}
 use Rattle.ix_base.specs.declared.files.File.{File}
-use Rattle.ix_fields.specs.Spelling.{Is64}
+use Rattle.ix_coding.specs.Spelling.{Is64}
 
 -- each has a number of 64 bits
 abbrev pub AreNumbered : List File → Type 0

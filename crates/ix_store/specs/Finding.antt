@@ -7,16 +7,16 @@ use Rattle.ix_items.specs.declared.items.Item.TheVariants as items
 use Rattle.ix_items.specs.declared.items.Kept.{Kept}
 use Rattle.ix_disk.specs.Image.{Image, bytes_in}
 use Rattle.ix_log.specs.Log.{blocks}
-use Rattle.ix_book.specs.Book.{Name, Book, named, name_of, is_same, empty, replay, IsBody}
-use Rattle.ix_book.specs.Root.{current}
-use Rattle.ix_book.specs.declared.replaying.ReplayFault.{ReplayFault}
-use Rattle.ix_book.specs.declared.replaying.ReplayFault.TheVariants as replays
-use Rattle.ix_keep.specs.Mounting.{IsBadLog}
-use Rattle.ix_keep.specs.Reads.{LeadsTo}
+use Rattle.ix_manifest.specs.Book.{Name, NamedItems, named, name_of, is_same, empty, replay, IsBody}
+use Rattle.ix_manifest.specs.Root.{current}
+use Rattle.ix_manifest.specs.declared.manifest_state.ReplayFault.{ReplayFault}
+use Rattle.ix_manifest.specs.declared.manifest_state.ReplayFault.TheVariants as replays
+use Rattle.ix_commit.specs.Mounting.{IsBadLog}
+use Rattle.ix_commit.specs.Reads.{LeadsTo}
 use Rattle.ix_store.specs.declared.fault.MountFault.{MountFault}
 use Rattle.ix_store.specs.declared.fault.MountFault.TheVariants as faults
-use Rattle.ix_store.specs.declared.subject.Subject.{Subject}
-use Rattle.ix_store.specs.declared.subject.Subject.TheVariants as subjects
+use Rattle.ix_store.specs.declared.faulty_item.FaultyItem.{FaultyItem}
+use Rattle.ix_store.specs.declared.faulty_item.FaultyItem.TheVariants as subjects
 
 -- ---- names
 
@@ -27,7 +27,7 @@ abbrev pub channel_name : List ℕ → Name
 channel_name name = named 4 name 0
 
 -- the name that the item of the subject stands under
-abbrev pub name_in : Subject → Name
+abbrev pub name_in : FaultyItem → Name
 name_in subjects.Settings = settings_name
 name_in (subjects.Channel name) = channel_name name
 
@@ -40,7 +40,7 @@ kept_of (Some (items.Settings kept)) = kept
 kept_of (Some other) = []
 
 -- the settings that a book keeps
-abbrev pub kept_in : Book → List Kept
+abbrev pub kept_in : NamedItems → List Kept
 kept_in book = kept_of (book settings_name)
 
 -- ---- bodies
@@ -78,22 +78,24 @@ pub record IsLastSaid (name : Name) (item : Item) (at : ℕ) (bodies : List (Lis
 -- ---- images
 
 -- the item of the subject is one of which no state comes, by the settings that the book keeps
-abbrev pub IsBadIn : (List Kept → Item → Type 0) → Subject → Book → Type 0
+abbrev pub IsBadIn : (List Kept → Item → Type 0) → FaultyItem → NamedItems → Type 0
 IsBadIn gives_none subject book = (item : Item) × (book (name_in subject) ≡ Some item) × gives_none (kept_in book) item
 
--- All bodies of the current log count. The one at this gate is the last that says settings, or a channel, and no state comes of what
--- it says, by the settings that are kept.
-pub record HasBadItem (fits : Book → Type 0) (gives_none : List Kept → Item → Type 0) (file : File) (at : ℕ) (image : Image) : Type 0 where
-  pub book : Book
+-- All bodies of the current log count. The one at this gate is the last that says settings, or a
+-- channel, and no state comes of what it says, by the settings that are kept.
+pub record HasBadItem (fits : NamedItems → Type 0) (gives_none : List Kept → Item →
+    Type 0) (file : File) (at : ℕ) (image : Image) : Type 0 where
+  pub book : NamedItems
   pub leads : LeadsTo fits book image
   pub file_is : file ≡ current leads.checkpoints
-  pub subject : Subject
+  pub subject : FaultyItem
   pub item : Item
   pub said : IsLastSaid (name_in subject) item at leads.bodies
   pub none : gives_none (kept_in book) item
 
--- What a mount's fault at a gate says of the image that was read: a body is bad there, or what it says gives no state.
-abbrev pub IsBadStore : (Book → Type 0) → (List Kept → Item → Type 0) → File → ℕ → Image → Type 0
+-- What a mount's fault at a gate says of the image that was read: a body is bad there, or what it
+-- says gives no state.
+abbrev pub IsBadStore : (NamedItems → Type 0) → (List Kept → Item → Type 0) → File → ℕ → Image → Type 0
 IsBadStore fits gives_none file at image = IsBadLog fits file at image ⊎ HasBadItem fits gives_none file at image
 
 -- ---- faults

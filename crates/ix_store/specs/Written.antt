@@ -6,18 +6,18 @@ use Rattle.ix_items.specs.declared.items.Item.{Item}
 use Rattle.ix_items.specs.declared.items.Item.TheVariants as items
 use Rattle.ix_disk.specs.Image.{Image}
 use Rattle.ix_disk.specs.declared.disk.Disk.{Ghosts}
-use Rattle.ix_book.specs.Book.{Book, named, is_same, run_in}
-use Rattle.ix_keep.specs.Reads.{LeadsTo}
-use Rattle.ix_keep.specs.Mounting.{KeepsOneOf}
-use Rattle.ix_keep.specs.Snapshot.{Snapshot, Keeps}
-use Rattle.ix_machine.specs.Given.{Chooser}
-use Rattle.ix_machine.specs.State.{Catalog}
-use Rattle.ix_machine.specs.declared.commands.Order.{Order}
-use Rattle.ix_machine.specs.Done.{IsDone, is_filed}
-use Rattle.ix_machine.specs.Snap.{left, leaves}
+use Rattle.ix_manifest.specs.Book.{NamedItems, named, is_same, run_in}
+use Rattle.ix_commit.specs.Reads.{LeadsTo}
+use Rattle.ix_commit.specs.Mounting.{KeepsOneOf}
+use Rattle.ix_commit.specs.Snapshot.{Snapshot, DecodesTo}
+use Rattle.ix_model.specs.Given.{Chooser}
+use Rattle.ix_model.specs.State.{Catalog}
+use Rattle.ix_model.specs.declared.commands.TimedCommand.{TimedCommand}
+use Rattle.ix_model.specs.Done.{IsDone, is_filed}
+use Rattle.ix_model.specs.Snap.{snapshot_of, snapshot_of_prefix}
 
 -- the book, under which a run and perhaps last removals stand too
-abbrev pub over : ℕ → Option Item → Book → Book
+abbrev pub over : ℕ → Option Item → NamedItems → NamedItems
 over run removed book name =
     if is_same (named 2 [] 0) name then Some (items.Run run)
     else if is_same (named 12 [] 0) name then removed
@@ -30,25 +30,27 @@ pub record IsOf (run : ℕ) (snapshot history : Snapshot) : Type 0 where
   pub contents : snapshot.contents ≡ history.contents
 
 -- An image stands for a run and a history.
-pub record Stands (fits : Book → Type 0) (run : ℕ) (choose : Chooser) (history : List Order) (image : Image) : Type 0 where
+pub record RecoversTo (fits : NamedItems → Type 0) (run : ℕ) (choose : Chooser) (history : List TimedCommand) (image : Image) : Type 0 where
   pub snapshot : Snapshot
-  pub written : IsOf run snapshot (left choose history)
-  pub keeps : Keeps fits snapshot image
+  pub written : IsOf run snapshot (snapshot_of choose history)
+  pub keeps : DecodesTo fits snapshot image
 
--- An image stands for a prefix with at least so many commands, and for this run or a later one; a disk on which nothing was written yet
--- stands for none, which is before all runs.
-abbrev pub StandsFrom : (Book → Type 0) → ℕ → Chooser → List Order → ℕ → Image → Type 0
-StandsFrom fits run choose history k image = KeepsOneOf fits run (leaves choose history) k (length history) image
+-- An image stands for a prefix with at least so many commands, and for this run or a later one; a
+-- disk on which nothing was written yet stands for none, which is before all runs.
+abbrev pub RecoversToPrefix : (NamedItems → Type 0) → ℕ → Chooser → List TimedCommand → ℕ → Image → Type 0
+RecoversToPrefix fits run choose history k image = KeepsOneOf fits run (snapshot_of_prefix choose history) k (length history) image
 
 -- this is the run behind the one that the image keeps, which is 0 where no body counts
-pub record IsNextRun (fits : Book → Type 0) (run : ℕ) (image : Image) : Type 0 where
-  pub found : Book
+pub record IsNextRun (fits : NamedItems → Type 0) (run : ℕ) (image : Image) : Type 0 where
+  pub found : NamedItems
   pub leads : LeadsTo fits found image
   pub is : run ≡ run_in found + 1
 
--- as the disk reads, each file that a bucket or an archive has in the one, and none in the other, is gone
+-- as the disk reads, each file that a bucket or an archive has in the one, and none in the other,
+-- is gone
 abbrev pub AreGone : {D : Type 0} → Ghosts D → D → Catalog → Catalog → Type 0
-AreGone d disk old new = (image : Image) → d.seen disk ≡ Some image → (file : File) → is_filed old file ≡ true → is_filed new file ≡ false → image file ≡ None
+AreGone d disk old new = (image : Image) → d.seen disk ≡ Some image → (file : File) → is_filed old file ≡ true → is_filed new file ≡ false →
+    image file ≡ None
 
 -- files that are done with
 abbrev pub AreDone : Catalog → List File → Type 0

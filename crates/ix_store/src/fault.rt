@@ -4,8 +4,8 @@ ghost use Rattle.std.specs.Prelude.{◌≡◌};
 ghost use Rattle.ix_store.specs.Faults as defs;
 
 use ix_base::File;
+use ix_commit::MountFault as KeptFault;
 use ix_export::BucketFault;
-use ix_keep::MountFault as KeptFault;
 use thiserror::Error;
 
 /// Why no store was mounted.
@@ -14,8 +14,8 @@ pub enum MountFault {
     /// The disk has failed.
     #[error("the disk failed")]
     Disk,
-    /// In this log, behind the gate at this place, stands no body that counts, or one that says settings or a channel of which no state
-    /// comes.
+    /// In this log, behind the gate at this place, stands no body that counts, or one that says
+    /// settings or a channel of which no state comes.
     #[error("the log {file:?} is damaged at byte {at}")]
     Damaged { file: File, at: u64 },
     /// No further run has a number, or a new store has no room for its first body.
@@ -26,7 +26,7 @@ pub enum MountFault {
     NoMemory,
 }
 
-/// What a fault of the keeper is to a store.
+/// What a fault of the committer is to a store.
 pub(crate) fn fault_of(fault: KeptFault) -> MountFault
     ensures { result ≡ defs.fault_of fault }
 {

@@ -12,7 +12,7 @@ use std::alloc::Global;
 
 /// What the commands since the last commit come to.
 #[derive(Drop)]
-pub(crate) struct Group {
+pub(crate) struct CommitGroup {
     /// The files that they are done with.
     pub(crate) done_with: FileList,
     /// How many bytes they brought; the count stands still at its end.
@@ -43,15 +43,15 @@ fn append(list: &mut FileList, files: &[File]) -> Result<(), NoMemory>
     Ok(())
 }
 
-impl Group {
+impl CommitGroup {
     /// No command.
-    pub(crate) fn none(alloc: Global) -> Group
+    pub(crate) fn none(alloc: Global) -> CommitGroup
         ensures done { result.done_with ≡ [] }
         ensures weight { result.weight ≡ 0 }
         ensures turned { result.turned ≡ false }
         ensures waiting { result.waiting ≡ false }
     {
-        Group {
+        CommitGroup {
             done_with: Sequence::new(alloc),
             weight: 0,
             turned: false,
@@ -59,7 +59,8 @@ impl Group {
         }
     }
 
-    /// The item that names the files for removal. Where there are 2^32 of them or more, there is no room for it.
+    /// The item that names the files for removal. Where there are 2^32 of them or more, there is no
+    /// room for it.
     pub(crate) fn removals(&self, alloc: Global) -> Result<Item, NoMemory>
         ensures item { IfOk result (λ item. item ≡ items.Removals self.now.done_with) }
         ensures proper { IfOk result (λ item. HasSpelling item) }
@@ -79,7 +80,7 @@ impl Group {
         files: &[File],
         weight: u64,
         turned: bool,
-    ) -> Result<Group, NoMemory>
+    ) -> Result<CommitGroup, NoMemory>
         ensures done { IfOk result (λ group. group.done_with ≡ self.now.done_with ++ files.now) }
         ensures weight { IfOk result (λ group. group.weight ≡ capped (self.now.weight + weight)) }
         ensures turned { IfOk result (λ group. group.turned ≡ (self.now.turned || turned)) }
@@ -88,7 +89,7 @@ impl Group {
         let mut done_with = Sequence::new(alloc);
         append(&mut done_with, self.done_with.as_slice())?;
         append(&mut done_with, files)?;
-        Ok(Group {
+        Ok(CommitGroup {
             done_with,
             weight: self.weight.saturating_add(weight),
             turned: self.turned || turned,
@@ -103,7 +104,7 @@ impl Group {
         files: &[File],
         weight: u64,
         turned: bool,
-    ) -> Result<(Group, Item), NoMemory>
+    ) -> Result<(CommitGroup, Item), NoMemory>
         ensures done { IfOk result (λ both. both.0.done_with ≡ self.now.done_with ++ files.now) }
         ensures weight { IfOk result (λ both. both.0.weight ≡ capped (self.now.weight + weight)) }
         ensures turned { IfOk result (λ both. both.0.turned ≡ (self.now.turned || turned)) }

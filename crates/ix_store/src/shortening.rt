@@ -1,7 +1,8 @@
-//! A checkpoint of a store: its log grows with each commit, and a checkpoint makes it short. Whoever serves requests, or runs a command
-//! of the program, makes one where the log is long.
+//! A checkpoint of a store: its log grows with each commit, and a checkpoint makes it short.
+//! Whoever serves requests, or runs a command of the program, makes one where the log is long.
 
-ghost use Rattle.std.specs.Prelude.{◌≡◌, ◌≤◌, ◌<◌, ◌-◌, ◌+◌, ◌^◌, ◌↔◌, ◌++◌, ℕ, Bool, List, [], ◌∷◌, length, Option, Some, IfOk, OnOk, IsErrOf, IsTrue, true};
+ghost use Rattle.std.specs.Prelude.{◌≡◌, ◌≤◌, ◌<◌, ◌-◌, ◌+◌, ◌^◌, ◌↔◌, ◌++◌, ℕ, Bool, List, [], ◌∷◌, length, Option, Some, IfOk, OnOk};
+ghost use Rattle.std.specs.Prelude.{IsErrOf, IsTrue, true};
 ghost use Rattle.std.specs.List.{AllByRecursion};
 ghost use Rattle.ix_base.specs.Faults.{Rose};
 ghost use Rattle.ix_base.specs.Told.{Told};
@@ -11,24 +12,24 @@ ghost use Rattle.ix_disk.specs.Moments.{Always};
 ghost use Rattle.ix_items.specs.Spelling.{body_bytes};
 ghost use Rattle.ix_items.specs.declared.items.Item.{Item};
 ghost use Rattle.ix_items.specs.declared.items.Item.TheVariants as items;
-ghost use Rattle.ix_book.specs.Book.{empty, replay};
-ghost use Rattle.ix_book.specs.Whole.{HasTold};
-ghost use Rattle.ix_keep.specs.Contents.{Anyhow};
-ghost use Rattle.ix_keep.specs.Shortening.{IsShortest};
-ghost use Rattle.ix_keep.specs.Snapshot.{IsOver, IsIdle, IsMeasured, IsLong};
-ghost use Rattle.ix_machine.specs.Given.{Chooser};
-ghost use Rattle.ix_machine.specs.declared.commands.Order.{Order};
-ghost use Rattle.ix_machine.specs.Snap.{left};
-ghost use Rattle.ix_store.specs.Written.{over, Stands};
+ghost use Rattle.ix_manifest.specs.Book.{empty, replay};
+ghost use Rattle.ix_manifest.specs.Whole.{HasTold};
+ghost use Rattle.ix_commit.specs.Contents.{Anyhow};
+ghost use Rattle.ix_commit.specs.Shortening.{IsShortest};
+ghost use Rattle.ix_commit.specs.Snapshot.{LogsAtEnd, NothingStaged, KnowsLogLength, IsLong};
+ghost use Rattle.ix_model.specs.Given.{Chooser};
+ghost use Rattle.ix_model.specs.declared.commands.TimedCommand.{TimedCommand};
+ghost use Rattle.ix_model.specs.Snap.{snapshot_of};
+ghost use Rattle.ix_store.specs.Written.{over, RecoversTo};
 ghost use Rattle.ix_store.specs.Telling.{with_run};
 
-use crate::memory::Memory;
+use crate::memory::StoreMemory;
 use crate::store::Store;
 use ix_base::NoMemory;
-use ix_book::{CheckpointFault, Whole};
+use ix_commit::checkpoint;
 use ix_disk::Disk;
 use ix_items::Item;
-use ix_keep::checkpoint;
+use ix_manifest::{CheckpointFault, Whole};
 use std::alloc::Global;
 use thiserror::Error;
 
@@ -44,7 +45,7 @@ pub enum ListFault {
 }
 
 /// A state in memory that tells its items, one by one, for a checkpoint.
-pub trait Listing: Memory {
+pub trait Listing: StoreMemory {
     /// How far a walk over the items has come.
     type Walk: Drop;
 
@@ -57,12 +58,14 @@ pub trait Listing: Memory {
     /// Begins a walk over the items of the state. Nothing is changed.
     fn walk(&self, alloc: Global) -> Result<Self::Walk, ListFault>
         // They lead to what the history has left in the log.
-        ensures listed { IfOk result (λ walk. (choose : Chooser) (history : List Order) → Self.is_chooser choose → AllByRecursion Self.takes history → Self.holds choose history self.now →
-            replay (ahead self.now walk) empty ≡ (left choose history).book) }
+        ensures listed { IfOk result (λ walk. (choose : Chooser) (history : List TimedCommand) → Self.is_chooser choose →
+            AllByRecursion Self.takes history → Self.holds choose history self.now →
+            replay (ahead self.now walk) empty ≡ (snapshot_of choose history).book) }
         // They have room in one body, with the run and the last removals.
         ensures walks { IfOk result (λ walk. is_sound self.now walk ≡ true) }
         ensures short { IfOk result (λ walk. length (body_bytes (ahead self.now walk)) < 2 ^ 32 - 64) }
-        ensures sound { IsErrOf result ListFault.TooLong → (choose : Chooser) (history : List Order) → Self.is_chooser choose → AllByRecursion Self.takes history → Self.holds choose history self.now → ⊥ };
+        ensures sound { IsErrOf result ListFault.TooLong → (choose : Chooser) (history : List TimedCommand) → Self.is_chooser choose →
+            AllByRecursion Self.takes history → Self.holds choose history self.now → ⊥ };
 
     /// The next item, none behind the last one. After a fault the walk is not used again.
     fn next(&self, alloc: Global, walk: &mut Self::Walk) -> Result<Option<Item>, NoMemory>
@@ -71,8 +74,10 @@ pub trait Listing: Memory {
         ensures told { IfOk result (λ item. HasTold item (ahead self.now walk.old) (ahead self.now walk.new)) };
 
     /// What fits still does where the one file that is done with is that of a log.
-    ghost fits_with_log: { (choose : Chooser) (history : List Order) (run : ℕ) (removed : Option Item) (log : File) → log.area ≡ Meta → log.number < 2 ^ 63 →
-        Self.Book.fits (over run removed (left choose history).book) → Self.Book.fits (over run (Some (items.Removals (log ∷ []))) (left choose history).book) };
+    ghost fits_with_log: { (choose : Chooser) (history : List TimedCommand) (run : ℕ) (removed : Option Item) (log : File) →
+        log.area ≡ Meta → log.number < 2 ^ 63 →
+        Self.Book.fits (over run removed (snapshot_of choose history).book) →
+        Self.Book.fits (over run (Some (items.Removals (log ∷ []))) (snapshot_of choose history).book) };
 }
 
 /// A walk over the items of a state, and behind them the run that writes them.
@@ -100,45 +105,49 @@ impl<M: Listing> Whole for Telling<'_, M> {
 }
 
 impl<M: Listing + Drop> Store<M> {
-    ghost use Rattle.ix_store.specs.Holding.{Holds};
+    ghost use Rattle.ix_store.specs.Holding.{Represents};
 
-    /// Whether the current log is long: it has at least 8,388,608 bytes, and at least twice those of its first body. Then a checkpoint
-    /// makes it shorter.
+    /// Whether the current log is long: it has at least 8,388,608 bytes, and at least twice those
+    /// of its first body. Then a checkpoint makes it shorter.
     pub fn wants_checkpoint(&self) -> bool
-        ensures { IsTrue result ↔ IsLong self.now.keeper.bytes self.now.keeper.first }
+        ensures { IsTrue result ↔ IsLong self.now.committer.bytes self.now.committer.first }
     {
-        self.keeper.wants_checkpoint()
+        self.committer.wants_checkpoint()
     }
 
-    /// Makes the current log short: writes the whole state as the one body of a further log, which is the current one from then on, and
-    /// removes the old one. All commands are committed before, and none is staged.
-    /// After `NoMemory` the store is as it was, and the old log is the current one. After `Disk` the store is closed.
+    /// Makes the current log short: writes the whole state as the one body of a further log, which
+    /// is the current one from then on, and removes the old one. All commands are committed before,
+    /// and none is staged. After `NoMemory` the store is as it was, and the old log is the current
+    /// one. After `Disk` the store is closed.
     pub fn checkpoint<D: Disk>(&mut self, disk: &mut D) -> Result<(), CheckpointFault>
-        requires over { IsOver D.Disk self.old.keeper disk.old }
-        requires idle { IsIdle self.old.keeper }
+        requires over { LogsAtEnd D.Disk self.old.committer disk.old }
+        requires idle { NothingStaged self.old.committer }
         // Every image since the start stands for all commands.
-        ensures images { (choose : Chooser) (history : List Order) (base : ℕ) → M.is_chooser choose → AllByRecursion M.takes history →
-            Holds D.Disk M.Book.fits M.holds choose history base (length history) self.old disk.old →
-            Always D.Disk disk.old disk.new (Stands M.Book.fits self.old.run choose history) }
+        ensures images { (choose : Chooser) (history : List TimedCommand) (base : ℕ) → M.is_chooser choose →
+            AllByRecursion M.takes history →
+            Represents D.Disk M.Book.fits M.holds choose history base (length history) self.old disk.old →
+            Always D.Disk disk.old disk.new (RecoversTo M.Book.fits self.old.run choose history) }
         // After Ok store and disk hold them, in the new log.
-        ensures done { (choose : Chooser) (history : List Order) (base : ℕ) → M.is_chooser choose → AllByRecursion M.takes history →
-            Holds D.Disk M.Book.fits M.holds choose history base (length history) self.old disk.old →
-            OnOk result (Holds D.Disk M.Book.fits M.holds choose history base (length history) self.new disk.new) }
+        ensures done { (choose : Chooser) (history : List TimedCommand) (base : ℕ) → M.is_chooser choose → AllByRecursion M.takes history →
+            Represents D.Disk M.Book.fits M.holds choose history base (length history) self.old disk.old →
+            OnOk result (Represents D.Disk M.Book.fits M.holds choose history base (length history) self.new disk.new) }
         // It has one body, and 6 bytes more than that has.
-        ensures shortest { OnOk result (IsShortest D.Disk self.new.keeper disk.new) }
+        ensures shortest { OnOk result (IsShortest D.Disk self.new.committer disk.new) }
         // What the next commit and the next checkpoint ask for.
-        ensures over { OnOk result (IsOver D.Disk self.new.keeper disk.new) }
-        ensures idle { OnOk result (IsIdle self.new.keeper) }
-        ensures measured { OnOk result (IsMeasured D.Disk self.new.keeper disk.new) }
+        ensures over { OnOk result (LogsAtEnd D.Disk self.new.committer disk.new) }
+        ensures idle { OnOk result (NothingStaged self.new.committer) }
+        ensures measured { OnOk result (KnowsLogLength D.Disk self.new.committer disk.new) }
         // For want of memory all is as it was: the store holds what it held, and may go on.
         ensures memory { IsErrOf result CheckpointFault.NoMemory → self.new ≡ self.old }
-        ensures held_still { IsErrOf result CheckpointFault.NoMemory → (choose : Chooser) (history : List Order) (base : ℕ) → M.is_chooser choose → AllByRecursion M.takes history →
-            Holds D.Disk M.Book.fits M.holds choose history base (length history) self.old disk.old →
-            Holds D.Disk M.Book.fits M.holds choose history base (length history) self.new disk.new }
-        ensures over_still { IsErrOf result CheckpointFault.NoMemory → IsOver D.Disk self.new.keeper disk.new }
-        ensures measured_still { IsErrOf result CheckpointFault.NoMemory → IsMeasured D.Disk self.old.keeper disk.old → IsMeasured D.Disk self.new.keeper disk.new }
+        ensures held_still { IsErrOf result CheckpointFault.NoMemory → (choose : Chooser) (history : List TimedCommand) (base : ℕ) →
+            M.is_chooser choose → AllByRecursion M.takes history →
+            Represents D.Disk M.Book.fits M.holds choose history base (length history) self.old disk.old →
+            Represents D.Disk M.Book.fits M.holds choose history base (length history) self.new disk.new }
+        ensures over_still { IsErrOf result CheckpointFault.NoMemory → LogsAtEnd D.Disk self.new.committer disk.new }
+        ensures measured_still { IsErrOf result CheckpointFault.NoMemory → KnowsLogLength D.Disk self.old.committer disk.old →
+            KnowsLogLength D.Disk self.new.committer disk.new }
         ensures run { self.new.run ≡ self.old.run }
-        ensures closed { IsErrOf result CheckpointFault.Disk → self.new.keeper.closed ≡ true }
+        ensures closed { IsErrOf result CheckpointFault.Disk → self.new.committer.closed ≡ true }
         // A disk that tells what it reads goes on telling.
         ensures told { Told Anyhow (D.Disk.seen disk.old) (D.Disk.seen disk.new) }
         ensures later { D.Disk.faults disk.old ≤ D.Disk.faults disk.new }
@@ -146,8 +155,8 @@ impl<M: Listing + Drop> Store<M> {
     {
         let walk = match self.memory.walk(self.alloc) {
             Ok(walk) => walk,
-            // The items of a state that commands lead to are never too long, so no caller has to tell the two apart: in both the items
-            // have no room, and nothing has changed.
+            // The items of a state that commands lead to are never too long, so no caller has to
+            // tell the two apart: in both the items have no room, and nothing has changed.
             Err(ListFault::TooLong | ListFault::NoMemory) => return Err(CheckpointFault::NoMemory),
         };
         let mut telling = Telling {
@@ -155,6 +164,11 @@ impl<M: Listing + Drop> Store<M> {
             walk,
             run: Some(self.run),
         };
-        checkpoint::<D, M::Book, Telling<'_, M>>(&mut self.keeper, self.alloc, disk, &mut telling)
+        checkpoint::<D, M::Book, Telling<'_, M>>(
+            &mut self.committer,
+            self.alloc,
+            disk,
+            &mut telling,
+        )
     }
 }

@@ -1,6 +1,9 @@
-//! The store. Whoever serves requests, or runs a command of the program, gives it commands and has it commit them.
+//! The store. Whoever serves requests, or runs a command of the program, gives it commands and has
+//! it commit them.
 
-ghost use Rattle.std.specs.Prelude.{◌≡◌, ◌≤◌, ◌<◌, ◌+◌, ◌^◌, ◌++◌, ◌||◌, ◌&&◌, ◌⊎◌, ◌==◌, ◌↔◌, ℕ, List, [], ◌∷◌, length, take, true, false, Option, Some, None, Ok, Err, IfOk, IfErr, OnOk, OnErr, IsErrOf, IsTrue, if◌then◌else◌, is_some, nat_lt, nat_le};
+ghost use Rattle.std.specs.Prelude.{◌≡◌, ◌≤◌, ◌<◌, ◌+◌, ◌^◌, ◌++◌, ◌||◌, ◌&&◌, ◌⊎◌, ◌==◌, ◌↔◌, ℕ, List, [], ◌∷◌, length, take, true, false};
+ghost use Rattle.std.specs.Prelude.{Option, Some, None, Ok, Err, IfOk, IfErr, OnOk, OnErr, IsErrOf, IsTrue, if◌then◌else◌, is_some, nat_lt};
+ghost use Rattle.std.specs.Prelude.{nat_le};
 ghost use Rattle.std.specs.List.{AllByRecursion};
 ghost use Rattle.ix_base.specs.Faults.{Rose};
 ghost use Rattle.ix_base.specs.declared.files.File.{File};
@@ -8,29 +11,29 @@ ghost use Rattle.ix_disk.specs.Image.{Image, bytes_in};
 ghost use Rattle.ix_disk.specs.Moments.{Always};
 ghost use Rattle.ix_items.specs.Spelling.{HasSpelling};
 ghost use Rattle.ix_items.specs.declared.items.Item.TheVariants as items;
-ghost use Rattle.ix_keep.specs.Snapshot.{Snapshot, Stages, IsOver, IsIdle};
-ghost use Rattle.ix_keep.specs.Undo.{IsSame, HasSameLogs};
-ghost use Rattle.ix_machine.specs.Bounds.{IsRefused};
-ghost use Rattle.ix_machine.specs.Given.{Chooser};
-ghost use Rattle.ix_machine.specs.Judged.{draws};
-ghost use Rattle.ix_machine.specs.Step.{after};
-ghost use Rattle.ix_machine.specs.declared.commands.Order.{Order};
+ghost use Rattle.ix_commit.specs.Snapshot.{Snapshot, Stages, LogsAtEnd, NothingStaged};
+ghost use Rattle.ix_commit.specs.Undo.{IsSame, HasSameLogs};
+ghost use Rattle.ix_model.specs.Bounds.{IsRefused};
+ghost use Rattle.ix_model.specs.Given.{Chooser};
+ghost use Rattle.ix_model.specs.Judged.{draws};
+ghost use Rattle.ix_model.specs.Step.{state_after};
+ghost use Rattle.ix_model.specs.declared.commands.TimedCommand.{TimedCommand};
 ghost use Rattle.ix_store.specs.Counting.{is_turn, capped};
 ghost use Rattle.ix_store.specs.Making.{AreProper, IsProper, LeadsThrough, with_last};
 
-use crate::group::Group;
-use crate::memory::{Made, Memory};
+use crate::group::CommitGroup;
+use crate::memory::{Made, StoreMemory};
 use ix_base::NoMemory;
+use ix_commit::{Committer, StageFault, WriteBatch, stage, stage_both};
 use ix_items::Item;
-use ix_keep::{Draft, Keeper, StageFault, stage, stage_both};
-use ix_machine::{Accepted, Command, Order, Refusal};
+use ix_model::{Accepted, Command, Refusal, TimedCommand};
 use std::alloc::Global;
 
 /// A store: the state in memory, what keeps it on a disk, and the numbers of the run.
 pub struct Store<M> {
     pub(crate) alloc: Global,
     pub(crate) memory: M,
-    pub(crate) keeper: Keeper,
+    pub(crate) committer: Committer,
     /// The number of the run, which no other run of the disk has.
     pub(crate) run: u64,
     /// How many numbers the run has drawn.
@@ -38,8 +41,8 @@ pub struct Store<M> {
     /// How many of them are committed.
     pub(crate) committed: u64,
     /// What the commands since the last commit come to.
-    pub(crate) group: Group,
-    /// Whether an export met a fault of the disk, or damage. The keeper says so of a commit.
+    pub(crate) group: CommitGroup,
+    /// Whether an export met a fault of the disk, or damage. The committer says so of a commit.
     pub(crate) closed: bool,
 }
 
@@ -49,7 +52,7 @@ impl<M: Drop> Drop for Store<M> {
         let Store {
             alloc: _,
             memory: _,
-            keeper: _,
+            committer: _,
             run: _,
             drawn: _,
             committed: _,
@@ -82,7 +85,7 @@ fn is_turn(command: &Command) -> bool
 }
 
 /// The draft with one item more.
-fn with_last(draft: Draft, item: Item) -> Result<Draft, NoMemory>
+fn with_last(draft: WriteBatch, item: Item) -> Result<WriteBatch, NoMemory>
     requires draft { IsProper draft }
     requires item { HasSpelling item }
     ensures made { IfOk result (λ made. made ≡ with_last item draft) }
@@ -90,7 +93,7 @@ fn with_last(draft: Draft, item: Item) -> Result<Draft, NoMemory>
 {
     let mut items = draft.items;
     items.push(item)?;
-    Ok(Draft {
+    Ok(WriteBatch {
         pieces: draft.pieces,
         copies: draft.copies,
         items,
@@ -99,62 +102,66 @@ fn with_last(draft: Draft, item: Item) -> Result<Draft, NoMemory>
 
 /// Stages a draft, and one before it where there is one, or nothing.
 fn stage_drafts(
-    keeper: &mut Keeper,
+    committer: &mut Committer,
     alloc: Global,
-    first: Option<Draft>,
-    second: Draft,
+    first: Option<WriteBatch>,
+    second: WriteBatch,
 ) -> Result<(), StageFault>
     requires { AreProper first second }
-    ensures staged { (old new mid to : Snapshot) → Stages keeper.old old new → LeadsThrough first second old new mid to → OnOk result (Stages keeper.new old to) }
-    ensures err { OnErr result (IsSame keeper.old keeper.new) }
-    ensures logs { HasSameLogs keeper.old keeper.new }
-    ensures bytes { keeper.new.bytes ≡ keeper.old.bytes }
+    ensures staged { (old new mid to : Snapshot) → Stages committer.old old new → LeadsThrough first second old new mid to →
+        OnOk result (Stages committer.new old to) }
+    ensures err { OnErr result (IsSame committer.old committer.new) }
+    ensures logs { HasSameLogs committer.old committer.new }
+    ensures bytes { committer.new.bytes ≡ committer.old.bytes }
 {
     match first {
-        None => stage(keeper, alloc, second),
-        Some(first) => stage_both(keeper, alloc, first, second),
+        None => stage(committer, alloc, second),
+        Some(first) => stage_both(committer, alloc, first, second),
     }
 }
 
 /// Stages a draft with one item more, and one before it where there is one, or nothing.
 fn stage_last(
-    keeper: &mut Keeper,
+    committer: &mut Committer,
     alloc: Global,
-    first: Option<Draft>,
-    second: Draft,
+    first: Option<WriteBatch>,
+    second: WriteBatch,
     last: Item,
 ) -> Result<(), NoMemory>
     requires drafts { AreProper first second }
     requires item { HasSpelling last }
-    ensures staged { (old new mid to : Snapshot) → Stages keeper.old old new → LeadsThrough first (with_last last second) old new mid to → OnOk result (Stages keeper.new old to) }
-    ensures err { OnErr result (IsSame keeper.old keeper.new) }
-    ensures logs { HasSameLogs keeper.old keeper.new }
-    ensures bytes { keeper.new.bytes ≡ keeper.old.bytes }
+    ensures staged { (old new mid to : Snapshot) → Stages committer.old old new →
+        LeadsThrough first (with_last last second) old new mid to →
+        OnOk result (Stages committer.new old to) }
+    ensures err { OnErr result (IsSame committer.old committer.new) }
+    ensures logs { HasSameLogs committer.old committer.new }
+    ensures bytes { committer.new.bytes ≡ committer.old.bytes }
 {
     let second = with_last(second, last)?;
-    match stage_drafts(keeper, alloc, first, second) {
+    match stage_drafts(committer, alloc, first, second) {
         Ok(()) => Ok(()),
         Err(_) => Err(NoMemory),
     }
 }
 
-impl<M: Memory + Drop> Store<M> {
-    ghost use Rattle.ix_store.specs.Holding.{Staged, IsAccepted, IsUnchanged, HasSameRun, is_closed};
+impl<M: StoreMemory + Drop> Store<M> {
+    ghost use Rattle.ix_store.specs.Holding.{RepresentsStaged, IsAccepted, IsUnchanged, HasSameRun, is_closed};
 
     /// Stages what was worked out, and takes it, or does nothing.
-    fn take(&mut self, made: Made<M::Next>, turned: bool) -> Result<(), NoMemory>
+    fn take(&mut self, made: Made<M::NextState>, turned: bool) -> Result<(), NoMemory>
         requires proper { AreProper made.first made.second }
         requires room { M.has_room self.old.memory made.next }
-        ensures memory { OnOk result ((choose : Chooser) (history : List Order) → M.ready choose history self.old.memory made.next → M.holds choose history self.new.memory) }
-        ensures staged { (old new mid to : Snapshot) → Stages self.old.keeper old new →
+        ensures memory { OnOk result ((choose : Chooser) (history : List TimedCommand) → M.ready choose history self.old.memory made.next →
+            M.holds choose history self.new.memory) }
+        ensures staged { (old new mid to : Snapshot) → Stages self.old.committer old new →
             LeadsThrough made.first (with_last (items.Removals (self.old.group.done_with ++ made.done_with)) made.second) old new mid to →
-            OnOk result (Stages self.new.keeper old to) }
+            OnOk result (Stages self.new.committer old to) }
         ensures done { OnOk result (self.new.group.done_with ≡ self.old.group.done_with ++ made.done_with) }
         ensures weight { OnOk result (self.new.group.weight ≡ capped (self.old.group.weight + made.weight)) }
         ensures turned { OnOk result (self.new.group.turned ≡ (self.old.group.turned || (turned || is_some made.first))) }
         ensures waiting { OnOk result (self.new.group.waiting ≡ true) }
         ensures same { HasSameRun self.old self.new }
-        ensures bytes { self.new.keeper.bytes ≡ self.old.keeper.bytes }
+        ensures bytes { self.new.committer.bytes ≡ self.old.committer.bytes }
         ensures err { OnErr result (IsUnchanged self.old self.new) }
     {
         let turned = turned || made.first.is_some();
@@ -165,7 +172,8 @@ impl<M: Memory + Drop> Store<M> {
         {
             Ok((group, last)) => self.take_with(made, group, last),
             Err(fault) => {
-                // It is let go by a call: where a function ends early with it, each of its fields is let go there.
+                // It is let go by a call: where a function ends early with it, each of its fields
+                // is let go there.
                 drop(made);
                 Err(fault)
             }
@@ -173,18 +181,31 @@ impl<M: Memory + Drop> Store<M> {
     }
 
     /// Stages what was worked out with one item more, and takes it with the group, or does nothing.
-    fn take_with(&mut self, made: Made<M::Next>, group: Group, last: Item) -> Result<(), NoMemory>
+    fn take_with(
+        &mut self,
+        made: Made<M::NextState>,
+        group: CommitGroup,
+        last: Item,
+    ) -> Result<(), NoMemory>
         requires proper { AreProper made.first made.second }
         requires item { HasSpelling last }
         requires room { M.has_room self.old.memory made.next }
-        ensures memory { OnOk result ((choose : Chooser) (history : List Order) → M.ready choose history self.old.memory made.next → M.holds choose history self.new.memory) }
-        ensures staged { (old new mid to : Snapshot) → Stages self.old.keeper old new → LeadsThrough made.first (with_last last made.second) old new mid to → OnOk result (Stages self.new.keeper old to) }
+        ensures memory { OnOk result ((choose : Chooser) (history : List TimedCommand) → M.ready choose history self.old.memory made.next →
+            M.holds choose history self.new.memory) }
+        ensures staged { (old new mid to : Snapshot) → Stages self.old.committer old new →
+            LeadsThrough made.first (with_last last made.second) old new mid to → OnOk result (Stages self.new.committer old to) }
         ensures group { OnOk result (self.new.group ≡ group) }
         ensures same { HasSameRun self.old self.new }
-        ensures bytes { self.new.keeper.bytes ≡ self.old.keeper.bytes }
+        ensures bytes { self.new.committer.bytes ≡ self.old.committer.bytes }
         ensures err { OnErr result (IsUnchanged self.old self.new) }
     {
-        stage_last(&mut self.keeper, self.alloc, made.first, made.second, last)?;
+        stage_last(
+            &mut self.committer,
+            self.alloc,
+            made.first,
+            made.second,
+            last,
+        )?;
         self.memory.install(made.next);
         self.group = group;
         Ok(())
@@ -195,7 +216,7 @@ impl<M: Memory + Drop> Store<M> {
         ensures number { result ≡ (if draws then Some self.old.drawn else None) }
         ensures drawn { self.new.drawn ≡ (if draws then capped (self.old.drawn + 1) else self.old.drawn) }
         ensures memory { self.new.memory ≡ self.old.memory }
-        ensures keeper { self.new.keeper ≡ self.old.keeper }
+        ensures committer { self.new.committer ≡ self.old.committer }
         ensures run { self.new.run ≡ self.old.run }
         ensures committed { self.new.committed ≡ self.old.committed }
         ensures group { self.new.group ≡ self.old.group }
@@ -209,31 +230,36 @@ impl<M: Memory + Drop> Store<M> {
         Some(number)
     }
 
-    /// Whether an earlier call met a fault of the disk, or damage. A closed store accepts and exports nothing: it is to be mounted again.
+    /// Whether an earlier call met a fault of the disk, or damage. A closed store accepts and
+    /// exports nothing: it is to be mounted again.
     pub fn is_closed(&self) -> bool
         ensures { result ≡ is_closed self.now }
     {
-        self.keeper.is_closed() || self.closed
+        self.committer.is_closed() || self.closed
     }
 
-    /// Accepts a command, or leaves all as it was. It makes no call of a disk: the command is staged for the next commit.
+    /// Accepts a command, or leaves all as it was. It makes no call of a disk: the command is
+    /// staged for the next commit.
     pub fn accept(&mut self, command: Command, moment: i64) -> Result<Accepted, Refusal>
         requires { M.takes (record { command = command; moment = moment }) }
         // An accepted command is behind the others.
-        ensures accepted { IfOk result (λ answer. (choose : Chooser) (history : List Order) (base k : ℕ) (old : Snapshot) → M.is_chooser choose → AllByRecursion M.takes history →
-            Staged M.Book.fits M.holds choose history base k self.old old →
-            IsAccepted M.Book.fits M.holds choose history base k (record { command = command; moment = moment }) self.old self.new old answer) }
+        ensures accepted { IfOk result (λ answer. (choose : Chooser) (history : List TimedCommand) (base k : ℕ) (old : Snapshot) →
+            M.is_chooser choose → AllByRecursion M.takes history →
+            RepresentsStaged M.Book.fits M.holds choose history base k self.old old →
+            IsAccepted M.Book.fits M.holds choose history base k (record { command = command; moment = moment }) self.old self.new old
+            answer) }
         // A refusal has its cause,
-        ensures refused { IfErr result (λ refusal. (choose : Chooser) (history : List Order) (base k : ℕ) (old : Snapshot) → M.is_chooser choose → AllByRecursion M.takes history →
-            Staged M.Book.fits M.holds choose history base k self.old old →
-            IsRefused choose false self.old.drawn (after choose history) (record { command = command; moment = moment }) refusal) }
+        ensures refused { IfErr result (λ refusal. (choose : Chooser) (history : List TimedCommand) (base k : ℕ) (old : Snapshot) →
+            M.is_chooser choose → AllByRecursion M.takes history →
+            RepresentsStaged M.Book.fits M.holds choose history base k self.old old →
+            IsRefused choose false self.old.drawn (state_after choose history) (record { command = command; moment = moment }) refusal) }
         // and leaves all as it was.
         ensures err { OnErr result (IsUnchanged self.old self.new) }
         // After a fault of the disk no command is accepted.
         ensures closed { is_closed self.old ≡ true → result ≡ Err Refusal.Closed }
         // The logs are left alone, and the run goes on.
-        ensures logs { HasSameLogs self.old.keeper self.new.keeper }
-        ensures bytes { self.new.keeper.bytes ≡ self.old.keeper.bytes }
+        ensures logs { HasSameLogs self.old.committer self.new.committer }
+        ensures bytes { self.new.committer.bytes ≡ self.old.committer.bytes }
         ensures run { self.new.run ≡ self.old.run }
     {
         if self.is_closed() {
@@ -242,7 +268,7 @@ impl<M: Memory + Drop> Store<M> {
         }
         let draws = draws(&command);
         let turned = is_turn(&command);
-        let order = Order { command, moment };
+        let order = TimedCommand { command, moment };
         let made = self.memory.prepare(self.alloc, order, self.drawn)?;
         let moved = made.moved;
         match self.take(made, turned) {

@@ -13,11 +13,13 @@ unfolding end_at
 no_end p text place none = rw none refl
 
 -- where the preferred way ends
-an_end : (p : Shape) (text : List ℕ) (place : ℕ) (r : Reached) → slice_get (ways_from p text place) 0 ≡ Some (ends_at r) → end_at p text place ≡ Some r.place
+an_end : (p : Shape) (text : List ℕ) (place : ℕ) (r : Reached) → slice_get (ways_from p text place) 0 ≡ Some (ends_at r) →
+    end_at p text place ≡ Some r.place
 unfolding end_at
 an_end p text place r way = rw way refl
 
-first_end-none : (p : Shape) (text : List ℕ) (from more : ℕ) → ((place : ℕ) → from ≤ place → place ≤ from + more → ways_from p text place ≡ []) → first_end p text from more ≡ None
+first_end-none : (p : Shape) (text : List ℕ) (from more : ℕ) →
+    ((place : ℕ) → from ≤ place → place ≤ from + more → ways_from p text place ≡ []) → first_end p text from more ≡ None
 unfolding first_end
 first_end-none p text from zero none = no_end p text from (none from (omega arith) (omega arith))
 first_end-none p text from (suc more) none =
@@ -25,7 +27,8 @@ first_end-none p text from (suc more) none =
     (first_end-none p text (from + 1) more (λ place low high. none place (omega arith) (omega arith)))
 
 first_end-some : (p : Shape) (text : List ℕ) (from more start end : ℕ) → from ≤ start → start ≤ from + more →
-    ((place : ℕ) → from ≤ place → place < start → ways_from p text place ≡ []) → end_at p text start ≡ Some end → first_end p text from more ≡ Some end
+    ((place : ℕ) → from ≤ place → place < start → ways_from p text place ≡ []) → end_at p text start ≡ Some end →
+    first_end p text from more ≡ Some end
 unfolding first_end
 first_end-some p text from zero start end low high none there =
     let same : start ≡ from = omega arith in
@@ -39,7 +42,8 @@ first_end-some p text from (suc more) start end low high none there =
       | inr big ↦
           let far = big.1 in
           rw (no_end p text from (none from (omega arith) (omega arith)))
-          (first_end-some p text (from + 1) more start end (omega arith) (omega arith) (λ place above below. none place (omega arith) below) there)
+          (first_end-some p text (from + 1) more start end (omega arith) (omega arith) (λ place above below. none place (omega arith) below)
+          there)
     ]
 
 -- the place behind the first match is where that match ends

@@ -18,7 +18,8 @@ abbrev ways_by : Piece → List ℕ → ℕ → ℕ → List Way
 ways_by t text place n = ways t (closed text) (record { place = place; groups = replicate n None })
 
 pub same-ways : (p q : Shape) (text : List ℕ) (place : ℕ) → MeanSame p q → ways_from p text place ≡ ways_from q text place
-same-ways p q text place same = ap (λ (t : Piece). ways_by t text place p.groups) same.trees ∙ ap (ways_by (tree q.rows) text place) same.groups
+same-ways p q text place same = ap (λ (t : Piece). ways_by t text place p.groups) same.trees
+    ∙ ap (ways_by (tree q.rows) text place) same.groups
 
 -- ---- times
 
@@ -42,7 +43,8 @@ same-place (Some p) (Some q) text same = same-first_end p q text 0 (length text)
 abbrev with_prefix : TimeSettings → Option Shape → TimeSettings
 with_prefix t p = record t { prefix = p }
 
-same-read : (t : TimeSettings) (p : Option Shape) (text : List ℕ) (moment : ℤ) → BothMeanSame p t.prefix → read (with_prefix t p) text moment ≡ read t text moment
+same-read : (t : TimeSettings) (p : Option Shape) (text : List ℕ) (moment : ℤ) → BothMeanSame p t.prefix →
+    read (with_prefix t p) text moment ≡ read t text moment
 unfolding read
 same-read t p text moment same =
     ap (λ (o : Option ℕ). option_and_then (λ zone. option_and_then (λ place.
@@ -57,5 +59,7 @@ unfolding time
 same-time t p text arrival last same =
     ap (λ (o : Option ℤ). chosen.settle o (clamped arrival) t.days_ago t.days_hence last) (same-read t p text arrival same)
 
-pub same-times : (a b : TimeSettings) (text : List ℕ) (arrival : ℤ) (last : Option ℤ) → AreSameTime a b → time a text arrival last ≡ time b text arrival last
-same-times a b text arrival last same = ap (λ (t : TimeSettings). time t text arrival last) same.others ∙ same-time b a.prefix text arrival last same.prefix
+pub same-times : (a b : TimeSettings) (text : List ℕ) (arrival : ℤ) (last : Option ℤ) → AreSameTime a b →
+    time a text arrival last ≡ time b text arrival last
+same-times a b text arrival last same = ap (λ (t : TimeSettings). time t text arrival last) same.others
+    ∙ same-time b a.prefix text arrival last same.prefix

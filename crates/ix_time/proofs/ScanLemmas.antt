@@ -1,5 +1,6 @@
 -- The first offset of a window.
-use Rattle.std.proofs.Common.{◌≡◌, ℕ, zero, suc, ◌≤◌, ◌<◌, ℤ, List, [], ◌∷◌, drop, length, Option, Some, None, refl, sym, length-drop, subst, take, ◌-◌, arith}
+use Rattle.std.proofs.Common.{◌≡◌, ℕ, zero, suc, ◌≤◌, ◌<◌, ℤ, List, [], ◌∷◌, drop, length, Option, Some, None, refl, sym, length-drop}
+use Rattle.std.proofs.Common.{subst, take, ◌-◌, arith}
 use Rattle.std.proofs.lemmas.List.{take_all}
 use Rattle.jiff_tz.specs.PosixText.{TzText}
 use Rattle.ix_dates.specs.Known.{PassesOver, ReadsNothing}
@@ -14,7 +15,8 @@ unfolding at_front by_known
 quiet zone arrival text nothing = rw (nothing Iso, nothing Syslog, nothing Access, nothing American) refl
 
 -- so the first time stands behind what is passed over
-skip_first : (zone : TzText) (arrival : ℤ) (n : ℕ) (text : List ℕ) → ((i : ℕ) → i < n → ReadsNothing (drop i text)) → first_time zone arrival text ≡ first_time zone arrival (drop n text)
+skip_first : (zone : TzText) (arrival : ℤ) (n : ℕ) (text : List ℕ) → ((i : ℕ) → i < n → ReadsNothing (drop i text)) →
+    first_time zone arrival text ≡ first_time zone arrival (drop n text)
 unfolding first_time
 skip_first zone arrival zero text quiet_before = refl
 skip_first zone arrival (suc n) [] quiet_before = refl
@@ -22,7 +24,8 @@ skip_first zone arrival (suc n) (b ∷ rest) quiet_before =
     rw (quiet zone arrival (b ∷ rest) (quiet_before 0 (omega arith)))
     (skip_first zone arrival n rest (λ i low. quiet_before (suc i) (omega arith)))
 
-pub passed_over : (zone : TzText) (arrival : ℤ) (text rest : List ℕ) → PassesOver text rest → first_time zone arrival text ≡ first_time zone arrival rest
+pub passed_over : (zone : TzText) (arrival : ℤ) (text rest : List ℕ) → PassesOver text rest →
+    first_time zone arrival text ≡ first_time zone arrival rest
 passed_over zone arrival text rest over = rw over.left (skip_first zone arrival over.count text over.quiet)
 
 -- and it is no longer
@@ -30,7 +33,8 @@ pub no_longer : (text rest : List ℕ) → PassesOver text rest → length rest 
 no_longer text rest over = rw (over.left, length-drop over.count text) (omega arith)
 
 -- a place that gives something, one that gives nothing, and the end
-pub found_here : (zone : TzText) (arrival : ℤ) (text : List ℕ) (t : ℤ) → 1 ≤ length text → Some t ≡ at_front zone arrival text → first_time zone arrival text ≡ Some t
+pub found_here : (zone : TzText) (arrival : ℤ) (text : List ℕ) (t : ℤ) → 1 ≤ length text → Some t ≡ at_front zone arrival text →
+    first_time zone arrival text ≡ Some t
 unfolding first_time
 found_here zone arrival [] t some here = absurd (omega arith)
 found_here zone arrival (b ∷ rest) t some here = rw (sym here) refl
@@ -39,7 +43,8 @@ found_here zone arrival (b ∷ rest) t some here = rw (sym here) refl
 behind_first : (b : ℕ) (text : List ℕ) → take (length (b ∷ text) - 1) (drop 1 (b ∷ text)) ≡ text
 behind_first b text = take_all (length (b ∷ text) - 1) text (omega arith)
 
-pub found_later : (zone : TzText) (arrival : ℤ) (text rest : List ℕ) → 1 ≤ length text → None ≡ at_front zone arrival text → PassesOver (take (length text - 1) (drop 1 text)) rest → first_time zone arrival rest ≡ first_time zone arrival text
+pub found_later : (zone : TzText) (arrival : ℤ) (text rest : List ℕ) → 1 ≤ length text → None ≡ at_front zone arrival text →
+    PassesOver (take (length text - 1) (drop 1 text)) rest → first_time zone arrival rest ≡ first_time zone arrival text
 unfolding first_time
 found_later zone arrival [] rest some none over = absurd (omega arith)
 found_later zone arrival (b ∷ text) rest some none over =
@@ -51,12 +56,14 @@ at_end zone arrival [] none = refl
 at_end zone arrival (b ∷ text) none = absurd (omega arith)
 
 -- nothing at an offset before one that is one further on
-before_later : (read : List ℕ → Option ℤ) (b : ℕ) (rest : List ℕ) (n : ℕ) → read (b ∷ rest) ≡ None → ((i : ℕ) → i < n → read (drop i rest) ≡ None) → (i : ℕ) → i < suc n → read (drop i (b ∷ rest)) ≡ None
+before_later : (read : List ℕ → Option ℤ) (b : ℕ) (rest : List ℕ) (n : ℕ) → read (b ∷ rest) ≡ None →
+    ((i : ℕ) → i < n → read (drop i rest) ≡ None) → (i : ℕ) → i < suc n → read (drop i (b ∷ rest)) ≡ None
 before_later read b rest n none before zero low = none
 before_later read b rest n none before (suc i) low = before i (omega arith)
 
 -- what an offset gives behind a place that gives nothing
-later : (read : List ℕ → Option ℤ) (b : ℕ) (rest : List ℕ) (o : Option ℤ) → read (b ∷ rest) ≡ None → GivesFirst read rest o → GivesFirst read (b ∷ rest) o
+later : (read : List ℕ → Option ℤ) (b : ℕ) (rest : List ℕ) (o : Option ℤ) → read (b ∷ rest) ≡ None → GivesFirst read rest o →
+    GivesFirst read (b ∷ rest) o
 later read b rest None none gives = before_later read b rest (length rest) none gives
 later read b rest (Some t) none gives = record {
   offset = suc (gives.offset);
@@ -75,11 +82,13 @@ here read b rest t reads = record {
 }
 
 -- `first_time` is what its name says
-pub first_offset : (zone : TzText) (arrival : ℤ) (window : List ℕ) → GivesFirst (at_front zone arrival) window (first_time zone arrival window)
+pub first_offset : (zone : TzText) (arrival : ℤ) (window : List ℕ) →
+    GivesFirst (at_front zone arrival) window (first_time zone arrival window)
 unfolding first_time
 first_offset zone arrival [] = λ i low. absurd (omega arith)
 first_offset zone arrival (b ∷ rest) =
-    elim (at_front zone arrival (b ∷ rest)) as (λ o. at_front zone arrival (b ∷ rest) ≡ o → GivesFirst (at_front zone arrival) (b ∷ rest) (or_else o (first_time zone arrival rest))) [
+    elim (at_front zone arrival (b ∷ rest)) as (λ o. at_front zone arrival (b ∷ rest) ≡ o →
+    GivesFirst (at_front zone arrival) (b ∷ rest) (or_else o (first_time zone arrival rest))) [
       | None ↦ λ none. later (at_front zone arrival) b rest (first_time zone arrival rest) none (first_offset zone arrival rest)
       | Some t ↦ λ reads. here (at_front zone arrival) b rest t reads
     ] refl

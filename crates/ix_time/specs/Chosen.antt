@@ -3,7 +3,8 @@ use Rattle.std.specs.Prelude.{ℕ, ℤ, pos, ◌*◌, ◌+ℤ◌, ◌-ℤ◌, �
 use Rattle.ix_time.specs.declared.chosen.Origin.TheVariants.{Read, Last, Arrival}
 use Rattle.ix_time.specs.declared.chosen.TimeFound.{TimeFound}
 
--- not below the arrival less so many days, and not above it and so many days; a day has 86,400 seconds
+-- not below the arrival less so many days, and not above it and so many days; a day has 86,400
+-- seconds
 abbrev pub is_accepted : ℤ → ℤ → ℕ → ℕ → Bool
 is_accepted time arrival ago hence =
     int_le (arrival -ℤ pos (ago * 86_400_000_000)) time && int_le time (arrival +ℤ pos (hence * 86_400_000_000))

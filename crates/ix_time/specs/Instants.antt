@@ -1,12 +1,13 @@
 -- The instant that the fields of a text come to.
-use Rattle.std.specs.Prelude.{ℕ, ℤ, pos, ◌+◌, ◌*◌, ◌%◌, ◌&&◌, nat_le, Bool, true, false, List, Option, Some, None, unwrap_or, option_and_then, if◌then◌else◌}
+use Rattle.std.specs.Prelude.{ℕ, ℤ, pos, ◌+◌, ◌*◌, ◌%◌, ◌&&◌, nat_le, Bool, true, false, List, Option, Some, None, unwrap_or}
+use Rattle.std.specs.Prelude.{option_and_then, if◌then◌else◌}
 use Rattle.jiff_tz.specs.PosixText.{TzText}
-use Rattle.ix_values.specs.declared.formats.Directive.{Directive}
-use Rattle.ix_clock.specs.declared.wall.CivilTime.{CivilTime}
-use Rattle.ix_clock.specs.declared.wall.YearDay.{YearDay}
-use Rattle.ix_clock.specs.declared.wall.YearDay.TheVariants.{InMonth, Ordinal}
-use Rattle.ix_clock.specs.Instant.{instant_of}
-use Rattle.ix_clock.specs.Year.{instant_in_some_year}
+use Rattle.ix_conf_values.specs.declared.formats.Directive.{Directive}
+use Rattle.ix_dates.specs.declared.wall.CivilTime.{CivilTime}
+use Rattle.ix_dates.specs.declared.wall.YearDay.{YearDay}
+use Rattle.ix_dates.specs.declared.wall.YearDay.TheVariants.{InMonth, Ordinal}
+use Rattle.ix_dates.specs.Instant.{instant_of}
+use Rattle.ix_dates.specs.Year.{instant_in_some_year}
 use Rattle.ix_dates.specs.declared.fields.Fields.{Fields}
 use Rattle.ix_dates.specs.declared.fields.Hour.{Hour}
 use Rattle.ix_dates.specs.declared.fields.Hour.TheVariants.{OfDay, OfHalfDay}
@@ -16,7 +17,8 @@ use Rattle.ix_dates.specs.Fields.{no_fields}
 use Rattle.ix_dates.specs.Known.{read_known}
 use Rattle.ix_dates.specs.Text.{match_some}
 
--- that many seconds and microseconds after 1970-01-01T00:00:00Z; the seconds have at most eleven digits
+-- that many seconds and microseconds after 1970-01-01T00:00:00Z; the seconds have at most eleven
+-- digits
 abbrev pub epoch_instant : ℕ → ℕ → Option ℤ
 epoch_instant seconds micros =
     if nat_le seconds 99_999_999_999 && nat_le micros 999_999 then Some (pos (seconds * 1_000_000 + micros)) else None
@@ -30,7 +32,8 @@ date_of_parts None _ _ = None
 abbrev pub date_of : Fields → Option YearDay
 date_of f = date_of_parts f.day_of_year f.month f.day
 
--- The hour from 0 to 23. Of half a day's hours, where `AM` or `PM` says which half, 12 is the first.
+-- The hour from 0 to 23. Of half a day's hours, where `AM` or `PM` says which half, 12 is the
+-- first.
 abbrev pub hour_of_parts : Option Hour → Option Bool → ℕ
 hour_of_parts None afternoon = 0
 hour_of_parts (Some (OfDay h)) afternoon = h

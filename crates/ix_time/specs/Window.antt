@@ -1,5 +1,6 @@
 -- In which part of a text its time is read.
-use Rattle.std.specs.Prelude.{◌≡◌, ℕ, zero, suc, ◌+◌, ◌==◌, ◌≤◌, List, length, take, drop, Option, Some, None, option_map, slice_get, if◌then◌else◌}
+use Rattle.std.specs.Prelude.{◌≡◌, ℕ, zero, suc, ◌+◌, ◌==◌, ◌≤◌, List, length, take, drop, Option, Some, None, option_map, slice_get}
+use Rattle.std.specs.Prelude.{if◌then◌else◌}
 use Rattle.ix_pattern.specs.Rows.{Shape}
 use Rattle.ix_pattern.specs.Ways.{Way, ends_at, edge}
 use Rattle.ix_match.specs.declared.first.Found.{Found}

@@ -4,13 +4,14 @@ ghost use Rattle.std.specs.Prelude.{◌≡◌, ◌≤ℤ◌, pos};
 ghost use Rattle.jiff_tz.specs.PosixText.{tz_view};
 ghost use Rattle.ix_time.specs.Instants as Instants;
 
-use ix_clock::{CivilTime, YearDay, instant_by, instant_in_some_year};
-use ix_dates::{Fields, Hour, KnownFormat, read_all};
-use ix_values::Directive;
+use ix_conf_values::Directive;
+use ix_dates::{
+    CivilTime, Fields, Hour, KnownFormat, YearDay, instant_by, instant_in_some_year, read_all,
+};
 use jiff_tz::posix;
 
-/// The instant of the fields of a text. `None` where they name no day, or there is no such date, time or instant. The arrival is a moment
-/// from 1970 to 2100.
+/// The instant of the fields of a text. `None` where they name no day, or there is no such date,
+/// time or instant. The arrival is a moment from 1970 to 2100.
 #[tactic(auto, unfolding(crate::specs::Instants::instant_of_fields))]
 fn instant_of_fields(zone: &posix::TimeZone, arrival: i64, fields: Fields) -> Option<i64>
     requires low { pos 0 ≤ℤ arrival }

@@ -1,4 +1,5 @@
-//! The time of an event: whether a date reads in a text, which instant it comes to, and which time the event takes.
+//! The time of an event: whether a date reads in a text, which instant it comes to, and which time
+//! the event takes.
 #![tactic(auto)]
 
 mod chosen;

@@ -1,4 +1,5 @@
-//! Whether a text has a date, and the time of an event. A channel makes a reader for the lines and events of a block.
+//! Whether a text has a date, and the time of an event. A channel makes a reader for the lines and
+//! events of a block.
 
 ghost use Rattle.std.specs.Prelude.{◌≡◌, ◌≤ℤ◌, IfOk, IsOk, None, pos, is_some};
 ghost use Rattle.jiff_tz.specs.PosixText.{tz_view};
@@ -10,7 +11,7 @@ use crate::instants::by_format;
 use crate::scan::first_time;
 use crate::window::{finder_of, place_of, window};
 use ix_base::{NoMemory, clamped};
-use ix_match::Finder;
+use ix_match::Regex;
 use ix_props::{TimeFormat, TimeSettings};
 use jiff_tz::posix;
 use std::alloc::Global;
@@ -42,10 +43,11 @@ fn read_in(
     }
 }
 
-/// Reads dates and times by the settings of a channel. Its prefix is written out once for all texts. Contracts see the settings.
+/// Reads dates and times by the settings of a channel. Its prefix is written out once for all
+/// texts. Contracts see the settings.
 pub struct TimeReader<'a> {
     settings: &'a TimeSettings,
-    prefix: Option<Finder>,
+    prefix: Option<Regex>,
 }
 
 /// It is written out, so that each place where one is let go is a call of it, which is proved once.
@@ -94,8 +96,9 @@ impl<'a> TimeReader<'a> {
         Ok(read_in(&zone, arrival_of(moment), &settings.format, window))
     }
 
-    /// Whether a date reads in a line that arrived at this moment, which is first brought between 1970 and 2100. The limits of age are
-    /// of no account. Only the search for a prefix takes memory.
+    /// Whether a date reads in a line that arrived at this moment, which is first brought between
+    /// 1970 and 2100. The limits of age are of no account. Only the search for a prefix takes
+    /// memory.
     pub fn has_date(&self, alloc: Global, line: &[u8], moment: i64) -> Result<bool, NoMemory>
         ensures value { IfOk result (λ has. has ≡ is_some (Times.read self.now line.now moment)) }
         ensures plain { self.now.prefix ≡ None → IsOk result }
@@ -103,10 +106,11 @@ impl<'a> TimeReader<'a> {
         Ok(self.read(alloc, line, moment)?.is_some())
     }
 
-    /// The time of an event, and where it comes from: the instant that its text says, where that is at most so many days before and
-    /// after the arrival as the settings say; else the last one; else the arrival. `last` is the time of the latest earlier event of
-    /// the same stream that was read and accepted. The arrival is first brought between 1970 and 2100. Only the search for a prefix
-    /// takes memory.
+    /// The time of an event, and where it comes from: the instant that its text says, where that is
+    /// at most so many days before and after the arrival as the settings say; else the last one;
+    /// else the arrival. `last` is the time of the latest earlier event of the same stream that was
+    /// read and accepted. The arrival is first brought between 1970 and 2100. Only the search for a
+    /// prefix takes memory.
     #[tactic(auto, unfolding(crate::specs::Times::time))]
     pub fn time_of(
         &self,
@@ -125,8 +129,9 @@ impl<'a> TimeReader<'a> {
     }
 }
 
-/// Whether a date reads in a line that arrived at this moment, which is first brought between 1970 and 2100. The limits of age are of no
-/// account. Only the search for a prefix takes memory. Who asks it of many lines makes a `TimeReader`.
+/// Whether a date reads in a line that arrived at this moment, which is first brought between 1970
+/// and 2100. The limits of age are of no account. Only the search for a prefix takes memory. Who
+/// asks it of many lines makes a `TimeReader`.
 pub fn has_date(
     alloc: Global,
     settings: &TimeSettings,
@@ -141,10 +146,11 @@ pub fn has_date(
     Ok(has)
 }
 
-/// The time of an event, and where it comes from: the instant that its text says, where that is at most so many days before and after the
-/// arrival as the settings say; else the last one; else the arrival. `last` is the time of the latest earlier event of the same stream that was
-/// read and accepted. The arrival is first brought between 1970 and 2100. Only the search for a prefix takes memory. Who asks it of many events
-/// makes a `TimeReader`.
+/// The time of an event, and where it comes from: the instant that its text says, where that is at
+/// most so many days before and after the arrival as the settings say; else the last one; else the
+/// arrival. `last` is the time of the latest earlier event of the same stream that was read and
+/// accepted. The arrival is first brought between 1970 and 2100. Only the search for a prefix takes
+/// memory. Who asks it of many events makes a `TimeReader`.
 pub fn time_of(
     alloc: Global,
     settings: &TimeSettings,

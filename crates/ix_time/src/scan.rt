@@ -27,7 +27,8 @@ fn at_front(zone: &posix::TimeZone, arrival: i64, s: &[u8]) -> Option<i64>
     by_known(zone, arrival, KnownFormat::American, s)
 }
 
-/// What the first offset of a window gives at which one of the formats reads. Most offsets are passed over by a short test.
+/// What the first offset of a window gives at which one of the formats reads. Most offsets are
+/// passed over by a short test.
 pub(crate) fn first_time(zone: &posix::TimeZone, arrival: i64, window: &[u8]) -> Option<i64>
     requires low { pos 0 ≤ℤ arrival }
     requires high { arrival ≤ℤ pos 4_102_444_800_000_000 }

@@ -1,20 +1,21 @@
-//! In which part of a text its time is read: behind the prefix, and as far as the lookahead goes. The readers of times call it.
+//! In which part of a text its time is read: behind the prefix, and as far as the lookahead goes.
+//! The readers of times call it.
 
 ghost use Rattle.std.specs.Prelude.{◌≡◌, ◌≤◌, IfOk, IfSome, IsOk, None, length, take};
 ghost use Rattle.ix_time.specs.Window as Window;
 
 use ix_base::NoMemory;
-use ix_match::Finder;
+use ix_match::Regex;
 use ix_pattern::Pattern;
 use std::alloc::Global;
 
 /// A finder for a pattern, where one is set. Without one nothing is allocated.
-pub fn finder_of(alloc: Global, pattern: &Option<Pattern>) -> Result<Option<Finder>, NoMemory>
+pub fn finder_of(alloc: Global, pattern: &Option<Pattern>) -> Result<Option<Regex>, NoMemory>
     ensures value { IfOk result (λ finder. finder ≡ pattern.now) }
     ensures plain { pattern.now ≡ None → IsOk result }
 {
     match pattern {
-        Some(pattern) => Ok(Some(Finder::new(alloc, pattern.copy()?)?)),
+        Some(pattern) => Ok(Some(Regex::new(alloc, pattern.copy()?)?)),
         None => Ok(None),
     }
 }
@@ -22,7 +23,7 @@ pub fn finder_of(alloc: Global, pattern: &Option<Pattern>) -> Result<Option<Find
 /// The place of the time, if the prefix has a match. Without a prefix nothing is allocated.
 pub(crate) fn place_of(
     alloc: Global,
-    prefix: &Option<Finder>,
+    prefix: &Option<Regex>,
     text: &[u8],
 ) -> Result<Option<usize>, NoMemory>
     ensures value { IfOk result (λ place. place ≡ Window.place_of prefix.now text.now) }

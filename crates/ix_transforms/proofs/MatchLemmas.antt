@@ -1,5 +1,6 @@
 -- The first match and those behind it, step by step.
-use Rattle.std.proofs.Common.{◌≡◌, ℕ, zero, suc, ◌+◌, ◌-◌, ◌<◌, ◌≤◌, List, [], ◌∷◌, length, Option, Some, None, refl, sym, ◌∙◌, ap, arith, inl, inr, add-one}
+use Rattle.std.proofs.Common.{◌≡◌, ℕ, zero, suc, ◌+◌, ◌-◌, ◌<◌, ◌≤◌, List, [], ◌∷◌, length, Option, Some, None, refl, sym, ◌∙◌, ap, arith}
+use Rattle.std.proofs.Common.{inl, inr, add-one}
 use Rattle.std.specs.Prelude.{slice_get, IfSome}
 use Rattle.std.proofs.lemmas.Bool.{cases_lt}
 use Rattle.std.specs.Option.{option_or}
@@ -12,7 +13,8 @@ use Rattle.ix_transforms.specs.Matches.{preferred, first_of, first, behind, and_
 abbrev found_at : ℕ → Reached → Found
 found_at place r = record { start = place; end = r.place; groups = r.groups }
 
-preferred-head : (place : ℕ) (ways : List Way) (r : Reached) → slice_get ways 0 ≡ Some (ends_at r) → preferred place ways ≡ Some (found_at place r)
+preferred-head : (place : ℕ) (ways : List Way) (r : Reached) → slice_get ways 0 ≡ Some (ends_at r) →
+    preferred place ways ≡ Some (found_at place r)
 preferred-head place [] r h = cc
 preferred-head place (ends_at s ∷ ways) r h = let same : s ≡ r = cc in ap (λ (x : Reached). Some (found_at place x)) same
 preferred-head place (edge ∷ ways) r h = cc
@@ -38,7 +40,8 @@ first_of-some (suc n) p text place f low high none here =
     elim (cases_lt place f.start) [
       | inr above ↦
           let e : place ≡ f.start = omega arith in
-          let at : preferred f.start (ways_from p text f.start) ≡ Some f = preferred-head f.start (ways_from p text f.start) (record { place = f.end; groups = f.groups }) here.1 in
+          let at : preferred f.start (ways_from p text f.start) ≡ Some f =
+          preferred-head f.start (ways_from p text f.start) (record { place = f.end; groups = f.groups }) here.1 in
           ap (λ q. option_or (preferred q (ways_from p text q)) (first_of n p text (place + 1))) e
           ∙ ap (λ x. option_or x (first_of n p text (place + 1))) at
       | inl below ↦
@@ -67,7 +70,8 @@ first_of-start : (n : ℕ) (p : Shape) (text : List ℕ) (place : ℕ) (f : Foun
 unfolding first_of
 first_of-start zero p text place f h = cc
 first_of-start (suc n) p text place f h =
-    elim (preferred place (ways_from p text place)) as (λ x. preferred place (ways_from p text place) ≡ x → option_or x (first_of n p text (place + 1)) ≡ Some f → place ≤ f.start) [
+    elim (preferred place (ways_from p text place)) as (λ x. preferred place (ways_from p text place) ≡ x →
+    option_or x (first_of n p text (place + 1)) ≡ Some f → place ≤ f.start) [
       | None ↦ λ e g. let later = first_of-start n p text (place + 1) f g in omega arith
       | Some k ↦ λ e g.
           let same : k ≡ f = cc in
@@ -88,7 +92,8 @@ up_to-enough zero zero p text from h g = refl
 up_to-enough zero (suc m) p text from h g = sym (ap (and_on (λ q. matches_up_to m p text q)) (sym (first-past p text from (omega arith))))
 up_to-enough (suc n) zero p text from h g = ap (and_on (λ q. matches_up_to n p text q)) (sym (first-past p text from (omega arith)))
 up_to-enough (suc n) (suc m) p text from h g =
-    elim (first p text from) as (λ x. first p text from ≡ x → and_on (λ q. matches_up_to n p text q) x ≡ and_on (λ q. matches_up_to m p text q) x) [
+    elim (first p text from) as (λ x. first p text from ≡ x →
+    and_on (λ q. matches_up_to n p text q) x ≡ and_on (λ q. matches_up_to m p text q) x) [
       | None ↦ λ e. refl
       | Some f ↦ λ e.
           let low = first-start p text from f e in
@@ -99,7 +104,8 @@ up_to-step : (n : ℕ) (p : Shape) (text : List ℕ) (from : ℕ) → length tex
     matches_up_to (suc n) p text from ≡ and_on (λ q. matches_up_to (suc n) p text q) (first p text from)
 unfolding matches_up_to
 up_to-step n p text from h =
-    elim (first p text from) as (λ x. first p text from ≡ x → and_on (λ q. matches_up_to n p text q) x ≡ and_on (λ q. matches_up_to (suc n) p text q) x) [
+    elim (first p text from) as (λ x. first p text from ≡ x →
+    and_on (λ q. matches_up_to n p text q) x ≡ and_on (λ q. matches_up_to (suc n) p text q) x) [
       | None ↦ λ e. refl
       | Some f ↦ λ e.
           let low = first-start p text from f e in
@@ -114,7 +120,8 @@ matches-step p text from = rw add-one (up_to-step (length text) p text from (ome
 pub matches-none : (p : Shape) (text : List ℕ) (from : ℕ) → first p text from ≡ None → matches p text from ≡ []
 matches-none p text from e = matches-step p text from ∙ ap (and_on (λ q. matches p text q)) e
 
-pub matches-some : (p : Shape) (text : List ℕ) (from : ℕ) (f : Found) → first p text from ≡ Some f → matches p text from ≡ f ∷ matches p text (behind f)
+pub matches-some : (p : Shape) (text : List ℕ) (from : ℕ) (f : Found) → first p text from ≡ Some f → matches p text from ≡ f
+    ∷ matches p text (behind f)
 matches-some p text from f e = matches-step p text from ∙ ap (and_on (λ q. matches p text q)) e
 
 -- the first of the matches is the first match

@@ -1,5 +1,6 @@
 -- Texts that are cut at a number of bytes, and the spans of groups.
-use Rattle.std.proofs.Common.{◌≡◌, ℕ, zero, suc, ◌≤◌, List, [], ◌∷◌, ◌++◌, take, Option, Some, None, refl, ◌∙◌, ap, subst, arith, append_assoc}
+use Rattle.std.proofs.Common.{◌≡◌, ℕ, zero, suc, ◌≤◌, List, [], ◌∷◌, ◌++◌, take, Option, Some, None, refl, ◌∙◌, ap, subst, arith}
+use Rattle.std.proofs.Common.{append_assoc}
 use Rattle.std.proofs.lemmas.List.{take-take}
 use Rattle.ix_match.specs.Matches.{AllWithin}
 use Rattle.ix_transforms.specs.Writing.{span_at}
@@ -11,7 +12,8 @@ cut-more (suc n) [] b = refl
 cut-more (suc n) (x ∷ a) b = ap (λ l. x ∷ l) (cut-more n a b)
 
 -- the span of a group lies where all do
-pub span-within : (start end k : ℕ) (spans : List (Option (ℕ × ℕ))) (span : ℕ × ℕ) → AllWithin start end spans → span_at spans k ≡ Some span →
+pub span-within : (start end k : ℕ) (spans : List (Option (ℕ × ℕ))) (span : ℕ × ℕ) → AllWithin start end spans →
+    span_at spans k ≡ Some span →
     (start ≤ span.0) × (span.0 ≤ span.1) × (span.1 ≤ end)
 span-within start end k [] span all e = cc
 span-within start end zero (None ∷ spans) span all e = cc

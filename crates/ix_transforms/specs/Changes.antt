@@ -3,8 +3,8 @@ use Rattle.std.specs.Prelude.{List}
 use Rattle.ix_base.specs.declared.events.Event.{Event}
 use Rattle.ix_base.specs.declared.events.Routed.{Routed}
 use Rattle.ix_base.specs.declared.events.Routed.TheVariants.{To, Null}
-use Rattle.ix_values.specs.declared.seds.Sed.{Sed}
-use Rattle.ix_values.specs.declared.transforms.Transform.{Transform}
+use Rattle.ix_conf_values.specs.declared.seds.Sed.{Sed}
+use Rattle.ix_conf_values.specs.declared.transforms.Transform.{Transform}
 use Rattle.ix_transforms.specs.Seds.{changed_text}
 use Rattle.ix_transforms.specs.Transforms.{transformed_by}
 use Rattle.ix_transforms.specs.declared.queues.Queue.{Queue}

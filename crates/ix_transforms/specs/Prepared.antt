@@ -1,8 +1,8 @@
 -- Changes of events that are made ready for many of them.
 use Rattle.std.specs.Prelude.{List}
-use Rattle.ix_values.specs.declared.seds.Sed.{Sed}
-use Rattle.ix_values.specs.declared.seds.Sed.TheVariants as sed
-use Rattle.ix_values.specs.declared.transforms.Transform.{Transform}
+use Rattle.ix_conf_values.specs.declared.seds.Sed.{Sed}
+use Rattle.ix_conf_values.specs.declared.seds.Sed.TheVariants as sed
+use Rattle.ix_conf_values.specs.declared.transforms.Transform.{Transform}
 use Rattle.ix_transforms.specs.declared.seds.SedForm.{SedForm}
 use Rattle.ix_transforms.specs.declared.seds.SedForm.TheVariants.{Replace, Swap}
 

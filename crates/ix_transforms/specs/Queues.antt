@@ -1,9 +1,10 @@
--- An event on its way through the transforms: the values of its keys, with the queue that it goes to.
+-- An event on its way through the transforms: the values of its keys, with the queue that it goes
+-- to.
 use Rattle.std.specs.Prelude.{ℕ, if◌then◌else◌, List, ◌++◌, length, drop, codes, bytes_eq, nat_eq}
 use Rattle.std.specs.List.{starts_with}
 use Rattle.ix_base.specs.declared.events.Event.{Event}
-use Rattle.ix_values.specs.declared.transforms.Key.{Key}
-use Rattle.ix_values.specs.declared.transforms.Key.TheVariants.{Raw, Meta, Queue as QueueKey, Index, Host, Source, Sourcetype}
+use Rattle.ix_conf_values.specs.declared.transforms.Key.{Key}
+use Rattle.ix_conf_values.specs.declared.transforms.Key.TheVariants.{Raw, Meta, Queue as QueueKey, Index, Host, Source, Sourcetype}
 use Rattle.ix_transforms.specs.Seds.{raw_limit}
 use Rattle.ix_transforms.specs.declared.queues.Queue.{Queue}
 use Rattle.ix_transforms.specs.declared.queues.Queue.TheVariants.{IndexQueue, NullQueue}

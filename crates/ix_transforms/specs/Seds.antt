@@ -2,11 +2,11 @@
 use Rattle.std.specs.Prelude.{ℕ, ◌-◌, ◌==◌, if◌then◌else◌, List, [], ◌∷◌, ◌++◌, map, take, drop, fold, slice_range}
 use Rattle.ix_pattern.specs.Rows.{Shape}
 use Rattle.ix_match.specs.declared.first.Found.{Found}
-use Rattle.ix_values.specs.declared.escapes.Part.{Part}
-use Rattle.ix_values.specs.declared.seds.Sed.{Sed}
-use Rattle.ix_values.specs.declared.seds.Sed.TheVariants.{Replace, Swap}
-use Rattle.ix_values.specs.declared.seds.Which.{Which}
-use Rattle.ix_values.specs.declared.seds.Which.TheVariants.{First, All, Nth}
+use Rattle.ix_conf_values.specs.declared.escapes.Part.{Part}
+use Rattle.ix_conf_values.specs.declared.seds.Sed.{Sed}
+use Rattle.ix_conf_values.specs.declared.seds.Sed.TheVariants.{Replace, Swap}
+use Rattle.ix_conf_values.specs.declared.seds.Which.{Which}
+use Rattle.ix_conf_values.specs.declared.seds.Which.TheVariants.{First, All, Nth}
 use Rattle.ix_transforms.specs.Matches.{matches}
 use Rattle.ix_transforms.specs.Writing.{written}
 
@@ -22,7 +22,8 @@ number_of First = 1
 number_of All = 1
 number_of (Nth n) = n
 
--- the text from a place on, with what is written in place of each of these matches; group 0 stands for nothing
+-- the text from a place on, with what is written in place of each of these matches; group 0 stands
+-- for nothing
 abbrev pub replaced : List Part → List ℕ → ℕ → List Found → List ℕ
 replaced parts text from [] = drop from text
 replaced parts text from (f ∷ fs) =

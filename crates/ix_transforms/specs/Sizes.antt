@@ -13,7 +13,8 @@ pub record KeepsSizes (event : Event) : Type 0 where
   pub sourcetype : length event.sourcetype ≤ 4096
   pub meta : length event.meta ≤ 65535
 
--- an event that is kept has a raw text of at most so many bytes, and its other fields keep their sizes where they did before
+-- an event that is kept has a raw text of at most so many bytes, and its other fields keep their
+-- sizes where they did before
 abbrev pub HasSizes : Event → Routed → Type 0
 HasSizes before (To event) = (length event.raw ≤ raw_limit) × (KeepsSizes before → KeepsSizes event)
 HasSizes before Null = Unit {0}

@@ -2,8 +2,8 @@
 use Rattle.std.specs.Prelude.{ℕ, zero, suc, List, [], ◌∷◌, Option, Some, None, slice_get, slice_range}
 use Rattle.std.specs.List.{flat_map}
 use Rattle.std.specs.Option.{option_and_then}
-use Rattle.ix_values.specs.declared.escapes.Part.{Part}
-use Rattle.ix_values.specs.declared.escapes.Part.TheVariants.{Byte, Group}
+use Rattle.ix_conf_values.specs.declared.escapes.Part.{Part}
+use Rattle.ix_conf_values.specs.declared.escapes.Part.TheVariants.{Byte, Group}
 
 -- the span of a group; none where it took no part or is not there
 abbrev pub span_at : List (Option (ℕ × ℕ)) → ℕ → Option (ℕ × ℕ)

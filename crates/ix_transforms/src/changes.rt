@@ -1,8 +1,8 @@
 //! What an event comes to at index time. A channel makes a changer for the events of a block.
 
 ghost use Rattle.std.specs.Prelude.{◌≡◌, All, IfOk};
-ghost use Rattle.ix_values.specs.Seds.{IsApplicable};
-ghost use Rattle.ix_values.specs.Transforms.{HasDestination};
+ghost use Rattle.ix_conf_values.specs.Seds.{IsApplicable};
+ghost use Rattle.ix_conf_values.specs.Transforms.{HasDestination};
 ghost use Rattle.ix_transforms.specs.Changes.{changed, start, outcome};
 ghost use Rattle.ix_transforms.specs.Sizes.{HasSizes, HasMoments};
 
@@ -10,11 +10,12 @@ use crate::queues::{Queue, Queued};
 use crate::seds::{PreparedSeds, change_all, prepare_seds};
 use crate::transforms::{PreparedTransforms, prepare_transforms, transform_all};
 use ix_base::{Event, NoMemory, Routed};
-use ix_values::{SedList, TransformList};
+use ix_conf_values::{SedList, TransformList};
 use std::alloc::Global;
 use std::marker::Model;
 
-/// The changes of a channel, made to many events. Each pattern is written out once. Contracts see the changes.
+/// The changes of a channel, made to many events. Each pattern is written out once. Contracts see
+/// the changes.
 pub struct Changer<'a> {
     seds: PreparedSeds<'a>,
     transforms: PreparedTransforms<'a>,
@@ -86,8 +87,8 @@ impl<'a> Changer<'a> {
         Ok(outcome(queued))
     }
 
-    /// What an event comes to at index time, as `apply` has it. A raw text that no change alters is not copied. Where there is no
-    /// room in memory the event is dropped.
+    /// What an event comes to at index time, as `apply` has it. A raw text that no change alters is
+    /// not copied. Where there is no room in memory the event is dropped.
     pub fn apply(&self, alloc: Global, event: Event) -> Result<Routed, NoMemory>
         requires { All (λ sed. IsApplicable sed) self.now.seds }
         ensures changed { IfOk result (λ routed. routed ≡ changed self.now.seds self.now.transforms event) }
@@ -99,11 +100,13 @@ impl<'a> Changer<'a> {
     }
 }
 
-/// What an event comes to at index time. First each change by SEDCMD is made to its raw text, then each transform, the first
-/// one first, to what the ones before it left. An event that then goes to the null queue is not kept.
+/// What an event comes to at index time. First each change by SEDCMD is made to its raw text, then
+/// each transform, the first one first, to what the ones before it left. An event that then goes to
+/// the null queue is not kept.
 ///
-/// The conditions are those that `Sed::read` and `Transform::read` give. A raw text that no change alters is not copied.
-/// Where there is no room in memory the event is dropped. Who changes many events makes a `Changer`.
+/// The conditions are those that `Sed::read` and `Transform::read` give. A raw text that no change
+/// alters is not copied. Where there is no room in memory the event is dropped. Who changes many
+/// events makes a `Changer`.
 pub fn apply(
     alloc: Global,
     seds: &SedList,

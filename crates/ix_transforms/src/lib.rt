@@ -1,4 +1,5 @@
-//! Changes of events at index time: what SEDCMD does to the raw text, and what transforms do to the fields and to the queue.
+//! Changes of events at index time: what SEDCMD does to the raw text, and what transforms do to the
+//! fields and to the queue.
 #![tactic(auto)]
 
 mod changes;

@@ -1,14 +1,16 @@
-//! Matches of a pattern in a text, one behind the other from the left. Substitutions and transforms call it.
+//! Matches of a pattern in a text, one behind the other from the left. Substitutions and transforms
+//! call it.
 
 ghost use Rattle.std.specs.Prelude.{◌≡◌, ◌+◌, ◌-◌, ◌<◌, ◌≤◌, ◌^◌, length, IfOk, IfSome, slice_get};
 ghost use Rattle.ix_match.specs.Matches.{LiesIn};
 ghost use Rattle.ix_transforms.specs.Matches.{first, behind, matches};
 
 use ix_base::NoMemory;
-use ix_match::{Finder, Found};
+use ix_match::{Found, Regex};
 use std::alloc::Global;
 
-/// Where the search goes on: at the end of a match, or behind the byte at which an empty one stands.
+/// Where the search goes on: at the end of a match, or behind the byte at which an empty one
+/// stands.
 pub fn behind(found: &Found) -> usize
     requires { found.now.start < 2 ^ 63 }
     ensures { result ≡ behind found.now }
@@ -19,7 +21,7 @@ pub fn behind(found: &Found) -> usize
 /// The first match that begins at this place or later. There is none behind the text's end.
 pub fn next_match(
     alloc: Global,
-    pattern: &Finder,
+    pattern: &Regex,
     text: &[u8],
     from: usize,
 ) -> Result<Option<Found>, NoMemory>
@@ -36,7 +38,7 @@ pub fn next_match(
 /// The match of this number, counted from 1.
 pub fn nth_match(
     alloc: Global,
-    pattern: &Finder,
+    pattern: &Regex,
     text: &[u8],
     number: u32,
 ) -> Result<Option<Found>, NoMemory>

@@ -1,11 +1,12 @@
-//! An event on its way through the transforms, with the queue that it goes to: its keys and their values.
+//! An event on its way through the transforms, with the queue that it goes to: its keys and their
+//! values.
 
 ghost use Rattle.std.specs.Prelude.{◌≡◌, ◌++◌, IfOk, OnOk, bytes_eq};
 ghost use Rattle.ix_transforms.specs.Queues.{name_of, queue_or, value_of, limit_of, behind_or, with_value};
 
 use crate::substitution::RAW_LIMIT;
 use ix_base::{Bytes, Event, NoMemory};
-use ix_values::Key;
+use ix_conf_values::Key;
 use std::alloc::Global;
 
 /// Where an event goes.
@@ -95,7 +96,8 @@ fn prefixed(alloc: Global, prefix: &[u8], field: &[u8]) -> Result<Bytes, NoMemor
     Ok(made)
 }
 
-/// Puts what stands behind the prefix into the field. Where the text does not begin with the prefix the field stays.
+/// Puts what stands behind the prefix into the field. Where the text does not begin with the prefix
+/// the field stays.
 fn set_behind(field: &mut Bytes, prefix: &[u8], text: &[u8]) -> Result<(), NoMemory>
     ensures { OnOk result (field.new ≡ behind_or field.old prefix.now text.now) }
 {
@@ -129,7 +131,8 @@ impl Queued {
         }
     }
 
-    /// The event with this value of the key. One that does not have the key's prefix, or is no name of a queue, changes nothing.
+    /// The event with this value of the key. One that does not have the key's prefix, or is no name
+    /// of a queue, changes nothing.
     pub fn with_value(self, key: Key, text: Bytes) -> Result<Queued, NoMemory>
         ensures { IfOk result (λ next. next ≡ with_value key text self) }
     {

@@ -1,14 +1,14 @@
 //! What SEDCMD does to a raw text. The changes of events call it.
 
 ghost use Rattle.std.specs.Prelude.{◌≡◌, All, IfOk};
-ghost use Rattle.ix_values.specs.Seds.{IsApplicable};
+ghost use Rattle.ix_conf_values.specs.Seds.{IsApplicable};
 ghost use Rattle.ix_transforms.specs.Seds.{sed_text, cut, changed_text};
 
 use crate::substitution::{RAW_LIMIT, Substitution};
 use crate::swapping::swap_bytes;
 use ix_base::{Bytes, NoMemory, Sequence};
-use ix_match::Finder;
-use ix_values::{Part, Sed, SedList, Which};
+use ix_conf_values::{Part, Sed, SedList, Which};
+use ix_match::Regex;
 use std::alloc::Global;
 use std::marker::Model;
 
@@ -17,7 +17,7 @@ use std::marker::Model;
 pub enum SedForm<'a> {
     /// Matches of the pattern are replaced by the parts.
     Replace {
-        pattern: Finder,
+        pattern: Regex,
         parts: &'a [Part],
         which: Which,
     },
@@ -28,7 +28,8 @@ pub enum SedForm<'a> {
     },
 }
 
-/// A change that is made to many texts. The pattern of a substitution is written out once. Contracts see the change.
+/// A change that is made to many texts. The pattern of a substitution is written out once.
+/// Contracts see the change.
 pub struct PreparedSed<'a> {
     form: SedForm<'a>,
 }
@@ -44,7 +45,7 @@ impl Drop for PreparedSed<'_> {
 }
 
 impl<'a> Model for PreparedSed<'a> {
-    ghost use Rattle.ix_values.specs.declared.seds.Sed.{Sed};
+    ghost use Rattle.ix_conf_values.specs.declared.seds.Sed.{Sed};
 
     ghost Value = { Sed };
 
@@ -73,7 +74,7 @@ impl<'a> PreparedSed<'a> {
                 parts,
                 which,
             } => SedForm::Replace {
-                pattern: Finder::new(alloc, pattern.copy()?)?,
+                pattern: Regex::new(alloc, pattern.copy()?)?,
                 parts: parts.as_slice(),
                 which: *which,
             },
@@ -122,7 +123,8 @@ pub fn prepare_seds<'a>(alloc: Global, seds: &'a SedList) -> Result<PreparedSeds
     Ok(prepared)
 }
 
-/// The text behind all changes, the first one first. A text that none of them changes is not copied.
+/// The text behind all changes, the first one first. A text that none of them changes is not
+/// copied.
 pub fn change_all(alloc: Global, seds: &PreparedSeds<'_>, text: Bytes) -> Result<Bytes, NoMemory>
     requires { All (λ sed. IsApplicable sed) seds.now }
     ensures { IfOk result (λ changed. changed ≡ changed_text seds.now text) }

@@ -2,7 +2,7 @@
 
 ghost use Rattle.std.specs.Prelude.{◌≡◌, ◌<◌, ◌≤◌, ◌++◌, [], ◌∷◌, length, take, unwrap_or, slice_range, IfOk, OnOk};
 ghost use Rattle.ix_match.specs.Matches.{LiesIn};
-ghost use Rattle.ix_values.specs.Seds.{IsNumbered};
+ghost use Rattle.ix_conf_values.specs.Seds.{IsNumbered};
 ghost use Rattle.ix_transforms.specs.Matches.{behind, matches};
 ghost use Rattle.ix_transforms.specs.Writing.{written};
 ghost use Rattle.ix_transforms.specs.Seds.{replaced, substituted, cut, raw_limit, number_of};
@@ -10,8 +10,8 @@ ghost use Rattle.ix_transforms.specs.Seds.{replaced, substituted, cut, raw_limit
 use crate::matches::{behind, next_match, nth_match};
 use crate::writing::{Groups, add_parts, add_within};
 use ix_base::{Bytes, NoMemory};
-use ix_match::{Finder, Found};
-use ix_values::{Part, Which};
+use ix_conf_values::{Part, Which};
+use ix_match::{Found, Regex};
 use std::alloc::Global;
 
 /// A raw text has at most so many bytes.
@@ -20,7 +20,7 @@ pub const RAW_LIMIT: usize = 8_388_608;
 /// A substitution in a text.
 #[derive(Clone, Copy)]
 pub struct Substitution<'a> {
-    pub pattern: &'a Finder,
+    pub pattern: &'a Regex,
     /// What is written in place of a match.
     pub parts: &'a [Part],
     pub text: &'a [u8],
@@ -44,7 +44,8 @@ impl Substitution<'_> {
         requires room { length out.old ≤ raw_limit }
         requires lies { LiesIn self.now.text.now from self.now.pattern.now.groups found.now }
         ensures room { OnOk result (length out.new ≤ raw_limit) }
-        ensures added { OnOk result (out.new ≡ cut (out.old ++ (slice_range self.now.text.now from found.now.start ++ written self.now.parts.now [] self.now.text.now found.now.groups))) }
+        ensures added { OnOk result (out.new ≡ cut (out.old
+            ++ (slice_range self.now.text.now from found.now.start ++ written self.now.parts.now [] self.now.text.now found.now.groups))) }
     {
         add_within(out, &self.text[from..found.start], RAW_LIMIT)?;
         let groups = Groups {
@@ -70,7 +71,8 @@ impl Substitution<'_> {
     /// The text with this match and all behind it replaced.
     fn replace_all(&self, alloc: Global, first: Found) -> Result<Bytes, NoMemory>
         requires { LiesIn self.now.text.now 0 self.now.pattern.now.groups first }
-        ensures { IfOk result (λ changed. changed ≡ cut (replaced self.now.parts.now self.now.text.now 0 (first ∷ matches self.now.pattern.now self.now.text.now (behind first)))) }
+        ensures { IfOk result (λ changed. changed ≡ cut
+            (replaced self.now.parts.now self.now.text.now 0 (first ∷ matches self.now.pattern.now self.now.text.now (behind first)))) }
     {
         let mut out = Bytes::new(alloc);
         let mut copied = 0;
@@ -84,10 +86,12 @@ impl Substitution<'_> {
         Ok(out)
     }
 
-    /// The text with the chosen matches replaced; `None` where there is no such match, and the text stays as it is.
+    /// The text with the chosen matches replaced; `None` where there is no such match, and the text
+    /// stays as it is.
     pub fn changed(&self, alloc: Global, which: Which) -> Result<Option<Bytes>, NoMemory>
         requires { IsNumbered which }
-        ensures { IfOk result (λ changed. cut (unwrap_or changed self.now.text.now) ≡ cut (substituted self.now.pattern.now self.now.parts.now which self.now.text.now)) }
+        ensures { IfOk result (λ changed. cut (unwrap_or changed self.now.text.now) ≡ cut
+            (substituted self.now.pattern.now self.now.parts.now which self.now.text.now)) }
     {
         let number = number_of(which);
         let Some(found) = nth_match(alloc, self.pattern, self.text, number)? else {

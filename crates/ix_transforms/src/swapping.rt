@@ -5,7 +5,8 @@ ghost use Rattle.ix_transforms.specs.Seds.{swapped};
 
 use ix_base::Bytes;
 
-/// What each byte becomes: one that stands in `from`, at its first place there, the byte at that place of `to`, and any other itself.
+/// What each byte becomes: one that stands in `from`, at its first place there, the byte at that
+/// place of `to`, and any other itself.
 fn table(from: &[u8], to: &[u8]) -> [u8; 256]
     requires { length from.now ≡ length to.now }
     ensures { (b : ℕ) → b < 256 → slice_index result b ≡ swapped from.now to.now b }

@@ -12,15 +12,16 @@ use crate::matches::next_match;
 use crate::queues::{Queued, limit_of};
 use crate::writing::{Groups, add_parts, add_within, first_bytes};
 use ix_base::{Bytes, NoMemory, Sequence};
-use ix_match::{Finder, Found};
-use ix_values::{Key, Transform, TransformList};
+use ix_conf_values::{Key, Transform, TransformList};
+use ix_match::{Found, Regex};
 use std::alloc::Global;
 use std::marker::Model;
 
-/// A transform that is made to many events. Its pattern is written out once. Contracts see the transform.
+/// A transform that is made to many events. Its pattern is written out once. Contracts see the
+/// transform.
 pub struct PreparedTransform<'a> {
     transform: &'a Transform,
-    regex: Finder,
+    regex: Regex,
 }
 
 /// Transforms, the first one first.
@@ -38,7 +39,7 @@ impl Drop for PreparedTransform<'_> {
 
 impl<'a> Model for PreparedTransform<'a> {
     ghost use Rattle.std.specs.Prelude.{◌≡◌};
-    ghost use Rattle.ix_values.specs.declared.transforms.Transform.{Transform};
+    ghost use Rattle.ix_conf_values.specs.declared.transforms.Transform.{Transform};
 
     ghost Value = { Transform };
 
@@ -47,7 +48,8 @@ impl<'a> Model for PreparedTransform<'a> {
     ghost invariant = { λ t. t.regex ≡ t.transform.now.regex };
 }
 
-/// The key that is written: `_meta` where the value is added to the indexed fields, else that of `DEST_KEY`.
+/// The key that is written: `_meta` where the value is added to the indexed fields, else that of
+/// `DEST_KEY`.
 fn destination(transform: &Transform) -> Key
     ensures { result ≡ destination transform.now }
 {
@@ -57,10 +59,11 @@ fn destination(transform: &Transform) -> Key
     }
 }
 
-/// What stays in front of the value, cut to what the key takes: the indexed fields so far, with a space behind them, where the
-/// value is added to them.
+/// What stays in front of the value, cut to what the key takes: the indexed fields so far, with a
+/// space behind them, where the value is added to them.
 fn front(alloc: Global, transform: &Transform, queued: &Queued) -> Result<Bytes, NoMemory>
-    ensures { IfOk result (λ kept. kept ≡ take (limit_of (destination transform.now)) (front transform.now.write_meta queued.now.event.meta)) }
+    ensures { IfOk result (λ kept. kept ≡ take (limit_of (destination transform.now))
+        (front transform.now.write_meta queued.now.event.meta)) }
 {
     let fields = queued.event.meta.as_slice();
     if !transform.write_meta || fields.is_empty() {
@@ -81,7 +84,8 @@ fn value_at_match(
     found: &Found,
 ) -> Result<Bytes, NoMemory>
     requires { LiesIn text.now 0 transform.now.regex.groups found.now }
-    ensures { IfOk result (λ value. value ≡ take (limit_of (destination transform.now)) (front transform.now.write_meta queued.now.event.meta
+    ensures { IfOk result (λ value. value ≡ take (limit_of (destination transform.now))
+        (front transform.now.write_meta queued.now.event.meta
         ++ written transform.now.format (value_of (destination transform.now) queued.now) text.now found.now.groups)) }
 {
     let key = destination(transform);
@@ -107,7 +111,8 @@ fn value_without(
     transform: &Transform,
     queued: &Queued,
 ) -> Result<Option<Bytes>, NoMemory>
-    ensures { IfOk result (λ value. value ≡ option_map (λ text. take (limit_of (destination transform.now)) (front transform.now.write_meta queued.now.event.meta ++ text))
+    ensures { IfOk result (λ value. value ≡ option_map (λ text.
+        take (limit_of (destination transform.now)) (front transform.now.write_meta queued.now.event.meta ++ text))
         transform.now.default_value) }
 {
     let Some(text) = &transform.default_value else {
@@ -127,18 +132,20 @@ impl<'a> PreparedTransform<'a> {
     fn new(alloc: Global, transform: &'a Transform) -> Result<PreparedTransform<'a>, NoMemory>
         ensures { IfOk result (λ prepared. prepared ≡ transform.entry.now) }
     {
-        let regex = Finder::new(alloc, transform.regex.copy()?)?;
+        let regex = Regex::new(alloc, transform.regex.copy()?)?;
         Ok(PreparedTransform { transform, regex })
     }
 
-    /// The value that the destination then has, by the text that is searched; `None` where nothing is written.
+    /// The value that the destination then has, by the text that is searched; `None` where nothing
+    /// is written.
     fn value_given(
         &self,
         alloc: Global,
         queued: &Queued,
         text: &[u8],
     ) -> Result<Option<Bytes>, NoMemory>
-        ensures { IfOk result (λ value. value ≡ option_map (λ given. take (limit_of (destination self.now)) (front self.now.write_meta queued.now.event.meta ++ given))
+        ensures { IfOk result (λ value. value ≡ option_map
+            (λ given. take (limit_of (destination self.now)) (front self.now.write_meta queued.now.event.meta ++ given))
             (given_by self.now (value_of (destination self.now) queued.now) text.now (first self.now.regex text.now 0))) }
     {
         match next_match(alloc, &self.regex, text, 0)? {

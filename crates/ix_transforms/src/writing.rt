@@ -1,11 +1,12 @@
-//! What is written in place of a match, cut at a number of bytes. Substitutions and transforms call it.
+//! What is written in place of a match, cut at a number of bytes. Substitutions and transforms call
+//! it.
 
 ghost use Rattle.std.specs.Prelude.{◌≡◌, ◌≤◌, ◌++◌, length, take, OnOk};
 ghost use Rattle.ix_match.specs.Matches.{AllWithin};
 ghost use Rattle.ix_transforms.specs.Writing.{span_at, group_text, written};
 
 use ix_base::{Bytes, NoMemory};
-use ix_values::Part;
+use ix_conf_values::Part;
 
 /// What the numbers of groups stand for.
 #[derive(Clone, Copy)]
@@ -74,7 +75,8 @@ pub fn add_parts(
     requires room { length out.old ≤ limit }
     requires spans { AllWithin 0 (length groups.now.text.now) groups.now.spans.now }
     ensures room { OnOk result (length out.new ≤ limit) }
-    ensures added { OnOk result (out.new ≡ take limit (out.old ++ written parts.now groups.now.zeroth.now groups.now.text.now groups.now.spans.now)) }
+    ensures added { OnOk result (out.new ≡ take limit (out.old
+        ++ written parts.now groups.now.zeroth.now groups.now.text.now groups.now.spans.now)) }
 {
     for part in parts {
         match part {

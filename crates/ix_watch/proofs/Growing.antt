@@ -1,24 +1,27 @@
 -- Commands that go on with a file have read its first bytes.
-use Rattle.std.proofs.Common.{◌≡◌, ◌≤◌, ◌+◌, ℕ, zero, suc, Bool, true, false, List, [], ◌∷◌, ◌++◌, length, take, drop, map, refl, sym, ap, ◌∙◌, subst, arith, append_assoc}
+use Rattle.std.proofs.Common.{◌≡◌, ◌≤◌, ◌+◌, ℕ, zero, suc, Bool, true, false, List, [], ◌∷◌, ◌++◌, length, take, drop, map, refl, sym, ap}
+use Rattle.std.proofs.Common.{◌∙◌, subst, arith, append_assoc}
 use Rattle.std.specs.Prelude.{Option, Some, None, if◌then◌else◌, bytes_eq}
 use Rattle.std.proofs.lemmas.List.{append-nil, length-append, length-drop, length-take, take-append-drop}
 use Rattle.std.proofs.Math.Seq.{take-append_seam, take-append-add}
 use Rattle.ix_base.specs.Told.{IsFrontOf}
 use Rattle.ix_base.specs.declared.events.Spot.{Spot}
-use Rattle.ix_shelves.specs.Lists.{find}
-use Rattle.ix_machine.specs.Given.{Chooser}
-use Rattle.ix_machine.specs.State.{State, spot_path, empty}
-use Rattle.ix_machine.specs.Step.{spots, step, after_from}
-use Rattle.ix_machine.specs.declared.commands.Command.{Command}
-use Rattle.ix_machine.specs.declared.commands.Command.TheVariants.{Begin, Block, End, Tick, Roll, Thaw, Configure, Direct}
-use Rattle.ix_machine.specs.declared.commands.Order.{Order}
-use Rattle.ix_machine.proofs.Named.{bytes_same}
-use Rattle.ix_machine.proofs.SaidSpots.{find_spot}
-use Rattle.ix_watch.specs.Watching.{channel_of, kept_of, offset_in, bytes_to, all_bytes, GoesOn, IsElsewhere, FollowsBlock, Follows, with_spot, kept_behind, AllFollow, command_of, IsWatched, IsKept, HasRead}
+use Rattle.ix_catalog.specs.Lists.{find}
+use Rattle.ix_model.specs.Given.{Chooser}
+use Rattle.ix_model.specs.State.{State, spot_path, empty}
+use Rattle.ix_model.specs.Step.{spots, step, after_from}
+use Rattle.ix_model.specs.declared.commands.Command.{Command}
+use Rattle.ix_model.specs.declared.commands.Command.TheVariants.{Begin, Block, End, Tick, Roll, Thaw, Configure, Direct}
+use Rattle.ix_model.specs.declared.commands.TimedCommand.{TimedCommand}
+use Rattle.ix_model.proofs.Named.{bytes_same}
+use Rattle.ix_model.proofs.SaidSpots.{find_spot}
+use Rattle.ix_watch.specs.Watching.{channel_of, kept_of, offset_in, bytes_to, all_bytes, GoesOn, IsElsewhere, FollowsBlock, Follows}
+use Rattle.ix_watch.specs.Watching.{with_spot, kept_behind, AllFollow, command_of, IsWatched, IsKept, HasRead}
 
 -- ---- what the machine keeps
 
-kept_step : (path : List ℕ) (m : State) (command : Command) → find spot_path path (spots m command) ≡ kept_behind path (kept_of m path) command
+kept_step : (path : List ℕ) (m : State) (command : Command) →
+    find spot_path path (spots m command) ≡ kept_behind path (kept_of m path) command
 kept_step path m (Begin name meta) = refl
 kept_step path m (Block name bytes None) = refl
 kept_step path m (Block name bytes (Some spot)) = find_spot spot path m.spots
@@ -33,7 +36,7 @@ abbrev pub all_kept : List ℕ → Option Spot → List Command → Option Spot
 all_kept path kept [] = kept
 all_kept path kept (command ∷ commands) = all_kept path (kept_behind path kept command) commands
 
-pub kept_after : (choose : Chooser) (path : List ℕ) (m : State) (history : List Order) →
+pub kept_after : (choose : Chooser) (path : List ℕ) (m : State) (history : List TimedCommand) →
     kept_of (after_from choose m history) path ≡ all_kept path (kept_of m path) (map command_of history)
 kept_after choose path m [] = refl
 kept_after choose path m (order ∷ history) =
@@ -50,7 +53,8 @@ pub record Grew (file : List ℕ) (kept kept' : Option Spot) (more : List ℕ) :
 none_more : (file : List ℕ) (kept : Option Spot) → IsKept file kept → Grew file kept kept []
 none_more file kept lies = record { bytes = sym (append-nil (take (offset_in kept) file)); lies = lies }
 
-take_more : (a : ℕ) (bytes file : List ℕ) → a ≤ length file → IsFrontOf bytes (drop a file) → take (a + length bytes) file ≡ take a file ++ bytes
+take_more : (a : ℕ) (bytes file : List ℕ) → a ≤ length file → IsFrontOf bytes (drop a file) → take (a + length bytes) file ≡ take a file
+    ++ bytes
 take_more a bytes file within front =
     let e : length (take a file) ≡ a = omega (arith, length-take a file, within) in
     ap (λ (k : ℕ). take (k + length bytes) file) (sym e)
@@ -61,7 +65,8 @@ take_more a bytes file within front =
 room_more : (a : ℕ) (bytes file : List ℕ) → a ≤ length file → IsFrontOf bytes (drop a file) → a + length bytes ≤ length file
 room_more a bytes file within front = omega (arith, within, simp (length-drop, length-append) at (ap length front.whole_is))
 
-goes_on : (file path : List ℕ) (kept : Option Spot) (bytes : List ℕ) (spot : Option Spot) → IsKept file kept → GoesOn file path kept bytes spot →
+goes_on : (file path : List ℕ) (kept : Option Spot) (bytes : List ℕ) (spot : Option Spot) → IsKept file kept →
+    GoesOn file path kept bytes spot →
     Grew file kept (with_spot path kept spot) bytes
 goes_on file path kept bytes spot lies on =
     subst (λ (s : Option Spot). Grew file kept (with_spot path kept s) bytes) (sym on.spot_is)
@@ -76,11 +81,14 @@ goes_on file path kept bytes spot lies on =
       lies = record { within = room_more (offset_in kept) bytes file lies.within on.next; head = (on.short, on.begins) };
     }
 
-elsewhere : (file path : List ℕ) (kept : Option Spot) (spot : Option Spot) → IsKept file kept → IsElsewhere path spot → Grew file kept (with_spot path kept spot) []
+elsewhere : (file path : List ℕ) (kept : Option Spot) (spot : Option Spot) → IsKept file kept → IsElsewhere path spot →
+    Grew file kept (with_spot path kept spot) []
 elsewhere file path kept None lies is = none_more file kept lies
-elsewhere file path kept (Some spot) lies is = subst (λ (b : Bool). Grew file kept (if b then Some spot else kept) []) (sym is) (none_more file kept lies)
+elsewhere file path kept (Some spot) lies is = subst (λ (b : Bool). Grew file kept (if b then Some spot else kept) []) (sym is)
+    (none_more file kept lies)
 
-block_grew : (file path : List ℕ) (kept : Option Spot) (bytes : List ℕ) (spot : Option Spot) (b : Bool) → IsKept file kept → FollowsBlock b file path kept bytes spot →
+block_grew : (file path : List ℕ) (kept : Option Spot) (bytes : List ℕ) (spot : Option Spot) (b : Bool) → IsKept file kept →
+    FollowsBlock b file path kept bytes spot →
     Grew file kept (with_spot path kept spot) (if b then bytes else [])
 block_grew file path kept bytes spot true lies on = goes_on file path kept bytes spot lies on
 block_grew file path kept bytes spot false lies on = elsewhere file path kept spot lies on
@@ -98,13 +106,15 @@ grew file path kept (Direct events) lies on = none_more file kept lies
 
 -- ---- many commands
 
-grew_on : (file : List ℕ) (a b c : Option Spot) (more later : List ℕ) → Grew file a b more → Grew file b c later → Grew file a c (more ++ later)
+grew_on : (file : List ℕ) (a b c : Option Spot) (more later : List ℕ) → Grew file a b more → Grew file b c later →
+    Grew file a c (more ++ later)
 grew_on file a b c more later one two = record {
   bytes = two.bytes ∙ ap (λ (l : List ℕ). l ++ later) one.bytes ∙ append_assoc (take (offset_in a) file) more later;
   lies = two.lies;
 }
 
-all_grew : (file path : List ℕ) (kept : Option Spot) (history : List Order) → IsKept file kept → AllFollow file path kept (map command_of history) →
+all_grew : (file path : List ℕ) (kept : Option Spot) (history : List TimedCommand) → IsKept file kept →
+    AllFollow file path kept (map command_of history) →
     Grew file kept (all_kept path kept (map command_of history)) (all_bytes (channel_of path) history)
 all_grew file path kept [] lies on = none_more file kept lies
 all_grew file path kept (order ∷ history) lies on =
@@ -118,12 +128,15 @@ all_grew file path kept (order ∷ history) lies on =
 pub none_kept : (file : List ℕ) → IsKept file None
 none_kept file = record { within = omega arith; head = tt }
 
-pub front_follows : (file path : List ℕ) (kept : Option Spot) (n : ℕ) (history : List Order) → AllFollow file path kept (map command_of history) → AllFollow file path kept (map command_of (take n history))
+pub front_follows : (file path : List ℕ) (kept : Option Spot) (n : ℕ) (history : List TimedCommand) →
+    AllFollow file path kept (map command_of history) → AllFollow file path kept (map command_of (take n history))
 front_follows file path kept zero history on = tt
 front_follows file path kept (suc n) [] on = tt
-front_follows file path kept (suc n) (order ∷ history) on = (on.0, front_follows file path (kept_behind path kept order.command) n history on.1)
+front_follows file path kept (suc n) (order ∷ history) on =
+    (on.0, front_follows file path (kept_behind path kept order.command) n history on.1)
 
-has_read : (choose : Chooser) (file path : List ℕ) (history : List Order) → IsWatched file path history → HasRead file path choose history
+has_read : (choose : Chooser) (file path : List ℕ) (history : List TimedCommand) → IsWatched file path history →
+    HasRead file path choose history
 has_read choose file path history on =
     let all = all_grew file path None history (none_kept file) on in
     let is = kept_after choose path empty history in record {
@@ -131,5 +144,6 @@ has_read choose file path history on =
       kept = subst (λ (kept : Option Spot). IsKept file kept) (sym is) all.lies;
     }
 
-pub watched_is_read : (choose : Chooser) (file path : List ℕ) (history : List Order) (n : ℕ) → IsWatched file path history → HasRead file path choose (take n history)
+pub watched_is_read : (choose : Chooser) (file path : List ℕ) (history : List TimedCommand) (n : ℕ) → IsWatched file path history →
+    HasRead file path choose (take n history)
 watched_is_read choose file path history n on = has_read choose file path (take n history) (front_follows file path None n history on)

@@ -1,5 +1,6 @@
 -- What a visit of one watched file gives to a store, and what it comes to.
-use Rattle.std.specs.Prelude.{◌≡◌, ◌≤◌, ◌<◌, ◌+◌, ◌&&◌, ℕ, Bool, true, false, if◌then◌else◌, List, [], ◌∷◌, ◌++◌, length, take, drop, map, Option, Some, None, codes, decimal}
+use Rattle.std.specs.Prelude.{◌≡◌, ◌≤◌, ◌<◌, ◌+◌, ◌&&◌, ℕ, Bool, true, false, if◌then◌else◌, List, [], ◌∷◌, ◌++◌, length, take, drop, map}
+use Rattle.std.specs.Prelude.{Option, Some, None, codes, decimal}
 use Rattle.std.specs.List.{flat_map}
 use Rattle.ix_base.specs.Told.{IsFrontOf}
 use Rattle.ix_base.specs.declared.events.Spot.{Spot}
@@ -8,9 +9,9 @@ use Rattle.ix_monitor.specs.declared.steps.Seen.{Seen}
 use Rattle.ix_monitor.specs.declared.steps.Step.{Step}
 use Rattle.ix_monitor.specs.declared.steps.Step.TheVariants.{Skip, From, Again}
 use Rattle.ix_monitor.specs.declared.watched.Watched.{Watched}
-use Rattle.ix_machine.specs.declared.commands.Command.{Command}
-use Rattle.ix_machine.specs.declared.commands.Command.TheVariants.{Begin, Block, End}
-use Rattle.ix_machine.specs.declared.commands.Order.{Order}
+use Rattle.ix_model.specs.declared.commands.Command.{Command}
+use Rattle.ix_model.specs.declared.commands.Command.TheVariants.{Begin, Block, End}
+use Rattle.ix_model.specs.declared.commands.TimedCommand.{TimedCommand}
 use Rattle.ix_watch.specs.declared.visited.Visited.{Visited}
 use Rattle.ix_watch.specs.declared.visited.Visited.TheVariants.{Missing, Skipped, ReadOn, ReadAgain}
 use Rattle.ix_watch.specs.Watching.{channel_of, command_of, AllFollow, IsKept}
@@ -31,7 +32,8 @@ AreBlocks (block ∷ next ∷ blocks) = IsFull block × AreBlocks (next ∷ bloc
 
 -- ---- the commands of a visit
 
--- What is found of a file: how many bytes it has and the first of them, and in blocks those that are read.
+-- What is found of a file: how many bytes it has and the first of them, and in blocks those that
+-- are read.
 pub record Found : Type 0 where
   pub seen : Seen
   pub blocks : List (List ℕ)
@@ -64,7 +66,8 @@ ends file false = []
 -- All commands of a visit, by whether the channel is open before, and whether it is to be ended.
 abbrev pub visit_by : Step → Watched → Found → Bool → Bool → List Command
 visit_by Skip file found is_open close = ends file (is_open && close)
-visit_by (From place) file found is_open close = begins file is_open ++ (adds file.path found.seen.head place found.blocks ++ ends file close)
+visit_by (From place) file found is_open close = begins file is_open
+    ++ (adds file.path found.seen.head place found.blocks ++ ends file close)
 visit_by Again file found is_open close = begins_anew file is_open ++ (adds file.path found.seen.head 0 found.blocks ++ ends file close)
 
 abbrev pub visit : Watched → Option Spot → Found → Bool → Bool → List Command
@@ -104,7 +107,8 @@ end_by Skip found = 0
 end_by (From place) found = place + length (joined found.blocks)
 end_by Again found = length (joined found.blocks)
 
--- What is read ends within the size first seen, and is cut into blocks that are full but for the last one.
+-- What is read ends within the size first seen, and is cut into blocks that are full but for the
+-- last one.
 pub record IsRead (kept : Option Spot) (found : Found) : Type 0 where
   pub sizes : AreBlocks found.blocks
   pub within : end_by (plan found.seen kept) found ≤ found.seen.size
@@ -120,7 +124,8 @@ read_by Skip bytes = []
 read_by (From place) bytes = drop place bytes
 read_by Again bytes = bytes
 
--- What is found of a file that has these bytes; all of them are read, or a first part where the visit is stopped.
+-- What is found of a file that has these bytes; all of them are read, or a first part where the
+-- visit is stopped.
 pub record IsFound (bytes : List ℕ) (kept : Option Spot) (found : Found) : Type 0 where
   pub seen : found.seen ≡ seen_of bytes
   pub read : IsFrontOf (joined found.blocks) (read_by (plan found.seen kept) bytes)
@@ -136,13 +141,15 @@ IsFoundIn whole kept (Some found) (Some bytes) =
 -- ---- the law
 
 -- The first of the commands of a visit.
-pub record IsFrontOfVisit (file : Watched) (kept : Option Spot) (found : Found) (is_open close : Bool) (orders : List Order) : Type 0 where
-  pub rest : List Command
-  pub commands : visit file kept found is_open close ≡ map command_of orders ++ rest
+pub record IsFrontOfVisit (file : Watched) (kept : Option Spot) (found : Found) (is_open close : Bool) (orders : List TimedCommand) : Type 0
+  where
+    pub rest : List Command
+    pub commands : visit file kept found is_open close ≡ map command_of orders ++ rest
 
--- A visit of a file in which lies what is kept of it goes on with it, however many of its commands are given.
+-- A visit of a file in which lies what is kept of it goes on with it, however many of its commands
+-- are given.
 abbrev pub VisitsFollow : Type 0
 VisitsFollow =
-    (file : Watched) (bytes : List ℕ) (kept : Option Spot) (found : Found) (is_open close : Bool) (orders : List Order) →
+    (file : Watched) (bytes : List ℕ) (kept : Option Spot) (found : Found) (is_open close : Bool) (orders : List TimedCommand) →
     IsKept bytes kept → IsFound bytes kept found → IsFrontOfVisit file kept found is_open close orders →
     AllFollow bytes file.path kept (map command_of orders)

@@ -1,5 +1,5 @@
-//! What passes over watched files give to a store, and the laws that a file which only grows is taken once and in order. Whoever reasons about a run that
-//! watches files cites them.
+//! What passes over watched files give to a store, and the laws that a file which only grows is
+//! taken once and in order. Whoever reasons about a run that watches files cites them.
 #![tactic(auto)]
 
 mod laws;

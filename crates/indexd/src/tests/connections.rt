@@ -9,7 +9,7 @@ use crate::tests::runs::{
 use crate::tests::steps::{Step, take_all};
 use ix_base::FailPlan;
 use ix_disk::MemDisk;
-use ix_link::{MemLink, MemLinkList, MemListener};
+use ix_net::{MemLink, MemLinkList, MemListener};
 use std::alloc::Global;
 use std::process::Abort;
 

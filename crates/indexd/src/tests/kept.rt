@@ -1,7 +1,7 @@
 //! What a store keeps of the files of a tree.
 
 use crate::tests::runs::{compare, tree_at};
-use indexd_config::read_config;
+use indexd_settings::read_config;
 use ix_base::{Bytes, FailPlan};
 use ix_items::{Kept, KeptList};
 use std::alloc::Global;

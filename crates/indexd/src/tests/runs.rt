@@ -4,8 +4,8 @@
 use indexd_core::{Status, top};
 use ix_base::{Bytes, Clock, FailPlan, MemClock, MemSink, MemSource, Sink, Source, Text};
 use ix_disk::{Disk, MemDisk};
-use ix_link::{Listener, MemLinkList, MemListener};
-use ix_tree::{MemTree, Tree, TreeFile, TreeFileList};
+use ix_fs::{MemTree, Tree, TreeFile, TreeFileList};
+use ix_net::{Listener, MemLinkList, MemListener};
 use std::alloc::Global;
 use std::process::Abort;
 

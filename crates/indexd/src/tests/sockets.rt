@@ -8,7 +8,7 @@ use crate::tests::runs::{DEFAULT, NOON, compare, compare_texts, disk_of, run_of,
 use crate::tests::steps::{Step, take_all};
 use ix_base::Failed;
 use ix_disk::MemDisk;
-use ix_link::{Listener, TcpLink, TcpListen};
+use ix_net::{Listener, TcpLink, TcpListen};
 use std::alloc::Global;
 use std::io::{Read, Write};
 use std::net::{Ipv4Addr, Net, OpenStream, Shutdown, SocketAddr, TcpStream};
@@ -78,7 +78,7 @@ fn texts_of(alloc: Global, exchanges: Exchanges<'_>) -> Vec<String> {
 fn dialer_of(rt: &HostRuntime) -> Result<Dialer<HostRuntime>, Fail> {
     Ok(Dialer {
         rt: rt.clone()?,
-        inner: TcpListen::new(rt.clone()?),
+        inner: TcpListen::new(rt.alloc(), rt.clone()?),
         requests: texts_of(rt.alloc(), CHANNELS),
         senders: Vec::new(rt.alloc()),
     })

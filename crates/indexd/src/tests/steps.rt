@@ -2,7 +2,7 @@
 
 use crate::tests::exchanges::{Exchanges, feeds};
 use crate::tests::runs::{Files, PIECE, Run, Task, compare, disk_of, run_of, said, told};
-use indexd_core::Tier;
+use indexd_core::StateMachine;
 use ix_base::{Area, Bytes, File};
 use ix_disk::{Disk, MemDisk};
 use ix_store::Store;
@@ -222,13 +222,13 @@ fn change(
     put_at(disk, file, place as u64, bytes)
 }
 
-fn listing_of(alloc: Global, store: &Store<Tier>) -> Bytes {
+fn listing_of(alloc: Global, store: &Store<StateMachine>) -> Bytes {
     ix_report::listing(alloc, store.view()).unwrap_or(Bytes::new(alloc))
 }
 
 /// Whether a store makes the checkpoint that it is asked for, and its listing stays as it was.
 fn keeps_its_listing(alloc: Global, disk: &mut MemDisk) -> bool {
-    let Ok(mut store) = Store::<Tier>::mount(alloc, disk) else {
+    let Ok(mut store) = Store::<StateMachine>::mount(alloc, disk) else {
         return false;
     };
     let before = listing_of(alloc, &store);

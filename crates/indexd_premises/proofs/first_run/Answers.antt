@@ -13,8 +13,10 @@ returns-clause-task g c = λ asks.
     let leaves = c.runs_leave.ensures.tasked b.0 [] 0 0 _ _ _ _ _ _ _ _ _ _ _ b.1 comes.2 in
     record {
       choose = b.0;
-      again = c.the_next_run_may_begin.ensures.anywhere b.0 [] 0 0 _ _ _ _ b.1 leaves told.1 (c.an_exit_is_a_stop.ensures b.0 [] 0 0 _ _ leaves);
-      whole = λ is. of_whole _ _ _ _ _ _ _ _ _ _ is (λ out. not_out _ _ _ _ is out.1) (λ config come. of_comes b.0 b.1 _ config _ _ _ _ _ _ _ _ _ told is come) comes.2;
+      again = c.the_next_run_may_begin.ensures.anywhere b.0 [] 0 0 _ _ _ _ b.1 leaves told.1
+          (c.an_exit_is_a_stop.ensures b.0 [] 0 0 _ _ leaves);
+      whole = λ is. of_whole _ _ _ _ _ _ _ _ _ _ is (λ out. not_out _ _ _ _ is out.1)
+          (λ config come. of_comes b.0 b.1 _ config _ _ _ _ _ _ _ _ _ told is come) comes.2;
     }
 
 pub returns-clause-stored : goal.returns-clause-stored
@@ -25,8 +27,10 @@ returns-clause-stored g c = λ stated asks.
     let leaves = c.runs_leave.ensures.stored b.0 [] 0 0 _ _ _ _ _ _ _ _ _ _ _ _ _ b.1 comes in
     record {
       choose = b.0;
-      again = c.the_next_run_may_begin.ensures.anywhere b.0 [] 0 0 _ _ _ _ b.1 leaves told.1 (c.an_exit_is_a_stop.ensures b.0 [] 0 0 _ _ leaves);
-      whole = λ is. of_whole _ _ _ _ _ _ _ _ _ _ is (λ out. not_out _ _ _ _ is out.2) (λ config come. of_comes b.0 b.1 _ config _ _ _ _ _ _ _ _ _ told is come.0) comes;
+      again = c.the_next_run_may_begin.ensures.anywhere b.0 [] 0 0 _ _ _ _ b.1 leaves told.1
+          (c.an_exit_is_a_stop.ensures b.0 [] 0 0 _ _ leaves);
+      whole = λ is. of_whole _ _ _ _ _ _ _ _ _ _ is (λ out. not_out _ _ _ _ is out.2)
+          (λ config come. of_comes b.0 b.1 _ config _ _ _ _ _ _ _ _ _ told is come.0) comes;
     }
 
 pub returns-clause-fed : goal.returns-clause-fed
@@ -37,8 +41,10 @@ returns-clause-fed g c = λ asks.
     let leaves = c.runs_leave.ensures.fed b.0 [] 0 0 _ _ _ _ _ _ _ _ _ _ _ _ b.1 comes in
     record {
       choose = b.0;
-      again = c.the_next_run_may_begin.ensures.anywhere b.0 [] 0 0 _ _ _ _ b.1 leaves told.1 (c.an_exit_is_a_stop.ensures b.0 [] 0 0 _ _ leaves);
-      whole = λ is. of_whole _ _ _ _ _ _ _ _ _ _ is (λ out. not_out _ _ _ _ is out.2) (λ config come. of_feed b.0 b.1 _ config _ _ _ _ _ _ _ told is come) comes;
+      again = c.the_next_run_may_begin.ensures.anywhere b.0 [] 0 0 _ _ _ _ b.1 leaves told.1
+          (c.an_exit_is_a_stop.ensures b.0 [] 0 0 _ _ leaves);
+      whole = λ is. of_whole _ _ _ _ _ _ _ _ _ _ is (λ out. not_out _ _ _ _ is out.2)
+          (λ config come. of_feed b.0 b.1 _ config _ _ _ _ _ _ _ told is come) comes;
     }
 
 pub returns-clause-served : goal.returns-clause-served
@@ -49,6 +55,8 @@ returns-clause-served g c = λ port requests asks.
     let leaves = c.runs_leave.ensures.served b.0 [] 0 0 _ _ _ _ _ _ _ _ _ _ _ _ _ b.1 comes in
     record {
       choose = b.0;
-      again = c.the_next_run_may_begin.ensures.anywhere b.0 [] 0 0 _ _ _ _ b.1 leaves told.1 (c.an_exit_is_a_stop.ensures b.0 [] 0 0 _ _ leaves);
-      whole = λ is. of_whole _ _ _ _ _ _ _ _ _ _ is (λ out. out) (λ config come. of_serve b.0 b.1 _ config _ _ _ _ _ _ _ _ told is come) comes;
+      again = c.the_next_run_may_begin.ensures.anywhere b.0 [] 0 0 _ _ _ _ b.1 leaves told.1
+          (c.an_exit_is_a_stop.ensures b.0 [] 0 0 _ _ leaves);
+      whole = λ is. of_whole _ _ _ _ _ _ _ _ _ _ is (λ out. out) (λ config come. of_serve b.0 b.1 _ config _ _ _ _ _ _ _ _ told is come)
+          comes;
     }

@@ -21,6 +21,8 @@ pub returns-clause-runs : goal.returns-clause-runs
 returns-clause-runs g c =
     subst
     (λ (m : ℤ). Runs c.run.result (text_of c.args.prepared m) (side (g.S.Source.faults c.args.input.now) (g.S.Source.left c.args.input.now))
-    (side (g.S.Source.faults c.run.new.input) (g.S.Source.left c.run.new.input)) (side (g.W.Sink.faults c.args.output.now) (g.W.Sink.given c.args.output.now))
+    (side (g.S.Source.faults c.run.new.input) (g.S.Source.left c.run.new.input))
+    (side (g.W.Sink.faults c.args.output.now) (g.W.Sink.given c.args.output.now))
     (side (g.W.Sink.faults c.run.new.output) (g.W.Sink.given c.run.new.output)))
-    (c.in-Ok-start.ensures.moment ∙ to_z-of_z w64 c.args.moment c.ranges.moment) (c.run.ensures.run c.args.prepared c.in-Ok-start.ensures.holds)
+    (c.in-Ok-start.ensures.moment ∙ to_z-of_z w64 c.args.moment c.ranges.moment)
+    (c.run.ensures.run c.args.prepared c.in-Ok-start.ensures.holds)

@@ -30,6 +30,8 @@ returns g c = λ input heard deaf left.
         disk = did.disk;
         listener = λ is. absurd (did.listener is);
         undamaged = did.undamaged;
+        blamed = did.blamed;
+        full = did.full;
         in_use = did.in_use;
       };
     }

@@ -23,6 +23,8 @@ returns-in-Ok g c =
       listener = did.listener;
       out = did.out;
       undamaged = did.undamaged;
+      blamed = did.blamed;
+      full = did.full;
       usage = did.usage;
       in_use = did.in_use;
       used = did.used;
@@ -34,10 +36,13 @@ returns-in-Ok g c =
 pub returns-in-Err : goal.returns-in-Err
 returns-in-Err g c =
     let wrote =
-    c.say_unread.ensures.said (g.T.Tree.files c.args.tree.now) (g.T.Tree.faults c.args.tree.now) (g.T.Tree.faults c.read_config.new.tree) c.in-Err.ensures.stopped in
+    c.say_unread.ensures.said (g.T.Tree.files c.args.tree.now) (g.T.Tree.faults c.args.tree.now) (g.T.Tree.faults c.read_config.new.tree)
+    c.in-Err.ensures.stopped in
     let at = λ (s : Status).
-    unread_at c.say_unread.result s (g.T.Tree.files c.args.tree.now) (g.T.Tree.faults c.args.tree.now) (g.T.Tree.faults c.read_config.new.tree)
-    (side (g.W.Sink.faults c.args.output.now) (g.W.Sink.given c.args.output.now)) (side (g.W.Sink.faults c.say_unread.new.output) (g.W.Sink.given c.say_unread.new.output)) wrote in
+    unread_at c.say_unread.result s (g.T.Tree.files c.args.tree.now) (g.T.Tree.faults c.args.tree.now)
+    (g.T.Tree.faults c.read_config.new.tree)
+    (side (g.W.Sink.faults c.args.output.now) (g.W.Sink.given c.args.output.now))
+    (side (g.W.Sink.faults c.say_unread.new.output) (g.W.Sink.given c.say_unread.new.output)) wrote in
     record {
       serves = unread (refl, refl, refl) wrote;
       short = λ ok. inr (inl (left_alone g.D.Disk c.args.disk.now));
@@ -51,9 +56,12 @@ returns-in-Err g c =
       listener = λ is. absurd (at statuses.ListenerFault is);
       out = refl;
       undamaged = λ is. absurd (at statuses.Damaged is);
+      blamed = λ is. absurd (at statuses.Damaged is);
+      full = λ is. absurd (at statuses.Full is);
       usage = λ is. at statuses.Usage is;
       in_use = λ is. absurd (at statuses.InUse is);
-      used = λ known. unread_ends g.D.Disk c.args.disk.now c.say_unread.result (g.T.Tree.files c.args.tree.now) (g.T.Tree.faults c.args.tree.now) (g.T.Tree.faults c.read_config.new.tree) _ _ wrote;
+      used = λ known. unread_ends g.D.Disk c.args.disk.now c.say_unread.result (g.T.Tree.files c.args.tree.now)
+          (g.T.Tree.faults c.args.tree.now) (g.T.Tree.faults c.read_config.new.tree) _ _ wrote;
       same = c.read_config.ensures.same;
       tree_later = c.read_config.ensures.later;
       missing_later = c.read_config.ensures.later_missing;

@@ -15,7 +15,8 @@ longer : (bytes : List ℕ) (text : Option (List ℕ)) → text ≡ None → IsT
 longer bytes None is long = long
 longer bytes (Some text) is same = search rules
 
-of_text : (result : Result (List Entry) ConfFault) (text : List ℕ) → Gives result (pairs text) → IfOk result (λ entries. (bytes : List ℕ) × (pairs bytes ≡ Ok entries))
+of_text : (result : Result (List Entry) ConfFault) (text : List ℕ) → Gives result (pairs text) →
+    IfOk result (λ entries. (bytes : List ℕ) × (pairs bytes ≡ Ok entries))
 of_text (Ok entries) text gives = (text, gives)
 of_text (Err fault) text gives = tt
 

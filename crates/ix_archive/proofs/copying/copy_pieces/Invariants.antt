@@ -1,7 +1,7 @@
 use Rattle.std.proofs.Common.{◌≤◌, ◌-◌}
 use Rattle.ix_base.specs.Told.{Told}
 use Rattle.ix_disk.specs.Image.{Apart}
-use Rattle.ix_disk.specs.Moments.{Goes}
+use Rattle.ix_disk.specs.Moments.{ImagesStep}
 use Rattle.ix_archive.specs.Copies.{Moves}
 use Rattle.ix_archive.proofs.copying.copy_pieces.Given as goal
 
@@ -10,7 +10,7 @@ invariant-loop-at g l = record {
   within : l.at ≤ l.len;
   moved : Told (Moves l.from l.to 0 l.at) (g.D.Disk.seen l.fn.disk) (g.D.Disk.seen l.disk);
   seen : Told (Apart l.to) (g.D.Disk.seen l.fn.disk) (g.D.Disk.seen l.disk);
-  images : Goes g.D.Disk l.fn.disk l.disk (Apart l.to);
+  images : ImagesStep g.D.Disk l.fn.disk l.disk (Apart l.to);
   later : g.D.Disk.faults l.fn.disk ≤ g.D.Disk.faults l.disk;
 }
 

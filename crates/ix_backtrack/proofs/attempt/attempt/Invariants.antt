@@ -1,5 +1,5 @@
 use Rattle.std.proofs.Common.{length}
-use Rattle.ix_threads.specs.Leaf.{text_of}
+use Rattle.ix_pikevm.specs.Leaf.{text_of}
 use Rattle.ix_backtrack.specs.Frames.{IsFrame, AreFrames, Goes}
 use Rattle.ix_backtrack.proofs.attempt.attempt.Given as goal
 

@@ -1,5 +1,5 @@
 use Rattle.std.proofs.Common.{◌≡◌, ◌++◌}
-use Rattle.ix_threads.specs.Code.{history}
+use Rattle.ix_pikevm.specs.Code.{history}
 use Rattle.ix_backtrack.proofs.outcome.events_of.Given as goal
 
 abbrev pub invariant-loop-at : goal.invariant-loop-at

@@ -10,6 +10,7 @@ returns-then-is_listed c =
 pub returns : goal.returns
 returns c =
     c.in_ok-insert.ensures.items
-    ∙ put_at c.args.list.now.items c.deref.result.now c.deref-2.result.now c.args.index.now c.as_slice.result.now c.as_slice-2.result.now c.is_listed.result
+    ∙ put_at c.args.list.now.items c.deref.result.now c.deref-2.result.now c.args.index.now c.as_slice.result.now c.as_slice-2.result.now
+    c.is_listed.result
     c.place_for-at.result c.in_ok-fresh_view.field-0 c.deref.ensures.value c.deref-2.ensures.value c.as_slice.ensures c.as_slice-2.ensures
     c.is_listed.ensures c.if-is_listed.false c.in_ok-fresh_view.ensures c.place_for-at.ensures.inserted

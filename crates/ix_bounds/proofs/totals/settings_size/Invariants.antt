@@ -2,7 +2,7 @@ use Rattle.std.proofs.Common.{◌≡◌, ◌+◌, length, take}
 use Rattle.std.specs.List.{sum_by}
 use Rattle.ix_items.specs.Spelling.{kept_bytes}
 use Rattle.ix_items.specs.declared.items.Kept.{Kept}
-use Rattle.ix_shelves.specs.Measures.{capped}
+use Rattle.ix_catalog.specs.Measures.{capped}
 use Rattle.ix_bounds.proofs.totals.settings_size.Given as goal
 
 abbrev pub invariant-loop-one : goal.invariant-loop-one

@@ -14,4 +14,5 @@ loop-spot-preserved c =
     (c.and-sum.ensures (take i xs) (x ∷ []) c.loop-spot.invariant c.one.ensures)
 
 pub returns : goal.returns
-returns c = subst (λ (l : List Spot). AreSpots l c.loop-spot.sum) (take_all c.loop-spot.spot-index c.args.spots.now c.loop-spot-test.false) c.loop-spot.invariant
+returns c = subst (λ (l : List Spot). AreSpots l c.loop-spot.sum) (take_all c.loop-spot.spot-index c.args.spots.now c.loop-spot-test.false)
+    c.loop-spot.invariant

@@ -6,7 +6,9 @@ pub returns-in_err-write_at-clause-seen : goal.returns-in_err-write_at-clause-se
 returns-in_err-write_at-clause-seen g c = apart_begun c.args.file c.args.at (length c.args.bytes.now) _ _ c.in_err-write_at.ensures.begun
 
 pub returns-in_err-sync-clause-seen : goal.returns-in_err-sync-clause-seen
-returns-in_err-sync-clause-seen g c = apart_still c.args.file _ _ _ (apart_written c.args.file c.args.at c.args.bytes.now _ _ c.in_ok-write_at.ensures.written) c.in_err-sync.ensures.same
+returns-in_err-sync-clause-seen g c = apart_still c.args.file _ _ _
+    (apart_written c.args.file c.args.at c.args.bytes.now _ _ c.in_ok-write_at.ensures.written) c.in_err-sync.ensures.same
 
 pub returns-clause-seen : goal.returns-clause-seen
-returns-clause-seen g c = apart_still c.args.file _ _ _ (apart_written c.args.file c.args.at c.args.bytes.now _ _ c.in_ok-write_at.ensures.written) c.in_ok-sync.ensures.same
+returns-clause-seen g c = apart_still c.args.file _ _ _
+    (apart_written c.args.file c.args.at c.args.bytes.now _ _ c.in_ok-write_at.ensures.written) c.in_ok-sync.ensures.same

@@ -20,4 +20,6 @@ returns-clause-found c =
       meta = c.in_ok-meta.meta.now;
       raw = c.in_ok-raw.raw.now;
     } in
-    simp to_z-of_z (fields_found e _ _ _ _ _ _ _ _ _ c.in_ok-time.ensures.found c.in_ok-arrival.ensures.found c.in_ok-index.ensures.found.0 c.in_ok-host.ensures.found.0 c.in_ok-source.ensures.found.0 c.in_ok-sourcetype.ensures.found.0 c.in_ok-meta.ensures.found.0 c.in_ok-raw.ensures.found.0)
+    simp to_z-of_z (fields_found e _ _ _ _ _ _ _ _ _ c.in_ok-time.ensures.found c.in_ok-arrival.ensures.found c.in_ok-index.ensures.found.0
+    c.in_ok-host.ensures.found.0 c.in_ok-source.ensures.found.0 c.in_ok-sourcetype.ensures.found.0 c.in_ok-meta.ensures.found.0
+    c.in_ok-raw.ensures.found.0)

@@ -1,7 +1,7 @@
 use Rattle.std.proofs.Common.{◌≡◌, length, sym, ◌∙◌, subst, List, ℕ}
 use Rattle.std.proofs.lemmas.Bool.{eqb-true}
 use Rattle.ix_base.specs.Lent.{lent_event}
-use Rattle.ix_fields.specs.Spelling.{IsShort}
+use Rattle.ix_coding.specs.Spelling.{IsShort}
 use Rattle.ix_bucket.proofs.Records.{fields_alone, record_found}
 use Rattle.ix_bucket.proofs.reading.record_at.Goals as goal
 

@@ -1,5 +1,5 @@
 use Rattle.std.proofs.Common.{ap, ◌∙◌, ℕ, ◌++◌}
-use Rattle.ix_fields.specs.Spelling.{four}
+use Rattle.ix_coding.specs.Spelling.{four}
 use Rattle.ix_bucket.proofs.Sizes.{joined}
 use Rattle.ix_bucket.proofs.writing.put_record.Goals as goal
 

@@ -4,7 +4,7 @@ use Rattle.std.proofs.Common.{◌++◌, rules}
 use Rattle.std.specs.Prelude.{IsErrOf}
 use Rattle.ix_base.specs.Clocks.{clamped}
 use Rattle.ix_base.specs.Stream.{dated}
-use Rattle.ix_channels.specs.declared.working.WorkFault.TheVariants as faults
+use Rattle.ix_channels.specs.declared.channel_effect.WorkFault.TheVariants as faults
 use Rattle.ix_channels.proofs.feeding.feed_open.Goals as goal
 
 pub returns-in_err-items-clause-full : goal.returns-in_err-items-clause-full

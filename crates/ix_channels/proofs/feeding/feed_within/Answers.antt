@@ -1,5 +1,5 @@
 use Rattle.std.proofs.Common.{w64, SFits, List, subst}
-use Rattle.ix_shelves.specs.Numbers.{HasRecord}
+use Rattle.ix_catalog.specs.Numbers.{HasRecord}
 use Rattle.std.proofs.lemmas.Int.{to_z-of_z}
 use Rattle.std.proofs.Common.{List, sym, subst}
 use Rattle.std.specs.List.{All}
@@ -18,4 +18,5 @@ returns-then-have_records-clause-takes c = λ settings meta stream stands.
     simp to_z-of_z at (c.in_ok-fed.ensures.takes settings meta stream stands)
 
 pub returns-then-have_records-clause-small : goal.returns-then-have_records-clause-small
-returns-then-have_records-clause-small c = subst (λ (l : List Routed). All (HasRecord c.args.limits.now) l) c.as_slice.ensures (c.have_records.ensures.yes c.if-have_records.true)
+returns-then-have_records-clause-small c = subst (λ (l : List Routed). All (HasRecord c.args.limits.now) l) c.as_slice.ensures
+    (c.have_records.ensures.yes c.if-have_records.true)

@@ -3,7 +3,7 @@ use Rattle.std.specs.Prelude.{IsErrOf}
 use Rattle.ix_base.specs.declared.events.ChannelMeta.{ChannelMeta}
 use Rattle.ix_items.specs.Spelling.{IsMeta}
 use Rattle.ix_items.specs.declared.items.Item.TheVariants as items
-use Rattle.ix_channels.specs.declared.working.WorkFault.TheVariants as faults
+use Rattle.ix_channels.specs.declared.channel_effect.WorkFault.TheVariants as faults
 use Rattle.ix_channels.proofs.Carries.{short_carry}
 use Rattle.ix_parse.specs.Carry.{rules_of, carry_of}
 use Rattle.ix_channels.proofs.items.said.Goals as goal
@@ -14,7 +14,8 @@ returns-in_err-item-clause-full c = λ was settings stated stream stands moments
     c.channel_item.ensures.full full
     (subst (λ (n : List ℕ). length n < 2 ^ 32) (sym c.in_ok-copy.ensures) name)
     (subst (λ (m : ChannelMeta). IsMeta m) (sym c.in_ok-copy-2.ensures) meta)
-    (short_carry (rules_of settings) c.in_ok-carry.carry (carry_of settings stream) (c.in_ok-carry.ensures.is_carry settings stated stream stands moments))
+    (short_carry (rules_of settings) c.in_ok-carry.carry (carry_of settings stream)
+    (c.in_ok-carry.ensures.is_carry settings stated stream stands moments))
 
 pub returns-clause-said : goal.returns-clause-said
 returns-clause-said c = λ settings stated stream stands.

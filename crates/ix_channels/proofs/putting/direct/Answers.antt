@@ -1,13 +1,13 @@
 use Rattle.std.proofs.Common.{w64, SFits}
 use Rattle.ix_channels.proofs.Failing.{no_failure, memory_no_full}
-use Rattle.ix_shelves.specs.Numbers.{HasRecord}
+use Rattle.ix_catalog.specs.Numbers.{HasRecord}
 use Rattle.ix_items.specs.declared.items.Item.{Item}
 use Rattle.ix_items.specs.Spelling.{HasSpelling}
 use Rattle.std.proofs.lemmas.Int.{to_z-of_z}
 use Rattle.std.proofs.Common.{List, refl, sym, subst}
 use Rattle.std.specs.List.{All, AllByRecursion}
 use Rattle.ix_base.specs.declared.events.Routed.{Routed}
-use Rattle.ix_machine.specs.declared.commands.Command.TheVariants.{Direct}
+use Rattle.ix_model.specs.declared.commands.Command.TheVariants.{Direct}
 use Rattle.ix_parse.specs.Limits.{IsSmall}
 use Rattle.ix_channels.proofs.PutLemmas.{all_at, direct_small, direct_works}
 use Rattle.ix_channels.proofs.Within.{brief_chance}
@@ -36,7 +36,8 @@ pub returns-then-have_records-clause-full : goal.returns-then-have_records-claus
 returns-then-have_records-clause-full c = λ was choose history may within. no_failure _ _ was
 
 pub returns-then-have_records-clause-small : goal.returns-then-have_records-clause-small
-returns-then-have_records-clause-small c = subst (λ (l : List Routed). All (HasRecord c.args.held.now.config.limits) l) c.as_slice.ensures (c.have_records.ensures.yes c.if-have_records.true)
+returns-then-have_records-clause-small c = subst (λ (l : List Routed). All (HasRecord c.args.held.now.config.limits) l) c.as_slice.ensures
+    (c.have_records.ensures.yes c.if-have_records.true)
 
 pub returns-then-have_records-clause-proper : goal.returns-then-have_records-clause-proper
 returns-then-have_records-clause-proper c = subst (λ (l : List Item). AllByRecursion HasSpelling l) (sym c.new.ensures) tt

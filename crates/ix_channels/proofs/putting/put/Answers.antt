@@ -2,7 +2,7 @@ use Rattle.std.proofs.Common.{◌≡◌, ℤ, w64, ap, subst, ◌∙◌}
 use Rattle.std.proofs.lemmas.Int.{to_z-of_z}
 use Rattle.ix_base.specs.declared.events.ChannelMeta.{ChannelMeta}
 use Rattle.ix_base.specs.declared.events.Event.{Event}
-use Rattle.ix_machine.specs.Step.{direct_event}
+use Rattle.ix_model.specs.Step.{direct_event}
 use Rattle.ix_props.specs.Settings.{AreSettings}
 use Rattle.ix_transforms.specs.Changes.{changed}
 use Rattle.ix_transforms.specs.Sizes.{HasSizes}
@@ -13,7 +13,10 @@ use Rattle.ix_channels.proofs.putting.put.Goals as goal
 pub apply-requires : goal.apply-requires
 apply-requires c =
     let usable = c.in_ok-settings.ensures.usable in
-    record { seds = all_at _ c.in_ok-settings.settings.seds usable.seds; transforms = all_at _ c.in_ok-settings.settings.transforms usable.transforms }
+    record {
+      seds = all_at _ c.in_ok-settings.settings.seds usable.seds;
+      transforms = all_at _ c.in_ok-settings.settings.transforms usable.transforms;
+    }
 
 pub returns : goal.returns
 returns c =

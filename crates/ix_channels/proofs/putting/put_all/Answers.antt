@@ -9,6 +9,8 @@ pub loop-direct-preserved : goal.loop-direct-preserved
 loop-direct-preserved c =
     let config = c.args.config.now in
     let moment : ℤ = to_z w64 (of_z w64 c.args.moment) in
-    subst (λ (o : List Routed). ArePut config.limits config.props moment (c.loop-direct.yielded ++ c.in-Some.direct ∷ []) o) (sym c.in_ok-push.ensures.ok)
-    (put_more config.limits config.props moment c.loop-direct.yielded c.loop-direct.outcomes c.in-Some.direct c.in_ok-routed.routed c.loop-direct.invariant
+    subst (λ (o : List Routed). ArePut config.limits config.props moment (c.loop-direct.yielded ++ c.in-Some.direct ∷ []) o)
+    (sym c.in_ok-push.ensures.ok)
+    (put_more config.limits config.props moment c.loop-direct.yielded c.loop-direct.outcomes c.in-Some.direct c.in_ok-routed.routed
+    c.loop-direct.invariant
     c.in_ok-routed.ensures)

@@ -13,7 +13,10 @@ returns-in_ok-low-in_default-clause-entry t c =
     let layers = c.args.layers.now in
     let front = c.split_at.result.0.now in
     let back = c.split_at.result.1.now in
-    let whole : front ++ back ≡ layers = rw (c.split_at.ensures.front, c.split_at.ensures.back) (take-append-drop (length layers / 2) layers) in
+    let whole : front ++ back ≡ layers = rw (
+      c.split_at.ensures.front,
+      c.split_at.ensures.back,
+    ) (take-append-drop (length layers / 2) layers) in
     let high = c.in_ok-high-in_default.ensures.entry in
     let low = c.in_ok-low-in_default.ensures.entry in
     IfOk-weaker c.combine.result _ _ (λ all h stanza key.

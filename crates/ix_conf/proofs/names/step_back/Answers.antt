@@ -5,10 +5,12 @@ use Rattle.ix_conf.proofs.MarkLemmas.{level_changed, level_closed, level_barred,
 use Rattle.ix_conf.proofs.names.step_back.Goals as goal
 
 pub returns-in-Bar : goal.returns-in-Bar
-returns-in-Bar c = rw c.in-Bar.is (IfOk-weaker c.bar.result _ _ (λ new is. level_barred c.args.name.now c.args.top new c.args.below.now.items is) c.bar.ensures)
+returns-in-Bar c = rw c.in-Bar.is (IfOk-weaker c.bar.result _ _
+    (λ new is. level_barred c.args.name.now c.args.top new c.args.below.now.items is) c.bar.ensures)
 
 pub returns-in-Open : goal.returns-in-Open
-returns-in-Open c = rw c.in-Open.is (level_opened c.args.name.now c.args.top c.open.result c.args.below.now.items c.open.new.below.items c.open.ensures)
+returns-in-Open c = rw c.in-Open.is (level_opened c.args.name.now c.args.top c.open.result c.args.below.now.items c.open.new.below.items
+    c.open.ensures)
 
 pub returns-in-Close : goal.returns-in-Close
 returns-in-Close c = rw c.in-Close.is (IfOk-weaker c.close.result _ _
@@ -16,7 +18,8 @@ returns-in-Close c = rw c.in-Close.is (IfOk-weaker c.close.result _ _
 
 pub returns-in-Byte : goal.returns-in-Byte
 returns-in-Byte c =
-    rw c.in-Byte.is (level_changed c.args.name.now (byte_then c.args.fold c.in-Byte.byte) c.args.top c.with_byte.result c.args.below.now.items
+    rw c.in-Byte.is (level_changed c.args.name.now (byte_then c.args.fold c.in-Byte.byte) c.args.top c.with_byte.result
+    c.args.below.now.items
     c.with_byte.ensures.leads c.with_byte.ensures.others)
 
 pub returns-in-Star : goal.returns-in-Star

@@ -12,4 +12,5 @@ returns-clause-leads c ask m =
     let long : length new ≡ length old = omega (arith, c.ask_byte.auto.marks) in
     let before = marks_same name ask c.args.top.leads.items old c.deref_mut.ensures.value m in
     let marks = marks_byte name c.args.fold c.args.byte ask old new before long c.ask_byte.ensures.each c.ask_byte.ensures.last in
-    marks_same name (byte_then c.args.fold c.args.byte ask) new _ (with_items_is c.args.top.leads new (omega (arith, long, c.deref_mut.ensures.len))) marks
+    marks_same name (byte_then c.args.fold c.args.byte ask) new _
+    (with_items_is c.args.top.leads new (omega (arith, long, c.deref_mut.ensures.len))) marks

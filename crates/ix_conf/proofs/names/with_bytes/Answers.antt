@@ -12,4 +12,5 @@ returns-clause-leads c ask m =
     let long : length new ≡ length old = omega (arith, c.ask_bytes.auto.marks) in
     let before = marks_same name ask c.args.top.leads.items old c.deref_mut.ensures.value m in
     let marks = marks_bytes name c.args.slash ask old new before long c.ask_bytes.ensures.each c.ask_bytes.ensures.last in
-    marks_same name (bytes_then c.args.slash ask) new _ (with_items_is c.args.top.leads new (omega (arith, long, c.deref_mut.ensures.len))) marks
+    marks_same name (bytes_then c.args.slash ask) new _ (with_items_is c.args.top.leads new (omega (arith, long, c.deref_mut.ensures.len)))
+    marks

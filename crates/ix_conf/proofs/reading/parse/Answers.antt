@@ -15,7 +15,8 @@ too_long : (bytes : List ℕ) → 1048576 < length bytes → pairs bytes ≡ Err
 unfolding pairs
 too_long bytes long = let e : ltb 1048576 (length bytes) ≡ true = grind (arith, nat_tests) in rw e refl
 
-not_text : (bytes : List ℕ) → length bytes ≤ 1048576 → utf8_valid_len bytes < length bytes → pairs bytes ≡ Err (NotUtf8 (utf8_valid_len bytes))
+not_text : (bytes : List ℕ) → length bytes ≤ 1048576 → utf8_valid_len bytes < length bytes →
+    pairs bytes ≡ Err (NotUtf8 (utf8_valid_len bytes))
 unfolding pairs
 not_text bytes fits short =
     let e : ltb 1048576 (length bytes) ≡ false = grind (arith, nat_tests) in

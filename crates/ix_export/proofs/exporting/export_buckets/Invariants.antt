@@ -1,7 +1,7 @@
 use Rattle.std.proofs.Common.{◌≡◌, ◌≤◌, Some, take}
 use Rattle.ix_bucket.specs.Ahead.{IsCurrent}
 use Rattle.ix_disk.specs.Image.{Image, Stays}
-use Rattle.ix_disk.specs.Moments.{Goes}
+use Rattle.ix_disk.specs.Moments.{ImagesStep}
 use Rattle.ix_export.proofs.Progress.{HasDone}
 use Rattle.ix_export.proofs.exporting.export_buckets.Given as goal
 
@@ -14,5 +14,5 @@ invariant-loop-bucket g l = record {
   same : g.D.Disk.seen l.disk ≡ g.D.Disk.seen l.fn.disk;
   later : g.D.Disk.faults l.fn.disk ≤ g.D.Disk.faults l.disk;
   grown : g.W.Sink.faults l.fn.out ≤ g.W.Sink.faults l.out;
-  images : Goes g.D.Disk l.fn.disk l.disk Stays;
+  images : ImagesStep g.D.Disk l.fn.disk l.disk Stays;
 }

@@ -12,5 +12,6 @@ invariant-loop-i g l =
       taken : Told (Took (take l.i l.bytes)) (link.left l.fn.link) (link.left l.link);
       none : HasNoRequest (take l.i l.bytes);
       fronts : Fronts l.scan.part (take l.i l.bytes);
-      reads : OnlyReads (link.given l.fn.link) (link.given l.link) (link.standing l.fn.link) (link.standing l.link) (link.faults l.fn.link) (link.faults l.link);
+      reads : OnlyReads (link.given l.fn.link) (link.given l.link) (link.standing l.fn.link) (link.standing l.link) (link.faults l.fn.link)
+          (link.faults l.link);
     }

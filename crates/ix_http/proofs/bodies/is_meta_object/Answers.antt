@@ -5,4 +5,5 @@ use Rattle.ix_http.proofs.bodies.is_meta_object.Goals as goal
 
 pub returns-in-Some : goal.returns-in-Some
 returns-in-Some c =
-    c.has_meta_names.ensures ∙ sym (names_pass-keys is_meta_name c.in-Some.map.now.entries) ∙ sym (object_is is_meta_name _ _ c.in-Some.ensures)
+    c.has_meta_names.ensures ∙ sym (names_pass-keys is_meta_name c.in-Some.map.now.entries)
+    ∙ sym (object_is is_meta_name _ _ c.in-Some.ensures)

@@ -15,4 +15,6 @@ returns-in-Err-clause-read g c =
 pub returns-in-Ok-Whole-clause-read : goal.returns-in-Ok-Whole-clause-read
 returns-in-Ok-Whole-clause-read g c =
     let read = rw c.in-Ok-Whole.field-0-is at c.in-Ok-Whole.ensures.read in
-    told_join (λ old mid new p q. behind_fits _ _ c.in-Ok-Whole.spans c.new-head.result c.read_behind.result (record { method = c.new-head.ensures.method; target = c.new-head.ensures.target; lines = c.new-head.ensures.lines }) old mid new p q) _ _ _ read c.read_behind.ensures.read
+    told_join (λ old mid new p q. behind_fits _ _ c.in-Ok-Whole.spans c.new-head.result c.read_behind.result
+    (record { method = c.new-head.ensures.method; target = c.new-head.ensures.target; lines = c.new-head.ensures.lines }) old mid new p
+    q) _ _ _ read c.read_behind.ensures.read

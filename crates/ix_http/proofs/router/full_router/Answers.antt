@@ -5,7 +5,15 @@ use Rattle.ix_http.proofs.router.full_router.Goals as goal
 
 pub returns : goal.returns
 unfolding table
-returns c = rw (c.in_ok-router-6.ensures, c.in_ok-router-5.ensures, c.in_ok-router-4.ensures, c.in_ok-router-3.ensures, c.in_ok-router-2.ensures, c.in_ok-router.ensures, c.new-router.ensures) refl
+returns c = rw (
+  c.in_ok-router-6.ensures,
+  c.in_ok-router-5.ensures,
+  c.in_ok-router-4.ensures,
+  c.in_ok-router-3.ensures,
+  c.in_ok-router-2.ensures,
+  c.in_ok-router.ensures,
+  c.new-router.ensures,
+) refl
 
 pub with_route-requires : goal.with_route-requires
 unfolding with_route IsFree scan
@@ -25,8 +33,21 @@ with_route-requires-4 c = rw (c.in_ok-router-3.ensures, c.in_ok-router-2.ensures
 
 pub with_route-requires-5 : goal.with_route-requires-5
 unfolding with_route IsFree scan
-with_route-requires-5 c = rw (c.in_ok-router-4.ensures, c.in_ok-router-3.ensures, c.in_ok-router-2.ensures, c.in_ok-router.ensures, c.new-router.ensures) refl
+with_route-requires-5 c = rw (
+  c.in_ok-router-4.ensures,
+  c.in_ok-router-3.ensures,
+  c.in_ok-router-2.ensures,
+  c.in_ok-router.ensures,
+  c.new-router.ensures,
+) refl
 
 pub with_route-requires-6 : goal.with_route-requires-6
 unfolding with_route IsFree scan
-with_route-requires-6 c = rw (c.in_ok-router-5.ensures, c.in_ok-router-4.ensures, c.in_ok-router-3.ensures, c.in_ok-router-2.ensures, c.in_ok-router.ensures, c.new-router.ensures) refl
+with_route-requires-6 c = rw (
+  c.in_ok-router-5.ensures,
+  c.in_ok-router-4.ensures,
+  c.in_ok-router-3.ensures,
+  c.in_ok-router-2.ensures,
+  c.in_ok-router.ensures,
+  c.new-router.ensures,
+) refl

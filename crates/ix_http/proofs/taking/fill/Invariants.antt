@@ -9,7 +9,8 @@ invariant-loop-at g l =
     record {
       taken : Told (Took (take l.at l.buffer)) (link.left l.fn.link) (link.left l.link);
       inside : l.at ≤ length l.buffer;
-      reads : OnlyReads (link.given l.fn.link) (link.given l.link) (link.standing l.fn.link) (link.standing l.link) (link.faults l.fn.link) (link.faults l.link);
+      reads : OnlyReads (link.given l.fn.link) (link.given l.link) (link.standing l.fn.link) (link.standing l.link) (link.faults l.fn.link)
+          (link.faults l.link);
     }
 
 abbrev pub decreases-loop-at : goal.decreases-loop-at

@@ -9,4 +9,5 @@ pub returns-in-Err : goal.returns-in-Err
 returns-in-Err c =
     let own = own_token (seen c.args.place) in
     sym (ap (λ m. bytes_eq m (method_of (seen c.args.place))) (sym c.method.ensures)
-    ∙ refused_other _ (method_of (seen c.args.place)) c.from_bytes.result c.in-Err.field-0 c.in-Err.is c.from_bytes.ensures.no_memory_needed own.0 own.1)
+    ∙ refused_other _ (method_of (seen c.args.place)) c.from_bytes.result c.in-Err.field-0 c.in-Err.is c.from_bytes.ensures.no_memory_needed
+    own.0 own.1)

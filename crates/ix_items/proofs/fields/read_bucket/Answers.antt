@@ -22,4 +22,5 @@ returns-clause-found c =
       used = c.in_ok-used.used;
       touched = c.in_ok-touched.touched;
     } in
-    simp to_z-of_z (bucket_found b _ _ _ _ _ c.in_ok-id.ensures.found c.in_ok-count.ensures.found c.in_ok-used.ensures.found c.in_ok-touched.ensures.found)
+    simp to_z-of_z (bucket_found b _ _ _ _ _ c.in_ok-id.ensures.found c.in_ok-count.ensures.found c.in_ok-used.ensures.found
+    c.in_ok-touched.ensures.found)

@@ -3,7 +3,7 @@ use Rattle.std.proofs.lemmas.Int.{to_z-of_z}
 use mir.Val.{SFits}
 use Rattle.std.specs.Int.{w64}
 use Rattle.ix_items.specs.declared.items.Entry.{Entry}
-use Rattle.ix_fields.specs.Spelling.{eight, string, IsShort}
+use Rattle.ix_coding.specs.Spelling.{eight, string, IsShort}
 use Rattle.ix_items.proofs.Rows.{entry_found}
 use Rattle.ix_items.proofs.fields.read_entry.Goals as goal
 
@@ -25,7 +25,8 @@ returns-clause-found c =
     } in
     let named = c.in_ok-name.ensures.found in
     let first = named.0 ∙ ap (λ (l : List ℕ). string l ++ c.in_ok-name.rest.now) (sym c.in_ok-index.ensures) in
-    let last = c.in_ok-archive.ensures.found ∙ ap (λ (n : ℕ). eight n ++ c.in_ok-archive.rest.now) (sym c.archive_of_number.ensures.found) in (
+    let last = c.in_ok-archive.ensures.found ∙ ap (λ (n : ℕ). eight n
+    ++ c.in_ok-archive.rest.now) (sym c.archive_of_number.ensures.found) in (
       simp to_z-of_z (entry_found e _ _ _ _ _ _ first c.in_ok-id.ensures.found c.in_ok-count.ensures.found c.in_ok-size.ensures.found last),
       subst (λ (l : List ℕ). IsShort l) (sym c.in_ok-index.ensures) named.1,
       c.archive_of_number.ensures.some,

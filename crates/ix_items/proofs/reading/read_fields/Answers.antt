@@ -40,7 +40,8 @@ returns-in_ok-files-in-12-clause-gives c = rw c.in-12.is (ap (made items.Removal
 
 pub returns-in_ok-index-in-13-clause-gives : goal.returns-in_ok-index-in-13-clause-gives
 unfolding fields_at
-returns-in_ok-index-in-13-clause-gives c = rw c.in-13.is (ap (made (λ (x : List ℕ × ℕ). items.NextId x.0 x.1)) c.in_ok-index-in-13.ensures.gives)
+returns-in_ok-index-in-13-clause-gives c = rw c.in-13.is
+    (ap (made (λ (x : List ℕ × ℕ). items.NextId x.0 x.1)) c.in_ok-index-in-13.ensures.gives)
 
 pub returns-in-3-clause-gives : goal.returns-in-3-clause-gives
 unfolding fields_at
@@ -80,7 +81,8 @@ pub returns-in_err-index-in-7-clause-gives : goal.returns-in_err-index-in-7-clau
 unfolding fields_at
 returns-in_err-index-in-7-clause-gives c =
     let p = err_from_is_err_and c.from_residual-in_err-index-in-7.result c.from_residual-in_err-index-in-7.ensures.1 in
-    rw (p.1, p.2, c.in-7.is) (fails_made (λ (x : List ℕ × ℕ). items.Gone x.0 x.1) c.in_err-index-in-7.field-0.0 _ c.in_err-index-in-7.ensures.gives)
+    rw (p.1, p.2, c.in-7.is) (fails_made (λ (x : List ℕ × ℕ). items.Gone x.0 x.1) c.in_err-index-in-7.field-0.0 _
+    c.in_err-index-in-7.ensures.gives)
 
 pub returns-in_err-entry-in-8-clause-gives : goal.returns-in_err-entry-in-8-clause-gives
 unfolding fields_at
@@ -110,11 +112,16 @@ pub returns-in_err-index-in-13-clause-gives : goal.returns-in_err-index-in-13-cl
 unfolding fields_at
 returns-in_err-index-in-13-clause-gives c =
     let p = err_from_is_err_and c.from_residual-in_err-index-in-13.result c.from_residual-in_err-index-in-13.ensures.1 in
-    rw (p.1, p.2, c.in-13.is) (fails_made (λ (x : List ℕ × ℕ). items.NextId x.0 x.1) c.in_err-index-in-13.field-0.0 _ c.in_err-index-in-13.ensures.gives)
+    rw (p.1, p.2, c.in-13.is) (fails_made (λ (x : List ℕ × ℕ). items.NextId x.0 x.1) c.in_err-index-in-13.field-0.0 _
+    c.in_err-index-in-13.ensures.gives)
 
 pub returns-in_ok-kept-in-1-clause-found : goal.returns-in_ok-kept-in-1-clause-found
 unfolding field_bytes
-returns-in_ok-kept-in-1-clause-found c = (sym c.in-1.is, c.in_ok-kept-in-1.ensures.found.0, (c.in_ok-kept-in-1.ensures.found.1, c.in_ok-kept-in-1.ensures.found.2))
+returns-in_ok-kept-in-1-clause-found c = (
+  sym c.in-1.is,
+  c.in_ok-kept-in-1.ensures.found.0,
+  (c.in_ok-kept-in-1.ensures.found.1, c.in_ok-kept-in-1.ensures.found.2),
+)
 
 pub returns-in_ok-run-in-2-clause-found : goal.returns-in_ok-run-in-2-clause-found
 unfolding field_bytes
@@ -130,11 +137,19 @@ returns-in_ok-index-in-7-clause-found c = (sym c.in-7.is, c.in_ok-index-in-7.ens
 
 pub returns-in_ok-entry-in-8-clause-found : goal.returns-in_ok-entry-in-8-clause-found
 unfolding field_bytes
-returns-in_ok-entry-in-8-clause-found c = (sym c.in-8.is, c.in_ok-entry-in-8.ensures.found.0, (c.in_ok-entry-in-8.ensures.found.1, c.in_ok-entry-in-8.ensures.found.2))
+returns-in_ok-entry-in-8-clause-found c = (
+  sym c.in-8.is,
+  c.in_ok-entry-in-8.ensures.found.0,
+  (c.in_ok-entry-in-8.ensures.found.1, c.in_ok-entry-in-8.ensures.found.2),
+)
 
 pub returns-in_ok-spot-in-10-clause-found : goal.returns-in_ok-spot-in-10-clause-found
 unfolding field_bytes
-returns-in_ok-spot-in-10-clause-found c = (sym c.in-10.is, c.in_ok-spot-in-10.ensures.found.0, (c.in_ok-spot-in-10.ensures.found.1, c.in_ok-spot-in-10.ensures.found.2))
+returns-in_ok-spot-in-10-clause-found c = (
+  sym c.in-10.is,
+  c.in_ok-spot-in-10.ensures.found.0,
+  (c.in_ok-spot-in-10.ensures.found.1, c.in_ok-spot-in-10.ensures.found.2),
+)
 
 pub returns-in_ok-number-in-11-clause-found : goal.returns-in_ok-number-in-11-clause-found
 unfolding field_bytes

@@ -1,6 +1,6 @@
 use Rattle.std.proofs.Common.{◌≡◌, ◌-◌, ◌++◌, length}
 use Rattle.std.specs.List.{flat_map, AllByRecursion}
-use Rattle.ix_fields.specs.Spelling.{Is64}
+use Rattle.ix_coding.specs.Spelling.{Is64}
 use Rattle.ix_items.specs.Spelling.{file_bytes}
 use Rattle.ix_items.specs.Reading.{list_at, file_at}
 use Rattle.ix_items.proofs.Lists.{with_front}

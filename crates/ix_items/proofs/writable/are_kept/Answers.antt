@@ -13,4 +13,7 @@ loop-one-preserved c =
     (subst IsKept c.one-item.is (c.is_kept.ensures.0 yes))
 
 pub returns : goal.returns
-returns c = ((λ yes. subst (All IsKept) (take_all c.loop-one.one-index c.args.kept.now c.loop-one-test.false) c.loop-one.invariant), (λ all. search rules))
+returns c = (
+  (λ yes. subst (All IsKept) (take_all c.loop-one.one-index c.args.kept.now c.loop-one-test.false) c.loop-one.invariant),
+  (λ all. search rules),
+)

@@ -1,7 +1,7 @@
 use Rattle.std.proofs.Common.{◌≡◌, ◌++◌, length, take}
 use Rattle.std.specs.List.{flat_map}
-use Rattle.ix_fields.specs.Spelling.{four}
-use Rattle.ix_fields.specs.Writing.{Extends}
+use Rattle.ix_coding.specs.Spelling.{four}
+use Rattle.ix_coding.specs.Writing.{Extends}
 use Rattle.ix_items.specs.Spelling.{file_bytes}
 use Rattle.ix_items.proofs.writing.put_files.Given as goal
 

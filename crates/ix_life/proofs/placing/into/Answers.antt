@@ -8,7 +8,8 @@ use Rattle.ix_life.proofs.placing.into.Goals.{then-takes, else-takes}
 pub loop-i-preserved : goal.loop-i-preserved
 loop-i-preserved c =
     elim c.if-takes.branch [
-      | then-takes w ↦ rw w.best-is (passed _ _ _ _ _ _ c.loop-i-test.true (sym c.takes.ensures ∙ w.if-takes.true) _ w.by_id.ensures _ c.loop-i.invariant)
+      | then-takes w ↦ rw w.best-is (passed _ _ _ _ _ _ c.loop-i-test.true (sym c.takes.ensures
+          ∙ w.if-takes.true) _ w.by_id.ensures _ c.loop-i.invariant)
       | else-takes w ↦ rw w.best-is (failed _ _ _ _ _ _ c.loop-i-test.true (sym c.takes.ensures ∙ w.if-takes.false) _ c.loop-i.invariant)
     ]
 

@@ -7,4 +7,5 @@ pub returns-then-has : goal.returns-then-has
 returns-then-has c = none_of _ _ (main_listed c.args.indexes.now (sym c.has.ensures ∙ c.if-has.true))
 
 pub returns-else-has : goal.returns-else-has
-returns-else-has c = on_ok_weaker c.add_named.result (more_of _ _ _ _ (sym (main_unlisted c.args.indexes.now (sym c.has.ensures ∙ c.if-has.false)))) c.add_named.ensures
+returns-else-has c = on_ok_weaker c.add_named.result (more_of _ _ _ _
+    (sym (main_unlisted c.args.indexes.now (sym c.has.ensures ∙ c.if-has.false)))) c.add_named.ensures

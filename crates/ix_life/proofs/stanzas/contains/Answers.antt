@@ -10,4 +10,5 @@ loop-at-preserved c =
     let whole : take (length c.args.text.now - c.loop-at.at) rest ≡ rest =
     take_all (length c.args.text.now - c.loop-at.at) rest (omega (arith, length-drop c.loop-at.at c.args.text.now)) in
     let P : List ℕ → Type 0 = λ l. starts_with nat_eq l c.args.word.now ≡ false in
-    word_later c.args.word.now c.args.text.now c.loop-at.at c.loop-at-test.true (subst P whole (sym c.starts_with.ensures.value ∙ c.if-starts_with.false)) _ c.loop-at.invariant
+    word_later c.args.word.now c.args.text.now c.loop-at.at c.loop-at-test.true
+    (subst P whole (sym c.starts_with.ensures.value ∙ c.if-starts_with.false)) _ c.loop-at.invariant

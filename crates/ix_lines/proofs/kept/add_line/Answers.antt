@@ -14,4 +14,5 @@ returns-clause-err c = c.push.ensures.err
 
 pub returns-clause-short : goal.returns-clause-short
 returns-clause-short c =
-    short-pushed c.push.result c.args.out.now c.push.new.self _ c.push.ensures.ok c.push.ensures.err (omega (arith, ap length c.in_ok-bytes.ensures, c.cut-bytes.ensures.bound))
+    short-pushed c.push.result c.args.out.now c.push.new.self _ c.push.ensures.ok c.push.ensures.err
+    (omega (arith, ap length c.in_ok-bytes.ensures, c.cut-bytes.ensures.bound))

@@ -9,7 +9,8 @@ use Rattle.ix_log.proofs.log.head_at.Goals as goal
 
 pub head_of-requires : goal.head_of-requires
 head_of-requires g c =
-    head_size c.args.at c.min-room.result [] c.read.new.buf (0 ∷ 0 ∷ 0 ∷ 0 ∷ 0 ∷ []) refl (omega (arith, c.min-room.ensures)) c.read.ensures.size
+    head_size c.args.at c.min-room.result [] c.read.new.buf (0 ∷ 0 ∷ 0 ∷ 0 ∷ 0
+    ∷ []) refl (omega (arith, c.min-room.ensures)) c.read.ensures.size
 
 pub returns-in_err-reach : goal.returns-in_err-reach
 returns-in_err-reach g c =
@@ -45,7 +46,8 @@ returns g c = record {
       let now = c.reach.ensures.same ∙ told in
       let read = c.in_ok-n.ensures.bytes image now (c.in_ok-reach.ensures.shows had image now) in
       let head = head_read c.args.at room file c.read.new.buf none refl n c.args.left c.min-room.ensures left read in
-      c.head_of.ensures.head (drop c.args.at file) (drop n (take room none) ++ drop room none) head.0 head.1 left (omega (arith, left, some));
+      c.head_of.ensures.head (drop c.args.at file) (drop n (take room none)
+      ++ drop room none) head.0 head.1 left (omega (arith, left, some));
   within = c.head_of.ensures.within;
   shows = λ had. stay_reads g.D.Disk _ _ c.args.file (IsWindowOn c.reach.new.self) c.read.ensures.same (c.in_ok-reach.ensures.shows had);
   same = c.read.ensures.same ∙ c.reach.ensures.same;

@@ -7,7 +7,8 @@ use Rattle.ix_match.proofs.few.passed_over.Goals as goal
 pub returns-in-One : goal.returns-in-One
 returns-in-One c =
     c.unwrap_or.ensures
-    ∙ passed c.args.set.now (λ x. x == c.in-One.a) c.args.bytes.now c.memchr.result (subst (λ f. Lists f c.args.set.now) c.in-One.is c.requires)
+    ∙ passed c.args.set.now (λ x. x == c.in-One.a) c.args.bytes.now c.memchr.result
+    (subst (λ f. Lists f c.args.set.now) c.in-One.is c.requires)
     (λ k. omega (arith, c.type_inv.bytes k)) c.memchr.ensures
 
 pub returns-in-Two : goal.returns-in-Two

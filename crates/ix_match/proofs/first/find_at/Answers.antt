@@ -1,11 +1,12 @@
 use Rattle.std.proofs.Common.{◌∙◌, ap}
-use Rattle.ix_threads.specs.Outcomes.{head_of}
+use Rattle.ix_pikevm.specs.Outcomes.{head_of}
 use Rattle.ix_match.proofs.FindLemmas.{end-lies, none-here}
 use Rattle.ix_match.proofs.first.find_at.Goals as goal
 
 pub returns-in-End-clause-lies : goal.returns-in-End-clause-lies
 returns-in-End-clause-lies g c =
-    end-lies c.args.p.now c.args.text.now c.args.place c.in-End.end c.in-End.groups.items c.from_vec.result c.requires.place c.from_vec.ensures
+    end-lies c.args.p.now c.args.text.now c.args.place c.in-End.end c.in-End.groups.items c.from_vec.result c.requires.place
+    c.from_vec.ensures
     (c.in_ok-end.ensures.head ∙ ap head_of c.in-End.is)
 
 pub returns-in-No : goal.returns-in-No

@@ -8,14 +8,16 @@ pub returns-in_ok-push-in-One : goal.returns-in_ok-push-in-One
 returns-in_ok-push-in-One g c = λ whole leads. (
   c.in-Sequence.ensures.1,
   subst (λ (l : List ℕ). Leads whole (piece_at c.args.p.now.rows c.in-Sequence.rest) l) (sym c.in_ok-push-in-One.ensures.items)
-      (leads-byte whole (piece_at c.args.p.now.rows c.args.at) (piece_at c.args.p.now.rows c.in-Sequence.first) (piece_at c.args.p.now.rows c.in-Sequence.rest)
+      (leads-byte whole (piece_at c.args.p.now.rows c.args.at) (piece_at c.args.p.now.rows c.in-Sequence.first)
+      (piece_at c.args.p.now.rows c.in-Sequence.rest)
       c.args.bytes.now.items c.in-One.byte c.in-Sequence.ensures.2 c.in-One.ensures leads),
 )
 
 pub returns-in-Nothing : goal.returns-in-Nothing
 returns-in-Nothing g c = λ whole leads. (
   c.in-Sequence.ensures.1,
-  leads-nothing whole (piece_at c.args.p.now.rows c.args.at) (piece_at c.args.p.now.rows c.in-Sequence.first) (piece_at c.args.p.now.rows c.in-Sequence.rest)
+  leads-nothing whole (piece_at c.args.p.now.rows c.args.at) (piece_at c.args.p.now.rows c.in-Sequence.first)
+      (piece_at c.args.p.now.rows c.in-Sequence.rest)
       c.args.bytes.now.items c.in-Sequence.ensures.2 c.in-Nothing.ensures leads,
 )
 

@@ -11,19 +11,22 @@ loop-bytes-init g c =
     record {
       below = omega (arith, last);
       leads = subst (λ (k : ℕ). Leads (tree c.args.p.now.rows) (piece_at c.args.p.now.rows k) c.new-bytes.result.items) (sym root)
-          (subst (λ (l : List ℕ). Leads (tree c.args.p.now.rows) (tree c.args.p.now.rows) l) (sym c.new-bytes.ensures.items) (leads-init (tree c.args.p.now.rows)));
+          (subst (λ (l : List ℕ). Leads (tree c.args.p.now.rows) (tree c.args.p.now.rows) l) (sym c.new-bytes.ensures.items)
+          (leads-init (tree c.args.p.now.rows)));
     }
 
 pub loop-bytes-smaller : goal.loop-bytes-smaller
 loop-bytes-smaller g c =
-    let to : (c.in-Some.next < c.loop-bytes.at) × Leads (tree c.args.p.now.rows) (piece_at c.args.p.now.rows c.in-Some.next) c.add_lead.new.bytes.items =
+    let to : (c.in-Some.next < c.loop-bytes.at) × Leads (tree c.args.p.now.rows) (piece_at c.args.p.now.rows c.in-Some.next)
+    c.add_lead.new.bytes.items =
     subst (λ (o : Option ℕ). LeadsTo c.args.p.now.rows (tree c.args.p.now.rows) c.loop-bytes.at o c.add_lead.new.bytes.items) c.in-Some.is
     (c.in_ok-next.ensures (tree c.args.p.now.rows) c.loop-bytes.invariant.leads) in
     to.0
 
 pub loop-bytes-preserved : goal.loop-bytes-preserved
 loop-bytes-preserved g c =
-    let to : (c.in-Some.next < c.loop-bytes.at) × Leads (tree c.args.p.now.rows) (piece_at c.args.p.now.rows c.in-Some.next) c.add_lead.new.bytes.items =
+    let to : (c.in-Some.next < c.loop-bytes.at) × Leads (tree c.args.p.now.rows) (piece_at c.args.p.now.rows c.in-Some.next)
+    c.add_lead.new.bytes.items =
     subst (λ (o : Option ℕ). LeadsTo c.args.p.now.rows (tree c.args.p.now.rows) c.loop-bytes.at o c.add_lead.new.bytes.items) c.in-Some.is
     (c.in_ok-next.ensures (tree c.args.p.now.rows) c.loop-bytes.invariant.leads) in
     let lower : c.in-Some.next < c.loop-bytes.at = to.0 in
@@ -33,6 +36,7 @@ loop-bytes-preserved g c =
 pub returns : goal.returns
 returns g c =
     let begins : Begins (tree c.args.p.now.rows) c.add_lead.new.bytes.items =
-    subst (λ (o : Option ℕ). LeadsTo c.args.p.now.rows (tree c.args.p.now.rows) c.loop-bytes.at o c.add_lead.new.bytes.items) c.in_default.is
+    subst (λ (o : Option ℕ). LeadsTo c.args.p.now.rows (tree c.args.p.now.rows) c.loop-bytes.at o c.add_lead.new.bytes.items)
+    c.in_default.is
     (c.in_ok-next.ensures (tree c.args.p.now.rows) c.loop-bytes.invariant.leads) in
     each-begins c.args.p.now c.add_lead.new.bytes.items begins

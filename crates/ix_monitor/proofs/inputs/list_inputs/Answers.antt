@@ -5,7 +5,8 @@ use Rattle.ix_monitor.specs.Inputs.{watched_at}
 use Rattle.ix_monitor.proofs.inputs.list_inputs.Goals as goal
 
 pub returns-in_default : goal.returns-in_default
-returns-in_default c = list_whole (watched_at c.args.inputs.now) c.args.inputs.now c.loop-at.at c.loop-at.list _ (sym c.in_default.ensures) c.loop-at.invariant
+returns-in_default c = list_whole (watched_at c.args.inputs.now) c.args.inputs.now c.loop-at.at c.loop-at.list _ (sym c.in_default.ensures)
+    c.loop-at.invariant
 
 pub loop-at-preserved : goal.loop-at-preserved
 loop-at-preserved c =

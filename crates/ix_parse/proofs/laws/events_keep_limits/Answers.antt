@@ -8,4 +8,5 @@ pub returns-clause-times : goal.returns-clause-times
 returns-clause-times c = all-near
 
 pub returns-clause-arrivals : goal.returns-clause-arrivals
-returns-clause-arrivals c = λ s meta stream closed moments. all-arrivals s meta stream closed (c.events_stay.ensures.lines s.merge.max_lines) moments
+returns-clause-arrivals c = λ s meta stream closed moments.
+    all-arrivals s meta stream closed (c.events_stay.ensures.lines s.merge.max_lines) moments

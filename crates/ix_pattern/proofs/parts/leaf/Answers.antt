@@ -10,7 +10,8 @@ returns c =
     (elim c.match-leaf.branch [
       | in-Bytes w ↦ w.node-is ∙ ap leaf_row (sym w.in-Bytes.is)
       | in-Start w ↦ w.node-is ∙ ap (λ s. (node.Start w.in-Start.lines, s, false)) w.none.ensures ∙ ap leaf_row (sym w.in-Start.is)
-      | in-Finish w ↦ w.node-is ∙ ap (λ s. (node.Finish w.in-Finish.lines, s, false)) w.none-in-Finish.ensures ∙ ap leaf_row (sym w.in-Finish.is)
+      | in-Finish w ↦ w.node-is ∙ ap (λ s. (node.Finish w.in-Finish.lines, s, false)) w.none-in-Finish.ensures
+          ∙ ap leaf_row (sym w.in-Finish.is)
       | in-Word w ↦ w.node-is ∙ ap (λ s. (node.Word, s, false)) w.none-in-Word.ensures ∙ ap leaf_row (sym w.in-Word.is)
     ])
     c.in_ok-piece.ensures.grew c.in_ok-piece.ensures.number.1 c.in_ok-piece.ensures.made refl refl refl

@@ -5,4 +5,5 @@ use Rattle.ix_pattern.proofs.parts.nothing.Goals as goal
 
 pub returns-clause-meaning : goal.returns-clause-meaning
 unfolding least_length
-returns-clause-meaning c = leaf-part _ _ _ _ c.in_ok-piece.ensures.grew c.in_ok-piece.ensures.number.1 c.in_ok-piece.ensures.made refl refl refl
+returns-clause-meaning c = leaf-part _ _ _ _ c.in_ok-piece.ensures.grew c.in_ok-piece.ensures.number.1 c.in_ok-piece.ensures.made refl refl
+    refl

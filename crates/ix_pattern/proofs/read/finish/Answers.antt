@@ -23,11 +23,13 @@ pub from_rows-requires-clause-pattern : goal.from_rows-requires-clause-pattern
 from_rows-requires-clause-pattern c =
     let m = c.requires.1 in
     let p = (c.in_ok-part.ensures.meaning 0 c.requires.0 None m.frame).added in
-    let small = sym (c.is_too_large.ensures c.requires.0 m.frame.deep m.frame.high (c.groups-groups.ensures ∙ m.counted) p.measured) ∙ c.if-is_too_large.false in
+    let small = sym (c.is_too_large.ensures c.requires.0 m.frame.deep m.frame.high (c.groups-groups.ensures ∙ m.counted) p.measured)
+    ∙ c.if-is_too_large.false in
     let least = weight-small c.requires.0 small in
     record {
       rooted = c.into_rows-rows.ensures.rooted;
-      inside = subst (λ g. AllInside g 0 (rows_of c.into_rows-rows.result.items)) (c.in_ok-part.ensures.kept.0.groups ∙ sym c.groups-groups.ensures)
+      inside = subst (λ g. AllInside g 0 (rows_of c.into_rows-rows.result.items)) (c.in_ok-part.ensures.kept.0.groups
+          ∙ sym c.groups-groups.ensures)
           c.into_rows-rows.ensures.inside;
       sound = subst IsSound (sym (c.into_rows-rows.ensures.tree ∙ p.is))
           (syntax-sound c.requires.0 0 m.allowed (sym p.empty ∙ c.if-part.false));
@@ -45,7 +47,8 @@ pub returns-clause-found : goal.returns-clause-found
 returns-clause-found c =
     λ s m.
     let p = (c.in_ok-part.ensures.meaning 0 s None m.frame).added in
-    let small = sym (c.is_too_large.ensures s m.frame.deep m.frame.high (c.groups-groups.ensures ∙ m.counted) p.measured) ∙ c.if-is_too_large.false in (
+    let small = sym (c.is_too_large.ensures s m.frame.deep m.frame.high (c.groups-groups.ensures ∙ m.counted) p.measured)
+    ∙ c.if-is_too_large.false in (
       small,
       sym p.empty ∙ c.if-part.false,
       pattern-is _ _ s c.from_rows.ensures (c.into_rows-rows.ensures.tree ∙ p.is) (c.groups-groups.ensures ∙ m.counted) p.measured small,

@@ -6,7 +6,8 @@ pub joined-requires-clause-part : goal.joined-requires-clause-part
 joined-requires-clause-part c = c.in_ok-part.ensures.kept.1
 
 pub joined-requires-clause-rest : goal.joined-requires-clause-rest
-joined-requires-clause-rest c = lift-below c.args.work.now c.counted.new.work c.args.frame.sequence c.in_ok-part.ensures.kept.0 c.requires.holds.sequence
+joined-requires-clause-rest c = lift-below c.args.work.now c.counted.new.work c.args.frame.sequence c.in_ok-part.ensures.kept.0
+    c.requires.holds.sequence
 
 pub returns-clause-meaning : goal.returns-clause-meaning
 returns-clause-meaning c =

@@ -15,6 +15,8 @@ pub returns-clause-meaning : goal.returns-clause-meaning
 returns-clause-meaning c =
     λ n s times f.
     all-add _ _ _ _ _ _ c.in_ok-first.ensures.kept.0
-    (c.alternatives.ensures.meaning (unwrap_or (pieces n s).first nothing) (unwrap_or (weights s).first 1) (pieces n s).others (weights s).others
+    (c.alternatives.ensures.meaning (unwrap_or (pieces n s).first nothing) (unwrap_or (weights s).first 1) (pieces n s).others
+    (weights s).others
     (c.in_ok-first.ensures.meaning (pieces n s).first (weights s).first f.first).added
-    (lift-optional c.args.work.now c.first_of.new.work c.args.frame.others (pieces n s).others (weights s).others c.in_ok-first.ensures.kept.0 f.others))
+    (lift-optional c.args.work.now c.first_of.new.work c.args.frame.others (pieces n s).others (weights s).others
+    c.in_ok-first.ensures.kept.0 f.others))

@@ -10,4 +10,5 @@ returns-clause-meaning c =
     leaf-frame c.args.work.now c.leaf.new.work c.before-2.new.work c.args.here _ c.in_ok-part-2.part n times s c.args.piece c.is_high.result
     c.in_ok-part.ensures.grew f refl refl refl refl refl refl c.is_high.ensures
     (c.in_ok-part-2.ensures.meaning (leaf_piece c.args.piece) 1 (pieces n s).first (weights s).first c.in_ok-part.ensures.added
-    (lift-optional c.args.work.now c.leaf.new.work c.args.here.sequence (pieces n s).first (weights s).first c.in_ok-part.ensures.grew f.first))
+    (lift-optional c.args.work.now c.leaf.new.work c.args.here.sequence (pieces n s).first (weights s).first c.in_ok-part.ensures.grew
+    f.first))

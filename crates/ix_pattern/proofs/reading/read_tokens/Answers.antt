@@ -5,7 +5,8 @@ use Rattle.ix_pattern.proofs.reading.read_tokens.Goals as goal
 
 pub loop-token-init : goal.loop-token-init
 loop-token-init c = come-begins c.new.result c.empty.result c.new-2.result c.captures-groups.result c.args.tokens.items
-    (c.captures-groups.ensures ∙ ap (count_by is_capture) c.deref.ensures.value ∙ captures-count c.args.tokens.items) c.empty.ensures c.new-2.ensures.items c.new.ensures.groups c.new.ensures.none
+    (c.captures-groups.ensures ∙ ap (count_by is_capture) c.deref.ensures.value
+    ∙ captures-count c.args.tokens.items) c.empty.ensures c.new-2.ensures.items c.new.ensures.groups c.new.ensures.none
 
 pub step-requires-clause-can : goal.step-requires-clause-can
 step-requires-clause-can c = come-can c.loop-token.reader _ _ _ _ c.loop-token.invariant c.in-Some.ensures.items

@@ -9,4 +9,5 @@ unfolding folded
 returns c = same-set _ c.loop-b.x-items c.loop-b-test.array_long (λ k h. c.loop-b.invariant k (omega arith))
 
 pub loop-b-preserved : goal.loop-b-preserved
-loop-b-preserved c = more-set (λ k. in_set c.args.set k || (c.args.fold && in_set c.args.set (other_case k))) c.loop-b.x-items c.loop-b.b _ (omega arith) (simp (c.other_case.ensures.value, read-set)) c.loop-b.invariant
+loop-b-preserved c = more-set (λ k. in_set c.args.set k || (c.args.fold && in_set c.args.set (other_case k))) c.loop-b.x-items c.loop-b.b _
+    (omega arith) (simp (c.other_case.ensures.value, read-set)) c.loop-b.invariant

@@ -5,4 +5,5 @@ use Rattle.ix_props.proofs.classes.add_chain.Given as goal
 
 abbrev pub invariant-loop-entry : goal.invariant-loop-entry
 invariant-loop-entry l =
-    l.list ++ chain (classes_in (codes "TRANSFORMS-") (lent (drop l.entry-index l.chosen))) ≡ l.fn.list ++ chain (classes_in (codes "TRANSFORMS-") (lent l.chosen))
+    l.list ++ chain (classes_in (codes "TRANSFORMS-") (lent (drop l.entry-index l.chosen))) ≡ l.fn.list
+    ++ chain (classes_in (codes "TRANSFORMS-") (lent l.chosen))

@@ -5,4 +5,5 @@ use Rattle.ix_props.proofs.classes.add_changes.Given as goal
 
 abbrev pub invariant-loop-entry : goal.invariant-loop-entry
 invariant-loop-entry l =
-    l.seds ++ changes (classes_in (codes "SEDCMD-") (lent (drop l.entry-index l.chosen))) ≡ l.fn.seds ++ changes (classes_in (codes "SEDCMD-") (lent l.chosen))
+    l.seds ++ changes (classes_in (codes "SEDCMD-") (lent (drop l.entry-index l.chosen))) ≡ l.fn.seds
+    ++ changes (classes_in (codes "SEDCMD-") (lent l.chosen))

@@ -11,10 +11,13 @@ loop-at-preserved-in-Continue-branch-4 c =
       within = omega arith;
       so_far =
           rw (dropped c.args.entries.now c.loop-at.at e _ (omega arith) c.loop-at.invariant.within c.index-entries-at.is)
-          (ranks-put e (drop c.loop-at.at c.args.entries.now) c.args.entries.now c.args.source.now c.args.host.now (found c.loop-at.ranks) (found c.put_rank.new.ranks)
+          (ranks-put e (drop c.loop-at.at c.args.entries.now) c.args.entries.now c.args.source.now c.args.host.now (found c.loop-at.ranks)
+          (found c.put_rank.new.ranks)
           c.in-Some.rank _ _ (sym c.is_empty.ensures ∙ c.if-is_empty.true)
-          (stated_here c.args.entries.now e.stanza _ (found c.in_ok-priorities.priorities) _ c.as_slice-stanza.ensures c.stated.ensures c.in_ok-priorities.ensures)
-          (subst (λ o. IsRankBy c.stated.result c.args.source.now c.args.host.now e.stanza o) c.in-Some.is c.in_ok-rank.ensures) c.as_slice-stanza.ensures c.in_ok-put_rank.ensures c.loop-at.invariant.so_far);
+          (stated_here c.args.entries.now e.stanza _ (found c.in_ok-priorities.priorities) _ c.as_slice-stanza.ensures c.stated.ensures
+          c.in_ok-priorities.ensures)
+          (subst (λ o. IsRankBy c.stated.result c.args.source.now c.args.host.now e.stanza o) c.in-Some.is c.in_ok-rank.ensures)
+          c.as_slice-stanza.ensures c.in_ok-put_rank.ensures c.loop-at.invariant.so_far);
     }
 
 pub loop-at-preserved-in_default : goal.loop-at-preserved-in_default
@@ -26,8 +29,10 @@ loop-at-preserved-in_default c =
           rw (dropped c.args.entries.now c.loop-at.at e _ (omega arith) c.loop-at.invariant.within c.index-entries-at.is)
           (ranks-left e (drop c.loop-at.at c.args.entries.now) c.args.entries.now c.args.source.now c.args.host.now (found c.loop-at.ranks)
           _ (sym c.is_empty.ensures ∙ c.if-is_empty.true)
-          (stated_here c.args.entries.now e.stanza _ (found c.in_ok-priorities.priorities) _ c.as_slice-stanza.ensures c.stated.ensures c.in_ok-priorities.ensures)
-          (subst (λ o. IsRankBy c.stated.result c.args.source.now c.args.host.now e.stanza o) c.in_default.is c.in_ok-rank.ensures) c.loop-at.invariant.so_far);
+          (stated_here c.args.entries.now e.stanza _ (found c.in_ok-priorities.priorities) _ c.as_slice-stanza.ensures c.stated.ensures
+          c.in_ok-priorities.ensures)
+          (subst (λ o. IsRankBy c.stated.result c.args.source.now c.args.host.now e.stanza o) c.in_default.is c.in_ok-rank.ensures)
+          c.loop-at.invariant.so_far);
     }
 
 pub loop-at-preserved : goal.loop-at-preserved

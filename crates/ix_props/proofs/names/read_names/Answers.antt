@@ -9,7 +9,8 @@ loop-byte-preserved c =
     elim c.if-byte-eq44.branch [
       | then-byte-eq44+in_ok-add_name w ↦
           rw (w.found-is, w.in_ok-add_name.ensures, w.as_slice.ensures, w.piece-is, w.clear.ensures)
-          (sym (ends_piece c.loop-byte.found c.args.text.now c.loop-byte.piece c.loop-byte.byte-index c.loop-byte-test.true w.if-byte-eq44.true)
+          (sym (ends_piece c.loop-byte.found c.args.text.now c.loop-byte.piece c.loop-byte.byte-index c.loop-byte-test.true
+          w.if-byte-eq44.true)
           ∙ c.loop-byte.invariant)
       | else-byte-eq44+in_ok-push w ↦
           rw (w.found-is, w.piece-is, w.in_ok-push.ensures.ok)

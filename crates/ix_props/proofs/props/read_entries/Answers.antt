@@ -15,7 +15,8 @@ returns-in_err-value-clause-err c =
     sym (c.in-Some.ensures ∙ ap (λ n. slice_get c.args.props.now n) c.len.ensures) in
     rw (p.1, p.2)
     (first e c.loop-item.found here c.loop-item.invariant
-    (subst (λ k. RefusesKind c.args.transforms.now c.args.zones.now k e c.in_err-value.field-0.0) c.entry_kind.ensures c.in_err-value.ensures.err))
+    (subst (λ k. RefusesKind c.args.transforms.now c.args.zones.now k e c.in_err-value.field-0.0) c.entry_kind.ensures
+    c.in_err-value.ensures.err))
 
 pub loop-item-smaller : goal.loop-item-smaller
 loop-item-smaller c =

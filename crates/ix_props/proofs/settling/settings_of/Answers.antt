@@ -11,7 +11,8 @@ settle-requires c =
 pub returns : goal.returns
 returns c =
     IfOk-weaker c.settle.result _ _
-    (λ s set. settled c.args.entries.now c.args.meta.now c.in_ok-sourcetype.sourcetype (found c.in_ok-ranks.ranks) (lent c.in_ok-chosen.chosen.items) s
+    (λ s set. settled c.args.entries.now c.args.meta.now c.in_ok-sourcetype.sourcetype (found c.in_ok-ranks.ranks)
+    (lent c.in_ok-chosen.chosen.items) s
     (rw (c.as_slice-source.ensures, c.as_slice-host.ensures) at c.in_ok-ranks.ensures) c.in_ok-sourcetype.ensures
     (rw c.as_slice.ensures at c.in_ok-chosen.ensures) (rw c.deref.ensures.value at set))
     c.settle.ensures

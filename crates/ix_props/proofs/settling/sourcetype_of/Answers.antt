@@ -9,7 +9,8 @@ pub returns-in_ok-chosen-in-None : goal.returns-in_ok-chosen-in-None
 returns-in_ok-chosen-in-None c =
     IfOk-weaker c.copy_name.result _ _
     (λ name is. subst (λ o. IsSourceType c.args.entries.now o c.args.meta.now.source name) (sym c.in-None.is)
-    (type_of_source c.args.entries.now c.args.meta.now.source c.args.meta.now.host (found c.args.ranks.now) (lent c.in_ok-chosen-in-None.chosen.items) name
+    (type_of_source c.args.entries.now c.args.meta.now.source c.args.meta.now.host (found c.args.ranks.now)
+    (lent c.in_ok-chosen-in-None.chosen.items) name
     c.requires c.in_ok-chosen-in-None.ensures
     (is ∙ ap (λ v. name_or (codes "unknown") v) (rw c.deref.ensures.value at c.find.ensures))))
     c.copy_name.ensures

@@ -5,4 +5,8 @@ use Rattle.ix_props.proofs.ValueLemmas.{refuses}
 use Rattle.ix_props.proofs.values.bad_breaker.Goals as goal
 
 pub returns : goal.returns
-returns c = refuses (λ f. RefusesBreaker (item_entry c.args.item) f) c.bad_pattern.result _ c.bad_pattern.ensures (refl, refl, c.requires) tt
+returns c = refuses (λ f. RefusesBreaker (item_entry c.args.item) f) c.bad_pattern.result _ c.bad_pattern.ensures (
+  refl,
+  refl,
+  c.requires,
+) tt

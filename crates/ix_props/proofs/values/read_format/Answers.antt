@@ -1,6 +1,6 @@
 use Rattle.std.proofs.Common.{◌≡◌, None, refl}
 use Rattle.ix_conf.specs.Lent.{item_entry}
-use Rattle.ix_values.specs.Formats.{format}
+use Rattle.ix_conf_values.specs.Formats.{format}
 use Rattle.ix_props.specs.Values.{IsBad}
 use Rattle.ix_props.proofs.ValueLemmas.{refuses}
 use Rattle.ix_props.proofs.values.read_format.Goals as goal

@@ -1,7 +1,7 @@
 use Rattle.std.proofs.Common.{◌≡◌, ◌≤◌, length, drop, false}
 use Rattle.std.specs.Prelude.{All}
 use Rattle.ix_items.specs.declared.items.Item.{Item}
-use Rattle.ix_book.specs.Book.{name_of, is_same}
+use Rattle.ix_manifest.specs.Book.{name_of, is_same}
 use Rattle.ix_replay.proofs.listing.walk_to.Given as goal
 
 abbrev pub invariant-loop-at : goal.invariant-loop-at

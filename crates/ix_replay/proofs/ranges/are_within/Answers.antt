@@ -13,4 +13,7 @@ loop-item-preserved c =
     (subst IsWithin c.item-item.is (c.is_within.ensures.0 yes))
 
 pub returns : goal.returns
-returns c = ((λ yes. subst (All IsWithin) (take_all c.loop-item.item-index c.args.items.now c.loop-item-test.false) c.loop-item.invariant), (λ all. search rules))
+returns c = (
+  (λ yes. subst (All IsWithin) (take_all c.loop-item.item-index c.args.items.now c.loop-item-test.false) c.loop-item.invariant),
+  (λ all. search rules),
+)

@@ -7,4 +7,5 @@ pub returns-clause-rises : goal.returns-clause-rises
 returns-clause-rises c = IsNonDecreasingBy-from_sort (λ (n : ℕ). n) c.sort_unstable.new.self.items c.sort_unstable.ensures.sorted
 
 pub returns-clause-all : goal.returns-clause-all
-returns-clause-all c = all_among c.args.files.now c.in_ok-numbers.numbers.items c.sort_unstable.new.self.items c.in_ok-numbers.ensures c.sort_unstable.ensures.permutation
+returns-clause-all c = all_among c.args.files.now c.in_ok-numbers.numbers.items c.sort_unstable.new.self.items c.in_ok-numbers.ensures
+    c.sort_unstable.ensures.permutation

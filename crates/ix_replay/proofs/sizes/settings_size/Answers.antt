@@ -9,5 +9,6 @@ use Rattle.ix_replay.proofs.sizes.settings_size.Goals as goal
 pub returns : goal.returns
 returns c =
     c.loop-one.invariant
-    ∙ ap (λ (l : List Kept). min (5 + sum_by (λ (k : Kept). length (kept_bytes k)) l) (2 ^ 64 - 1)) (take_all c.loop-one.one-index c.args.kept.now c.loop-one-test.false)
+    ∙ ap (λ (l : List Kept). min (5 + sum_by (λ (k : Kept). length (kept_bytes k)) l) (2 ^ 64 - 1))
+    (take_all c.loop-one.one-index c.args.kept.now c.loop-one-test.false)
     ∙ ap (λ (n : ℕ). min n (2 ^ 64 - 1)) (sym (length_settings c.args.kept.now))

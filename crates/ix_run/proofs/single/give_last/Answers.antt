@@ -1,9 +1,9 @@
 use Rattle.std.proofs.Common.{rules, ap, ◌∙◌, arith}
 use Rattle.std.specs.Prelude.{Err}
 use Rattle.ix_disk.proofs.Runs.{rose_later}
-use Rattle.ix_keep.specs.declared.fault.CommitFault.{CommitFault}
-use Rattle.ix_keep.specs.declared.fault.CommitFault.TheVariants as commits
-use Rattle.ix_keep.proofs.Reading.{anyhow_through}
+use Rattle.ix_commit.specs.declared.fault.CommitFault.{CommitFault}
+use Rattle.ix_commit.specs.declared.fault.CommitFault.TheVariants as commits
+use Rattle.ix_commit.proofs.Reading.{anyhow_through}
 use Rattle.std.proofs.lemmas.Int.{to_z-of_z}
 use Rattle.std.proofs.lemmas.Result.{err_from_is_err_and}
 use mir.Val.{SFits}
@@ -17,15 +17,19 @@ returns-in-Ok g c = record {
   kept = λ choose h base k chooser taken hold.
       let fits : SFits w64 c.args.moment = search rules in
       let one = simp to_z-of_z at (c.in_ok-answer.ensures.given choose h base k chooser taken hold) in
-      kept_last g.D.Disk _ g.M.Memory.holds choose h base k _ c.args.store.now c.give.new.store c.commit_all.new.store c.args.disk.now c.give.new.disk c.commit_all.new.disk c.in_ok-answer.answer hold one
-      (c.in-Ok.ensures.done choose _ base one.gone.count one.gone.hold) c.commit_all.ensures.run (c.commit_all.ensures.stood choose _ base one.gone.count one.gone.hold);
+      kept_last g.D.Disk _ g.M.StoreMemory.holds choose h base k _ c.args.store.now c.give.new.store c.commit_all.new.store c.args.disk.now
+      c.give.new.disk c.commit_all.new.disk c.in_ok-answer.answer hold one
+      (c.in-Ok.ensures.done choose _ base one.gone.count one.gone.hold) c.commit_all.ensures.run
+      (c.commit_all.ensures.stood choose _ base one.gone.count one.gone.hold);
   fault = tt;
   over = c.in-Ok.ensures.over;
   run = c.commit_all.ensures.run ∙ c.give.ensures.run;
   rest = λ measured. c.in-Ok.ensures.rest (c.in_ok-answer.ensures.measured measured);
   unchanged = tt;
   undamaged = λ file at is. absurd (not_ok is);
-  told = anyhow_through (g.D.Disk.seen c.args.disk.now) (g.D.Disk.seen c.give.new.disk) (g.D.Disk.seen c.commit_all.new.disk) c.give.ensures.told c.commit_all.ensures.told;
+  placed = λ file at is. absurd (not_ok is);
+  told = anyhow_through (g.D.Disk.seen c.args.disk.now) (g.D.Disk.seen c.give.new.disk) (g.D.Disk.seen c.commit_all.new.disk)
+      c.give.ensures.told c.commit_all.ensures.told;
   later = omega (arith, c.give.ensures.later, c.commit_all.ensures.later);
   cause = tt;
 }
@@ -36,7 +40,8 @@ returns-in-Err g c = record {
   fault = λ choose h base k chooser taken hold.
       let fits : SFits w64 c.args.moment = search rules in
       let one = simp to_z-of_z at (c.in_ok-answer.ensures.given choose h base k chooser taken hold) in
-      stood_last g.D.Disk _ g.M.Memory.holds choose h base k _ c.args.store.now c.give.new.store c.args.disk.now c.give.new.disk c.commit_all.new.disk c.in_ok-answer.answer one
+      stood_last g.D.Disk _ g.M.StoreMemory.holds choose h base k _ c.args.store.now c.give.new.store c.args.disk.now c.give.new.disk
+      c.commit_all.new.disk c.in_ok-answer.answer one
       (c.commit_all.ensures.stood choose _ base one.gone.count one.gone.hold);
   over = tt;
   run = c.commit_all.ensures.run ∙ c.give.ensures.run;
@@ -47,10 +52,14 @@ returns-in-Err g c = record {
       let one = simp to_z-of_z at (c.in_ok-answer.ensures.given choose h base k chooser taken hold) in
       let cause = cause_back c.in-Err.fault (commits.Damaged file at) is in
       c.in-Err.ensures.undamaged file at (ap (λ (f : CommitFault). Err f) cause) choose _ base one.gone.count one.gone.hold;
-  told = anyhow_through (g.D.Disk.seen c.args.disk.now) (g.D.Disk.seen c.give.new.disk) (g.D.Disk.seen c.commit_all.new.disk) c.give.ensures.told c.commit_all.ensures.told;
+  placed = λ file at is. c.in-Err.ensures.placed file at
+      (ap (λ (f : CommitFault). Err f) (cause_back c.in-Err.fault (commits.Damaged file at) is));
+  told = anyhow_through (g.D.Disk.seen c.args.disk.now) (g.D.Disk.seen c.give.new.disk) (g.D.Disk.seen c.commit_all.new.disk)
+      c.give.ensures.told c.commit_all.ensures.told;
   later = omega (arith, c.give.ensures.later, c.commit_all.ensures.later);
   cause = λ is.
-      rose_later (g.D.Disk.faults c.args.disk.now) (g.D.Disk.faults c.give.new.disk) (g.D.Disk.faults c.commit_all.new.disk) c.give.ensures.later
+      rose_later (g.D.Disk.faults c.args.disk.now) (g.D.Disk.faults c.give.new.disk) (g.D.Disk.faults c.commit_all.new.disk)
+      c.give.ensures.later
       (c.in-Err.ensures.cause (cause_is c.in-Err.fault commits.Disk is));
 }
 
@@ -70,6 +79,7 @@ returns-in_err-answer g c =
       rest = λ measured. tt;
       unchanged = c.in_err-answer.ensures.unchanged;
       undamaged = c.in_err-answer.ensures.undamaged;
+      placed = c.in_err-answer.ensures.placed;
       told = c.give.ensures.told;
       later = c.give.ensures.later;
       cause = c.in_err-answer.ensures.cause;

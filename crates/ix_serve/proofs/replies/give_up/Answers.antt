@@ -10,8 +10,12 @@ use Rattle.ix_serve.proofs.replies.give_up.Goals as goal
 
 pub returns-clause-gave : goal.returns-clause-gave
 returns-clause-gave g c =
-    let clean = IsClean (g.K.Link.faults c.args.link.now) (g.K.Link.faults c.give_error.new.link) (g.K.Link.standing c.args.link.now) (g.K.Link.standing c.give_error.new.link) in
-    subst (λ (f : ServeFault). Wrote (broken c.args.cause) true clean (Err f) (g.K.Link.given c.args.link.now) (g.K.Link.given c.give_error.new.link)) (sym c.answer_of_fault.ensures)
-    (subst (λ (name : List ℕ). Wrote (reply 500 Json (error_body name)) true clean (Err (answer_of_fault c.args.cause)) (g.K.Link.given c.args.link.now) (g.K.Link.given c.give_error.new.link)) c.commit_name.ensures.name
-    (gave_up (reply 500 Json (error_body c.commit_name.result.now)) true clean c.give_error.result c.args.cause (g.K.Link.given c.args.link.now) (g.K.Link.given c.give_error.new.link)
+    let clean = IsClean (g.K.Link.faults c.args.link.now) (g.K.Link.faults c.give_error.new.link) (g.K.Link.standing c.args.link.now)
+    (g.K.Link.standing c.give_error.new.link) in
+    subst (λ (f : ServeFault). Wrote (broken c.args.cause) true clean (Err f) (g.K.Link.given c.args.link.now)
+    (g.K.Link.given c.give_error.new.link)) (sym c.answer_of_fault.ensures)
+    (subst (λ (name : List ℕ). Wrote (reply 500 Json (error_body name)) true clean (Err (answer_of_fault c.args.cause))
+    (g.K.Link.given c.args.link.now) (g.K.Link.given c.give_error.new.link)) c.commit_name.ensures.name
+    (gave_up (reply 500 Json (error_body c.commit_name.result.now)) true clean c.give_error.result c.args.cause
+    (g.K.Link.given c.args.link.now) (g.K.Link.given c.give_error.new.link)
     c.give_error.ensures.gave))

@@ -1,6 +1,6 @@
 use Rattle.std.proofs.Common.{◌≡◌, drop}
-use Rattle.ix_shelves.specs.Lists.{find}
-use Rattle.ix_shelves.specs.Shelves.{view_name}
+use Rattle.ix_catalog.specs.Lists.{find}
+use Rattle.ix_catalog.specs.Shelves.{view_name}
 use Rattle.ix_store.proofs.exporting.find_index.Given as goal
 
 abbrev pub invariant-loop-view : goal.invariant-loop-view

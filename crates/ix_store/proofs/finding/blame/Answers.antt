@@ -2,8 +2,8 @@ use Rattle.std.proofs.Common.{◌≡◌, ℕ, List, Err, ap, subst, sym, ◌∙�
 use Rattle.ix_base.specs.declared.files.File.{File}
 use Rattle.ix_disk.specs.Image.{bytes_in}
 use Rattle.ix_log.specs.Log.{HasBodies, file_of}
-use Rattle.ix_book.specs.declared.replaying.ReplayFault.{ReplayFault}
-use Rattle.ix_book.specs.declared.replaying.ReplayFault.TheVariants as replays
+use Rattle.ix_manifest.specs.declared.manifest_state.ReplayFault.{ReplayFault}
+use Rattle.ix_manifest.specs.declared.manifest_state.ReplayFault.TheVariants as replays
 use Rattle.ix_store.specs.Finding.{name_in, blamed, IsLastSaid}
 use Rattle.ix_store.specs.declared.fault.MountFault.{MountFault}
 use Rattle.ix_store.specs.declared.fault.MountFault.TheVariants as faults
@@ -36,4 +36,5 @@ returns-clause-damaged g c = λ named at is image told bodies book item has repl
     let there = subst (λ (f : File). HasBodies bodies (bytes_in image f)) (sym c.in-Ok.ensures.file) has in
     let blamed_is : blamed c.args.file c.in-Err.fault ≡ faults.Damaged named at = sym c.blamed.ensures ∙ is in
     let fault = blamed_at c.args.file named c.in-Err.fault at blamed_is in
-    absurd (c.in-Err.ensures.damaged at (ap (λ (f : ReplayFault). Err f) fault) image (c.mount.ensures.same ∙ told) bodies book there replays)
+    absurd (c.in-Err.ensures.damaged at (ap (λ (f : ReplayFault). Err f) fault) image (c.mount.ensures.same
+    ∙ told) bodies book there replays)

@@ -9,13 +9,13 @@ use Rattle.ix_items.specs.declared.items.ItemFault.TheVariants as items
 use Rattle.ix_log.specs.Log.{HasBodies, IsCut, file_of, blocks}
 use Rattle.ix_log.specs.declared.log.LogFault.TheVariants as logs
 use Rattle.ix_log.proofs.OneList.{one_list_of}
-use Rattle.ix_book.specs.Book.{AreItems, IsBody, Replays, empty}
-use Rattle.ix_book.specs.Plain.{AnyBook}
-use Rattle.ix_book.specs.Replaying.{as_replay}
-use Rattle.ix_book.specs.declared.replaying.ReplayFault.TheVariants as faults
-use Rattle.ix_book.proofs.Blocks.{cut_none, next_stands}
-use Rattle.ix_book.proofs.Bodies.{end_bodies}
-use Rattle.ix_book.proofs.Replays.{on_true, on_false, log_damaged, short_front, short_last}
+use Rattle.ix_manifest.specs.Book.{AreItems, IsBody, Replays, empty}
+use Rattle.ix_manifest.specs.Plain.{AnyBook}
+use Rattle.ix_manifest.specs.Replaying.{as_replay}
+use Rattle.ix_manifest.specs.declared.manifest_state.ReplayFault.TheVariants as faults
+use Rattle.ix_manifest.proofs.Blocks.{cut_none, next_stands}
+use Rattle.ix_manifest.proofs.Bodies.{end_bodies}
+use Rattle.ix_manifest.proofs.Replays.{on_true, on_false, log_damaged, short_front, short_last}
 use Rattle.ix_store.specs.Finding.{name_in, is_under, IsFound}
 use Rattle.ix_store.proofs.Said.{behind, found_more}
 use Rattle.ix_store.proofs.finding.find_last.Goals.{then-said, else-said}
@@ -45,7 +45,8 @@ returns-then-not-branch-clause-found g c = λ image told bodies has.
     let left = g.met.D.Disk.seen_may_stay c.next.new.disk image (c.next.ensures.same ∙ inv.same ∙ told) in
     let here = end_bodies _ read (bytes_in image (file_of c.next.new.self)) (end.0.images image left) in
     let there = subst (λ (f : File). HasBodies read (bytes_in image f)) (c.next.ensures.file ∙ inv.file) here in
-    subst (IsFound (name_in c.args.subject.now) c.loop.found) (one_list_of read bodies (bytes_in image (file_of c.args.log.now)) there has) inv.reading.2
+    subst (IsFound (name_in c.args.subject.now) c.loop.found) (one_list_of read bodies (bytes_in image (file_of c.args.log.now)) there has)
+    inv.reading.2
 
 pub returns-in-Err-BadItem-clause-damaged : goal.returns-in-Err-BadItem-clause-damaged
 returns-in-Err-BadItem-clause-damaged g c = λ at is image told bodies book has replays.
@@ -56,7 +57,8 @@ returns-in-Err-BadItem-clause-damaged g c = λ at is image told bodies book has 
     let reading = on_true c.in_ok-next.field-0 _ _ more (c.in_ok-next.ensures.next read inv.reading.1) in
     let on = reading.reads image (c.next.ensures.same ∙ inv.same ∙ told) in
     let file = c.next.ensures.file ∙ inv.file in
-    let next = next_stands read bodies out on.rest (bytes_in image (file_of c.next.new.self)) on.spelled (short_front read out on.fit) (short_last read out on.fit)
+    let next = next_stands read bodies out on.rest (bytes_in image (file_of c.next.new.self)) on.spelled (short_front read out on.fit)
+    (short_last read out on.fit)
     (subst (λ (f : File). HasBodies bodies (bytes_in image f)) (sym file) has) in
     let here = behind read (out ∷ next.0) empty book (subst (λ (l : List (List ℕ)). Replays AnyBook l empty book) next.1 replays) in
     let w1 = c.in-Err-BadItem.is in
@@ -72,13 +74,20 @@ loop-preserved g c =
     let name = name_in c.args.subject.now in
     let more : c.in_ok-next.field-0 ≡ true = search rules in
     let reading = on_true c.in_ok-next.field-0 _ _ more (c.in_ok-next.ensures.next read inv.reading.1) in
-    let said : (own : List Item) → IsBody own out → c.in-Ok.said ≡ list_any (is_under name) own = λ own is. c.in-Ok.ensures.said own (subst (AreItems own) (sym c.as_slice.ensures) is.are) in
+    let said : (own : List Item) → IsBody own out → c.in-Ok.said ≡ list_any (is_under name) own =
+    λ own is. c.in-Ok.ensures.said own (subst (AreItems own) (sym c.as_slice.ensures) is.are) in
     let place : c.place-at.result ≡ length (blocks read) = c.place-at.ensures ∙ inv.reading.1.place in
-    let how : ((c.in-Ok.said ≡ true) × (c.if-said.found ≡ c.place-at.result)) ⊎ ((c.in-Ok.said ≡ false) × (c.if-said.found ≡ c.loop.found)) =
+    let how : ((c.in-Ok.said ≡ true) × (c.if-said.found ≡ c.place-at.result))
+    ⊎ ((c.in-Ok.said ≡ false) × (c.if-said.found ≡ c.loop.found)) =
     elim c.if-said.branch [ then-said w ↦ inl (w.if-said.true, w.found-is) | else-said w ↦ inr (w.if-said.false, w.found-is) ]
     in
     record {
-      reading = (read ++ out ∷ [], reading, found_more name c.loop.found c.if-said.found c.place-at.result read out c.in-Ok.said place said inv.reading.2 how);
+      reading = (
+        read ++ out ∷ [],
+        reading,
+        found_more name c.loop.found c.if-said.found c.place-at.result read out c.in-Ok.said place said
+            inv.reading.2 how,
+      );
       mounted = search rules;
       file = c.next.ensures.file ∙ inv.file;
       same = c.next.ensures.same ∙ inv.same;

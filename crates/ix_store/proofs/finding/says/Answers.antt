@@ -6,7 +6,7 @@ use Rattle.std.proofs.lemmas.Result.{err_from_is_err_and}
 use Rattle.ix_items.specs.declared.items.Item.{Item}
 use Rattle.ix_items.specs.declared.items.ItemFault.TheVariants.{BadItem}
 use Rattle.ix_items.specs.Spelling.{body_bytes}
-use Rattle.ix_book.proofs.Applying.{left_more}
+use Rattle.ix_manifest.proofs.Applying.{left_more}
 use Rattle.ix_store.specs.Finding.{name_in, is_under}
 use Rattle.ix_store.proofs.Said.{none_left, first_of, any_step, or_none}
 use Rattle.ix_store.proofs.finding.says.Goals.{then-stands_for, else-stands_for}
@@ -31,9 +31,17 @@ loop-at-preserved c =
     let rest = drop at whole in
     let read = c.in_ok-item.ensures.found in
     let under = is_under (name_in c.args.subject.now) in
-    let within : at + c.in_ok-item.len ≤ length whole = omega (arith, c.loop-at-test.true, read.1, ap length (take_rest whole at), length-drop at whole) in
-    let how : ((c.stands_for.result ≡ true) × (c.if-stands_for.found ≡ true)) ⊎ ((c.stands_for.result ≡ false) × (c.if-stands_for.found ≡ c.loop-at.found)) =
-    elim c.if-stands_for.branch [ then-stands_for w ↦ inl (w.if-stands_for.true, w.found-is) | else-stands_for w ↦ inr (w.if-stands_for.false, w.found-is) ]
+    let within : at + c.in_ok-item.len ≤ length whole =
+    omega (arith, c.loop-at-test.true, read.1, ap length (take_rest whole at), length-drop at whole) in
+    let how : ((c.stands_for.result ≡ true) × (c.if-stands_for.found ≡ true))
+    ⊎ ((c.stands_for.result ≡ false) × (c.if-stands_for.found ≡ c.loop-at.found)) =
+    elim c.if-stands_for.branch [
+      | then-stands_for w ↦ inl (
+        w.if-stands_for.true,
+        w.found-is,
+      )
+      | else-stands_for w ↦ inr (w.if-stands_for.false, w.found-is)
+    ]
     in
     record {
       within = within;
@@ -45,7 +53,8 @@ loop-at-preserved c =
             first.1,
             left_more whole at c.in_ok-item.len first.0 first.1 first.4 first.5 again.1,
             any_step c.loop-at.found c.if-stands_for.found c.stands_for.result (list_any under first.1) (list_any under items)
-                (left.2 ∙ ap (λ (l : List Item). c.loop-at.found || list_any under l) first.2 ∙ ap (λ (t : Bool). c.loop-at.found || (t || list_any under first.1)) (sym is)) how,
+                (left.2 ∙ ap (λ (l : List Item). c.loop-at.found || list_any under l) first.2
+                ∙ ap (λ (t : Bool). c.loop-at.found || (t || list_any under first.1)) (sym is)) how,
           );
     }
 

@@ -15,6 +15,7 @@ loop-file-preserved c =
     let xs = c.args.files.now in
     let i = c.loop-file.file-index in
     record {
-      list = appended c.args.list.now c.loop-file.list _ xs i none c.in_ok-push_file.ensures.ok c.loop-file.invariant.list c.loop-file-test.true;
+      list = appended c.args.list.now c.loop-file.list _ xs i none c.in_ok-push_file.ensures.ok c.loop-file.invariant.list
+          c.loop-file-test.true;
       numbered = λ all. c.in_ok-push_file.ensures.numbered (c.loop-file.invariant.numbered all);
     }

@@ -7,4 +7,5 @@ returns-then-from-text-clause-first c = first-past c.args.pattern.now c.args.tex
 
 pub returns-clause-first : goal.returns-clause-first
 returns-clause-first c =
-    first-is c.args.pattern.now c.args.text.now c.args.from c.in_ok-found.found (omega arith) c.in_ok-found.ensures.first c.in_ok-found.ensures.lies
+    first-is c.args.pattern.now c.args.text.now c.args.from c.in_ok-found.found (omega arith) c.in_ok-found.ensures.first
+    c.in_ok-found.ensures.lies

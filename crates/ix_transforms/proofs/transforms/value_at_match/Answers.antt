@@ -1,6 +1,6 @@
 use Rattle.std.proofs.Common.{◌≡◌, ℕ, List, Option, ◌++◌, length, take, ◌∙◌, ap, arith}
-use Rattle.ix_values.specs.declared.escapes.Part.{Part}
-use Rattle.ix_values.specs.declared.transforms.Key.{Key}
+use Rattle.ix_conf_values.specs.declared.escapes.Part.{Part}
+use Rattle.ix_conf_values.specs.declared.transforms.Key.{Key}
 use Rattle.ix_transforms.specs.Writing.{written}
 use Rattle.ix_transforms.specs.Queues.{limit_of, value_of}
 use Rattle.ix_transforms.specs.Transforms.{destination, front}
@@ -11,7 +11,8 @@ use Rattle.ix_transforms.proofs.transforms.value_at_match.Goals as goal
 pub add_parts-requires-clause-spans : goal.add_parts-requires-clause-spans
 add_parts-requires-clause-spans c =
     let found = c.args.found.now in
-    rw c.as_slice-2.ensures (all-wider found.start found.end 0 (length c.args.text.now) found.groups (omega arith) c.requires.within c.requires.spans)
+    rw c.as_slice-2.ensures (all-wider found.start found.end 0 (length c.args.text.now) found.groups (omega arith) c.requires.within
+    c.requires.spans)
 
 -- the same of equal parts
 same : (limit limit' : ℕ) (kept kept' so_far so_far' text : List ℕ) (parts parts' : List Part) (spans spans' : List (Option (ℕ × ℕ))) →
@@ -30,6 +31,9 @@ returns c =
     let q = c.args.queued.now in
     let key = c.destination-key.ensures in
     c.in_ok-add_parts.ensures.added
-    ∙ same _ (limit_of (destination t)) _ (take (limit_of (destination t)) (front t.write_meta q.event.meta)) _ (value_of (destination t) q) c.args.text.now _ t.format _ c.args.found.now.groups
-    (c.limit_of.ensures ∙ ap limit_of key) c.in_ok-value.ensures (c.as_slice.ensures ∙ c.in_ok-so_far.ensures ∙ ap (λ (k : Key). value_of k q) key) c.as_slice-3.ensures c.as_slice-2.ensures
-    ∙ cut-more (limit_of (destination t)) (front t.write_meta q.event.meta) (written t.format (value_of (destination t) q) c.args.text.now c.args.found.now.groups)
+    ∙ same _ (limit_of (destination t)) _ (take (limit_of (destination t)) (front t.write_meta q.event.meta)) _ (value_of (destination t) q)
+    c.args.text.now _ t.format _ c.args.found.now.groups
+    (c.limit_of.ensures ∙ ap limit_of key) c.in_ok-value.ensures (c.as_slice.ensures ∙ c.in_ok-so_far.ensures
+    ∙ ap (λ (k : Key). value_of k q) key) c.as_slice-3.ensures c.as_slice-2.ensures
+    ∙ cut-more (limit_of (destination t)) (front t.write_meta q.event.meta)
+    (written t.format (value_of (destination t) q) c.args.text.now c.args.found.now.groups)

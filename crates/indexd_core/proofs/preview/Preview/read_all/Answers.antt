@@ -30,7 +30,11 @@ returns-then-n-eq0-clause-all g c = λ prepared holds.
       end = (
         let none : length (take c.in_ok-n.n c.take_block.new.block) ≤ 0 = omega (arith, length-take c.in_ok-n.n c.take_block.new.block) in
             omega (arith, length-append came.0 (take c.in_ok-n.n c.take_block.new.block), came.1),
-        c.in_ok-n.ensures.end c.if-n-eq0.true (omega (arith, c.min-room.ensures, length-take-le c.min-room.result c.loop-taken.block (omega (arith, c.min-room.ensures)))),
+        c.in_ok-n.ensures.end c.if-n-eq0.true (omega (
+          arith,
+          c.min-room.ensures,
+          length-take-le c.min-room.result c.loop-taken.block (omega (arith, c.min-room.ensures)),
+        )),
       );
     }
 

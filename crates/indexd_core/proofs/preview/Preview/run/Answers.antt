@@ -43,7 +43,8 @@ returns-clause-run g c = λ prepared holds.
     let output = side (g.W.Sink.faults c.args.output.now) (g.W.Sink.given c.args.output.now) in
     let middle = side (g.W.Sink.faults c.read_all.new.output) (g.W.Sink.given c.read_all.new.output) in
     let output' = side (g.W.Sink.faults c.finish.new.output) (g.W.Sink.given c.finish.new.output) in
-    subst (λ (s : Status). Runs s (text_of prepared c.args.self.now.moment) input input' output output') (sym c.status-in-Err-finish.ensures)
+    subst (λ (s : Status). Runs s (text_of prepared c.args.self.now.moment) input input' output output')
+    (sym c.status-in-Err-finish.ensures)
     (stopped-at-end c.in-Err-finish.stop prepared c.read_all.new.self c.args.self.now.moment input input' output middle output'
     c.read_all.ensures.written_later (omega (arith, c.read_all.ensures.written_later, c.finish.ensures.later))
     c.in-Ok-true.ensures.moment

@@ -13,7 +13,8 @@ returns-in_err-props g c =
     let missed_props = c.layer_folders.ensures.later_missing in
     record {
       ok = rw p.1 tt;
-      stopped = rw (p.1, p.2) (all-stop Props c.in_err-props.field-0.0 (g.T.Tree.faults c.args.tree.now) (g.T.Tree.faults c.layer_folders.new.tree)
+      stopped = rw (p.1, p.2) (all-stop Props c.in_err-props.field-0.0 (g.T.Tree.faults c.args.tree.now)
+          (g.T.Tree.faults c.layer_folders.new.tree)
           (g.T.Tree.faults c.read_file.new.tree) (g.T.Tree.files c.args.tree.now) before_props tt
           (stops-told _ _ Props _ _ _ _ props told c.in_err-props.ensures.stopped));
       same = c.read_file.ensures.same ∙ props;
@@ -33,8 +34,10 @@ returns-in_err-transforms g c =
     let missed_transforms = le_trans missed_props c.read_file.ensures.later_missing in
     record {
       ok = rw p.1 tt;
-      stopped = rw (p.1, p.2) (all-stop Transforms c.in_err-transforms.field-0.0 (g.T.Tree.faults c.args.tree.now) (g.T.Tree.faults c.read_file.new.tree)
-          (g.T.Tree.faults c.read_file-2.new.tree) (g.T.Tree.files c.args.tree.now) before_transforms (is-sound _ _ Props _ _ props told c.in_ok-props.ensures.ok)
+      stopped = rw (p.1, p.2) (all-stop Transforms c.in_err-transforms.field-0.0 (g.T.Tree.faults c.args.tree.now)
+          (g.T.Tree.faults c.read_file.new.tree)
+          (g.T.Tree.faults c.read_file-2.new.tree) (g.T.Tree.files c.args.tree.now) before_transforms
+          (is-sound _ _ Props _ _ props told c.in_ok-props.ensures.ok)
           (stops-told _ _ Transforms _ _ _ _ transforms told c.in_err-transforms.ensures.stopped));
       same = c.read_file-2.ensures.same ∙ transforms;
       later = le_trans before_transforms c.read_file-2.ensures.later;
@@ -56,7 +59,8 @@ returns-in_err-indexes g c =
     let missed_indexes = le_trans missed_transforms c.read_file-2.ensures.later_missing in
     record {
       ok = rw p.1 tt;
-      stopped = rw (p.1, p.2) (all-stop Indexes c.in_err-indexes.field-0.0 (g.T.Tree.faults c.args.tree.now) (g.T.Tree.faults c.read_file-2.new.tree)
+      stopped = rw (p.1, p.2) (all-stop Indexes c.in_err-indexes.field-0.0 (g.T.Tree.faults c.args.tree.now)
+          (g.T.Tree.faults c.read_file-2.new.tree)
           (g.T.Tree.faults c.read_file-3.new.tree) (g.T.Tree.files c.args.tree.now) before_indexes (
             is-sound _ _ Props _ _ props told c.in_ok-props.ensures.ok,
             is-sound _ _ Transforms _ _ transforms told c.in_ok-transforms.ensures.ok,
@@ -85,7 +89,8 @@ returns-in_err-inputs g c =
     let missed_inputs = le_trans missed_indexes c.read_file-3.ensures.later_missing in
     record {
       ok = rw p.1 tt;
-      stopped = rw (p.1, p.2) (all-stop Inputs c.in_err-inputs.field-0.0 (g.T.Tree.faults c.args.tree.now) (g.T.Tree.faults c.read_file-3.new.tree)
+      stopped = rw (p.1, p.2) (all-stop Inputs c.in_err-inputs.field-0.0 (g.T.Tree.faults c.args.tree.now)
+          (g.T.Tree.faults c.read_file-3.new.tree)
           (g.T.Tree.faults c.read_file-4.new.tree) (g.T.Tree.files c.args.tree.now) before_inputs (
             is-sound _ _ Props _ _ props told c.in_ok-props.ensures.ok,
             is-sound _ _ Transforms _ _ transforms told c.in_ok-transforms.ensures.ok,
@@ -118,7 +123,8 @@ returns-in_err-zones g c =
     let missed_zones = le_trans missed_inputs c.read_file-4.ensures.later_missing in
     record {
       ok = rw p.1 tt;
-      stopped = rw (p.1, p.2) (all-stop Zones c.in_err-zones.field-0.0 (g.T.Tree.faults c.args.tree.now) (g.T.Tree.faults c.read_file-4.new.tree)
+      stopped = rw (p.1, p.2) (all-stop Zones c.in_err-zones.field-0.0 (g.T.Tree.faults c.args.tree.now)
+          (g.T.Tree.faults c.read_file-4.new.tree)
           (g.T.Tree.faults c.read_zones.new.tree) (g.T.Tree.files c.args.tree.now) before_zones (
             is-sound _ _ Props _ _ props told c.in_ok-props.ensures.ok,
             is-sound _ _ Transforms _ _ transforms told c.in_ok-transforms.ensures.ok,

@@ -15,7 +15,12 @@ returns-then-room-size-clause-current g c = empty_current g.D.Disk _ _ c.clear.e
 pub returns-then-room-size-clause-bad : goal.returns-then-room-size-clause-bad
 returns-then-room-size-clause-bad g c = λ image told.
     no_record c.args.at c.args.until (bytes_in image c.args.file)
-    (omega (arith, c.if-room-size.true, c.in_ok-room.ensures.room image told, c.in_ok-size.ensures.size image (c.in_ok-room.ensures.same ∙ told)))
+    (omega (
+      arith,
+      c.if-room-size.true,
+      c.in_ok-room.ensures.room image told,
+      c.in_ok-size.ensures.size image (c.in_ok-room.ensures.same ∙ told),
+    ))
 
 pub returns-in_err-read_piece-clause-current : goal.returns-in_err-read_piece-clause-current
 returns-in_err-read_piece-clause-current g c = empty_current g.D.Disk _ _ c.in_err-read_piece.ensures.none

@@ -14,11 +14,13 @@ returns-in-Ok g c =
       (refl, λ _. tt, p.current),
       record {
         end = (λ e. absurd (c.if-at-until.false e), λ e. absurd cc);
-        after = next_within c.args.at c.args.until c.in-Ok.len view (lent_event c.in-Ok.event) (omega (arith, ap length c.show.ensures, length-take {A = ℕ})) e.within e.found;
+        after = next_within c.args.at c.args.until c.in-Ok.len view (lent_event c.in-Ok.event)
+            (omega (arith, ap length c.show.ensures, length-take {A = ℕ})) e.within e.found;
         size = ap (λ (n : ℕ). c.args.at + n) (record_length c.in-Ok.len view (lent_event c.in-Ok.event) e.within e.found);
         found = λ image told current.
             record_there c.args.at c.args.until c.in-Ok.len (bytes_in image c.args.file) view (lent_event c.in-Ok.event)
-            (subst (λ (v : List ℕ). Shows v (between c.args.at c.args.until (bytes_in image c.args.file))) (sym c.show.ensures) (p.shown image told current))
+            (subst (λ (v : List ℕ). Shows v (between c.args.at c.args.until (bytes_in image c.args.file))) (sym c.show.ensures)
+            (p.shown image told current))
             e.within e.found;
         place = tt;
         bad = tt;
@@ -43,7 +45,8 @@ returns-in-Err g c =
         place = refl;
         bad = λ image told current.
             none_there c.args.at c.args.until (bytes_in image c.args.file) view
-            (subst (λ (v : List ℕ). Shows v (between c.args.at c.args.until (bytes_in image c.args.file))) (sym c.show.ensures) (p.shown image told current))
+            (subst (λ (v : List ℕ). Shows v (between c.args.at c.args.until (bytes_in image c.args.file))) (sym c.show.ensures)
+            (p.shown image told current))
             c.in-Err.ensures.bad;
         cause = λ e. absurd cc;
         later = p.later;

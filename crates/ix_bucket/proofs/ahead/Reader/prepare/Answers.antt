@@ -12,5 +12,6 @@ pub returns-else-not-has-clause-shown : goal.returns-else-not-has-clause-shown
 returns-else-not-has-clause-shown g c = λ image told current.
     let has = was_true c.has.result c.if-not-has.false in
     held_shows c.args.self.now.start c.args.at c.args.until (bytes_in image c.args.file) c.args.self.now.held.items
-    (subst (λ (file : File). IsFrontOf c.args.self.now.held.items (drop c.args.self.now.start (bytes_in image file))) (c.has.ensures.file has) (current.held image told))
+    (subst (λ (file : File). IsFrontOf c.args.self.now.held.items (drop c.args.self.now.start (bytes_in image file)))
+    (c.has.ensures.file has) (current.held image told))
     (c.has.ensures.start has) (c.has.ensures.enough has)

@@ -10,4 +10,5 @@ returns-in_default c = sym (ap content (absent_none seen_of c.args.self.now.file
 
 pub returns : goal.returns
 returns c = c.bytes.ensures ∙ ap (λ (h : Held). content h.bytes) c.index.ensures
-    ∙ sym (ap content (first_get seen_of c.args.self.now.files.items c.args.file c.in-Some.place c.index.result.now c.in-Some.ensures.found))
+    ∙ sym (ap content (first_get seen_of c.args.self.now.files.items c.args.file c.in-Some.place c.index.result.now
+    c.in-Some.ensures.found))

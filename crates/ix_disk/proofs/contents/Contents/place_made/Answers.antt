@@ -12,7 +12,9 @@ returns-clause-found c =
     subst (λ (n : ℕ). IsFirst c.push.new.self.items c.args.file n) (omega (arith, c.len-place.ensures, c.args.self.now.files.ok.0)) pushed
 
 pub returns-clause-seen : goal.returns-clause-seen
-returns-clause-seen c = λ f. ap (λ (l : List Held). present l f) c.in_ok-push.ensures.items ∙ push_same seen_of c.args.self.now.files.items c.missing.result f c.missing.ensures.seen
+returns-clause-seen c = λ f. ap (λ (l : List Held). present l f) c.in_ok-push.ensures.items
+    ∙ push_same seen_of c.args.self.now.files.items c.missing.result f c.missing.ensures.seen
 
 pub returns-clause-torn : goal.returns-clause-torn
-returns-clause-torn c = λ f. ap (λ (l : List Held). torn_in l f) c.in_ok-push.ensures.items ∙ push_same torn_of c.args.self.now.files.items c.missing.result f c.missing.ensures.torn
+returns-clause-torn c = λ f. ap (λ (l : List Held). torn_in l f) c.in_ok-push.ensures.items
+    ∙ push_same torn_of c.args.self.now.files.items c.missing.result f c.missing.ensures.torn

@@ -14,19 +14,24 @@ write-requires c =
     subst (λ (o : Option (List ℕ)). c.args.at ≤ length (content o)) there c.requires
 
 pub returns-in_err-write-clause-same_seen : goal.returns-in_err-write-clause-same_seen
-returns-in_err-write-clause-same_seen c = on_err_always _ (set_same_after seen_of c.args.self.now.files.items c.place_made.new.self.files.items c.args.file c.in_ok-place.place c.index_mut.result.now _ c.place_made.ensures.seen c.in_ok-place.ensures.found
+returns-in_err-write-clause-same_seen c = on_err_always _
+    (set_same_after seen_of c.args.self.now.files.items c.place_made.new.self.files.items c.args.file c.in_ok-place.place
+    c.index_mut.result.now _ c.place_made.ensures.seen c.in_ok-place.ensures.found
     (c.write.ensures.file ∙ ap (λ (h : Held). h.file) c.index_mut.ensures.value)
     (c.in_err-write.ensures.err ∙ ap seen_of c.index_mut.ensures.value))
 
 pub returns-in_err-write-clause-same_torn : goal.returns-in_err-write-clause-same_torn
-returns-in_err-write-clause-same_torn c = on_err_always _ (set_same_after torn_of c.args.self.now.files.items c.place_made.new.self.files.items c.args.file c.in_ok-place.place c.index_mut.result.now _ c.place_made.ensures.torn c.in_ok-place.ensures.found
+returns-in_err-write-clause-same_torn c = on_err_always _
+    (set_same_after torn_of c.args.self.now.files.items c.place_made.new.self.files.items c.args.file c.in_ok-place.place
+    c.index_mut.result.now _ c.place_made.ensures.torn c.in_ok-place.ensures.found
     (c.write.ensures.file ∙ ap (λ (h : Held). h.file) c.index_mut.ensures.value)
     (c.in_err-write.ensures.err_torn ∙ ap torn_of c.index_mut.ensures.value))
 
 pub returns-clause-seen : goal.returns-clause-seen
 returns-clause-seen c = λ f.
     let change = over c.args.at c.args.bytes.now in
-    set_first seen_of c.place_made.new.self.files.items c.args.file c.in_ok-place.place c.index_mut.result.now _ change c.in_ok-place.ensures.found
+    set_first seen_of c.place_made.new.self.files.items c.args.file c.in_ok-place.place c.index_mut.result.now _ change
+    c.in_ok-place.ensures.found
     (c.write.ensures.file ∙ ap (λ (h : Held). h.file) c.index_mut.ensures.value)
     (c.in_ok-write.ensures.ok ∙ ap (λ (h : Held). change h.bytes) c.index_mut.ensures.value) f
     ∙ ap (λ (o : Option (List ℕ)). changed c.args.file change f o) (c.place_made.ensures.seen f)
@@ -34,7 +39,8 @@ returns-clause-seen c = λ f.
 pub returns-clause-torn : goal.returns-clause-torn
 returns-clause-torn c = λ f.
     let change = ones_in c.args.at (length c.args.bytes.now) in
-    set_first torn_of c.place_made.new.self.files.items c.args.file c.in_ok-place.place c.index_mut.result.now _ change c.in_ok-place.ensures.found
+    set_first torn_of c.place_made.new.self.files.items c.args.file c.in_ok-place.place c.index_mut.result.now _ change
+    c.in_ok-place.ensures.found
     (c.write.ensures.file ∙ ap (λ (h : Held). h.file) c.index_mut.ensures.value)
     (c.in_ok-write.ensures.ok_torn ∙ ap (λ (h : Held). change (torn_of h)) c.index_mut.ensures.value) f
     ∙ ap (λ (o : Option (List ℕ)). changed c.args.file change f o) (c.place_made.ensures.torn f)

@@ -10,7 +10,8 @@ invariant_of-self-2 c =
     let now = c.keep.new.self.calls.items in
     let call = Wrote c.args.file c.args.at c.args.bytes false in
     record {
-      seen_is = λ f. c.mark.ensures.seen f ∙ c.args.self.now.seen_is f ∙ sym (seen_by now _ c.keep.ensures.kept f ∙ see_push calls call f None);
+      seen_is = λ f. c.mark.ensures.seen f ∙ c.args.self.now.seen_is f
+          ∙ sym (seen_by now _ c.keep.ensures.kept f ∙ see_push calls call f None);
       torn_is = λ f. c.in-Ok.ensures.torn f
           ∙ ap (λ (n : ℕ). changed c.args.file (ones_in c.args.at n) f (torn_in c.args.self.now.files.files.items f)) c.len.ensures
           ∙ ap (changed c.args.file (ones_in c.args.at (length c.args.bytes)) f) (c.args.self.now.torn_is f)

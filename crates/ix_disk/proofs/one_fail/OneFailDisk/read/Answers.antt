@@ -9,9 +9,11 @@ returns-in_err-pass g c = record {
   bytes = IfOk-from_err c.from_residual.result _ c.from_residual.ensures.0;
   same = refl;
   images = passes_none g.D.Disk.may_leave g.D.Disk.moment g.D.Disk.left_since c.args.self.now.inner _ (λ image. refl);
-  cause = cause_own (g.D.Disk.faults c.args.self.now.inner) c.args.self.now.faults c.pass.new.faults c.from_residual.result c.pass.ensures.cause.later (c.in_err-pass.ensures.cause.failed refl);
+  cause = cause_own (g.D.Disk.faults c.args.self.now.inner) c.args.self.now.faults c.pass.new.faults c.from_residual.result
+      c.pass.ensures.cause.later (c.in_err-pass.ensures.cause.failed refl);
   lock = (refl, refl);
-  fails = fails_here g.D.Disk.faults c.args.self.now.before c.pass.new.before c.args.self.now.inner c.from_residual.result c.pass.ensures.counted c.in_err-pass.ensures.failed c.from_residual.ensures.0;
+  fails = fails_here g.D.Disk.faults c.args.self.now.before c.pass.new.before c.args.self.now.inner c.from_residual.result
+      c.pass.ensures.counted c.in_err-pass.ensures.failed c.from_residual.ensures.0;
 }
 
 pub returns : goal.returns
@@ -20,7 +22,9 @@ returns g c = record {
   bytes = c.read.ensures.bytes;
   same = c.read.ensures.same;
   images = c.read.ensures.images;
-  cause = cause_inner (g.D.Disk.faults c.args.self.now.inner) (g.D.Disk.faults c.read.new.self) c.args.self.now.faults c.pass.new.faults c.read.result c.in_ok-pass.ensures.passed.1 c.read.ensures.cause;
+  cause = cause_inner (g.D.Disk.faults c.args.self.now.inner) (g.D.Disk.faults c.read.new.self) c.args.self.now.faults c.pass.new.faults
+      c.read.result c.in_ok-pass.ensures.passed.1 c.read.ensures.cause;
   lock = (refl, c.read.ensures.lock.1);
-  fails = fails_not g.D.Disk.faults c.args.self.now.before c.pass.new.before c.args.self.now.inner c.read.new.self c.read.result c.pass.ensures.counted c.in_ok-pass.ensures.passed.0 c.read.ensures.cause;
+  fails = fails_not g.D.Disk.faults c.args.self.now.before c.pass.new.before c.args.self.now.inner c.read.new.self c.read.result
+      c.pass.ensures.counted c.in_ok-pass.ensures.passed.0 c.read.ensures.cause;
 }

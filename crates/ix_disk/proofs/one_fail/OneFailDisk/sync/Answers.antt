@@ -8,9 +8,11 @@ returns-in_err-pass g c = record {
   settled = IfOk-from_err c.from_residual.result _ c.from_residual.ensures.0;
   same = refl;
   images = passes_none g.D.Disk.may_leave g.D.Disk.moment g.D.Disk.left_since c.args.self.now.inner _ (λ image. refl);
-  cause = cause_own (g.D.Disk.faults c.args.self.now.inner) c.args.self.now.faults c.pass.new.faults c.from_residual.result c.pass.ensures.cause.later (c.in_err-pass.ensures.cause.failed refl);
+  cause = cause_own (g.D.Disk.faults c.args.self.now.inner) c.args.self.now.faults c.pass.new.faults c.from_residual.result
+      c.pass.ensures.cause.later (c.in_err-pass.ensures.cause.failed refl);
   lock = (refl, refl);
-  fails = fails_here g.D.Disk.faults c.args.self.now.before c.pass.new.before c.args.self.now.inner c.from_residual.result c.pass.ensures.counted c.in_err-pass.ensures.failed c.from_residual.ensures.0;
+  fails = fails_here g.D.Disk.faults c.args.self.now.before c.pass.new.before c.args.self.now.inner c.from_residual.result
+      c.pass.ensures.counted c.in_err-pass.ensures.failed c.from_residual.ensures.0;
 }
 
 pub returns : goal.returns
@@ -18,7 +20,9 @@ returns g c = record {
   settled = c.sync.ensures.settled;
   same = c.sync.ensures.same;
   images = c.sync.ensures.images;
-  cause = cause_inner (g.D.Disk.faults c.args.self.now.inner) (g.D.Disk.faults c.sync.new.self) c.args.self.now.faults c.pass.new.faults c.sync.result c.in_ok-pass.ensures.passed.1 c.sync.ensures.cause;
+  cause = cause_inner (g.D.Disk.faults c.args.self.now.inner) (g.D.Disk.faults c.sync.new.self) c.args.self.now.faults c.pass.new.faults
+      c.sync.result c.in_ok-pass.ensures.passed.1 c.sync.ensures.cause;
   lock = (refl, c.sync.ensures.lock.1);
-  fails = fails_not g.D.Disk.faults c.args.self.now.before c.pass.new.before c.args.self.now.inner c.sync.new.self c.sync.result c.pass.ensures.counted c.in_ok-pass.ensures.passed.0 c.sync.ensures.cause;
+  fails = fails_not g.D.Disk.faults c.args.self.now.before c.pass.new.before c.args.self.now.inner c.sync.new.self c.sync.result
+      c.pass.ensures.counted c.in_ok-pass.ensures.passed.0 c.sync.ensures.cause;
 }

@@ -9,9 +9,11 @@ returns-in_err-pass g c = record {
   bounded = IfOk-from_err c.from_residual.result _ c.from_residual.ensures.0;
   same = refl;
   images = passes_none g.D.Disk.may_leave g.D.Disk.moment g.D.Disk.left_since c.args.self.now.inner _ (λ image. refl);
-  cause = cause_own (g.D.Disk.faults c.args.self.now.inner) c.args.self.now.faults c.pass.new.faults c.from_residual.result c.pass.ensures.cause.later (c.in_err-pass.ensures.cause.failed refl);
+  cause = cause_own (g.D.Disk.faults c.args.self.now.inner) c.args.self.now.faults c.pass.new.faults c.from_residual.result
+      c.pass.ensures.cause.later (c.in_err-pass.ensures.cause.failed refl);
   lock = (refl, refl);
-  stops = stops_here g.D.Disk.faults c.args.self.now.left c.pass.new.left c.args.self.now.inner c.from_residual.result c.pass.ensures.counted c.in_err-pass.ensures.stopped c.from_residual.ensures.0;
+  stops = stops_here g.D.Disk.faults c.args.self.now.left c.pass.new.left c.args.self.now.inner c.from_residual.result
+      c.pass.ensures.counted c.in_err-pass.ensures.stopped c.from_residual.ensures.0;
 }
 
 pub returns : goal.returns
@@ -20,7 +22,9 @@ returns g c = record {
   bounded = c.length.ensures.bounded;
   same = c.length.ensures.same;
   images = c.length.ensures.images;
-  cause = cause_inner (g.D.Disk.faults c.args.self.now.inner) (g.D.Disk.faults c.length.new.self) c.args.self.now.faults c.pass.new.faults c.length.result c.in_ok-pass.ensures.passed.1 c.length.ensures.cause;
+  cause = cause_inner (g.D.Disk.faults c.args.self.now.inner) (g.D.Disk.faults c.length.new.self) c.args.self.now.faults c.pass.new.faults
+      c.length.result c.in_ok-pass.ensures.passed.1 c.length.ensures.cause;
   lock = (refl, c.length.ensures.lock.1);
-  stops = stops_not g.D.Disk.faults c.args.self.now.left c.pass.new.left c.args.self.now.inner c.length.new.self c.length.result c.pass.ensures.counted c.in_ok-pass.ensures.passed.0 c.length.ensures.cause;
+  stops = stops_not g.D.Disk.faults c.args.self.now.left c.pass.new.left c.args.self.now.inner c.length.new.self c.length.result
+      c.pass.ensures.counted c.in_ok-pass.ensures.passed.0 c.length.ensures.cause;
 }

@@ -10,9 +10,11 @@ returns-in_err-pass g c = record {
   removed = IfOk-from_err c.from_residual.result _ c.from_residual.ensures.0;
   begun = on_err_always c.from_residual.result (image_stays _ (g.D.Disk.seen c.args.self.now.inner) (not_removed c.args.file));
   images = passes_none g.D.Disk.may_leave g.D.Disk.moment g.D.Disk.left_since c.args.self.now.inner _ (not_removed c.args.file);
-  cause = cause_own (g.D.Disk.faults c.args.self.now.inner) c.args.self.now.faults c.pass.new.faults c.from_residual.result c.pass.ensures.cause.later (c.in_err-pass.ensures.cause.failed refl);
+  cause = cause_own (g.D.Disk.faults c.args.self.now.inner) c.args.self.now.faults c.pass.new.faults c.from_residual.result
+      c.pass.ensures.cause.later (c.in_err-pass.ensures.cause.failed refl);
   lock = (refl, refl);
-  stops = stops_here g.D.Disk.faults c.args.self.now.left c.pass.new.left c.args.self.now.inner c.from_residual.result c.pass.ensures.counted c.in_err-pass.ensures.stopped c.from_residual.ensures.0;
+  stops = stops_here g.D.Disk.faults c.args.self.now.left c.pass.new.left c.args.self.now.inner c.from_residual.result
+      c.pass.ensures.counted c.in_err-pass.ensures.stopped c.from_residual.ensures.0;
 }
 
 pub returns : goal.returns
@@ -20,7 +22,9 @@ returns g c = record {
   removed = c.remove.ensures.removed;
   begun = c.remove.ensures.begun;
   images = c.remove.ensures.images;
-  cause = cause_inner (g.D.Disk.faults c.args.self.now.inner) (g.D.Disk.faults c.remove.new.self) c.args.self.now.faults c.pass.new.faults c.remove.result c.in_ok-pass.ensures.passed.1 c.remove.ensures.cause;
+  cause = cause_inner (g.D.Disk.faults c.args.self.now.inner) (g.D.Disk.faults c.remove.new.self) c.args.self.now.faults c.pass.new.faults
+      c.remove.result c.in_ok-pass.ensures.passed.1 c.remove.ensures.cause;
   lock = (refl, c.remove.ensures.lock.1);
-  stops = stops_not g.D.Disk.faults c.args.self.now.left c.pass.new.left c.args.self.now.inner c.remove.new.self c.remove.result c.pass.ensures.counted c.in_ok-pass.ensures.passed.0 c.remove.ensures.cause;
+  stops = stops_not g.D.Disk.faults c.args.self.now.left c.pass.new.left c.args.self.now.inner c.remove.new.self c.remove.result
+      c.pass.ensures.counted c.in_ok-pass.ensures.passed.0 c.remove.ensures.cause;
 }

@@ -30,9 +30,11 @@ pub returns-in_err-at-clause-begun : goal.returns-in_err-at-clause-begun
 returns-in_err-at-clause-begun g c =
     let inv = c.loop-at.invariant in
     on_err_always c.from_residual.result (λ image events told current has.
-    stops_in_front c.args.self.now.writer.range events c.loop-at.at c.args.bucket.now.bytes (bytes_in image c.args.bucket.now.file) _ _ (g.W.Sink.given c.put_event.new.out) _ _
+    stops_in_front c.args.self.now.writer.range events c.loop-at.at c.args.bucket.now.bytes (bytes_in image c.args.bucket.now.file) _ _
+    (g.W.Sink.given c.put_event.new.out) _ _
     inv.within (inv.read image told current) has
-    (λ more there. subst (λ (r : Range). HasBegun (text r more) (g.W.Sink.given c.loop-at.out) (g.W.Sink.given c.put_event.new.out)) inv.range
+    (λ more there. subst (λ (r : Range). HasBegun (text r more) (g.W.Sink.given c.loop-at.out) (g.W.Sink.given c.put_event.new.out))
+    inv.range
     (c.in_err-at.ensures.begun image more (inv.same ∙ told) (inv.current current) there)))
 
 pub returns-in_err-at-clause-images : goal.returns-in_err-at-clause-images
@@ -41,12 +43,14 @@ returns-in_err-at-clause-images g c = stays_on g.D.Disk _ _ _ c.loop-at.invarian
 pub returns-in_err-at-clause-cause : goal.returns-in_err-at-clause-cause
 returns-in_err-at-clause-cause g c =
     let p = err_from_is_err_and c.from_residual.result c.from_residual.ensures.1 in
-    rw (p.1, p.2) (λ is. rose_later _ _ _ c.loop-at.invariant.later (c.in_err-at.ensures.cause (same_fault ℕ c.in_err-at.field-0.0 Disk is)))
+    rw (p.1, p.2) (λ is. rose_later _ _ _ c.loop-at.invariant.later
+    (c.in_err-at.ensures.cause (same_fault ℕ c.in_err-at.field-0.0 Disk is)))
 
 pub returns-in_err-at-clause-written : goal.returns-in_err-at-clause-written
 returns-in_err-at-clause-written g c =
     let p = err_from_is_err_and c.from_residual.result c.from_residual.ensures.1 in
-    rw (p.1, p.2) (λ is. rose_later _ _ _ c.loop-at.invariant.grown (c.in_err-at.ensures.written (same_fault ℕ c.in_err-at.field-0.0 Output is)))
+    rw (p.1, p.2) (λ is. rose_later _ _ _ c.loop-at.invariant.grown
+    (c.in_err-at.ensures.written (same_fault ℕ c.in_err-at.field-0.0 Output is)))
 
 pub returns-in_err-at-clause-named : goal.returns-in_err-at-clause-named
 returns-in_err-at-clause-named g c =
@@ -54,7 +58,8 @@ returns-in_err-at-clause-named g c =
     let file = c.args.bucket.now.file in
     let here : File → ℕ → Type 0 = λ named place. (named ≡ file) × (place ≡ c.loop-at.at) in
     let within : File → ℕ → Type 0 = λ named place. (named ≡ file) × (place < c.args.bucket.now.bytes) in
-    rw (p.1, p.2) (on_damaged1 c.in_err-at.field-0.0 here within (λ named place is. (is.0, omega (arith, is.1, c.loop-at-test.true))) c.in_err-at.ensures.named)
+    rw (p.1, p.2) (on_damaged1 c.in_err-at.field-0.0 here within (λ named place is. (is.0, omega (arith, is.1, c.loop-at-test.true)))
+    c.in_err-at.ensures.named)
 
 pub returns-in_err-at-clause-damaged : goal.returns-in_err-at-clause-damaged
 returns-in_err-at-clause-damaged g c =
@@ -63,14 +68,19 @@ returns-in_err-at-clause-damaged g c =
     let e = c.in_err-at.ensures in
     let named : File → ℕ → Type 0 = λ file place. (file ≡ c.args.bucket.now.file) × (place ≡ c.loop-at.at) in
     let unwritten : File → ℕ → Type 0 = λ file place. g.W.Sink.given c.put_event.new.out ≡ g.W.Sink.given c.loop-at.out in
-    let bad : File → ℕ → Type 0 = λ file place. (image : Image) → g.D.Disk.seen c.loop-at.disk ≡ Some image → IsCurrent g.D.Disk c.loop-at.self.reader c.loop-at.disk →
+    let bad : File → ℕ → Type 0 = λ file place. (image : Image) → g.D.Disk.seen c.loop-at.disk ≡ Some image →
+    IsCurrent g.D.Disk c.loop-at.self.reader c.loop-at.disk →
     HasNoRecord c.loop-at.at c.args.bucket.now.bytes (bytes_in image c.args.bucket.now.file) in
-    let stops : File → ℕ → Type 0 = λ file place. (image : Image) → g.D.Disk.seen c.args.disk.now ≡ Some image → IsCurrent g.D.Disk c.args.self.now.reader c.args.disk.now →
-    StopsIn c.args.self.now.writer.range image c.args.bucket.now place (g.W.Sink.given c.args.out.now) (g.W.Sink.given c.put_event.new.out) in
+    let stops : File → ℕ → Type 0 = λ file place. (image : Image) → g.D.Disk.seen c.args.disk.now ≡ Some image →
+    IsCurrent g.D.Disk c.args.self.now.reader c.args.disk.now →
+    StopsIn c.args.self.now.writer.range image c.args.bucket.now place (g.W.Sink.given c.args.out.now) (g.W.Sink.given c.put_event.new.out)
+    in
     rw (p.1, p.2) (on_damaged3 c.in_err-at.field-0.0 named unwritten bad stops
     (λ file place is same none image told current.
-    subst (λ (k : ℕ). StopsIn c.args.self.now.writer.range image c.args.bucket.now k (g.W.Sink.given c.args.out.now) (g.W.Sink.given c.put_event.new.out)) (sym is.1)
-    (stops_in c.args.self.now.writer.range image c.args.bucket.now c.loop-at.at _ _ _ _ (g.W.Sink.given c.put_event.new.out) c.loop-at-test.true (inv.read image told current)
+    subst (λ (k : ℕ). StopsIn c.args.self.now.writer.range image c.args.bucket.now k (g.W.Sink.given c.args.out.now)
+    (g.W.Sink.given c.put_event.new.out)) (sym is.1)
+    (stops_in c.args.self.now.writer.range image c.args.bucket.now c.loop-at.at _ _ _ _ (g.W.Sink.given c.put_event.new.out)
+    c.loop-at-test.true (inv.read image told current)
     (none image (inv.same ∙ told) (inv.current current)) same))
     e.named e.unwritten e.bad)
 
@@ -81,8 +91,11 @@ loop-at-preserved g c =
     record {
       within = e.after.1;
       read = λ image told current.
-          read_more c.args.self.now.writer.range c.loop-at.at c.in_ok-at.at (bytes_in image c.args.bucket.now.file) _ _ _ _ _ _ (inv.read image told current)
-          (subst (λ (r : Range). TakesEvent r c.loop-at.at c.in_ok-at.at (bytes_in image c.args.bucket.now.file) (g.W.Sink.given c.loop-at.out) c.loop-at.self.writer.count (g.W.Sink.given c.put_event.new.out) c.put_event.new.self.writer.count)
+          read_more c.args.self.now.writer.range c.loop-at.at c.in_ok-at.at (bytes_in image c.args.bucket.now.file) _ _ _ _ _ _
+          (inv.read image told current)
+          (subst (λ (r : Range). TakesEvent r c.loop-at.at c.in_ok-at.at (bytes_in image c.args.bucket.now.file)
+          (g.W.Sink.given c.loop-at.out) c.loop-at.self.writer.count (g.W.Sink.given c.put_event.new.out)
+          c.put_event.new.self.writer.count)
           inv.range (e.taken image (inv.same ∙ told) (inv.current current)));
       range = e.range ∙ inv.range;
       current = λ current. e.current (inv.current current);
@@ -94,4 +107,5 @@ loop-at-preserved g c =
 
 pub returns-clause-taken : goal.returns-clause-taken
 returns-clause-taken g c = λ image told current.
-    takes c.args.self.now.writer.range image c.args.bucket.now c.loop-at.at _ _ _ _ c.loop-at.invariant.within c.loop-at-test.false (c.loop-at.invariant.read image told current)
+    takes c.args.self.now.writer.range image c.args.bucket.now c.loop-at.at _ _ _ _ c.loop-at.invariant.within c.loop-at-test.false
+    (c.loop-at.invariant.read image told current)

@@ -8,7 +8,8 @@ pub returns-in-Err-put-clause-begun : goal.returns-in-Err-put-clause-begun
 returns-in-Err-put-clause-begun g c = λ image events told current has.
     let e = rw c.in-Ok-Some.field-0-is at c.in-Ok-Some.ensures in
     let event = lent_event c.in-Ok-Some.event in
-    stops_in_event c.args.self.now.writer.range events event c.args.at c.in-Ok-Some.next c.args.bucket.now.bytes (bytes_in image c.args.bucket.now.file) _ _
+    stops_in_event c.args.self.now.writer.range events event c.args.at c.in-Ok-Some.next c.args.bucket.now.bytes
+    (bytes_in image c.args.bucket.now.file) _ _
     e.after.1 (e.found image told current) e.size has c.in-Err-put.ensures.begun
 
 pub returns-in-Ok-clause-taken : goal.returns-in-Ok-clause-taken
@@ -22,10 +23,13 @@ returns-in-Ok-clause-taken g c = λ image told current.
     }
 
 pub returns-in-Err-clause-named : goal.returns-in-Err-clause-named
-returns-in-Err-clause-named g c = on_bad c.args.bucket.now.file c.in-Err.fault _ _ _ c.fault_of.ensures (λ place is. (refl, is)) c.in-Err.ensures.place
+returns-in-Err-clause-named g c = on_bad c.args.bucket.now.file c.in-Err.fault _ _ _ c.fault_of.ensures (λ place is. (refl, is))
+    c.in-Err.ensures.place
 
 pub returns-in-Err-clause-unwritten : goal.returns-in-Err-clause-unwritten
-returns-in-Err-clause-unwritten g c = on_bad c.args.bucket.now.file c.in-Err.fault _ _ _ c.fault_of.ensures (λ place is. refl) c.in-Err.ensures.place
+returns-in-Err-clause-unwritten g c = on_bad c.args.bucket.now.file c.in-Err.fault _ _ _ c.fault_of.ensures (λ place is. refl)
+    c.in-Err.ensures.place
 
 pub returns-in-Err-clause-bad : goal.returns-in-Err-clause-bad
-returns-in-Err-clause-bad g c = on_bad c.args.bucket.now.file c.in-Err.fault _ _ _ c.fault_of.ensures (λ place none. none) c.in-Err.ensures.bad
+returns-in-Err-clause-bad g c = on_bad c.args.bucket.now.file c.in-Err.fault _ _ _ c.fault_of.ensures (λ place none. none)
+    c.in-Err.ensures.bad

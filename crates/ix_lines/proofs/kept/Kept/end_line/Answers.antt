@@ -13,7 +13,8 @@ returns-clause-ok c = λ stretch part keeps is.
     let k = c.in_ok-add.ensures stretch part keeps is' in
     let first = first-stays stretch part c.in-Some.begun (sym keeps.moment_is ∙ c.in-Some.is) in
     let f : SFits w64 c.in-Some.begun = search rules in
-    let written : c.add_line-2.new.out ≡ c.args.out.now ++ unless_empty (cut c.args.truncate c.as_slice.result.now) (to_z w64 (of_z w64 c.in-Some.begun)) =
+    let written : c.add_line-2.new.out ≡ c.args.out.now
+    ++ unless_empty (cut c.args.truncate c.as_slice.result.now) (to_z w64 (of_z w64 c.in-Some.begun)) =
     c.in_ok-add_line.ensures.ok in (
       record { bytes_are = c.clear.ensures ∙ sym (take-nil ℕ (c.args.truncate + 1)); moment_is = refl },
       written

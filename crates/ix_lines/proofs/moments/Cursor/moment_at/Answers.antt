@@ -8,4 +8,5 @@ pub returns-then-self-runs-clause-moment : goal.returns-then-self-runs-clause-mo
 returns-then-self-runs-clause-moment c = λ k.
     let cursor = c.advance.new.self in
     let fits : SFits w64 (get_or c.args.runs.now cursor.run no_run).moment = search rules in
-    to_z-of_z fits ∙ in-run c.args.runs.now cursor c.args.place c.advance.ensures.stands c.advance.ensures.on c.if-self-runs.true (c.advance.ensures.near c.if-self-runs.true)
+    to_z-of_z fits ∙ in-run c.args.runs.now cursor c.args.place c.advance.ensures.stands c.advance.ensures.on c.if-self-runs.true
+    (c.advance.ensures.near c.if-self-runs.true)

@@ -1,4 +1,5 @@
-use Rattle.std.proofs.Common.{◌≡◌, ◌∙◌, ◌++◌, ◌+◌, ◌*◌, ◌≤◌, Bool, List, length, refl, sym, ap, subst, drop, take, Option, ℕ, true, rules, w64, to_z, of_z, arith}
+use Rattle.std.proofs.Common.{◌≡◌, ◌∙◌, ◌++◌, ◌+◌, ◌*◌, ◌≤◌, Bool, List, length, refl, sym, ap, subst, drop, take, Option, ℕ, true, rules}
+use Rattle.std.proofs.Common.{w64, to_z, of_z, arith}
 use mir.Val.{SFits}
 use Rattle.std.proofs.Math.Facts.{to_z-of_z}
 use Rattle.std.proofs.lemmas.List.{length-drop}
@@ -24,17 +25,20 @@ use Rattle.ix_lines.proofs.stream.Lines.feed.Goals as goal
 
 pub returns-in_err-add-clause-added : goal.returns-in_err-add-clause-added
 returns-in_err-add-clause-added g c = any-err c.from_residual.result (rw (← c.self.view_is) (λ stream stands.
-    fed-none (breaks_by c.self.inside.cutter.breaker.pattern) c.self.invariant.0 c.self.inside.cutter.truncate stream (dated c.args.bytes.now (clamped c.args.moment)) c.args.out.now))
+    fed-none (breaks_by c.self.inside.cutter.breaker.pattern) c.self.invariant.0 c.self.inside.cutter.truncate stream
+    (dated c.args.bytes.now (clamped c.args.moment)) c.args.out.now))
 
 pub returns-in_err-stop-clause-added : goal.returns-in_err-stop-clause-added
 returns-in_err-stop-clause-added g c =
     let i = c.self.inside in
     let all = c.add.new.self in
     let fits : SFits w64 c.clamped.result = search rules in
-    let when : to_z w64 (of_z w64 c.clamped.result) ≡ clamped c.args.moment = to_z-of_z fits ∙ c.clamped.ensures ∙ ap clamped (to_z-of_z c.ranges.moment) in
+    let when : to_z w64 (of_z w64 c.clamped.result) ≡ clamped c.args.moment = to_z-of_z fits ∙ c.clamped.ensures
+    ∙ ap clamped (to_z-of_z c.ranges.moment) in
     let whole = c.in_ok-add.ensures.added ∙ ap (λ m. dated_in i.pending ++ dated c.args.bytes.now m) when in
     any-err c.from_residual-in_err-stop.result (rw (← c.self.view_is) (λ stream stands.
-    fed-some (breaks_by i.cutter.breaker.pattern) c.self.invariant.0 i.cutter.truncate stream (dated c.args.bytes.now (clamped c.args.moment)) (dated_in all) all.before _ i.cutter.kept
+    fed-some (breaks_by i.cutter.breaker.pattern) c.self.invariant.0 i.cutter.truncate stream
+    (dated c.args.bytes.now (clamped c.args.moment)) (dated_in all) all.before _ i.cutter.kept
     c.args.out.now c.settle.new.out stands refl refl c.add.ensures.before whole c.in_err-stop.ensures.err))
 
 pub returns-in_err-drop_first-clause-added : goal.returns-in_err-drop_first-clause-added
@@ -43,11 +47,14 @@ returns-in_err-drop_first-clause-added g c =
     let all = c.add.new.self in
     let stop = c.in_ok-stop.stop in
     let fits : SFits w64 c.clamped.result = search rules in
-    let when : to_z w64 (of_z w64 c.clamped.result) ≡ clamped c.args.moment = to_z-of_z fits ∙ c.clamped.ensures ∙ ap clamped (to_z-of_z c.ranges.moment) in
+    let when : to_z w64 (of_z w64 c.clamped.result) ≡ clamped c.args.moment = to_z-of_z fits ∙ c.clamped.ensures
+    ∙ ap clamped (to_z-of_z c.ranges.moment) in
     let whole = c.in_ok-add.ensures.added ∙ ap (λ m. dated_in i.pending ++ dated c.args.bytes.now m) when in
     any-err c.from_residual-in_err-drop_first.result (rw (← c.self.view_is) (λ stream stands.
-    adds-part (breaks_by i.cutter.breaker.pattern) i.cutter.truncate stream (dated c.args.bytes.now (clamped c.args.moment)) c.args.out.now c.settle.new.out
-    (fed-adds (breaks_by i.cutter.breaker.pattern) c.self.invariant.0 i.cutter.truncate stream (dated c.args.bytes.now (clamped c.args.moment)) (dated_in all) (drop stop (dated_in all))
+    adds-part (breaks_by i.cutter.breaker.pattern) i.cutter.truncate stream (dated c.args.bytes.now (clamped c.args.moment)) c.args.out.now
+    c.settle.new.out
+    (fed-adds (breaks_by i.cutter.breaker.pattern) c.self.invariant.0 i.cutter.truncate stream
+    (dated c.args.bytes.now (clamped c.args.moment)) (dated_in all) (drop stop (dated_in all))
     all.before (last_byte all.before (take stop all.bytes)) _ i.cutter.kept c.settle.new.self.kept c.args.out.now c.settle.new.out
     stands refl refl c.add.ensures.before whole c.in_ok-stop.ensures.walk)))
 
@@ -58,18 +65,24 @@ returns-clause-ok g c =
     let left = c.drop_first.new.self in
     let stop = c.in_ok-stop.stop in
     let fits : SFits w64 c.clamped.result = search rules in
-    let when : to_z w64 (of_z w64 c.clamped.result) ≡ clamped c.args.moment = to_z-of_z fits ∙ c.clamped.ensures ∙ ap clamped (to_z-of_z c.ranges.moment) in
+    let when : to_z w64 (of_z w64 c.clamped.result) ≡ clamped c.args.moment = to_z-of_z fits ∙ c.clamped.ensures
+    ∙ ap clamped (to_z-of_z c.ranges.moment) in
     let whole = c.in_ok-add.ensures.added ∙ ap (λ m. dated_in i.pending ++ dated c.args.bytes.now m) when in
     rw (← c.self.view_is, c.in_ok-stop.ensures.breaker, c.in_ok-stop.ensures.truncate) (λ stream stands. (
-      fed-stands (breaks_by i.cutter.breaker.pattern) c.self.invariant.0 i.cutter.truncate stream (dated c.args.bytes.now (clamped c.args.moment)) (dated_in all) all.before _ _
+      fed-stands (breaks_by i.cutter.breaker.pattern) c.self.invariant.0 i.cutter.truncate stream
+          (dated c.args.bytes.now (clamped c.args.moment)) (dated_in all) all.before _ _
           i.cutter.kept c.settle.new.self.kept c.args.out.now c.settle.new.out stands refl refl c.add.ensures.before whole
           (λ stretch keeps.
-          subst (λ (l : List Dated). Settles i.cutter.truncate (walk (breaks_by i.cutter.breaker.pattern) true all.before stretch 0 (dated_in all)) left.before c.settle.new.self.kept l
+          subst (λ (l : List Dated). Settles i.cutter.truncate
+          (walk (breaks_by i.cutter.breaker.pattern) true all.before stretch 0 (dated_in all)) left.before c.settle.new.self.kept l
           c.args.out.now c.settle.new.out) (sym c.in_ok-drop_first.ensures.left)
-          (subst (λ (b : Option ℕ). Settles i.cutter.truncate (walk (breaks_by i.cutter.breaker.pattern) true all.before stretch 0 (dated_in all)) b c.settle.new.self.kept (drop stop (dated_in all))
+          (subst (λ (b : Option ℕ). Settles i.cutter.truncate
+          (walk (breaks_by i.cutter.breaker.pattern) true all.before stretch 0 (dated_in all)) b c.settle.new.self.kept
+          (drop stop (dated_in all))
           c.args.out.now c.settle.new.out) (sym c.in_ok-drop_first.ensures.before) (c.in_ok-stop.ensures.walk stretch keeps)))
           refl refl refl refl,
-      fed-adds (breaks_by i.cutter.breaker.pattern) c.self.invariant.0 i.cutter.truncate stream (dated c.args.bytes.now (clamped c.args.moment)) (dated_in all) (drop stop (dated_in all))
+      fed-adds (breaks_by i.cutter.breaker.pattern) c.self.invariant.0 i.cutter.truncate stream
+          (dated c.args.bytes.now (clamped c.args.moment)) (dated_in all) (drop stop (dated_in all))
           all.before (last_byte all.before (take stop all.bytes)) _ i.cutter.kept c.settle.new.self.kept c.args.out.now c.settle.new.out
           stands refl refl c.add.ensures.before whole c.in_ok-stop.ensures.walk,
     ))
@@ -90,17 +103,20 @@ returns-clause-pending g c =
 pub settle-requires-clause-goes_on : goal.settle-requires-clause-goes_on
 settle-requires-clause-goes_on g c =
     let i = c.self.inside in
-    let on = subst (λ (b : Bool). OnFalse b (Attends i.cutter.breaker i.pending.before i.pending.bytes)) c.if-self.false c.self.invariant.3 in
+    let on = subst (λ (b : Bool). OnFalse b (Attends i.cutter.breaker i.pending.before i.pending.bytes)) c.if-self.false c.self.invariant.3
+    in
     attends-more i.cutter.breaker i.pending.before _ i.pending.bytes c.args.bytes.now _ on c.add.ensures.before c.in_ok-add.ensures.bytes
 
 pub returns-clause-counted : goal.returns-clause-counted
 returns-clause-counted g c =
     let i = c.self.inside in
     let paired : IsPaired i.pending = subst (λ (b : Bool). OnFalse b (IsPaired i.pending)) c.if-self.false c.self.invariant.2 in
-    let moved = fed-moved i.pending c.add.new.self c.drop_first.new.self c.args.bytes.now c.in_ok-stop.stop paired c.in_ok-drop_first.ensures.paired c.in_ok-add.ensures.bytes
+    let moved = fed-moved i.pending c.add.new.self c.drop_first.new.self c.args.bytes.now c.in_ok-stop.stop paired
+    c.in_ok-drop_first.ensures.paired c.in_ok-add.ensures.bytes
     c.in_ok-drop_first.ensures.bytes c.in_ok-stop.ensures.within in
     rw (← c.self.view_is)
-    (subst (λ (m : ℕ). c.settle.new.steps ≤ c.args.steps.now + i.cutter.breaker.pattern.weight * 512 * (m + 1)) (sym moved) c.in_ok-stop.ensures.counted)
+    (subst (λ (m : ℕ). c.settle.new.steps ≤ c.args.steps.now + i.cutter.breaker.pattern.weight * 512 * (m + 1)) (sym moved)
+    c.in_ok-stop.ensures.counted)
 
 pub returns-clause-again : goal.returns-clause-again
 returns-clause-again g c =
@@ -108,7 +124,8 @@ returns-clause-again g c =
     let paired : IsPaired i.pending = subst (λ (b : Bool). OnFalse b (IsPaired i.pending)) c.if-self.false c.self.invariant.2 in
     let on : Attends i.cutter.breaker i.pending.before i.pending.bytes =
     subst (λ (b : Bool). OnFalse b (Attends i.cutter.breaker i.pending.before i.pending.bytes)) c.if-self.false c.self.invariant.3 in
-    let moved = fed-moved i.pending c.add.new.self c.drop_first.new.self c.args.bytes.now c.in_ok-stop.stop paired c.in_ok-drop_first.ensures.paired c.in_ok-add.ensures.bytes
+    let moved = fed-moved i.pending c.add.new.self c.drop_first.new.self c.args.bytes.now c.in_ok-stop.stop paired
+    c.in_ok-drop_first.ensures.paired c.in_ok-add.ensures.bytes
     c.in_ok-drop_first.ensures.bytes c.in_ok-stop.ensures.within in
     rw (← c.self.view_is) (λ some.
     subst (λ (m : ℕ). c.settle.new.steps ≤ c.args.steps.now + i.cutter.breaker.pattern.weight * 512 * m) (sym moved)
@@ -120,7 +137,8 @@ invariant_of-self-2 g c =
       subst (λ (p : Shape). IsStable (breaks_by p)) (sym c.in_ok-stop.ensures.breaker) c.self.invariant.0,
       omega (arith, c.in_ok-stop.ensures.truncate, c.self.invariant.1),
       c.in_ok-drop_first.ensures.paired,
-      left-attends c.settle.new.self.breaker all.before c.drop_first.new.self.before all.bytes c.drop_first.new.self.bytes c.in_ok-stop.stop c.in_ok-drop_first.ensures.before
+      left-attends c.settle.new.self.breaker all.before c.drop_first.new.self.before all.bytes c.drop_first.new.self.bytes c.in_ok-stop.stop
+          c.in_ok-drop_first.ensures.before
           c.in_ok-drop_first.ensures.bytes c.in_ok-stop.ensures.goes_on c.in_ok-stop.ensures.begun,
     )
 
@@ -149,16 +167,20 @@ pub returns-in_err-stop-clause-again : goal.returns-in_err-stop-clause-again
 returns-in_err-stop-clause-again g c = IfOk-from_err c.from_residual-in_err-stop.result _ c.from_residual-in_err-stop.ensures.0
 
 pub returns-in_err-drop_first-clause-ok : goal.returns-in_err-drop_first-clause-ok
-returns-in_err-drop_first-clause-ok g c = IfOk-from_err c.from_residual-in_err-drop_first.result _ c.from_residual-in_err-drop_first.ensures.0
+returns-in_err-drop_first-clause-ok g c = IfOk-from_err c.from_residual-in_err-drop_first.result _
+    c.from_residual-in_err-drop_first.ensures.0
 
 pub returns-in_err-drop_first-clause-pending : goal.returns-in_err-drop_first-clause-pending
-returns-in_err-drop_first-clause-pending g c = IfOk-from_err c.from_residual-in_err-drop_first.result _ c.from_residual-in_err-drop_first.ensures.0
+returns-in_err-drop_first-clause-pending g c = IfOk-from_err c.from_residual-in_err-drop_first.result _
+    c.from_residual-in_err-drop_first.ensures.0
 
 pub returns-in_err-drop_first-clause-counted : goal.returns-in_err-drop_first-clause-counted
-returns-in_err-drop_first-clause-counted g c = IfOk-from_err c.from_residual-in_err-drop_first.result _ c.from_residual-in_err-drop_first.ensures.0
+returns-in_err-drop_first-clause-counted g c = IfOk-from_err c.from_residual-in_err-drop_first.result _
+    c.from_residual-in_err-drop_first.ensures.0
 
 pub returns-in_err-drop_first-clause-again : goal.returns-in_err-drop_first-clause-again
-returns-in_err-drop_first-clause-again g c = IfOk-from_err c.from_residual-in_err-drop_first.result _ c.from_residual-in_err-drop_first.ensures.0
+returns-in_err-drop_first-clause-again g c = IfOk-from_err c.from_residual-in_err-drop_first.result _
+    c.from_residual-in_err-drop_first.ensures.0
 
 pub returns-in_err-stop-clause-breaker : goal.returns-in_err-stop-clause-breaker
 returns-in_err-stop-clause-breaker g c = c.settle.ensures.breaker ∙ ap (λ (h : Held). h.breaker) c.self.view_is

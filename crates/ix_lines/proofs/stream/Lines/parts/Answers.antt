@@ -9,4 +9,5 @@ pub returns-clause-pending : goal.returns-clause-pending
 returns-clause-pending c =
     let look = c.self.inside.cutter.breaker.pattern in
     rw (← c.self.view_is) (λ stream stands.
-    few-carried (breaks_by look) reach (breaks-wait look) reach-some c.self.inside.cutter.truncate stream _ c.in_ok-pending.pending stands c.in_ok-pending.ensures)
+    few-carried (breaks_by look) reach (breaks-wait look) reach-some c.self.inside.cutter.truncate stream _ c.in_ok-pending.pending stands
+    c.in_ok-pending.ensures)

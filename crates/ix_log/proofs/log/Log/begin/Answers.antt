@@ -18,16 +18,19 @@ pub returns-in_err-write_at-clause-seen : goal.returns-in_err-write_at-clause-se
 returns-in_err-write_at-clause-seen g c = fresh_begun c.args.file _ _ _ c.in_ok-remove.ensures.removed c.in_err-write_at.ensures.begun
 
 pub returns-in_err-sync-clause-images : goal.returns-in_err-sync-clause-images
-returns-in_err-sync-clause-images g c = fresh_third g.D.Disk _ _ c.args.file c.remove.ensures.images _ c.write_at.ensures.images _ c.sync.ensures.images
+returns-in_err-sync-clause-images g c = fresh_third g.D.Disk _ _ c.args.file c.remove.ensures.images _ c.write_at.ensures.images _
+    c.sync.ensures.images
 
 pub returns-in_err-sync-clause-seen : goal.returns-in_err-sync-clause-seen
-returns-in_err-sync-clause-seen g c = apart_still c.args.file _ _ _ (fresh_seen c.args.file _ _ _ c.in_ok-remove.ensures.removed c.in_ok-write_at.ensures.written) c.in_err-sync.ensures.same
+returns-in_err-sync-clause-seen g c = apart_still c.args.file _ _ _
+    (fresh_seen c.args.file _ _ _ c.in_ok-remove.ensures.removed c.in_ok-write_at.ensures.written) c.in_err-sync.ensures.same
 
 pub returns-clause-images : goal.returns-clause-images
 returns-clause-images g c = fresh_third g.D.Disk _ _ c.args.file c.remove.ensures.images _ c.write_at.ensures.images _ c.sync.ensures.images
 
 pub returns-clause-seen : goal.returns-clause-seen
-returns-clause-seen g c = apart_still c.args.file _ _ _ (fresh_seen c.args.file _ _ _ c.in_ok-remove.ensures.removed c.in_ok-write_at.ensures.written) c.in_ok-sync.ensures.same
+returns-clause-seen g c = apart_still c.args.file _ _ _
+    (fresh_seen c.args.file _ _ _ c.in_ok-remove.ensures.removed c.in_ok-write_at.ensures.written) c.in_ok-sync.ensures.same
 
 pub returns-clause-empty : goal.returns-clause-empty
 returns-clause-empty g c =
@@ -36,7 +39,8 @@ returns-clause-empty g c =
       place = refl;
       idle = refl;
       none_put = refl;
-      images = settles g.D.Disk c.sync.new.self c.args.file (Gated []) c.in_ok-sync.ensures.settled (stay_reads g.D.Disk _ _ c.args.file (Gated []) c.in_ok-sync.ensures.same reads);
+      images = settles g.D.Disk c.sync.new.self c.args.file (Gated []) c.in_ok-sync.ensures.settled
+          (stay_reads g.D.Disk _ _ c.args.file (Gated []) c.in_ok-sync.ensures.same reads);
     }
 
 pub returns-clause-usable : goal.returns-clause-usable

@@ -19,8 +19,11 @@ returns-then-is_err g c = record {
 
 pub read-requires : goal.read-requires
 read-requires g c =
-    body_fits c.args.len c.resize.new.self.len c.as_mut_slice-buf.result.now [] (filled_up c.resize.result c.is_err.result c.resize.new.self.len c.args.len _ c.resize.ensures.len c.is_err.ensures.negation c.if-is_err.false)
-    (ap length c.as_mut_slice-buf.ensures.value ∙ sym c.resize.new.self.ok.0) c.args.self.now.at c.args.self.now.in_range.0 c.ranges.len.fits
+    body_fits c.args.len c.resize.new.self.len c.as_mut_slice-buf.result.now []
+    (filled_up c.resize.result c.is_err.result c.resize.new.self.len c.args.len _ c.resize.ensures.len c.is_err.ensures.negation
+    c.if-is_err.false)
+    (ap length c.as_mut_slice-buf.ensures.value ∙ sym c.resize.new.self.ok.0) c.args.self.now.at c.args.self.now.in_range.0
+    c.ranges.len.fits
 
 pub returns-in_err-n : goal.returns-in_err-n
 returns-in_err-n g c =
@@ -40,8 +43,11 @@ returns-then-n-len g c = record {
   read = λ reads image told. tt;
   sized = tt;
   damaged = λ reads image told at is.
-      body_cut c.args.len c.resize.new.self.len c.as_mut_slice-buf.result.now c.read.new.buf (filled_up c.resize.result c.is_err.result c.resize.new.self.len c.args.len _ c.resize.ensures.len c.is_err.ensures.negation c.if-is_err.false)
-      (ap length c.as_mut_slice-buf.ensures.value ∙ sym c.resize.new.self.ok.0) c.read.ensures.size (bytes_in image c.args.self.now.file) (c.args.self.now.at + 5) c.in_ok-n.n (c.in_ok-n.ensures.bytes image told (reads image told)) c.if-n-len.true;
+      body_cut c.args.len c.resize.new.self.len c.as_mut_slice-buf.result.now c.read.new.buf
+      (filled_up c.resize.result c.is_err.result c.resize.new.self.len c.args.len _ c.resize.ensures.len c.is_err.ensures.negation
+      c.if-is_err.false)
+      (ap length c.as_mut_slice-buf.ensures.value ∙ sym c.resize.new.self.ok.0) c.read.ensures.size (bytes_in image c.args.self.now.file)
+      (c.args.self.now.at + 5) c.in_ok-n.n (c.in_ok-n.ensures.bytes image told (reads image told)) c.if-n-len.true;
   same = c.read.ensures.same;
   images = c.read.ensures.images;
   later = c.read.ensures.cause.later;
@@ -51,10 +57,16 @@ returns-then-n-len g c = record {
 pub returns : goal.returns
 returns g c = record {
   read = λ reads image told whole.
-      body_whole c.args.len c.resize.new.self.len c.as_mut_slice-buf.result.now c.read.new.buf (filled_up c.resize.result c.is_err.result c.resize.new.self.len c.args.len _ c.resize.ensures.len c.is_err.ensures.negation c.if-is_err.false)
-      (ap length c.as_mut_slice-buf.ensures.value ∙ sym c.resize.new.self.ok.0) c.read.ensures.size (bytes_in image c.args.self.now.file) (c.args.self.now.at + 5) c.in_ok-n.n (c.in_ok-n.ensures.bytes image told (reads image told)) c.if-n-len.false _ _ c.from_vec.ensures;
+      body_whole c.args.len c.resize.new.self.len c.as_mut_slice-buf.result.now c.read.new.buf
+      (filled_up c.resize.result c.is_err.result c.resize.new.self.len c.args.len _ c.resize.ensures.len c.is_err.ensures.negation
+      c.if-is_err.false)
+      (ap length c.as_mut_slice-buf.ensures.value ∙ sym c.resize.new.self.ok.0) c.read.ensures.size (bytes_in image c.args.self.now.file)
+      (c.args.self.now.at + 5) c.in_ok-n.n (c.in_ok-n.ensures.bytes image told (reads image told)) c.if-n-len.false _ _
+      c.from_vec.ensures;
   sized =
-      body_size c.args.len c.resize.new.self.len c.as_mut_slice-buf.result.now c.read.new.buf (filled_up c.resize.result c.is_err.result c.resize.new.self.len c.args.len _ c.resize.ensures.len c.is_err.ensures.negation c.if-is_err.false)
+      body_size c.args.len c.resize.new.self.len c.as_mut_slice-buf.result.now c.read.new.buf
+      (filled_up c.resize.result c.is_err.result c.resize.new.self.len c.args.len _ c.resize.ensures.len c.is_err.ensures.negation
+      c.if-is_err.false)
       (ap length c.as_mut_slice-buf.ensures.value ∙ sym c.resize.new.self.ok.0) c.read.ensures.size _ _ c.from_vec.ensures;
   damaged = λ reads image told at is. absurd (no_fault _ _ is);
   same = c.read.ensures.same;

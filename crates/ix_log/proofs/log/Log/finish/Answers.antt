@@ -13,13 +13,17 @@ returns-in_err-close-clause-images g c = λ bodies body h.
 
 pub returns-in_err-open-clause-images : goal.returns-in_err-open-clause-images
 returns-in_err-open-clause-images g c = λ bodies body h.
-    let first = weaker g.D.Disk _ _ _ (Gated bodies) (WithOrWithout bodies body) (λ l gated. inl (inl gated)) (c.close.ensures.images bodies body h) in
-    run_on g.D.Disk _ _ _ _ (WithOrWithout bodies body) first (c.open.ensures.images bodies body (c.in_ok-close.ensures.whole bodies body h))
+    let first = weaker g.D.Disk _ _ _ (Gated bodies) (WithOrWithout bodies body) (λ l gated. inl (inl gated))
+    (c.close.ensures.images bodies body h) in
+    run_on g.D.Disk _ _ _ _ (WithOrWithout bodies body) first
+    (c.open.ensures.images bodies body (c.in_ok-close.ensures.whole bodies body h))
 
 pub returns-clause-images : goal.returns-clause-images
 returns-clause-images g c = λ bodies body h.
-    let first = weaker g.D.Disk _ _ _ (Gated bodies) (WithOrWithout bodies body) (λ l gated. inl (inl gated)) (c.close.ensures.images bodies body h) in
-    run_on g.D.Disk _ _ _ _ (WithOrWithout bodies body) first (c.open.ensures.images bodies body (c.in_ok-close.ensures.whole bodies body h))
+    let first = weaker g.D.Disk _ _ _ (Gated bodies) (WithOrWithout bodies body) (λ l gated. inl (inl gated))
+    (c.close.ensures.images bodies body h) in
+    run_on g.D.Disk _ _ _ _ (WithOrWithout bodies body) first
+    (c.open.ensures.images bodies body (c.in_ok-close.ensures.whole bodies body h))
 
 pub returns-clause-finished : goal.returns-clause-finished
 returns-clause-finished g c = λ bodies body h.
@@ -28,7 +32,8 @@ returns-clause-finished g c = λ bodies body h.
       place = omega (arith, h.place, h.len, length-blocks_push bodies body);
       idle = refl;
       none_put = refl;
-      images = subst (λ (b : Bool). Holds g.D.Disk c.open.new.disk c.args.self.now.file (AtEnd b bodies_now)) (sym h.closed) (c.in_ok-open.ensures.opened bodies body (c.in_ok-close.ensures.whole bodies body h));
+      images = subst (λ (b : Bool). Holds g.D.Disk c.open.new.disk c.args.self.now.file (AtEnd b bodies_now)) (sym h.closed)
+          (c.in_ok-open.ensures.opened bodies body (c.in_ok-close.ensures.whole bodies body h));
     }
 
 pub returns-clause-usable : goal.returns-clause-usable
@@ -58,7 +63,8 @@ open-requires g c =
     (begun.bodies, begun.body, c.in_ok-close.ensures.whole begun.bodies begun.body begun.putting)
 
 pub returns-in_err-open-clause-cause : goal.returns-in_err-open-clause-cause
-returns-in_err-open-clause-cause g c = cause_second _ _ _ _ c.close.ensures.cause.later c.open.ensures.cause.later (c.in_err-open.ensures.cause.failed refl)
+returns-in_err-open-clause-cause g c = cause_second _ _ _ _ c.close.ensures.cause.later c.open.ensures.cause.later
+    (c.in_err-open.ensures.cause.failed refl)
 
 pub returns-clause-cause : goal.returns-clause-cause
 returns-clause-cause g c = cause_none _ _ _ _ c.close.ensures.cause.later c.open.ensures.cause.later refl

@@ -11,7 +11,8 @@ returns-clause-reading g c = record {
   idle = refl;
   none_put = refl;
   fresh = refl;
-  settled = as_read_still g.D.Disk c.sync.new.self c.length.new.self c.args.file c.length.ensures.images c.length.ensures.same c.in_ok-sync.ensures.settled;
+  settled = as_read_still g.D.Disk c.sync.new.self c.length.new.self c.args.file c.length.ensures.images c.length.ensures.same
+      c.in_ok-sync.ensures.settled;
   reads = λ image is. record {
     rest = bytes_in image c.args.file;
     spelled = refl;

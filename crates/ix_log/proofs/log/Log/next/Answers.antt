@@ -55,8 +55,10 @@ returns-in-End-clause-next g c = λ bodies h.
         place = h.place;
         idle = h.idle;
         none_put = h.none_put;
-        images = gated_end g.D.Disk c.args.disk.now c.head_at.new.disk log bodies _ h more c.saturating_sub-left.ensures c.head_at.ensures.images c.head_at.ensures.same (λ image told is some.
-            subst (λ (x : Head). IsHead x (drop log.at (bytes_in image log.file))) c.in-End.is (c.in_ok-head_at.ensures.head h.ahead image told is some));
+        images = gated_end g.D.Disk c.args.disk.now c.head_at.new.disk log bodies _ h more c.saturating_sub-left.ensures
+            c.head_at.ensures.images c.head_at.ensures.same (λ image told is some.
+            subst (λ (x : Head). IsHead x (drop log.at (bytes_in image log.file))) c.in-End.is
+            (c.in_ok-head_at.ensures.head h.ahead image told is some));
       },
       refl,
     )
@@ -100,7 +102,8 @@ returns-in-Cut g c = record {
       let on = h.reads image told in
       let more : 1 < log.size = omega arith in
       let left = left_is bodies log.size log.at l on h.place more _ c.saturating_sub-left.ensures in
-      let head : IsHead Cut (drop log.at l) = subst (λ (x : Head). IsHead x (drop log.at l)) c.in-Cut.is (c.in_ok-head_at.ensures.head h.ahead image told left.0 left.1) in
+      let head : IsHead Cut (drop log.at l) = subst (λ (x : Head). IsHead x (drop log.at l)) c.in-Cut.is
+      (c.in_ok-head_at.ensures.head h.ahead image told left.0 left.1) in
       (damaged_is log.at at is ∙ h.place, cut_here bodies log.size log.at l on h.place more head);
   memory = λ bodies h is. absurd (damage_no_memory _ is);
   file = refl;
@@ -125,9 +128,11 @@ returns-in_err-body-in-Body g c =
           let on = h.reads image told in
           let more : 1 < log.size = omega arith in
           let left = left_is bodies log.size log.at l on h.place more _ c.saturating_sub-left.ensures in
-          let head : IsHead (Body c.in-Body.len) (drop log.at l) = subst (λ (x : Head). IsHead x (drop log.at l)) c.in-Body.is (c.in_ok-head_at.ensures.head h.ahead image told left.0 left.1) in
+          let head : IsHead (Body c.in-Body.len) (drop log.at l) =
+          subst (λ (x : Head). IsHead x (drop log.at l)) c.in-Body.is (c.in_ok-head_at.ensures.head h.ahead image told left.0 left.1) in
           let room = room_for bodies log.size log.at c.in-Body.len l on h.place more head len_fits in
-          let less = c.body.ensures.damaged (c.in_ok-head_at.ensures.shows h.ahead) image (c.head_at.ensures.same ∙ told) at (c.in_err-body-in-Body.was ∙ same_fault _ _ is) in
+          let less = c.body.ensures.damaged (c.in_ok-head_at.ensures.shows h.ahead) image (c.head_at.ensures.same
+          ∙ told) at (c.in_err-body-in-Body.was ∙ same_fault _ _ is) in
           absurd (omega (arith, room, less));
       memory = λ bodies h is image told cut.
           let len_fits : c.in-Body.len < 4294967296 = search rules in
@@ -136,7 +141,8 @@ returns-in_err-body-in-Body g c =
           let on = h.reads image told in
           let more : 1 < log.size = omega arith in
           let left = left_is bodies log.size log.at l on h.place more _ c.saturating_sub-left.ensures in
-          let head : IsHead (Body c.in-Body.len) (drop log.at l) = subst (λ (x : Head). IsHead x (drop log.at l)) c.in-Body.is (c.in_ok-head_at.ensures.head h.ahead image told left.0 left.1) in
+          let head : IsHead (Body c.in-Body.len) (drop log.at l) =
+          subst (λ (x : Head). IsHead x (drop log.at l)) c.in-Body.is (c.in_ok-head_at.ensures.head h.ahead image told left.0 left.1) in
           let body = take c.in-Body.len (drop (log.at + 5) l) in
           let here = body_here bodies log.size log.at c.in-Body.len l on h.place more head len_fits body refl in
           not_cut bodies body l log.size here.1 more (omega (arith, here.0, len_fits)) cut;
@@ -162,7 +168,8 @@ returns-in_ok-body-in-Body-clause-next g c = λ bodies h.
       idle = h.idle;
       none_put = h.none_put;
       fresh = h.fresh;
-      settled = as_read_still g.D.Disk mid c.body.new.disk log.file c.body.ensures.images c.body.ensures.same (as_read_still g.D.Disk c.args.disk.now mid log.file c.head_at.ensures.images c.head_at.ensures.same h.settled);
+      settled = as_read_still g.D.Disk mid c.body.new.disk log.file c.body.ensures.images c.body.ensures.same
+          (as_read_still g.D.Disk c.args.disk.now mid log.file c.head_at.ensures.images c.head_at.ensures.same h.settled);
       reads = λ image is.
           let at_mid : g.D.Disk.seen mid ≡ Some image = sym c.body.ensures.same ∙ is in
           let at_old : g.D.Disk.seen c.args.disk.now ≡ Some image = sym c.head_at.ensures.same ∙ at_mid in
@@ -170,8 +177,11 @@ returns-in_ok-body-in-Body-clause-next g c = λ bodies h.
           let on = h.reads image at_old in
           let more : 1 < log.size = omega arith in
           let left = left_is bodies log.size log.at l on h.place more _ c.saturating_sub-left.ensures in
-          let head : IsHead (Body c.in-Body.len) (drop log.at l) = subst (λ (x : Head). IsHead x (drop log.at l)) c.in-Body.is (c.in_ok-head_at.ensures.head h.ahead image at_old left.0 left.1) in
-          let read = c.in_ok-body-in-Body.ensures.read shows image at_mid (room_for bodies log.size log.at c.in-Body.len l on h.place more head len_fits) in
+          let head : IsHead (Body c.in-Body.len) (drop log.at l) =
+          subst (λ (x : Head). IsHead x (drop log.at l)) c.in-Body.is (c.in_ok-head_at.ensures.head h.ahead image at_old left.0 left.1)
+          in
+          let read = c.in_ok-body-in-Body.ensures.read shows image at_mid
+          (room_for bodies log.size log.at c.in-Body.len l on h.place more head len_fits) in
           (body_here bodies log.size log.at c.in-Body.len l on h.place more head len_fits c.body.new.out read).1;
       ahead = λ image is. shows image (sym c.body.ensures.same ∙ is);
     }

@@ -35,4 +35,5 @@ returns-clause-images g c = λ bodies body ready.
 pub returns-clause-begun : goal.returns-clause-begun
 returns-clause-begun g c = λ bodies body ready.
     let end = idle_end g.D.Disk c.args.self.now c.args.disk.now bodies body ready c.if-self.false in
-    subst (λ (b : List ℕ). IsPutting g.D.Disk c.start_body.new.self c.start_body.new.disk bodies b) (sym end.1) (c.in_ok-start_body.ensures.begun bodies end.0)
+    subst (λ (b : List ℕ). IsPutting g.D.Disk c.start_body.new.self c.start_body.new.disk bodies b) (sym end.1)
+    (c.in_ok-start_body.ensures.begun bodies end.0)

@@ -14,5 +14,6 @@ pub returns-clause-shows : goal.returns-clause-shows
 returns-clause-shows g c = λ had image told.
     let file = bytes_in image c.args.file in
     let read = c.in_ok-n.ensures.bytes image (sym c.in_ok-n.ensures.same ∙ told) in
-    let kept : c.truncate.new.self.items ≡ take c.in_ok-n.n c.read.new.buf = grind (arith, common_steps, take_at, c.truncate.ensures.items, c.read.auto.buf, c.as_mut_slice.ensures.len) in
+    let kept : c.truncate.new.self.items ≡ take c.in_ok-n.n c.read.new.buf =
+    grind (arith, common_steps, take_at, c.truncate.ensures.items, c.read.auto.buf, c.as_mut_slice.ensures.len) in
     rw kept (read_on c.in_ok-n.n (drop c.args.at file) _ c.read.new.buf (omega (arith, read.0, length-drop c.args.at file)) read.1)

@@ -9,4 +9,5 @@ returns-then-place-gt0 c = λ p is k low high.
 
 pub returns-then-at-gt0 : goal.returns-then-at-gt0
 returns-then-at-gt0 c = λ p is.
-    anchored-candidate p c.args.text.now c.args.place c.in_ok-at.at (sym is.anchored_is ∙ c.if-self-2.true) (omega arith) (c.in_ok-at.ensures p is)
+    anchored-candidate p c.args.text.now c.args.place c.in_ok-at.at (sym is.anchored_is
+    ∙ c.if-self-2.true) (omega arith) (c.in_ok-at.ensures p is)

@@ -8,7 +8,8 @@ use Rattle.ix_match.proofs.prefilter.Prefilter.unanchored.Goals as goal
 pub returns-in-Some : goal.returns-in-Some
 returns-in-Some c = λ p is.
     literal-candidate p c.args.text.now c.in-Some.literal c.args.place c.next_literal.result
-    (subst (λ (o : Option (List ℕ)). IfSome o (EachBegins p)) c.in-Some.is is.literal) (λ k. omega (arith, c.type_inv.text k)) c.next_literal.ensures
+    (subst (λ (o : Option (List ℕ)). IfSome o (EachBegins p)) c.in-Some.is is.literal) (λ k. omega (arith, c.type_inv.text k))
+    c.next_literal.ensures
 
 pub returns-then-at-text : goal.returns-then-at-text
 returns-then-at-text c = λ p is. (
@@ -19,4 +20,5 @@ returns-then-at-text c = λ p is. (
 
 pub returns-else-at-text : goal.returns-else-at-text
 returns-else-at-text c = λ p is.
-    none-to-end p c.args.text.now c.args.place c.next_place-at.result (sym is.passes_is ∙ c.if-self.false) (omega arith) (c.next_place-at.ensures.none p is.first)
+    none-to-end p c.args.text.now c.args.place c.next_place-at.result (sym is.passes_is
+    ∙ c.if-self.false) (omega arith) (c.next_place-at.ensures.none p is.first)

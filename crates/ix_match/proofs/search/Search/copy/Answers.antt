@@ -1,5 +1,5 @@
 use Rattle.std.proofs.Common.{◌∙◌}
-use Rattle.ix_threads.proofs.FinderLemmas.{same-finder, same-room}
+use Rattle.ix_pikevm.proofs.FinderLemmas.{same-finder, same-room}
 use Rattle.ix_match.proofs.search.Search.copy.Goals as goal
 
 pub room_again-requires : goal.room_again-requires

@@ -1,5 +1,5 @@
 use Rattle.std.proofs.Common.{◌∙◌, ap, subst}
-use Rattle.ix_carry.specs.Spelling.{spell}
+use Rattle.ix_parse.specs.Spelling.{spell}
 use Rattle.ix_lines.specs.Breaks.{breaks_by}
 use Rattle.ix_lines.specs.Lines.{effective}
 use Rattle.ix_props.specs.Settings.{AreUsable}
@@ -17,10 +17,12 @@ returns-clause-spelled c = if-ok c.write.result c.write.ensures (λ bytes writte
     let k = c.args.self.now in
     let l = carried-lines (breaks_by settings.breaker) (effective settings.truncate) stream k.lines c.self.inside.lines c.in_ok-lines.lines
     is.breaks_are is.lines_are (ap (λ (v : Kept). v.lines) c.self.view_is) c.in_ok-lines.ensures.carry c.in_ok-lines.ensures.pending in
-    let m = carried-events settings (marked_of settings stream) k.merge c.self.inside.merge c.in_ok-merge.merge is.merges is.most_lines is.events_are
+    let m = carried-events settings (marked_of settings stream) k.merge c.self.inside.merge c.in_ok-merge.merge is.merges is.most_lines
+    is.events_are
     (ap (λ (v : Kept). v.merge) c.self.view_is) c.in_ok-merge.ensures.carry c.in_ok-merge.ensures.form in
     written
-    ∙ ap spell (same-carry (record { lines = c.in_ok-lines.lines; merge = c.in_ok-merge.merge; latest = c.self.inside.latest }) (carry_of settings stream)
+    ∙ ap spell (same-carry (record { lines = c.in_ok-lines.lines; merge = c.in_ok-merge.merge; latest = c.self.inside.latest })
+    (carry_of settings stream)
     l.0 m.0 (ap (λ (v : Kept). v.latest) c.self.view_is ∙ is.latest_is)))
 
 pub returns-clause-is_carry : goal.returns-clause-is_carry
@@ -28,12 +30,14 @@ returns-clause-is_carry c = if-ok c.write.result c.write.ensures (λ bytes writt
     let k = c.args.self.now in
     let l = carried-lines (breaks_by settings.breaker) (effective settings.truncate) stream k.lines c.self.inside.lines c.in_ok-lines.lines
     is.breaks_are is.lines_are (ap (λ (v : Kept). v.lines) c.self.view_is) c.in_ok-lines.ensures.carry c.in_ok-lines.ensures.pending in
-    let m = carried-events settings (marked_of settings stream) k.merge c.self.inside.merge c.in_ok-merge.merge is.merges is.most_lines is.events_are
+    let m = carried-events settings (marked_of settings stream) k.merge c.self.inside.merge c.in_ok-merge.merge is.merges is.most_lines
+    is.events_are
     (ap (λ (v : Kept). v.merge) c.self.view_is) c.in_ok-merge.ensures.carry c.in_ok-merge.ensures.form in
     let usable : AreUsable settings = subst AreUsable (ap (λ (v : Kept). v.settings) c.self.view_is ∙ is.settings_are) c.self.invariant.1 in
     record {
       form = carry-form settings stream usable moments (c.events_stay.ensures.lines settings.merge.max_lines) l.1 m.1;
       spelled = written
-          ∙ ap spell (same-carry (record { lines = c.in_ok-lines.lines; merge = c.in_ok-merge.merge; latest = c.self.inside.latest }) (carry_of settings stream)
+          ∙ ap spell (same-carry (record { lines = c.in_ok-lines.lines; merge = c.in_ok-merge.merge; latest = c.self.inside.latest })
+          (carry_of settings stream)
           l.0 m.0 (ap (λ (v : Kept). v.latest) c.self.view_is ∙ is.latest_is));
     })

@@ -25,13 +25,17 @@ pub gone_on-requires : goal.gone_on-requires
 gone_on-requires g c = c.in_ok-merge.ensures.whole
 
 pub returns-clause-settles : goal.returns-clause-settles
-returns-clause-settles g c = if-ok-both c.gone_on.result c.gone_on.ensures.kept c.gone_on.ensures.routed (λ fed kept routed settings meta stream is.
+returns-clause-settles g c = if-ok-both c.gone_on.result c.gone_on.ensures.kept c.gone_on.ensures.routed
+    (λ fed kept routed settings meta stream is.
     let f : SFits w64 c.args.moment = c.ranges.moment in
     let later = dated c.args.bytes.now (clamped c.args.moment) in
-    let r = fed-lines (breaks_by settings.breaker) (effective settings.truncate) stream later c.args.self.now.lines c.in_ok-lines.lines c.feed.new.self
-    c.new-settled.result c.feed.new.out is.breaks_are is.lines_are (c.in_ok-lines.ensures ∙ ap (λ (v : Kept). v.lines) c.self.view_is) c.new-settled.ensures
+    let r = fed-lines (breaks_by settings.breaker) (effective settings.truncate) stream later c.args.self.now.lines c.in_ok-lines.lines
+    c.feed.new.self
+    c.new-settled.result c.feed.new.out is.breaks_are is.lines_are (c.in_ok-lines.ensures
+    ∙ ap (λ (v : Kept). v.lines) c.self.view_is) c.new-settled.ensures
     c.feed.ensures.breaker c.feed.ensures.truncate (λ s stands. simp to_z-of_z at (c.in_ok-feed.ensures.ok s stands)) in
-    let o = goes-on settings meta stream (stream ++ later) c.feed.new.out c.in_ok-merge.merge c.in_ok-merge.outcomes r.2 (c.in_ok-merge.ensures.takes settings meta stream is) in (
+    let o = goes-on settings meta stream (stream ++ later) c.feed.new.out c.in_ok-merge.merge c.in_ok-merge.outcomes r.2
+    (c.in_ok-merge.ensures.takes settings meta stream is) in (
       subst (StandsFor settings meta (stream ++ later)) (sym kept) (record {
         settings_are = is.settings_are;
         meta_is = is.meta_is;
@@ -55,7 +59,8 @@ returns-clause-small g c = if-ok c.gone_on.result c.gone_on.ensures.routed (λ f
 pub returns-clause-counted : goal.returns-clause-counted
 returns-clause-counted g c = if-ok c.gone_on.result c.gone_on.ensures.kept (λ fed kept.
     let n = length c.args.bytes.now in
-    subst (λ (new : Kept). c.feed.new.steps ≤ c.args.steps.now + c.args.self.now.lines.breaker.weight * 512 * (moved c.args.self.now.lines n new.lines + 1)) (sym kept)
+    subst (λ (new : Kept). c.feed.new.steps ≤ c.args.steps.now + c.args.self.now.lines.breaker.weight * 512 *
+    (moved c.args.self.now.lines n new.lines + 1)) (sym kept)
     (subst (λ (old : Held). c.feed.new.steps ≤ c.args.steps.now + old.breaker.weight * 512 * (moved old n c.feed.new.self + 1))
     (c.in_ok-lines.ensures ∙ ap (λ (v : Kept). v.lines) c.self.view_is) c.in_ok-feed.ensures.counted))
 
@@ -64,5 +69,6 @@ returns-clause-again g c = if-ok c.gone_on.result c.gone_on.ensures.kept (λ fed
     let n = length c.args.bytes.now in
     subst (λ (new : Kept). 0 < length c.args.self.now.lines.parts.pending →
     c.feed.new.steps ≤ c.args.steps.now + c.args.self.now.lines.breaker.weight * 512 * moved c.args.self.now.lines n new.lines) (sym kept)
-    (subst (λ (old : Held). 0 < length old.parts.pending → c.feed.new.steps ≤ c.args.steps.now + old.breaker.weight * 512 * moved old n c.feed.new.self)
+    (subst (λ (old : Held). 0 < length old.parts.pending →
+    c.feed.new.steps ≤ c.args.steps.now + old.breaker.weight * 512 * moved old n c.feed.new.self)
     (c.in_ok-lines.ensures ∙ ap (λ (v : Kept). v.lines) c.self.view_is) c.in_ok-feed.ensures.again))

@@ -8,7 +8,8 @@ use Rattle.ix_parse.proofs.SizeLemmas.{small-outcome}
 use Rattle.ix_parse.proofs.outcomes.Owner.settle.Goals as goal
 
 -- one more outcome that is small
-pushed : {T E K : Type 0} (result : Result T E) (old new : List Routed) (routed : Routed) → OnOk result (new ≡ old ++ routed ∷ []) → (K → IsSmall routed) →
+pushed : {T E K : Type 0} (result : Result T E) (old new : List Routed) (routed : Routed) → OnOk result (new ≡ old ++ routed ∷ []) →
+    (K → IsSmall routed) →
     OnOk result (K → All IsSmall old → All IsSmall new)
 pushed (Ok t) old new routed e h = λ k all. subst (All IsSmall) (sym e) (All-push IsSmall old routed all (h k))
 pushed (Err t) old new routed e h = tt

@@ -8,7 +8,8 @@ use Rattle.ix_parse.proofs.outcomes.Owner.take_lines.Goals as goal
 
 pub loop-line-init : goal.loop-line-init
 loop-line-init c = record {
-  takes = λ earlier holds. takes-none c.args.self.now.settings.now c.args.self.now.meta.now earlier c.args.merge.now c.args.outcomes.now holds;
+  takes = λ earlier holds. takes-none c.args.self.now.settings.now c.args.self.now.meta.now earlier c.args.merge.now c.args.outcomes.now
+      holds;
   small = λ limits small. small;
   whole = c.requires.whole;
   on = refl;
@@ -19,7 +20,8 @@ pub returns-then-is_empty-clause-takes : goal.returns-then-is_empty-clause-takes
 returns-then-is_empty-clause-takes c = λ earlier holds.
     let s = c.args.self.now.settings.now in
     let none : length c.args.lines ≡ 0 = search rules in
-    subst (λ (lines : List Line). Takes s c.args.self.now.meta.now earlier lines c.args.merge.now c.args.merge.now c.args.outcomes.now c.args.outcomes.now)
+    subst (λ (lines : List Line). Takes s c.args.self.now.meta.now earlier lines c.args.merge.now c.args.merge.now c.args.outcomes.now
+    c.args.outcomes.now)
     (sym (nil_from_length c.args.lines none)) (takes-none s c.args.self.now.meta.now earlier c.args.merge.now c.args.outcomes.now holds)
 
 pub loop-line-preserved : goal.loop-line-preserved

@@ -5,8 +5,10 @@ use Rattle.ix_pattern.proofs.pattern.Pattern.node.Goals as goal
 
 pub returns-clause-is : goal.returns-clause-is
 returns-clause-is c =
-    node-is _ c.args.self.now _ _ (ap (λ (s : Shape). s.rows) c.self.view_is) (subst IsPattern c.self.view_is c.self.invariant.0) c.requires c.index.ensures
+    node-is _ c.args.self.now _ _ (ap (λ (s : Shape). s.rows) c.self.view_is) (subst IsPattern c.self.view_is c.self.invariant.0) c.requires
+    c.index.ensures
 
 pub returns-clause-inside : goal.returns-clause-inside
 returns-clause-inside c =
-    node-inside _ c.args.self.now _ _ (ap (λ (s : Shape). s.rows) c.self.view_is) (subst IsPattern c.self.view_is c.self.invariant.0) c.requires c.index.ensures
+    node-inside _ c.args.self.now _ _ (ap (λ (s : Shape). s.rows) c.self.view_is) (subst IsPattern c.self.view_is c.self.invariant.0)
+    c.requires c.index.ensures

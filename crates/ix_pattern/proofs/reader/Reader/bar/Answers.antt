@@ -3,4 +3,5 @@ use Rattle.ix_pattern.proofs.StepLemmas.{bar-stepped}
 use Rattle.ix_pattern.proofs.reader.Reader.bar.Goals as goal
 
 pub returns : goal.returns
-returns c = bar-stepped c.args.self.now c.with_bar.new.work c.in_ok-self.field-0 (search rules) c.in_ok-self.ensures.kept c.in_ok-self.ensures.meaning
+returns c = bar-stepped c.args.self.now c.with_bar.new.work c.in_ok-self.field-0 (search rules) c.in_ok-self.ensures.kept
+    c.in_ok-self.ensures.meaning

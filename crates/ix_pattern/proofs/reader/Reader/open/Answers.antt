@@ -23,6 +23,7 @@ with_parentheses-requires-clause-here c =
 pub returns : goal.returns
 returns c =
     open-stepped c.args.self.now c.with_parentheses.new.work c.in_ok-self.field-0 c.in-Some.around c.pop.new.self _ c.args.opening
-    (none-waits c.args.self.now.here.waiting (sym c.if-is_some.ensures)) (sym c.if-not-may_hold.ensures) c.in-Some.ensures.items c.in_ok-self.ensures.kept
+    (none-waits c.args.self.now.here.waiting (sym c.if-is_some.ensures)) (sym c.if-not-may_hold.ensures) c.in-Some.ensures.items
+    c.in_ok-self.ensures.kept
     (omega (arith, c.opened.ensures, c.requires.can.left))
     (λ n times within s e fi f. c.in_ok-self.ensures.meaning n times within s e fi f)

@@ -1,12 +1,12 @@
 use Rattle.std.proofs.Common.{◌≡◌, ◌∙◌, [], ◌∷◌, ◌++◌, arith, map, refl, sym, ap}
 use Rattle.std.specs.Prelude.{Result, Ok, Err}
 use Rattle.ix_disk.proofs.Runs.{rose_later}
-use Rattle.ix_keep.specs.declared.fault.CommitFault.{CommitFault}
-use Rattle.ix_keep.specs.declared.fault.CommitFault.TheVariants as commits
-use Rattle.ix_keep.proofs.Reading.{anyhow_same, anyhow_through}
-use Rattle.ix_machine.specs.Judged.{is_begun}
-use Rattle.ix_machine.specs.declared.answers.Refusal.TheVariants as refusals
-use Rattle.ix_machine.specs.Step.{after}
+use Rattle.ix_commit.specs.declared.fault.CommitFault.{CommitFault}
+use Rattle.ix_commit.specs.declared.fault.CommitFault.TheVariants as commits
+use Rattle.ix_commit.proofs.Reading.{anyhow_same, anyhow_through}
+use Rattle.ix_model.specs.Judged.{is_begun}
+use Rattle.ix_model.specs.declared.answers.Refusal.TheVariants as refusals
+use Rattle.ix_model.specs.Step.{state_after}
 use Rattle.ix_store.proofs.Booked.{all_more}
 use Rattle.ix_run.specs.Giving.{given_all}
 use Rattle.ix_run.specs.declared.giving.GiveFault.{GiveFault}
@@ -41,11 +41,13 @@ returns-in-Err g c = record {
     took = took_none (g.S.Source.left c.args.input.now);
     read = omega arith;
     done = λ choose h base k chooser taken hold.
-        halted_first g.D.Disk g.M.Book.Replay.fits c.args.store.now.run g.M.Memory.holds choose h base k c.args.store.now c.args.disk.now (is_begun (after choose h) tilde) c.args.origin c.args.self.moment refl hold;
+        halted_first g.D.Disk g.M.Book.ManifestState.fits c.args.store.now.run g.M.StoreMemory.holds choose h base k c.args.store.now
+        c.args.disk.now (is_begun (state_after choose h) tilde) c.args.origin c.args.self.moment refl hold;
   };
   over = λ uncut. c.requires.over;
   measured = λ uncut measured. measured;
   undamaged = λ file at is. absurd (not_cut c.in-Err.fault (commits.Damaged file at) c.in-Err.ensures.refused is);
+  placed = λ file at is. absurd (not_cut c.in-Err.fault (commits.Damaged file at) c.in-Err.ensures.refused is);
   told = anyhow_same (g.D.Disk.seen c.args.disk.now) (g.D.Disk.seen c.args.disk.now) refl;
   later = omega arith;
   read_later = omega arith;
@@ -60,14 +62,19 @@ returns-in-Err-open g c = record {
     took = took_none (g.S.Source.left c.args.input.now);
     read = omega arith;
     done = λ choose h base k chooser taken hold.
-        opened g.D.Disk g.M.Book.Replay.fits c.args.store.now.run g.M.Memory.holds choose h (opening (is_begun (after choose h) tilde) c.args.origin c.args.self.moment) base k c.open.new.store c.args.disk.now c.open.new.disk c.in-Err-open.fault
+        opened g.D.Disk g.M.Book.ManifestState.fits c.args.store.now.run g.M.StoreMemory.holds choose h
+        (opening (is_begun (state_after choose h) tilde) c.args.origin c.args.self.moment) base k c.open.new.store c.args.disk.now
+        c.open.new.disk c.in-Err-open.fault
         [] (end_order c.args.self.moment ∷ []) (c.in-Err-open.ensures.given choose h base k chooser taken hold);
   };
   over = c.in-Err-open.ensures.over;
   measured = c.in-Err-open.ensures.measured;
   undamaged = λ file at is.
-      let was : c.in-Err-open.fault ≡ faults.Commit (commits.Damaged file at) = given_back c.in-Err-open.fault (faults.Commit (commits.Damaged file at)) is in
+      let was : c.in-Err-open.fault ≡ faults.Commit (commits.Damaged file at) =
+      given_back c.in-Err-open.fault (faults.Commit (commits.Damaged file at)) is in
       c.in-Err-open.ensures.undamaged file at (ap (λ (f : GiveFault). Err f) was);
+  placed = λ file at is. c.in-Err-open.ensures.placed file at (ap (λ (f : GiveFault). Err f)
+      (given_back c.in-Err-open.fault (faults.Commit (commits.Damaged file at)) is));
   told = c.open.ensures.told;
   later = c.open.ensures.later;
   read_later = omega arith;
@@ -82,25 +89,36 @@ returns-in-Err-fill g c = record {
     took = read.took;
     read = read.read;
     done = λ choose h base k chooser taken hold.
-        let a = opening (is_begun (after choose h) tilde) c.args.origin c.args.self.moment in
+        let a = opening (is_begun (state_after choose h) tilde) c.args.origin c.args.self.moment in
         let one = c.in-Ok-open.ensures.given choose h base k chooser taken hold in
-        let all = all_taken g.M.Memory.takes g.met.M.Memory.ticks_are_taken choose h a taken (opening_taken g.M.Memory.takes c.args.origin c.args.self.moment c.requires.ends c.requires.begins (is_begun (after choose h) tilde)) in
-        feeds_more g.D.Disk g.M.Book.Replay.fits c.args.store.now.run g.M.Memory.holds choose h (a ++ map (block_order c.args.self.moment) read.pieces) (end_order c.args.self.moment ∷ []) base k c.fill.new.store c.args.disk.now c.fill.new.disk c.in-Err-fill.fault
-        (feeds_on g.D.Disk g.M.Book.Replay.fits c.args.store.now.run g.M.Memory.holds choose h a (map (block_order c.args.self.moment) read.pieces) [] base k c.open.new.store c.fill.new.store c.args.disk.now c.open.new.disk c.fill.new.disk one (Err c.in-Err-fill.fault)
+        let all = all_taken g.M.StoreMemory.takes g.met.M.StoreMemory.ticks_are_taken choose h a taken
+        (opening_taken g.M.StoreMemory.takes c.args.origin c.args.self.moment c.requires.ends c.requires.begins
+        (is_begun (state_after choose h) tilde)) in
+        feeds_more g.D.Disk g.M.Book.ManifestState.fits c.args.store.now.run g.M.StoreMemory.holds choose h (a
+        ++ map (block_order c.args.self.moment) read.pieces) (end_order c.args.self.moment
+        ∷ []) base k c.fill.new.store c.args.disk.now c.fill.new.disk c.in-Err-fill.fault
+        (feeds_on g.D.Disk g.M.Book.ManifestState.fits c.args.store.now.run g.M.StoreMemory.holds choose h a
+        (map (block_order c.args.self.moment) read.pieces) [] base k c.open.new.store c.fill.new.store c.args.disk.now c.open.new.disk
+        c.fill.new.disk one (Err c.in-Err-fill.fault)
         (read.done choose (given_all choose h a) base one.count chooser all one.hold));
   };
   over = c.in-Err-fill.ensures.over;
   measured = λ uncut measured. c.in-Err-fill.ensures.measured uncut (c.in-Ok-open.ensures.measured refl measured);
   undamaged = λ file at is choose h base k chooser taken hold.
-      let a = opening (is_begun (after choose h) tilde) c.args.origin c.args.self.moment in
+      let a = opening (is_begun (state_after choose h) tilde) c.args.origin c.args.self.moment in
       let one = c.in-Ok-open.ensures.given choose h base k chooser taken hold in
-      let all = all_taken g.M.Memory.takes g.met.M.Memory.ticks_are_taken choose h a taken (opening_taken g.M.Memory.takes c.args.origin c.args.self.moment c.requires.ends c.requires.begins (is_begun (after choose h) tilde)) in
+      let all = all_taken g.M.StoreMemory.takes g.met.M.StoreMemory.ticks_are_taken choose h a taken
+      (opening_taken g.M.StoreMemory.takes c.args.origin c.args.self.moment c.requires.ends c.requires.begins
+      (is_begun (state_after choose h) tilde)) in
       c.in-Err-fill.ensures.undamaged file at is choose (given_all choose h a) base one.count chooser all one.hold;
-  told = anyhow_through (g.D.Disk.seen c.args.disk.now) (g.D.Disk.seen c.open.new.disk) (g.D.Disk.seen c.fill.new.disk) c.open.ensures.told c.fill.ensures.told;
+  placed = c.in-Err-fill.ensures.placed;
+  told = anyhow_through (g.D.Disk.seen c.args.disk.now) (g.D.Disk.seen c.open.new.disk) (g.D.Disk.seen c.fill.new.disk) c.open.ensures.told
+      c.fill.ensures.told;
   later = omega (arith, c.open.ensures.later, c.fill.ensures.later);
   read_later = c.fill.ensures.read_later;
   cause = λ is.
-      rose_later (g.D.Disk.faults c.args.disk.now) (g.D.Disk.faults c.open.new.disk) (g.D.Disk.faults c.fill.new.disk) c.open.ensures.later (c.in-Err-fill.ensures.cause is);
+      rose_later (g.D.Disk.faults c.args.disk.now) (g.D.Disk.faults c.open.new.disk) (g.D.Disk.faults c.fill.new.disk) c.open.ensures.later
+      (c.in-Err-fill.ensures.cause is);
 }
 
 pub returns-in-Ok-end : goal.returns-in-Ok-end
@@ -111,22 +129,31 @@ returns-in-Ok-end g c = record {
     took = read.took;
     read = read.read;
     done = λ choose h base k chooser taken hold.
-        let a = opening (is_begun (after choose h) tilde) c.args.origin c.args.self.moment in
+        let a = opening (is_begun (state_after choose h) tilde) c.args.origin c.args.self.moment in
         let b = map (block_order c.args.self.moment) read.pieces in
-        let open_taken = opening_taken g.M.Memory.takes c.args.origin c.args.self.moment c.requires.ends c.requires.begins (is_begun (after choose h) tilde) in
+        let open_taken = opening_taken g.M.StoreMemory.takes c.args.origin c.args.self.moment c.requires.ends c.requires.begins
+        (is_begun (state_after choose h) tilde) in
         let one = c.in-Ok-open.ensures.given choose h base k chooser taken hold in
-        let all = all_taken g.M.Memory.takes g.met.M.Memory.ticks_are_taken choose h a taken open_taken in
-        let both = filled_on g.D.Disk g.M.Book.Replay.fits c.args.store.now.run g.M.Memory.holds choose h a b base k c.open.new.store c.fill.new.store c.args.disk.now c.open.new.disk c.fill.new.disk one
+        let all = all_taken g.M.StoreMemory.takes g.met.M.StoreMemory.ticks_are_taken choose h a taken open_taken in
+        let both = filled_on g.D.Disk g.M.Book.ManifestState.fits c.args.store.now.run g.M.StoreMemory.holds choose h a b base k
+        c.open.new.store c.fill.new.store c.args.disk.now c.open.new.disk c.fill.new.disk one
         (read.done choose (given_all choose h a) base one.count chooser all one.hold) in
-        let more = all_taken g.M.Memory.takes g.met.M.Memory.ticks_are_taken choose h (a ++ b) taken
-        (all_more g.M.Memory.takes a b open_taken (blocks_taken g.M.Memory.takes c.args.self.moment c.requires.adds read.pieces read.sizes)) in
-        gives_on g.D.Disk g.M.Book.Replay.fits c.args.store.now.run g.M.Memory.holds choose h (a ++ b) (end_order c.args.self.moment ∷ []) base k c.fill.new.store c.end.new.store c.args.disk.now c.fill.new.disk c.end.new.disk both (Ok tt)
+        let more = all_taken g.M.StoreMemory.takes g.met.M.StoreMemory.ticks_are_taken choose h (a ++ b) taken
+        (all_more g.M.StoreMemory.takes a b open_taken (blocks_taken g.M.StoreMemory.takes c.args.self.moment c.requires.adds read.pieces
+        read.sizes)) in
+        gives_on g.D.Disk g.M.Book.ManifestState.fits c.args.store.now.run g.M.StoreMemory.holds choose h (a
+        ++ b) (end_order c.args.self.moment ∷ []) base k c.fill.new.store c.end.new.store c.args.disk.now c.fill.new.disk c.end.new.disk
+        both (Ok tt)
         (c.in-Ok-end.ensures.given choose (given_all choose h (a ++ b)) base both.count chooser more both.hold);
   };
   over = λ uncut. c.in-Ok-end.ensures.over refl;
-  measured = λ uncut measured. c.in-Ok-end.ensures.measured refl (c.in-Ok-fill.ensures.measured refl (c.in-Ok-open.ensures.measured refl measured));
+  measured = λ uncut measured. c.in-Ok-end.ensures.measured refl
+      (c.in-Ok-fill.ensures.measured refl (c.in-Ok-open.ensures.measured refl measured));
   undamaged = λ file at is. absurd (not_ok is);
-  told = anyhow_through (g.D.Disk.seen c.args.disk.now) (g.D.Disk.seen c.fill.new.disk) (g.D.Disk.seen c.end.new.disk) (anyhow_through (g.D.Disk.seen c.args.disk.now) (g.D.Disk.seen c.open.new.disk) (g.D.Disk.seen c.fill.new.disk) c.open.ensures.told c.fill.ensures.told) c.end.ensures.told;
+  placed = λ file at is. absurd (not_ok is);
+  told = anyhow_through (g.D.Disk.seen c.args.disk.now) (g.D.Disk.seen c.fill.new.disk) (g.D.Disk.seen c.end.new.disk)
+      (anyhow_through (g.D.Disk.seen c.args.disk.now) (g.D.Disk.seen c.open.new.disk) (g.D.Disk.seen c.fill.new.disk) c.open.ensures.told
+      c.fill.ensures.told) c.end.ensures.told;
   later = omega (arith, c.open.ensures.later, c.fill.ensures.later, c.end.ensures.later);
   read_later = c.fill.ensures.read_later;
   cause = λ is. absurd (not_ok is);
@@ -140,38 +167,55 @@ returns g c = record {
     took = read.took;
     read = omega (arith, read.read.0);
     done = λ choose h base k chooser taken hold.
-        let a = opening (is_begun (after choose h) tilde) c.args.origin c.args.self.moment in
+        let a = opening (is_begun (state_after choose h) tilde) c.args.origin c.args.self.moment in
         let b = map (block_order c.args.self.moment) read.pieces in
-        let open_taken = opening_taken g.M.Memory.takes c.args.origin c.args.self.moment c.requires.ends c.requires.begins (is_begun (after choose h) tilde) in
+        let open_taken = opening_taken g.M.StoreMemory.takes c.args.origin c.args.self.moment c.requires.ends c.requires.begins
+        (is_begun (state_after choose h) tilde) in
         let one = c.in-Ok-open.ensures.given choose h base k chooser taken hold in
-        let all = all_taken g.M.Memory.takes g.met.M.Memory.ticks_are_taken choose h a taken open_taken in
-        let both = filled_on g.D.Disk g.M.Book.Replay.fits c.args.store.now.run g.M.Memory.holds choose h a b base k c.open.new.store c.fill.new.store c.args.disk.now c.open.new.disk c.fill.new.disk one
+        let all = all_taken g.M.StoreMemory.takes g.met.M.StoreMemory.ticks_are_taken choose h a taken open_taken in
+        let both = filled_on g.D.Disk g.M.Book.ManifestState.fits c.args.store.now.run g.M.StoreMemory.holds choose h a b base k
+        c.open.new.store c.fill.new.store c.args.disk.now c.open.new.disk c.fill.new.disk one
         (read.done choose (given_all choose h a) base one.count chooser all one.hold) in
-        let more = all_taken g.M.Memory.takes g.met.M.Memory.ticks_are_taken choose h (a ++ b) taken
-        (all_more g.M.Memory.takes a b open_taken (blocks_taken g.M.Memory.takes c.args.self.moment c.requires.adds read.pieces read.sizes)) in
-        gives_on g.D.Disk g.M.Book.Replay.fits c.args.store.now.run g.M.Memory.holds choose h (a ++ b) (end_order c.args.self.moment ∷ []) base k c.fill.new.store c.end.new.store c.args.disk.now c.fill.new.disk c.end.new.disk both (Err c.in-Err-end.fault)
+        let more = all_taken g.M.StoreMemory.takes g.met.M.StoreMemory.ticks_are_taken choose h (a ++ b) taken
+        (all_more g.M.StoreMemory.takes a b open_taken (blocks_taken g.M.StoreMemory.takes c.args.self.moment c.requires.adds read.pieces
+        read.sizes)) in
+        gives_on g.D.Disk g.M.Book.ManifestState.fits c.args.store.now.run g.M.StoreMemory.holds choose h (a
+        ++ b) (end_order c.args.self.moment ∷ []) base k c.fill.new.store c.end.new.store c.args.disk.now c.fill.new.disk c.end.new.disk
+        both (Err c.in-Err-end.fault)
         (c.in-Err-end.ensures.given choose (given_all choose h (a ++ b)) base both.count chooser more both.hold);
   };
   over = c.in-Err-end.ensures.over;
-  measured = λ uncut measured. c.in-Err-end.ensures.measured uncut (c.in-Ok-fill.ensures.measured refl (c.in-Ok-open.ensures.measured refl measured));
+  measured = λ uncut measured. c.in-Err-end.ensures.measured uncut
+      (c.in-Ok-fill.ensures.measured refl (c.in-Ok-open.ensures.measured refl measured));
   undamaged = λ file at is choose h base k chooser taken hold.
       let read = c.in-Ok-fill.ensures.read in
-      let a = opening (is_begun (after choose h) tilde) c.args.origin c.args.self.moment in
+      let a = opening (is_begun (state_after choose h) tilde) c.args.origin c.args.self.moment in
       let b = map (block_order c.args.self.moment) read.pieces in
-      let open_taken = opening_taken g.M.Memory.takes c.args.origin c.args.self.moment c.requires.ends c.requires.begins (is_begun (after choose h) tilde) in
+      let open_taken = opening_taken g.M.StoreMemory.takes c.args.origin c.args.self.moment c.requires.ends c.requires.begins
+      (is_begun (state_after choose h) tilde) in
       let one = c.in-Ok-open.ensures.given choose h base k chooser taken hold in
-      let all = all_taken g.M.Memory.takes g.met.M.Memory.ticks_are_taken choose h a taken open_taken in
-      let both = filled_on g.D.Disk g.M.Book.Replay.fits c.args.store.now.run g.M.Memory.holds choose h a b base k c.open.new.store c.fill.new.store c.args.disk.now c.open.new.disk c.fill.new.disk one
+      let all = all_taken g.M.StoreMemory.takes g.met.M.StoreMemory.ticks_are_taken choose h a taken open_taken in
+      let both = filled_on g.D.Disk g.M.Book.ManifestState.fits c.args.store.now.run g.M.StoreMemory.holds choose h a b base k
+      c.open.new.store c.fill.new.store c.args.disk.now c.open.new.disk c.fill.new.disk one
       (read.done choose (given_all choose h a) base one.count chooser all one.hold) in
-      let more = all_taken g.M.Memory.takes g.met.M.Memory.ticks_are_taken choose h (a ++ b) taken
-      (all_more g.M.Memory.takes a b open_taken (blocks_taken g.M.Memory.takes c.args.self.moment c.requires.adds read.pieces read.sizes)) in
-      let was : c.in-Err-end.fault ≡ faults.Commit (commits.Damaged file at) = given_back c.in-Err-end.fault (faults.Commit (commits.Damaged file at)) is in
-      c.in-Err-end.ensures.undamaged file at (ap (λ (f : GiveFault). Err f) was) choose (given_all choose h (a ++ b)) base both.count chooser more both.hold;
-  told = anyhow_through (g.D.Disk.seen c.args.disk.now) (g.D.Disk.seen c.fill.new.disk) (g.D.Disk.seen c.end.new.disk) (anyhow_through (g.D.Disk.seen c.args.disk.now) (g.D.Disk.seen c.open.new.disk) (g.D.Disk.seen c.fill.new.disk) c.open.ensures.told c.fill.ensures.told) c.end.ensures.told;
+      let more = all_taken g.M.StoreMemory.takes g.met.M.StoreMemory.ticks_are_taken choose h (a ++ b) taken
+      (all_more g.M.StoreMemory.takes a b open_taken (blocks_taken g.M.StoreMemory.takes c.args.self.moment c.requires.adds read.pieces
+      read.sizes)) in
+      let was : c.in-Err-end.fault ≡ faults.Commit (commits.Damaged file at) =
+      given_back c.in-Err-end.fault (faults.Commit (commits.Damaged file at)) is in
+      c.in-Err-end.ensures.undamaged file at (ap (λ (f : GiveFault). Err f) was) choose (given_all choose h (a ++ b)) base both.count
+      chooser more both.hold;
+  placed = λ file at is. c.in-Err-end.ensures.placed file at (ap (λ (f : GiveFault). Err f)
+      (given_back c.in-Err-end.fault (faults.Commit (commits.Damaged file at)) is));
+  told = anyhow_through (g.D.Disk.seen c.args.disk.now) (g.D.Disk.seen c.fill.new.disk) (g.D.Disk.seen c.end.new.disk)
+      (anyhow_through (g.D.Disk.seen c.args.disk.now) (g.D.Disk.seen c.open.new.disk) (g.D.Disk.seen c.fill.new.disk) c.open.ensures.told
+      c.fill.ensures.told) c.end.ensures.told;
   later = omega (arith, c.open.ensures.later, c.fill.ensures.later, c.end.ensures.later);
   read_later = c.fill.ensures.read_later;
   cause = λ is.
-      rose_later (g.D.Disk.faults c.args.disk.now) (g.D.Disk.faults c.fill.new.disk) (g.D.Disk.faults c.end.new.disk) (omega (arith, c.open.ensures.later, c.fill.ensures.later)) (c.in-Err-end.ensures.cause (given_back c.in-Err-end.fault (faults.Commit commits.Disk) is));
+      rose_later (g.D.Disk.faults c.args.disk.now) (g.D.Disk.faults c.fill.new.disk) (g.D.Disk.faults c.end.new.disk)
+      (omega (arith, c.open.ensures.later, c.fill.ensures.later))
+      (c.in-Err-end.ensures.cause (given_back c.in-Err-end.fault (faults.Commit commits.Disk) is));
 }
 
 pub open-requires-clause-over : goal.open-requires-clause-over

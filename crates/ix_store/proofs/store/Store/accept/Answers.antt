@@ -12,6 +12,8 @@ returns-clause-accepted g c = λ choose history base k old chooser given st.
     let is = simp to_z-of_z at (made.made choose history chooser given st.memory) in
     let took = c.in-Ok.ensures in
     let drew = c.draw-number.ensures in
-    accepted _ g.M.Memory.holds choose history base k _ (record { command = c.args.command; moment = c.args.moment }) _ c.args.self.now c.take.new.self c.draw-number.new.self old _ _ _
-    is c.take.ensures.same (took.memory choose _ is.ready) took.staged took.done took.weight took.turned took.waiting made.weight c.draws-draws.ensures c.is_turn-turned.ensures
-    drew.memory drew.keeper drew.run drew.committed drew.group drew.closed drew.drawn refl drew.number refl st
+    accepted _ g.M.StoreMemory.holds choose history base k _ (record { command = c.args.command; moment = c.args.moment }) _ c.args.self.now
+    c.take.new.self c.draw-number.new.self old _ _ _
+    is c.take.ensures.same (took.memory choose _ is.ready) took.staged took.done took.weight took.turned took.waiting made.weight
+    c.draws-draws.ensures c.is_turn-turned.ensures
+    drew.memory drew.committer drew.run drew.committed drew.group drew.closed drew.drawn refl drew.number refl st

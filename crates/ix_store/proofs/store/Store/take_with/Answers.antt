@@ -11,5 +11,13 @@ returns-in_err-stage_last g c =
       group = tt;
       same = record { logs = c.stage_last.ensures.logs; run = refl; drawn = refl; committed = refl; closed = refl };
       bytes = c.stage_last.ensures.bytes;
-      err = record { memory = refl; keeper = c.in_err-stage_last.ensures.err; run = refl; drawn = refl; committed = refl; group = refl; closed = refl };
+      err = record {
+        memory = refl;
+        committer = c.in_err-stage_last.ensures.err;
+        run = refl;
+        drawn = refl;
+        committed = refl;
+        group = refl;
+        closed = refl;
+      };
     })

@@ -1,6 +1,6 @@
 use Rattle.std.proofs.Common.{◌≡◌, ℕ, ◌-◌, sym, ◌∙◌, ap}
 use Rattle.std.specs.Prelude.{slice_get}
-use Rattle.ix_values.specs.declared.seds.Which.{Which}
+use Rattle.ix_conf_values.specs.declared.seds.Which.{Which}
 use Rattle.ix_transforms.specs.Matches.{matches}
 use Rattle.ix_transforms.specs.Seds.{cut, raw_limit, replaced, number_of, chosen}
 use Rattle.ix_transforms.proofs.TextLemmas.{cut-again}
@@ -11,7 +11,8 @@ pub returns-in_default : goal.returns-in_default
 returns-in_default c =
     let self = c.args.self.now in
     let found = matches self.pattern.now self.text.now 0 in
-    let none = ap (λ (n : ℕ). slice_get found (n - 1)) (sym c.number_of-number.ensures.is) ∙ sym c.in_ok-found.ensures.is ∙ c.in_default.is in
+    let none = ap (λ (n : ℕ). slice_get found (n - 1)) (sym c.number_of-number.ensures.is) ∙ sym c.in_ok-found.ensures.is
+    ∙ c.in_default.is in
     ap (λ fs. cut (replaced self.parts.now self.text.now 0 fs)) (sym (none-chosen c.args.which found none))
 
 pub returns-in_ok-replace_all-in-All : goal.returns-in_ok-replace_all-in-All
@@ -30,4 +31,5 @@ returns-in_ok-replace_one-in_default-which c =
     let found = matches self.pattern.now self.text.now 0 in
     let some = ap (λ (n : ℕ). slice_get found (n - 1)) (sym c.number_of-number.ensures.is) ∙ sym c.in_ok-found.ensures.is ∙ c.in-Some.is in
     cut-again raw_limit c.in_ok-replace_one-in_default-which.field-0 _ c.in_ok-replace_one-in_default-which.ensures
-    ∙ ap (λ fs. cut (replaced self.parts.now self.text.now 0 fs)) (sym (one-chosen c.args.which found c.in-Some.found c.in_default-which.not-All some))
+    ∙ ap (λ fs. cut (replaced self.parts.now self.text.now 0 fs))
+    (sym (one-chosen c.args.which found c.in-Some.found c.in_default-which.not-All some))

@@ -8,7 +8,8 @@ use Rattle.ix_transforms.proofs.substitution.Substitution.replace_all.Given as g
 
 abbrev pub invariant-loop-next : goal.invariant-loop-next
 invariant-loop-next l = record {
-  so_far : cut (l.out ++ replaced l.self.parts.now l.self.text.now l.copied (and_on (λ q. matches l.self.pattern.now l.self.text.now q) l.next))
+  so_far : cut (l.out ++ replaced l.self.parts.now l.self.text.now l.copied
+      (and_on (λ q. matches l.self.pattern.now l.self.text.now q) l.next))
       ≡ cut (replaced l.self.parts.now l.self.text.now 0 (and_on (λ q. matches l.self.pattern.now l.self.text.now q) l.initial.next));
   lies : IfSome l.next (λ f. LiesIn l.self.text.now l.copied l.self.pattern.now.groups f);
   room : length l.out ≤ raw_limit;

@@ -1,0 +1,11 @@
+pub mod Ending
+pub mod Undamaged
+pub mod SameKept
+pub mod Joining
+pub mod Tasks
+pub mod Shortening
+pub mod Exports
+pub mod Feeding
+pub mod Causes
+pub mod Begun
+pub mod Blaming

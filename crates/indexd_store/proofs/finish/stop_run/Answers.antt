@@ -1,5 +1,0 @@
-use Rattle.std.proofs.Common.{rules}
-use Rattle.indexd_store.proofs.finish.stop_run.Goals as goal
-
-pub returns-then-loses-clause-short : goal.returns-then-loses-clause-short
-returns-then-loses-clause-short g c = search rules

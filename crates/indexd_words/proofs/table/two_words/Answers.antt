@@ -1,4 +1,0 @@
-use Rattle.indexd_words.proofs.table.two_words.Goals as goal
-
-pub returns-clause-app : goal.returns-clause-app
-returns-clause-app c = c.with_arg.ensures.app _ _ c.word.ensures.rule c.one_word.ensures.app

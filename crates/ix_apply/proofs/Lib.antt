@@ -1,0 +1,13 @@
+mod Causes
+mod Placing
+mod Stepping
+mod Moving
+mod Dealt
+mod Written
+mod Configuring
+mod Answering
+mod Following
+mod Measured
+mod Opened
+mod Pairing
+mod Refusing

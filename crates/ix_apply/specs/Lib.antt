@@ -1,0 +1,12 @@
+pub mod Spots
+pub mod Settings
+pub mod Faults
+pub mod Next
+pub mod Steps
+pub mod Dealing
+pub mod Made
+pub mod Orders
+pub mod Recorded
+pub mod Seen
+pub mod Settled
+pub mod Standing

@@ -1,8 +1,0 @@
-use Rattle.std.proofs.Common.{List, [], ◌∷◌, ap, ◌∙◌}
-use Rattle.ix_items.specs.declared.items.Item.{Item}
-use Rattle.ix_book.specs.Book.{empty, replay}
-use Rattle.ix_book.proofs.Applying.{replay_behind}
-use Rattle.ix_book.proofs.plain.PlainBookReplay.apply.Goals as goal
-
-pub returns : goal.returns
-returns c = ap (λ (l : List Item). replay l empty) c.in_ok-push.ensures.ok ∙ replay_behind c.args.self.now.items (c.args.item ∷ []) empty

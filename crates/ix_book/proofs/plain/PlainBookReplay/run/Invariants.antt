@@ -1,6 +1,0 @@
-use Rattle.std.proofs.Common.{◌≡◌, take}
-use Rattle.ix_book.specs.Book.{empty, replay, run_in}
-use Rattle.ix_book.proofs.plain.PlainBookReplay.run.Given as goal
-
-abbrev pub invariant-loop-item : goal.invariant-loop-item
-invariant-loop-item l = l.run ≡ run_in (replay (take l.item-index l.items) empty)

@@ -1,0 +1,7 @@
+use Rattle.std.proofs.Common.{◌≡◌, take}
+use Rattle.std.specs.List.{sum_by}
+use Rattle.ix_catalog.specs.Measures.{capped, bytes_in}
+use Rattle.ix_catalog.proofs.measures.shelf_bytes.Given as goal
+
+abbrev pub invariant-loop-view : goal.invariant-loop-view
+invariant-loop-view l = l.total ≡ capped (sum_by bytes_in (take l.view-index l.indexes))

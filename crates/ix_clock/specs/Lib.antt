@@ -1,5 +1,0 @@
-pub mod Civil
-pub mod Instant
-pub mod Laws
-pub mod Year
-pub mod Zone

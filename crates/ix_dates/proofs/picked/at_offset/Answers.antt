@@ -1,0 +1,12 @@
+use Rattle.std.proofs.Common.{rules, arith}
+use Rattle.std.proofs.lemmas.Grind.{common_steps}
+use Rattle.ix_dates.specs.Instant.{instant_at_offset}
+use Rattle.ix_dates.proofs.ChoiceLemmas.{instant_at_offset-is}
+use Rattle.ix_dates.proofs.picked.at_offset.Goals as goal
+
+pub returns-in_err-dt : goal.returns-in_err-dt
+unfolding instant_at_offset
+returns-in_err-dt c = grind (arith, common_steps)
+
+pub returns : goal.returns
+returns c = search (rules, instant_at_offset-is)

@@ -1,6 +1,0 @@
-pub mod Growing
-pub mod Turning
-pub mod Visiting
-pub mod Known
-pub mod Reading
-pub mod Ended

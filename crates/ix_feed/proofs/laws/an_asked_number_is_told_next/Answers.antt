@@ -1,5 +1,0 @@
-use Rattle.ix_feed.proofs.Known.{told_next}
-use Rattle.ix_feed.proofs.laws.an_asked_number_is_told_next.Goals as goal
-
-pub returns : goal.returns
-returns g c = λ s earlier last turn from mid to numbers number was is read not up has lt. told_next g.D.Disk g.M.Book.Replay.fits s earlier last turn from mid to numbers number was is read not up has lt

@@ -1,5 +1,0 @@
-use Rattle.ix_feed.proofs.Ended.{ended}
-use Rattle.ix_feed.proofs.laws.an_ended_run_has_read_all.Goals as goal
-
-pub returns : goal.returns
-returns c = λ left left'. ended left left'

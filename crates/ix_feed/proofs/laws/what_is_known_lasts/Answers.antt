@@ -1,5 +1,0 @@
-use Rattle.ix_feed.proofs.Known.{lasts}
-use Rattle.ix_feed.proofs.laws.what_is_known_lasts.Goals as goal
-
-pub returns : goal.returns
-returns g c = λ s. lasts g.D.Disk g.M.Book.Replay.fits s

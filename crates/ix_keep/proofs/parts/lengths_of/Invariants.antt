@@ -1,6 +1,0 @@
-use Rattle.std.proofs.Common.{◌≡◌, map, take}
-use Rattle.ix_keep.specs.Cuts.{len_in}
-use Rattle.ix_keep.proofs.parts.lengths_of.Given as goal
-
-abbrev pub invariant-loop-part : goal.invariant-loop-part
-invariant-loop-part l = l.lens.items ≡ map len_in (take l.part-index l.parts)

@@ -1,6 +1,0 @@
-use Rattle.std.proofs.Common.{◌≡◌, drop}
-use Rattle.ix_kept.specs.Checks.{by_file}
-use Rattle.ix_kept.proofs.checks.stand_by_file.Given as goal
-
-abbrev pub invariant-loop-one : goal.invariant-loop-one
-invariant-loop-one l = by_file l.file (drop l.one-index l.kept) ≡ by_file 1 l.kept

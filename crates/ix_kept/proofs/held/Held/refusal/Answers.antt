@@ -1,6 +1,0 @@
-use Rattle.std.proofs.Common.{◌∙◌}
-use Rattle.ix_kept.proofs.Judged.{cause_is}
-use Rattle.ix_kept.proofs.held.Held.refusal.Goals as goal
-
-pub returns : goal.returns
-returns c = λ choose history h s. c.cause.ensures ∙ cause_is choose history c.args.self.now c.args.command.now h s

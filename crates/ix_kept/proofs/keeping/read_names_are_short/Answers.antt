@@ -1,5 +1,0 @@
-use Rattle.ix_kept.proofs.NameLemmas.{read_names}
-use Rattle.ix_kept.proofs.keeping.read_names_are_short.Goals as goal
-
-pub returns : goal.returns
-returns c = read_names

@@ -1,5 +1,0 @@
-use Rattle.ix_machine.proofs.Dealing.{split_after}
-use Rattle.ix_machine.proofs.laws.events_are_dealt.Goals as goal
-
-pub returns : goal.returns
-returns c = split_after

@@ -1,5 +1,0 @@
-use Rattle.ix_machine.proofs.Stepping.{sound_after}
-use Rattle.ix_machine.proofs.laws.fields_are_sums.Goals as goal
-
-pub returns : goal.returns
-returns c = sound_after

@@ -1,5 +1,0 @@
-use Rattle.ix_machine.proofs.EarlierFiles.{earlier_none}
-use Rattle.ix_machine.proofs.on_disk.earlier_have_none.Goals as goal
-
-pub returns : goal.returns
-returns c = earlier_none

@@ -1,6 +1,0 @@
-use Rattle.std.proofs.Common.{refl}
-use Rattle.ix_match.proofs.KeptLemmas.{keeps-none}
-use Rattle.ix_match.proofs.kept.Kept.tabled.Goals as goal
-
-pub returns-clause-kept : goal.returns-clause-kept
-returns-clause-kept g c = λ before bytes. keeps-none _ _ before bytes refl (record { search_is = c.in_ok-search.ensures.search; whole = c.in_ok-search.ensures.whole })

@@ -1,4 +1,0 @@
-use Rattle.ix_match.proofs.prepared.Prepared.candidate.Goals as goal
-
-pub returns : goal.returns
-returns c = c.candidate.ensures c.args.self.now.pattern c.requires.prepared.prefilter

@@ -1,5 +1,0 @@
-use Rattle.ix_match.proofs.prepared.Prepared.find.Given as goal
-
--- the ledger of the blank one
-abbrev pub ghosts-find_uncounted : goal.ghosts-find_uncounted
-ghosts-find_uncounted a = record { name = a.blank.name; parts = a.blank.parts }

@@ -1,7 +1,0 @@
-use Rattle.std.proofs.Common.{take}
-use Rattle.std.specs.Prelude.{All}
-use Rattle.ix_moves.specs.Guarding.{IsWritableEntry}
-use Rattle.ix_moves.proofs.guards.are_writable.Given as goal
-
-abbrev pub invariant-loop-entry : goal.invariant-loop-entry
-invariant-loop-entry l = All IsWritableEntry (take l.entry-index l.entries)

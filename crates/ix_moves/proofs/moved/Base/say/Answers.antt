@@ -1,5 +1,0 @@
-use Rattle.std.proofs.Common.{rules}
-use Rattle.ix_moves.proofs.moved.Base.say.Goals as goal
-
-pub returns-clause-ledger : goal.returns-clause-ledger
-returns-clause-ledger c = search rules

@@ -1,0 +1,30 @@
+use Rattle.std.proofs.Common.{ℕ, [], ◌∷◌, ◌++◌, ◌∙◌, ap}
+use Rattle.std.proofs.lemmas.Result.{IfOk-from_err, IfOk-weaker}
+use Rattle.ix_pikevm.specs.declared.cells.Best.TheVariants.{No}
+use Rattle.ix_pikevm.specs.Leaf.{text_of}
+use Rattle.ix_pikevm.specs.Ran.{IsOf, Goes, Ends}
+use Rattle.ix_pikevm.proofs.TestLemmas.{counts-none}
+use Rattle.ix_pikevm.proofs.RunLemmas.{goes-init}
+use Rattle.ix_pikevm.proofs.plain.run.Goals as goal
+
+pub returns-in_err-push : goal.returns-in_err-push
+returns-in_err-push g c = record {
+  head = IfOk-from_err c.from_residual.result _ c.from_residual.ensures.0;
+  marks = IfOk-from_err c.from_residual.result _ c.from_residual.ensures.0;
+  counts = counts-none;
+}
+
+pub returns : goal.returns
+returns g c = record {
+  head = IfOk-weaker c.walk.result
+      (λ best. (start place : ℕ) → Goes (IsOf c.args.tests.pattern.now.rows) c.args.code.now (text_of c.args.input) start place c.args.place
+      c.clear.new.self.items c.push.new.self.items No →
+      Ends (IsOf c.args.tests.pattern.now.rows) c.args.code.now (text_of c.args.input) start place c.walk.new.work.cells.items best)
+      (λ best. Ends (IsOf c.args.tests.pattern.now.rows) c.args.code.now (text_of c.args.input) c.args.start c.args.place
+      c.walk.new.work.cells.items best)
+      (λ best ends. ends c.args.start c.args.place (goes-init (IsOf c.args.tests.pattern.now.rows) c.args.code.now (text_of c.args.input)
+      c.args.start c.args.place c.clear.new.self.items c.push.new.self.items (c.in_ok-push.ensures.items
+      ∙ ap (λ l. l ++ record { pc = c.args.start; trail = 0 } ∷ []) c.clear-2.ensures.items))) c.walk.ensures.head;
+  marks = c.walk.ensures.marks;
+  counts = c.walk.ensures.counts;
+}

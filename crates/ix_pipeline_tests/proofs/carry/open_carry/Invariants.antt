@@ -1,5 +1,0 @@
-use Rattle.ix_pipeline_tests.proofs.carry.open_carry.Given as goal
-
--- the ledger of the blank one
-abbrev pub ghosts-fed : goal.ghosts-fed
-ghosts-fed a = record { name = a.blank.name; parts = a.blank.parts }

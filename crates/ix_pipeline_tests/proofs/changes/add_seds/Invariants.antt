@@ -1,6 +1,0 @@
-use Rattle.std.proofs.Common.{All}
-use Rattle.ix_values.specs.Seds.{IsApplicable}
-use Rattle.ix_pipeline_tests.proofs.changes.add_seds.Given as goal
-
-abbrev pub invariant-loop-text : goal.invariant-loop-text
-invariant-loop-text l = All (λ sed. IsApplicable sed) l.seds

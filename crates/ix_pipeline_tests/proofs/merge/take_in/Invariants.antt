@@ -1,9 +1,0 @@
-use Rattle.std.proofs.Common.{◌≡◌, IsFalse}
-use Rattle.ix_pipeline_tests.proofs.merge.take_in.Given as goal
-
-abbrev pub invariant-loop-line : goal.invariant-loop-line
-invariant-loop-line l = record {
-  whole : IsFalse l.merge.broken;
-  on : l.merge.on ≡ l.lines.on;
-  max_lines : l.merge.max_lines ≡ l.lines.max_lines;
-}

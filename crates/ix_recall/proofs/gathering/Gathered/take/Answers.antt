@@ -1,8 +1,0 @@
-use Rattle.std.proofs.Common.{rules}
-use Rattle.ix_recall.proofs.gathering.Gathered.take.Goals as goal
-
-pub returns-in-Ledger : goal.returns-in-Ledger
-returns-in-Ledger c = search rules
-
-pub returns-in-Spot : goal.returns-in-Spot
-returns-in-Spot c = search rules

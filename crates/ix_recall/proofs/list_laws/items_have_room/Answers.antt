@@ -1,5 +1,0 @@
-use Rattle.ix_recall.proofs.Sized.{have_room}
-use Rattle.ix_recall.proofs.list_laws.items_have_room.Goals as goal
-
-pub returns : goal.returns
-returns c = have_room

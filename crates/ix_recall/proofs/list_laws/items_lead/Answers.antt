@@ -1,5 +1,0 @@
-use Rattle.ix_recall.proofs.Permuted.{items_lead}
-use Rattle.ix_recall.proofs.list_laws.items_lead.Goals as goal
-
-pub returns : goal.returns
-returns c = items_lead

@@ -1,9 +1,0 @@
-use Rattle.ix_recall.proofs.ListFitting.{fits_within}
-use Rattle.ix_recall.proofs.Within.{within_fits}
-use Rattle.ix_recall.proofs.list_laws.within_fits.Goals as goal
-
-pub returns-clause-within : goal.returns-clause-within
-returns-clause-within c = within_fits
-
-pub returns-clause-fits : goal.returns-clause-fits
-returns-clause-fits c = fits_within

@@ -1,6 +1,0 @@
-use Rattle.std.proofs.Common.{take}
-use Rattle.ix_recall.specs.Putting.{AreSaid}
-use Rattle.ix_recall.proofs.whole_channels.put_channels.Given as goal
-
-abbrev pub invariant-loop-found : goal.invariant-loop-found
-invariant-loop-found l = AreSaid (take l.found-index l.opens) l.initial.said l.said

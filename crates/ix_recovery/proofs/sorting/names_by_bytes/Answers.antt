@@ -1,0 +1,14 @@
+use Rattle.std.proofs.Common.{rules}
+use Rattle.std.proofs.lemmas.Cmp.{nat_list_cmp_total}
+use Rattle.std.proofs.lemmas.List.Sorted.{ranks_by, answers_always}
+use Rattle.ix_catalog.specs.Lists.{stands_before}
+use Rattle.ix_recovery.specs.Recalled.{itself}
+use Rattle.ix_recovery.proofs.sorting.names_by_bytes.Goals as goal
+
+pub returns : goal.returns
+returns c = record {
+  same = c.sort_unstable_by.ensures.permutation;
+  rising =
+      c.sort_unstable_by.ensures.sorted (stands_before itself) (ranks_by nat_list_cmp_total itself)
+      (answers_always _ _ _ (λ f a r g h. search rules));
+}

@@ -1,5 +1,0 @@
-use Rattle.ix_shelves.proofs.Leading.{changed_leads}
-use Rattle.ix_shelves.proofs.changes.changed_leads.Goals as goal
-
-pub returns : goal.returns
-returns c = changed_leads

@@ -1,5 +1,0 @@
-use Rattle.std.proofs.Common.{rules}
-use Rattle.ix_shelves.proofs.dealing.count_placed.Goals as goal
-
-pub returns-then-fresh : goal.returns-then-fresh
-returns-then-fresh c = search rules

@@ -1,7 +1,0 @@
-use Rattle.std.proofs.Common.{◌≡◌, ◌≤◌, ◌*◌, ◌^◌, take}
-use Rattle.std.specs.List.{sum_by}
-use Rattle.ix_items.specs.declared.items.Entry.{Entry}
-use Rattle.ix_shelves.proofs.measures.ledger_events.Given as goal
-
-abbrev pub invariant-loop-entry : goal.invariant-loop-entry
-invariant-loop-entry l = (l.total ≡ sum_by (λ (x : Entry). x.count) (take l.entry-index l.ledger)) × (l.total ≤ 2 ^ 64 * l.entry-index)

@@ -1,7 +1,0 @@
-use Rattle.std.proofs.Common.{◌≡◌, take}
-use Rattle.std.specs.List.{sum_by}
-use Rattle.ix_shelves.specs.Measures.{capped, events_in}
-use Rattle.ix_shelves.proofs.measures.shelf_events.Given as goal
-
-abbrev pub invariant-loop-view : goal.invariant-loop-view
-invariant-loop-view l = l.total ≡ capped (sum_by events_in (take l.view-index l.indexes))

@@ -1,5 +1,0 @@
-use Rattle.std.proofs.Common.{rules}
-use Rattle.ix_shelves.proofs.turning.Turned.freeze.Goals as goal
-
-pub returns-in_ok-copy_out : goal.returns-in_ok-copy_out
-returns-in_ok-copy_out c = search rules

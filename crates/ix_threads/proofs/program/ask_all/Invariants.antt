@@ -1,5 +1,0 @@
-use Rattle.ix_threads.specs.Written.{IsCollected}
-use Rattle.ix_threads.proofs.program.ask_all.Given as goal
-
-abbrev pub invariant-loop-pc : goal.invariant-loop-pc
-invariant-loop-pc l = IsCollected l.p.rows l.code l.pc l.asks.items l.inner.items

@@ -1,6 +1,0 @@
-mod Measured
-mod Pairing
-mod Answering
-mod Refusing
-mod Opened
-mod Following

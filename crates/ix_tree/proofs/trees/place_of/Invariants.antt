@@ -1,6 +1,0 @@
-use Rattle.std.proofs.Common.{◌≡◌, ◌++◌, take, drop}
-use Rattle.ix_tree.specs.Trees.{with_name}
-use Rattle.ix_tree.proofs.trees.place_of.Given as goal
-
-abbrev pub invariant-loop-at : goal.invariant-loop-at
-invariant-loop-at l = with_name l.name l.names ≡ take l.at l.names ++ with_name l.name (drop l.at l.names)
