@@ -2,9 +2,7 @@
 -- and what follows of it for each command.
 use Rattle.std.proofs.Common.{◌≡◌, ◌≤◌, ◌⊎◌, ◌∙◌, ℕ, Bool, true, false, List, inl, inr, refl, sym, ap, subst, le_refl, true≢false}
 use Rattle.std.specs.Prelude.{Option, Some, None, is_some}
-use Rattle.ix_base.specs.Clocks.{Moments}
 use Rattle.ix_base.specs.Faults.{Rose}
-use Rattle.ix_fs.specs.declared.trees.TreeFile.{TreeFile}
 use Rattle.ix_disk.specs.declared.disk.Disk.{Ghosts}
 use Rattle.indexd_settings.specs.Layers.{file_named}
 use Rattle.indexd_settings.specs.declared.layers.SettingsFile.{SettingsFile}
@@ -12,7 +10,7 @@ use Rattle.indexd_cli.specs.Orders.{Asked, preview, btool, feed, serve, monitor,
 use Rattle.indexd_run.specs.declared.task.Task.{Task}
 use Rattle.indexd_run.specs.declared.task.Task.TheVariants as tasks
 use Rattle.indexd_core.specs.Btool.{Tells}
-use Rattle.indexd_core.specs.Carried.{Around, ComesOf, Keeps, HasCause, Carries}
+use Rattle.indexd_core.specs.Carried.{ComesOf, Keeps, HasCause, Carries}
 use Rattle.indexd_core.specs.Commands.{is_built, is_task, asked_for}
 use Rattle.indexd_core.specs.Feeds.{Feeds}
 use Rattle.indexd_core.specs.Prepared.{Stated}
@@ -29,6 +27,7 @@ use Rattle.indexd_core.specs.declared.status.Status.TheVariants.{InUse}
 use Rattle.indexd_core.proofs.LockedLemmas.{left_alone, same_alone}
 use Rattle.indexd_core.proofs.PreviewLemmas.{rose-until}
 use Rattle.indexd_core.proofs.StoredLemmas.{yes_no}
+use Rattle.indexd_core.specs.Around.{Around, Outside, but_store}
 
 -- ---- nothing is done
 
@@ -157,48 +156,45 @@ same_file file other is = cc
 
 -- ---- the commands that work over no store
 
-module _ {stated : Stated} {files : Option (List TreeFile)} {failed failed' : ℕ} {ahead ahead' : Option Moments}
-    {input input' output output' : Side} where
-  of_usage : Previews Usage stated files failed failed' ahead ahead' input input' output output' → ⊥
+module _ {stated : Stated} {from to : Outside} where
+  of_usage : Previews Usage stated from to → ⊥
   of_usage (runs.unprepared same left wrote) = wrote
   of_usage (runs.ran prepared is run) = run.lines.outcome
 
-  of_input : Previews Input stated files failed failed' ahead ahead' input input' output output' → Rose input.faults input'.faults
-      ⊎ Rose failed failed'
+  of_input : Previews Input stated from to → Rose from.input.faults to.input.faults
+      ⊎ Rose from.failed to.failed
   of_input (runs.unprepared same left wrote) = inr wrote.0
   of_input (runs.ran prepared is run) = inl run.lines.outcome.0
 
-  of_output : Previews Output stated files failed failed' ahead ahead' input input' output output' → Rose output.faults output'.faults
+  of_output : Previews Output stated from to → Rose from.output.faults to.output.faults
   of_output (runs.unprepared same left wrote) = absurd wrote
   of_output (runs.ran prepared is run) = rose-until _ _ _ run.lines.outcome.2 run.later
 
-  of_disk : Previews DiskFault stated files failed failed' ahead ahead' input input' output output' → ⊥
+  of_disk : Previews DiskFault stated from to → ⊥
   of_disk (runs.unprepared same left wrote) = wrote
   of_disk (runs.ran prepared is run) = run.lines.outcome
 
-  of_listener : Previews ListenerFault stated files failed failed' ahead ahead' input input' output output' → ⊥
+  of_listener : Previews ListenerFault stated from to → ⊥
   of_listener (runs.unprepared same left wrote) = wrote
   of_listener (runs.ran prepared is run) = run.lines.outcome
 
-  of_damaged : Previews Damaged stated files failed failed' ahead ahead' input input' output output' → ⊥
+  of_damaged : Previews Damaged stated from to → ⊥
   of_damaged (runs.unprepared same left wrote) = wrote
   of_damaged (runs.ran prepared is run) = run.lines.outcome
 
-  of_full : Previews Full stated files failed failed' ahead ahead' input input' output output' → ⊥
+  of_full : Previews Full stated from to → ⊥
   of_full (runs.unprepared same left wrote) = wrote
   of_full (runs.ran prepared is run) = run.lines.outcome
 
-  of_in_use : Previews InUse stated files failed failed' ahead ahead' input input' output output' → ⊥
+  of_in_use : Previews InUse stated from to → ⊥
   of_in_use (runs.unprepared same left wrote) = wrote
   of_in_use (runs.ran prepared is run) = run.lines.outcome
 
 module _ {D : Type 0} (status : Status) (old new : Around D) where
-  preview_at : (stated : Stated) (s : Status) → Previews status stated old.files old.failed new.failed old.ahead new.ahead old.input
-      new.input old.output new.output →
-      status ≡ s → Previews s stated old.files old.failed new.failed old.ahead new.ahead old.input new.input old.output new.output
+  preview_at : (stated : Stated) (s : Status) → Previews status stated (but_store old) (but_store new) →
+      status ≡ s → Previews s stated (but_store old) (but_store new)
   preview_at stated s told is =
-      subst (λ (s : Status). Previews s stated old.files old.failed new.failed old.ahead new.ahead old.input new.input old.output
-      new.output) is told
+      subst (λ (s : Status). Previews s stated (but_store old) (but_store new)) is told
 
   tells_at : (file : SettingsFile) (s : Status) → Tells status file old.files old.failed new.failed old.output new.output →
       status ≡ s → Tells s file old.files old.failed new.failed old.output new.output
@@ -206,8 +202,7 @@ module _ {D : Type 0} (status : Status) (old new : Around D) where
 
 module _ {D : Type 0} {d : Ghosts D} {status : Status} {old new : Around D} where
   -- events were shown, and the disk was left alone
-  pub previewed : (stated : Stated) → Previews status stated old.files old.failed new.failed old.ahead new.ahead old.input new.input
-      old.output new.output →
+  pub previewed : (stated : Stated) → Previews status stated (but_store old) (but_store new) →
       new.disk ≡ old.disk → Keeps d old new → Carries (Some (preview stated.host stated.source stated.sourcetype stated.index false)) status
       d old new
   previewed stated told same kept = record {
@@ -262,8 +257,7 @@ module _ {D : Type 0} {d : Ghosts D} {status : Status} {old new : Around D} wher
 module _ {D : Type 0} (d : Ghosts D) (status : Status) (old new : Around D) where
   -- ---- tasks
 
-  pub task_comes : (task : Task) → Tasked status task old.files old.failed new.failed old.ahead new.ahead old.output new.output d old.disk
-      new.disk →
+  pub task_comes : (task : Task) → Tasked status task d old new →
       new.input ≡ old.input → ComesOf (Some (asked_for task)) status d old new
   task_comes tasks.Buckets told same = (tasks.Buckets, refl, told, same)
   task_comes (tasks.Export index range) told same = (tasks.Export index range, refl, told, same)
@@ -286,12 +280,12 @@ module _ {D : Type 0} {d : Ghosts D} {o : Option Asked} {status : Status} {old n
 
   pub by_preview : (stated : Stated) → Carries o status d old new →
       o ≡ Some (preview stated.host stated.source stated.sourcetype stated.index false) →
-      Previews status stated old.files old.failed new.failed old.ahead new.ahead old.input new.input old.output new.output
+      Previews status stated (but_store old) (but_store new)
   by_preview stated did is = comes_as (Some (preview stated.host stated.source stated.sourcetype stated.index false)) did is
 
   pub by_store : (stated : Stated) → Carries o status d old new →
       o ≡ Some (preview stated.host stated.source stated.sourcetype stated.index true) →
-      Stored status stated old.files old.failed new.failed old.ahead new.ahead old.input new.input old.output new.output d old.disk new.disk
+      Stored status stated d old new
   by_store stated did is = comes_as (Some (preview stated.host stated.source stated.sourcetype stated.index true)) did is
 
   pub by_btool : (name : List ℕ) → Carries o status d old new → o ≡ Some (btool name) →
@@ -300,19 +294,18 @@ module _ {D : Type 0} {d : Ghosts D} {o : Option Asked} {status : Status} {old n
   by_btool name did is = comes_as (Some (btool name)) did is
 
   pub by_feed : Carries o status d old new → o ≡ Some feed →
-      Feeds status old.files old.failed new.failed old.ahead new.ahead old.input new.input old.output new.output d old.disk new.disk
+      Feeds status d old new
   by_feed did is = comes_as (Some feed) did is
 
   pub by_serve : (port requests : ℕ) → Carries o status d old new → o ≡ Some (serve port requests) →
-      Serves status requests old.files old.failed new.failed old.ahead new.ahead old.heard new.heard old.output new.output d old.disk
-      new.disk
+      Serves status requests d old new
       × (new.input ≡ old.input)
   by_serve port requests did is = comes_as (Some (serve port requests)) did is
 
 some_task : {D : Type 0} (d : Ghosts D) (o : Option Asked) (status : Status) (old new : Around D) → is_task o ≡ true →
     ComesOf o status d old new →
     (task : Task) × (o ≡ Some (asked_for task))
-    × Tasked status task old.files old.failed new.failed old.ahead new.ahead old.output new.output d old.disk new.disk
+    × Tasked status task d old new
     × (new.input ≡ old.input)
 some_task d None status old new is comes = absurd (true≢false (sym is))
 some_task d (Some (preview host source sourcetype index store)) status old new is comes = absurd (true≢false (sym is))
@@ -330,7 +323,7 @@ some_task d (Some (selftest seed count)) status old new is comes = absurd (true�
 pub by_task : {D : Type 0} {d : Ghosts D} {o : Option Asked} {status : Status} {old new : Around D} → Carries o status d old new →
     is_task o ≡ true →
     (task : Task) × (o ≡ Some (asked_for task))
-    × Tasked status task old.files old.failed new.failed old.ahead new.ahead old.output new.output d old.disk new.disk
+    × Tasked status task d old new
     × (new.input ≡ old.input)
 by_task {d = d} {o = o} {status = status} {old = old} {new = new} did is = some_task d o status old new is did.comes
 

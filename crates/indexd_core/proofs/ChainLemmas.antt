@@ -1,8 +1,7 @@
 -- What a run leaves, the next one begins with.
-use Rattle.std.proofs.Common.{◌≡◌, ◌≤◌, ◌<◌, ◌⊎◌, ◌∙◌, ℕ, Bool, true, false, List, [], ◌∷◌, length, take, refl, sym, ap, subst, inl, inr}
-use Rattle.std.proofs.Common.{⊎_elim, Option, Some, arith}
+use Rattle.std.proofs.Common.{◌≡◌, ◌≤◌, ◌<◌, ◌⊎◌, ◌∙◌, ℕ, Bool, List, [], ◌∷◌, length, take, refl, sym, ap, subst, inl, inr}
+use Rattle.std.proofs.Common.{⊎_elim, Some, arith}
 use Rattle.std.proofs.lemmas.List.{take-take}
-use Rattle.ix_base.specs.Clocks.{Moments}
 use Rattle.ix_disk.proofs.Runs.{always_begins, always_still}
 use Rattle.ix_disk.specs.Image.{Image}
 use Rattle.ix_disk.specs.Moments.{Always}
@@ -22,9 +21,8 @@ use Rattle.ix_store.proofs.Lawful.{later_run}
 use Rattle.ix_sessions.proofs.Known.{lasts}
 use Rattle.ix_sessions.specs.Connections.{Listened}
 use Rattle.ix_sessions.specs.Feeding.{AreSafe, Has, Lasts, Start, Turn, disk_after, history_after, known}
-use Rattle.ix_fs.specs.declared.trees.TreeFile.{TreeFile}
 use Rattle.indexd_serve.specs.Serving.{Serving, HasServed}
-use Rattle.indexd_run.specs.Opened.{Doing, HasRun, HasShut, HasStopped, IsNewRun, Passes}
+use Rattle.indexd_run.specs.Opened.{Doing, HasRun, HasShut, HasStopped, IsNewRun, Passes, Past, past_of, Course, StandsFor, mounted_with}
 use Rattle.indexd_run.specs.declared.stop.Stop.{Stop}
 use Rattle.indexd_run.specs.declared.task.Task.{Task}
 use Rattle.indexd_core.specs.Chain.{MayRun, Leaves, unmounted, mounted, IsLeftOf, IsStopOf, MayGoOn, GoesOnBehindEach, KeepsKnown}
@@ -36,108 +34,97 @@ use Rattle.indexd_core.specs.Serves as serves
 use Rattle.indexd_core.specs.Serves.{Serves, ServeComes}
 use Rattle.indexd_core.specs.Sides.{Side}
 use Rattle.indexd_core.specs.Stored as stored
-use Rattle.indexd_core.specs.Stored.{Comes, Whole, Tasked, Stored}
+use Rattle.indexd_core.specs.Stored.{Comes, Whole, Tasked, Stored, Outcomes}
 use Rattle.indexd_core.specs.declared.status.Status.{Status}
 use Rattle.indexd_core.proofs.LockedLemmas.{out_alone}
+use Rattle.indexd_core.specs.Around.{Around, course_of}
 
-module _ {D : Type 0} (d : Ghosts D) (choose : Chooser) (history : List TimedCommand) (run k : ℕ) (before disk : D) where
+module _ {D : Type 0} (d : Ghosts D) (past : Past) (before disk : D) where
   of_run : (lost : Bool) (may : List TimedCommand → List TimedCommand → List TimedCommand → Type 0) →
-      HasRun lost d IsTaken fits choose history run k may before disk → Leaves d choose history run k before disk
-  of_run lost may was = mounted was.new_run was.count (given_all choose (given_all choose (take was.count history) was.configured)
-      was.orders) was.least was.given was.passes
-
-  of_shut : (stop : Stop) (config : Config) (ahead ahead' : Option Moments) →
-      HasShut stop d IsTaken fits choose history run k config ahead ahead' before disk → Leaves d choose history run k before disk
-  of_shut stop config ahead ahead' (inl not) = unmounted not.stood
-  of_shut stop config ahead ahead' (inr was) = of_run _ _ was
-
-  of_stopped : (stop : Stop) (config : Config) (ahead ahead' : Option Moments) (untouched : Type 0) (may : Doing) →
-      HasStopped stop d IsTaken fits choose history run k config ahead ahead' untouched may before disk →
-      Leaves d choose history run k before disk
-  of_stopped stop config ahead ahead' untouched may (inl shut) = of_shut stop config ahead ahead' shut.0
-  of_stopped stop config ahead ahead' untouched may (inr was) = of_run _ _ was
-
-  of_served : (config : Config) (ahead : Option Moments) (serves : Serving D) →
-      HasServed d IsTaken fits choose history run k config ahead serves before disk → Leaves d choose history run k before disk
-  of_served config ahead serves was = mounted was.new_run was.count was.now was.least was.given was.passes
+      HasRun lost d IsTaken fits past may before disk → Leaves d past before disk
+  of_run lost may was = mounted was.new_run was.count (given_all past.choose (mounted_with past was.count was.configured) was.orders)
+      was.least
+      was.given was.passes
 
   -- no image of the disk has changed
-  of_alone : MayRun d choose history run k before → IsLeftAlone d before disk → Leaves d choose history run k before disk
-  of_alone may alone = unmounted (always_still d before disk (RecoversToPrefix fits run choose history k) alone.images may.begins)
+  of_alone : MayRun d past before → IsLeftAlone d before disk → Leaves d past before disk
+  of_alone may alone = unmounted (always_still d before disk (StandsFor fits past) alone.images may.begins)
 
   -- the disk was not given
-  of_out : (status : Status) → MayRun d choose history run k before → IsLockedOut status d before disk →
-      Leaves d choose history run k before disk
+  of_out : (status : Status) → MayRun d past before → IsLockedOut status d before disk → Leaves d past before disk
   of_out status may out = of_alone may (out_alone d before disk status out)
 
   -- nothing was asked of the disk
-  of_same : MayRun d choose history run k before → disk ≡ before → Leaves d choose history run k before disk
-  of_same may same = unmounted (subst (λ (x : D). Always d before x (RecoversToPrefix fits run choose history k)) (sym same)
-      (always_begins d before (RecoversToPrefix fits run choose history k) may.begins))
+  of_same : MayRun d past before → disk ≡ before → Leaves d past before disk
+  of_same may same = unmounted (subst (λ (x : D). Always d before x (StandsFor fits past)) (sym same)
+      (always_begins d before (StandsFor fits past) may.begins))
 
-  of_whole : {status : Status} {files : Option (List TreeFile)} {failed failed' : ℕ} {still out : Type 0} {comes : Config →
-      Type 0} {output output' : Side} → MayRun d choose history run k before →
-      (still → disk ≡ before) → (out → Leaves d choose history run k before disk) →
-      ((config : Config) → comes config → Leaves d choose history run k before disk) →
-      Whole status files failed failed' still out comes output output' → Leaves d choose history run k before disk
-  of_whole may alone refused so (stored.unread still wrote) = of_same may (alone still)
-  of_whole may alone refused so (stored.locked_out config is out said) = refused out
-  of_whole may alone refused so (stored.ran config is comes) = so config comes
+module _ {D : Type 0} (d : Ghosts D) (past : Past) (run : Course D) where
+  abbrev Left : Type 0
+  Left = Leaves d past run.before run.disk
 
-  of_comes : {status : Status} {config : Config} {named : List ℕ} {ahead ahead' : Option Moments} {whole : Chooser →
-      Doing} {untouched : Side → Type 0} {part : Stop → Side → Chooser → Doing} {wrote : Stop → Side → Type 0} {output' : Side} →
-      MayRun d choose history run k before → Comes status d config named ahead ahead' whole untouched part wrote output' before disk →
-      Leaves d choose history run k before disk
-  of_comes may (stored.done is from) = of_run _ _ (from choose history run k may)
-  of_comes may (stored.stopped stop middle is from wrote line) = of_stopped stop _ _ _ _ _ (from choose history run k may)
+  of_shut : (stop : Stop) → HasShut stop d IsTaken fits past run → Left
+  of_shut stop (inl not) = unmounted not.stood
+  of_shut stop (inr was) = of_run d past run.before run.disk _ _ was
 
-  of_feed : {status : Status} {config : Config} {ahead ahead' : Option Moments} {input input' output output' : Side} →
-      MayRun d choose history run k before →
-      FeedComes status d config ahead ahead' input input' output output' before disk → Leaves d choose history run k before disk
-  of_feed may (feeds.shut stop is from same line) = of_shut stop _ _ _ (from choose history run k may)
-  of_feed may (feeds.served end middle is later after reads from line) = of_served _ _ _ (from choose history run k may)
+  of_stopped : (stop : Stop) (untouched : Type 0) (may : Doing) → HasStopped stop d IsTaken fits past run untouched may → Left
+  of_stopped stop untouched may (inl shut) = of_shut stop shut.0
+  of_stopped stop untouched may (inr was) = of_run d past run.before run.disk _ _ was
 
-  of_serve : {status : Status} {config : Config} {requests : ℕ} {ahead ahead' : Option Moments} {heard heard' : Listened}
-      {output output' : Side} → MayRun d choose history run k before →
-      ServeComes status d config requests ahead ahead' heard heard' output output' before disk → Leaves d choose history run k before disk
-  of_serve may (serves.unbound is clock same alone line) = of_same may alone
-  of_serve {status = status} may (serves.locked_out clock same out said) = of_out status may out
-  of_serve may (serves.shut stop is from same line) = of_shut stop _ _ _ (from choose history run k may)
-  of_serve may (serves.served end reads from line) = of_served _ _ _ (from choose history run k may)
+  of_served : (serves : Serving D) → HasServed d IsTaken fits past run serves → Left
+  of_served serves was = mounted was.new_run was.count was.now was.least was.given was.passes
 
-  pub feeds_leave : (status : Status) (files : Option (List TreeFile)) (failed failed' : ℕ) (ahead ahead' : Option Moments)
-      (input input' output output' : Side) → MayRun d choose history run k before →
-      Feeds status files failed failed' ahead ahead' input input' output output' d before disk → Leaves d choose history run k before disk
-  feeds_leave status files failed failed' ahead ahead' input input' output output' may comes =
-      of_whole may (λ still. still.2) (λ out. of_out status may out.2) (λ config so. of_feed may so) comes
+  of_comes : {status : Status} {named : List ℕ} {to : Outcomes} {output' : Side} → MayRun d past run.before →
+      Comes status d run named to output' → Left
+  of_comes may (stored.done is from) = of_run d past run.before run.disk _ _ (from past may)
+  of_comes may (stored.stopped stop middle is from wrote line) = of_stopped stop _ _ (from past may)
 
-  pub serves_leave : (status : Status) (requests : ℕ) (files : Option (List TreeFile)) (failed failed' : ℕ) (ahead ahead' : Option Moments)
-      (heard heard' : Listened) (output output' : Side) → MayRun d choose history run k before →
-      Serves status requests files failed failed' ahead ahead' heard heard' output output' d before disk →
-      Leaves d choose history run k before disk
-  serves_leave status requests files failed failed' ahead ahead' heard heard' output output' may comes =
-      of_whole may (λ still. still.2) (λ out. absurd out) (λ config so. of_serve may so) comes
+  of_feed : {status : Status} {input input' output output' : Side} → MayRun d past run.before →
+      FeedComes status d run input input' output output' → Left
+  of_feed may (feeds.shut stop is from same line) = of_shut stop (from past may)
+  of_feed may (feeds.served end middle is later after reads from line) = of_served _ (from past may)
 
-  pub task_leaves : (status : Status) (task : Task) (files : Option (List TreeFile)) (failed failed' : ℕ) (ahead ahead' : Option Moments)
-      (output output' : Side) → MayRun d choose history run k before →
-      Tasked status task files failed failed' ahead ahead' output output' d before disk → Leaves d choose history run k before disk
-  task_leaves status task files failed failed' ahead ahead' output output' may comes =
-      of_whole may (λ still. still.1) (λ out. of_out status may out.1) (λ config so. of_comes may so) comes
+  of_serve : {status : Status} {requests : ℕ} {heard heard' : Listened} {output output' : Side} → MayRun d past run.before →
+      ServeComes status d run requests heard heard' output output' → Left
+  of_serve may (serves.unbound is clock same alone line) = of_same d past run.before run.disk may alone
+  of_serve {status = status} may (serves.locked_out clock same out said) = of_out d past run.before run.disk status may out
+  of_serve may (serves.shut stop is from same line) = of_shut stop (from past may)
+  of_serve may (serves.served end reads from line) = of_served _ (from past may)
 
-  pub stored_leaves : (status : Status) (stated : Stated) (files : Option (List TreeFile)) (failed failed' : ℕ)
-      (ahead ahead' : Option Moments) (input input' output output' : Side) → MayRun d choose history run k before →
-      Stored status stated files failed failed' ahead ahead' input input' output output' d before disk →
-      Leaves d choose history run k before disk
-  stored_leaves status stated files failed failed' ahead ahead' input input' output output' may comes =
-      of_whole may (λ still. still.2) (λ out. of_out status may out.2) (λ config so. of_comes may so.0) comes
+module _ {D : Type 0} (d : Ghosts D) (past : Past) (from to : Around D) (may : MayRun d past from.disk) where
+  of_whole : {status : Status} {still out : Type 0} {comes : Config → Type 0} → (still → to.disk ≡ from.disk) →
+      (out → Leaves d past from.disk to.disk) → ((config : Config) → comes config → Leaves d past from.disk to.disk) →
+      Whole status from to still out comes → Leaves d past from.disk to.disk
+  of_whole alone refused so (stored.unread still wrote) = of_same d past from.disk to.disk may (alone still)
+  of_whole alone refused so (stored.locked_out config is out said) = refused out
+  of_whole alone refused so (stored.ran config is comes) = so config comes
+
+  -- the disk was not given
+  not_given : (status : Status) → IsLockedOut status d from.disk to.disk → Leaves d past from.disk to.disk
+  not_given status out = of_out d past from.disk to.disk status may out
+
+  pub feeds_leave : (status : Status) → Feeds status d from to → Leaves d past from.disk to.disk
+  feeds_leave status comes = of_whole (λ still. still.2) (λ out. not_given status out.2)
+      (λ config so. of_feed d past (course_of config from to) may so) comes
+
+  pub serves_leave : (status : Status) (requests : ℕ) → Serves status requests d from to → Leaves d past from.disk to.disk
+  serves_leave status requests comes = of_whole (λ still. still.2) (λ out. absurd out)
+      (λ config so. of_serve d past (course_of config from to) may so) comes
+
+  pub task_leaves : (status : Status) (task : Task) → Tasked status task d from to → Leaves d past from.disk to.disk
+  task_leaves status task comes = of_whole (λ still. still.1) (λ out. not_given status out.1)
+      (λ config so. of_comes d past (course_of config from to) may so) comes
+
+  pub stored_leaves : (status : Status) (stated : Stated) → Stored status stated d from to → Leaves d past from.disk to.disk
+  stored_leaves status stated comes = of_whole (λ still. still.2) (λ out. not_given status out.2)
+      (λ config so. of_comes d past (course_of config from to) may so.0) comes
 
 -- the exit of a run is a stop
 pub exits : {D : Type 0} (d : Ghosts D) → ((disk : D) (t : ℕ) (image : Image) → t ≤ d.moment disk → d.may_leave disk image →
     d.left_since disk t image) →
-    (choose : Chooser) (history : List TimedCommand) (run k : ℕ) (before disk : D) (leaves : Leaves d choose history run k before disk) →
-    IsStopOf d choose history run k before disk leaves d disk
-exits d counts choose history run k before disk (unmounted stood) = λ image may. counts disk (d.moment before) image stood.later may
-exits d counts choose history run k before disk (mounted new_run count now least given passes) =
+    (past : Past) (before disk : D) (leaves : Leaves d past before disk) → IsStopOf d past before disk leaves d disk
+exits d counts past before disk (unmounted stood) = λ image may. counts disk (d.moment before) image stood.later may
+exits d counts past before disk (mounted new_run count now least given passes) =
     inr (λ image may. counts disk (d.moment passes.mounted) image passes.from_on.later may)
 
 module _ {D E : Type 0} (d : Ghosts D) (e : Ghosts E) (only_now : (disk : D) (image : Image) → d.left_since disk (d.moment disk) image →
@@ -149,14 +136,14 @@ module _ {D E : Type 0} (d : Ghosts D) (e : Ghosts E) (only_now : (disk : D) (im
       (always.since (d.moment old) image (omega arith) (left image may))
 
 module _ {D E : Type 0} (d : Ghosts D) (e : Ghosts E) (only_now : (disk : D) (image : Image) → d.left_since disk (d.moment disk) image →
-    d.may_leave disk image) (choose : Chooser) (history : List TimedCommand) (run k : ℕ) (before disk : D) where
+    d.may_leave disk image) (past : Past) (before disk : D) where
   -- what was there at the start is there still
-  as_before : MayRun d choose history run k before → (later : E) (image : Image) → e.seen later ≡ Some image →
-      ((other : Image) → e.may_leave later other → RecoversToPrefix fits run choose history k other) → MayGoOn e choose history run k later
+  as_before : MayRun d past before → (later : E) (image : Image) → e.seen later ≡ Some image →
+      ((other : Image) → e.may_leave later other → StandsFor fits past other) → MayGoOn e past later
   as_before may later image tells begins = record {
-    next = history;
-    n = k;
-    least_run = run;
+    next = past.history;
+    n = past.least;
+    least_run = past.run;
     least = omega arith;
     no_earlier = omega arith;
     first = refl;
@@ -164,32 +151,33 @@ module _ {D E : Type 0} (d : Ghosts D) (e : Ghosts E) (only_now : (disk : D) (im
   }
 
   -- what was mounted and accepted since is there behind a stop from the mount on
-  pub from_mount : MayRun d choose history run k before → (now : List TimedCommand) (new_run count : ℕ) → AreGiven now →
-      (passes : Passes d fits choose history run k now new_run count before disk) →
+  pub from_mount : MayRun d past before → (now : List TimedCommand) (new_run count : ℕ) → AreGiven now →
+      (passes : Passes d fits past now new_run count before disk) →
       (later : E) (image : Image) → e.seen later ≡ Some image → IsLeftOf d passes.mounted disk e later →
-      MayRun e choose now new_run count later
+      MayRun e (past_of past.choose now new_run count) later
   from_mount may now new_run count given passes later image tells stop = record {
     chooser = may.chooser;
     given = given;
-    begins = each d e only_now passes.mounted disk (RecoversToPrefix fits new_run choose now count) passes.at_mount passes.from_on later stop;
+    begins = each d e only_now passes.mounted disk (RecoversToPrefix fits new_run past.choose now count) passes.at_mount passes.from_on
+        later stop;
     image = image;
     tells = tells;
   }
 
-  pub goes_on : MayRun d choose history run k before → (leaves : Leaves d choose history run k before disk) → (later : E) (image : Image) →
-      e.seen later ≡ Some image → IsStopOf d choose history run k before disk leaves e later → MayGoOn e choose history run k later
+  pub goes_on : MayRun d past before → (leaves : Leaves d past before disk) → (later : E) (image : Image) →
+      e.seen later ≡ Some image → IsStopOf d past before disk leaves e later → MayGoOn e past later
   goes_on may (unmounted stood) later image tells stop =
-      as_before may later image tells (each d e only_now before disk (RecoversToPrefix fits run choose history k) may.begins stood later stop)
+      as_before may later image tells (each d e only_now before disk (StandsFor fits past) may.begins stood later stop)
   goes_on may (mounted new_run count now least given passes) later image tells (inl stop) =
-      as_before may later image tells (each d e only_now before passes.mounted (RecoversToPrefix fits run choose history k) may.begins passes.up_to later
-      stop)
+      as_before may later image tells (each d e only_now before passes.mounted (StandsFor fits past) may.begins passes.up_to later stop)
   goes_on may (mounted new_run count now least given passes) later image tells (inr stop) = record {
     next = now;
     n = count;
     least_run = new_run;
     least = least;
     no_earlier = omega (arith, passes.later);
-    first = sym (take-take k count now least) ∙ (ap (take k) passes.first ∙ take-take k count history least);
+    first = sym (take-take past.least count now least)
+        ∙ (ap (take past.least) passes.first ∙ take-take past.least count past.history least);
     may_run = from_mount may now new_run count given passes later image tells stop;
   }
 
@@ -210,7 +198,7 @@ module _ {D E : Type 0} (d : Ghosts D) (e : Ghosts E) (only_now : (disk : D) (im
     d.may_leave disk image) (s : Start D) (now : List TimedCommand) (disk : D) (later : E) (image : Image) (chooser : IsChooser s.choose)
     (given : AreGiven now) (tells : e.seen later ≡ Some image) where
   may_run : (n : ℕ) → ((other : Image) → e.may_leave later other → RecoversToPrefix fits s.run s.choose now n other) →
-      MayRun e s.choose now s.run n later
+      MayRun e (past_of s.choose now s.run n) later
   may_run n begins = record { chooser = chooser; given = given; begins = begins; image = image; tells = tells }
 
   behind_each : (turns : List (Turn D)) → Lasts d fits s now disk turns → GoesOnBehindEach d e s now disk later turns
@@ -235,7 +223,7 @@ module _ {D E : Type 0} (d : Ghosts D) (e : Ghosts E) (only_now : (disk : D) (im
 
 -- a run that begins over some disk has a greater number
 pub greater : {D : Type 0} (d : Ghosts D) → ((disk : D) (image : Image) → d.seen disk ≡ Some image → d.may_leave disk image) →
-    (choose : Chooser) (history : List TimedCommand) (run k next : ℕ) (disk : D) →
-    MayRun d choose history run k disk → IsNewRun d fits next disk → run < next
-greater d stays choose history run k next disk may is =
-    later_run fits run next choose history k may.image (may.begins may.image (stays disk may.image may.tells)) (is may.image may.tells)
+    (past : Past) (next : ℕ) (disk : D) → MayRun d past disk → IsNewRun d fits next disk → past.run < next
+greater d stays past next disk may is =
+    later_run fits past.run next past.choose past.history past.least may.image (may.begins may.image (stays disk may.image may.tells))
+    (is may.image may.tells)

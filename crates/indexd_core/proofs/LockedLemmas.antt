@@ -8,16 +8,14 @@ use Rattle.ix_disk.specs.Moments.{Always}
 use Rattle.ix_disk.specs.declared.disk.Disk.{Ghosts}
 use Rattle.ix_disk.proofs.Runs.{nowhere, stays_on, still_all, always_still, always_on}
 use Rattle.ix_state.specs.Taken.{IsTaken}
-use Rattle.ix_model.specs.Given.{Chooser}
 use Rattle.ix_model.specs.declared.commands.Config.{Config}
 use Rattle.ix_model.specs.declared.commands.TimedCommand.{TimedCommand}
 use Rattle.ix_replay.specs.Fits.{fits}
 use Rattle.ix_run.specs.Resting.{ReadsShort}
 use Rattle.ix_serve.specs.Serving.{IsTold}
-use Rattle.ix_store.specs.Written.{RecoversToPrefix}
 use Rattle.ix_fs.specs.declared.trees.TreeFile.{TreeFile}
 use Rattle.indexd_serve.specs.Serving.{Serving, HasServed}
-use Rattle.indexd_run.specs.Opened.{Begins, Doing, Passes, HasRun, HasNotMounted, HasShut, HasStopped}
+use Rattle.indexd_run.specs.Opened.{Begins, Doing, Passes, HasRun, HasNotMounted, HasShut, HasStopped, Past, Course, course, StandsFor}
 use Rattle.indexd_run.specs.Shortened.{HasHadItsRuns}
 use Rattle.indexd_run.specs.declared.stop.Stop.{Stop}
 use Rattle.indexd_core.specs.Chain.{MayRun}
@@ -27,7 +25,7 @@ use Rattle.indexd_core.specs.Locked.{IsLeftAlone, HasRefused, IsLockedOut, EndsU
 use Rattle.indexd_core.specs.Shortened.{LeavesShort}
 use Rattle.indexd_core.specs.Sides.{Side}
 use Rattle.indexd_core.specs.Stored as stored
-use Rattle.indexd_core.specs.Stored.{FromStart, Comes, WroteUnread}
+use Rattle.indexd_core.specs.Stored.{FromStart, Comes, WroteUnread, Outcomes}
 use Rattle.indexd_core.specs.declared.status.Status.{Status}
 use Rattle.indexd_core.specs.declared.status.Status.TheVariants as statuses
 use Rattle.indexd_core.proofs.StoredLemmas.{apart, yes_no}
@@ -41,16 +39,14 @@ same_alone d disk disk' is = subst (λ x. IsLeftAlone d disk x) (sym is) (left_a
 -- ---- from the start on
 
 module _ {D : Type 0} {d : Ghosts D} {old mid : D} (alone : IsLeftAlone d old mid) where
-  begins_on : (choose : Chooser) (history : List TimedCommand) (run k : ℕ) → Begins d fits choose history run k old →
-      Begins d fits choose history run k mid
-  begins_on choose history run k begins = still_all d old mid (RecoversToPrefix fits run choose history k) alone.images begins
+  begins_on : (past : Past) → Begins d fits past old → Begins d fits past mid
+  begins_on past begins = still_all d old mid (StandsFor fits past) alone.images begins
 
-  may_on : (choose : Chooser) (history : List TimedCommand) (run k : ℕ) → MayRun d choose history run k old →
-      MayRun d choose history run k mid
-  may_on choose history run k may = record {
+  may_on : (past : Past) → MayRun d past old → MayRun d past mid
+  may_on past may = record {
     chooser = may.chooser;
     given = may.given;
-    begins = begins_on choose history run k may.begins;
+    begins = begins_on past may.begins;
     image = may.image;
     tells = alone.same ∙ may.tells;
   }
@@ -59,22 +55,20 @@ module _ {D : Type 0} {d : Ghosts D} {old mid : D} (alone : IsLeftAlone d old mi
       Always d old new P
   always_from P new holds always = always_on d old mid new P (always_still d old mid P alone.images holds) always
 
-  passes_from : {choose : Chooser} {history now : List TimedCommand} {run k new_run count : ℕ} {new : D} →
-      Begins d fits choose history run k old →
-      Passes d fits choose history run k now new_run count mid new → Passes d fits choose history run k now new_run count old new
-  passes_from {choose = choose} {history = history} {run = run} {k = k} begins passes = record {
+  passes_from : {past : Past} {now : List TimedCommand} {new_run count : ℕ} {new : D} → Begins d fits past old →
+      Passes d fits past now new_run count mid new → Passes d fits past now new_run count old new
+  passes_from {past = past} begins passes = record {
     later = passes.later;
     mounted = passes.mounted;
     first = passes.first;
     within = passes.within;
-    up_to = always_from (RecoversToPrefix fits run choose history k) passes.mounted begins passes.up_to;
+    up_to = always_from (StandsFor fits past) passes.mounted begins passes.up_to;
     at_mount = passes.at_mount;
     from_on = passes.from_on;
   }
 
-  run_from : {lost : Bool} {choose : Chooser} {history : List TimedCommand} {run k : ℕ} {may : List TimedCommand → List TimedCommand →
-      List TimedCommand → Type 0} {new : D} → Begins d fits choose history run k old →
-      HasRun lost d IsTaken fits choose history run k may mid new → HasRun lost d IsTaken fits choose history run k may old new
+  run_from : {lost : Bool} {past : Past} {may : List TimedCommand → List TimedCommand → List TimedCommand → Type 0} {new : D} →
+      Begins d fits past old → HasRun lost d IsTaken fits past may mid new → HasRun lost d IsTaken fits past may old new
   run_from begins was = record {
     count = was.count;
     least = was.least;
@@ -90,96 +84,86 @@ module _ {D : Type 0} {d : Ghosts D} {old mid : D} (alone : IsLeftAlone d old mi
     exit = was.exit;
   }
 
-  none_from : {stop : Stop} {choose : Chooser} {history : List TimedCommand} {run k : ℕ} {ahead ahead' : Option Moments} {new : D} →
-      Begins d fits choose history run k old →
-      HasNotMounted stop d fits choose history run k ahead ahead' mid new →
-      HasNotMounted stop d fits choose history run k ahead ahead' old new
-  none_from {choose = choose} {history = history} {run = run} {k = k} {new = new} begins none = record {
-    fault = none.fault;
-    stop_is = none.stop_is;
-    sound = none.sound;
-    spent = λ full image seen. none.spent full image (alone.same ∙ seen);
-    not_asked = none.not_asked;
-    stood = always_from (RecoversToPrefix fits run choose history k) new begins none.stood;
-  }
+  module _ (config : Config) (ahead ahead' : Option Moments) (new : D) where
+    abbrev from_mid : Course D
+    from_mid = course config ahead ahead' mid new
 
-  shut_at : (stop : Stop) (choose : Chooser) (history : List TimedCommand) (run k : ℕ) (config : Config) (ahead ahead' : Option Moments)
-      (new : D) → Begins d fits choose history run k old →
-      HasShut stop d IsTaken fits choose history run k config ahead ahead' mid new →
-      HasShut stop d IsTaken fits choose history run k config ahead ahead' old new
-  shut_at stop choose history run k config ahead ahead' new begins (inl none) = inl (none_from begins none)
-  shut_at stop choose history run k config ahead ahead' new begins (inr was) = inr (run_from begins was)
+    abbrev from_old : Course D
+    from_old = course config ahead ahead' old new
 
-  pub shut_from : (stop : Stop) (config : Config) (ahead ahead' : Option Moments) (new : D) →
-      FromStart d mid (λ choose history run k. HasShut stop d IsTaken fits choose history run k config ahead ahead' mid new) →
-      FromStart d old (λ choose history run k. HasShut stop d IsTaken fits choose history run k config ahead ahead' old new)
-  shut_from stop config ahead ahead' new from = λ choose history run k may.
-      shut_at stop choose history run k config ahead ahead' new may.begins (from choose history run k (may_on choose history run k may))
+    none_from : (stop : Stop) (past : Past) → Begins d fits past old → HasNotMounted stop d fits past from_mid →
+        HasNotMounted stop d fits past from_old
+    none_from stop past begins none = record {
+      fault = none.fault;
+      stop_is = none.stop_is;
+      sound = none.sound;
+      spent = λ full image seen. none.spent full image (alone.same ∙ seen);
+      not_asked = none.not_asked;
+      stood = always_from (StandsFor fits past) new begins none.stood;
+    }
 
-  stopped_at : (stop : Stop) (choose : Chooser) (history : List TimedCommand) (run k : ℕ) (config : Config) (ahead ahead' : Option Moments)
-      (untouched : Type 0) (may : Doing) (new : D) → Begins d fits choose history run k old →
-      HasStopped stop d IsTaken fits choose history run k config ahead ahead' untouched may mid new →
-      HasStopped stop d IsTaken fits choose history run k config ahead ahead' untouched may old new
-  stopped_at stop choose history run k config ahead ahead' untouched may new begins (inl shut) =
-      inl (shut_at stop choose history run k config ahead ahead' new begins shut.0, shut.1)
-  stopped_at stop choose history run k config ahead ahead' untouched may new begins (inr was) = inr (run_from begins was)
+    shut_at : (stop : Stop) (past : Past) → Begins d fits past old → HasShut stop d IsTaken fits past from_mid →
+        HasShut stop d IsTaken fits past from_old
+    shut_at stop past begins (inl none) = inl (none_from stop past begins none)
+    shut_at stop past begins (inr was) = inr (run_from begins was)
 
-  pub comes_from : {status : Status} {config : Config} {named : List ℕ} {ahead ahead' : Option Moments} {whole : Chooser →
-      Doing} {untouched : Side → Type 0} {part : Stop → Side → Chooser → Doing} {wrote : Stop → Side → Type 0} {output' : Side} {new : D} →
-      Comes status d config named ahead ahead' whole untouched part wrote output' mid new →
-      Comes status d config named ahead ahead' whole untouched part wrote output' old new
-  comes_from (stored.done is from) = stored.done is (λ choose history run k may.
-      run_from may.begins (from choose history run k (may_on choose history run k may)))
-  comes_from {config = config} {ahead = ahead} {ahead' = ahead'} {untouched = untouched} {part = part} {new = new}
-      (stored.stopped stop middle is from wrote said) =
-      stored.stopped stop middle is (λ choose history run k may.
-      stopped_at stop choose history run k config ahead ahead' (untouched middle) (part stop middle choose) new may.begins
-      (from choose history run k (may_on choose history run k may)))
-      wrote said
+    pub shut_from : (stop : Stop) → FromStart d mid (λ past. HasShut stop d IsTaken fits past from_mid) →
+        FromStart d old (λ past. HasShut stop d IsTaken fits past from_old)
+    shut_from stop from = λ past may. shut_at stop past may.begins (from past (may_on past may))
+
+    stopped_at : (stop : Stop) (past : Past) (untouched : Type 0) (may : Doing) → Begins d fits past old →
+        HasStopped stop d IsTaken fits past from_mid untouched may → HasStopped stop d IsTaken fits past from_old untouched may
+    stopped_at stop past untouched may begins (inl shut) = inl (shut_at stop past begins shut.0, shut.1)
+    stopped_at stop past untouched may begins (inr was) = inr (run_from begins was)
+
+    pub comes_from : {status : Status} {named : List ℕ} {to : Outcomes} {output' : Side} → Comes status d from_mid named to output' →
+        Comes status d from_old named to output'
+    comes_from (stored.done is from) = stored.done is (λ past may. run_from may.begins (from past (may_on past may)))
+    comes_from {to = to} (stored.stopped stop middle is from wrote said) = stored.stopped stop middle is
+        (λ past may. stopped_at stop past (to.untouched middle) (to.part stop middle past.choose) may.begins (from past (may_on past may)))
+        wrote said
 
   pub told_on : IsTold d old → IsTold d mid
   told_on told = (told.0, alone.same ∙ told.1)
 
-  served_at : {choose : Chooser} {history : List TimedCommand} {run k : ℕ} {config : Config} {ahead : Option Moments} {serves : Serving D}
-      {new : D} → Begins d fits choose history run k old →
-      HasServed d IsTaken fits choose history run k config ahead serves mid new →
-      HasServed d IsTaken fits choose history run k config ahead serves old new
-  served_at begins was = record {
-    count = was.count;
-    least = was.least;
-    most = was.most;
-    configured = was.configured;
-    configures = was.configures;
-    told = was.told;
-    asked = was.asked;
-    new_run = was.new_run;
-    number = λ image seen. was.number image (alone.same ∙ seen);
-    middle = was.middle;
-    now = was.now;
-    tells = λ told. was.tells (told_on told);
-    runs_left = λ image seen. was.runs_left image (alone.same ∙ seen);
-    served = was.served;
-    given = was.given;
-    passes = passes_from begins was.passes;
-  }
+  module _ (config : Config) (ahead ahead' : Option Moments) (new : D) where
+    served_at : (past : Past) (serves : Serving D) → Begins d fits past old →
+        HasServed d IsTaken fits past (course config ahead ahead' mid new) serves →
+        HasServed d IsTaken fits past (course config ahead ahead' old new) serves
+    served_at past serves begins was = record {
+      count = was.count;
+      least = was.least;
+      most = was.most;
+      configured = was.configured;
+      configures = was.configures;
+      told = was.told;
+      asked = was.asked;
+      new_run = was.new_run;
+      number = λ image seen. was.number image (alone.same ∙ seen);
+      middle = was.middle;
+      now = was.now;
+      tells = λ told. was.tells (told_on told);
+      runs_left = λ image seen. was.runs_left image (alone.same ∙ seen);
+      served = was.served;
+      given = was.given;
+      passes = passes_from begins was.passes;
+    }
 
-  pub served_from : (config : Config) (ahead : Option Moments) (serves : Serving D) (new : D) →
-      FromStart d mid (λ choose history run k. HasServed d IsTaken fits choose history run k config ahead serves mid new) →
-      FromStart d old (λ choose history run k. HasServed d IsTaken fits choose history run k config ahead serves old new)
-  served_from config ahead serves new from = λ choose history run k may.
-      served_at may.begins (from choose history run k (may_on choose history run k may))
+    pub served_from : (serves : Serving D) →
+        FromStart d mid (λ past. HasServed d IsTaken fits past (course config ahead ahead' mid new) serves) →
+        FromStart d old (λ past. HasServed d IsTaken fits past (course config ahead ahead' old new) serves)
+    served_from serves from = λ past may. served_at past serves may.begins (from past (may_on past may))
 
-  pub feed_from : {status : Status} {config : Config} {ahead ahead' : Option Moments} {input input' output output' : Side} {new : D} →
-      FeedComes status d config ahead ahead' input input' output output' mid new →
-      FeedComes status d config ahead ahead' input input' output output' old new
-  feed_from {config = config} {ahead = ahead} {ahead' = ahead'} {new = new} (feeds.shut stop is from same said) =
-      feeds.shut stop is (shut_from stop config ahead ahead' new from) same said
-  feed_from (feeds.served end middle is later after reads from said) = feeds.served end middle is later after reads
-      (λ choose history run k may. served_at may.begins (from choose history run k (may_on choose history run k may))) said
+    pub feed_from : {status : Status} {input input' output output' : Side} →
+        FeedComes status d (course config ahead ahead' mid new) input input' output output' →
+        FeedComes status d (course config ahead ahead' old new) input input' output output'
+    feed_from (feeds.shut stop is from same said) = feeds.shut stop is (shut_from config ahead ahead' new stop from) same said
+    feed_from (feeds.served end middle is later after reads from said) = feeds.served end middle is later after reads
+        (served_from _ from) said
 
   -- no history stands behind a damage
-  pub none_from_start : FromStart d mid (λ choose history run k. ⊥) → FromStart d old (λ choose history run k. ⊥)
-  none_from_start from = λ choose history run k may. from choose history run k (may_on choose history run k may)
+  pub none_from_start : FromStart d mid (λ past. ⊥) → FromStart d old (λ past. ⊥)
+  none_from_start from = λ past may. from past (may_on past may)
 
   short_at : (status : Status) (new : D) → ReadsShort d new
       ⊎ (IsLeftAlone d mid new ⊎ ((status ≡ statuses.Full) × HasHadItsRuns d fits mid)) →

@@ -1,5 +1,5 @@
 -- An index whose name is too long for one is missed once the store is open.
-use Rattle.std.proofs.Common.{◌≡◌, ◌≤◌, ◌<◌, ℕ, ℤ, Bool, true, false, List, [], ◌∷◌, ◌++◌, map, length, take, refl, sym, ap, ◌∙◌, subst}
+use Rattle.std.proofs.Common.{◌≡◌, ◌≤◌, ℕ, ℤ, Bool, true, false, List, [], ◌∷◌, map, length, take, refl, sym, ap, subst}
 use Rattle.std.proofs.Common.{inl, inr, ◌⊎◌, arith}
 use Rattle.std.specs.Prelude.{Option, Some, None, Err, is_some, is_none, ◌==◌, ◌&&◌, nat_lt, codes, bytes_eq, filter, if◌then◌else◌}
 use Rattle.std.specs.List.{AllByRecursion}
@@ -14,7 +14,6 @@ use Rattle.ix_disk.specs.declared.disk.Disk.{Ghosts}
 use Rattle.ix_items.specs.declared.items.Kept.{Kept}
 use Rattle.ix_state.specs.Configs.{IsConfig}
 use Rattle.ix_state.specs.Taken.{IsTaken, AreGiven}
-use Rattle.ix_life.specs.Limits.{limits_of}
 use Rattle.ix_life.specs.Stanzas.{is_index_stanza}
 use Rattle.ix_life.specs.declared.limits.Limits.{Limits}
 use Rattle.ix_life.specs.declared.sets.LimitSet.{LimitSet}
@@ -32,7 +31,7 @@ use Rattle.ix_store.specs.Written.{RecoversTo}
 use Rattle.ix_store.specs.declared.store.Store.{Store}
 use Rattle.indexd_run.specs.Ends.{same_entry, same_kept}
 use Rattle.indexd_run.specs.Opened as opened
-use Rattle.indexd_run.specs.Opened.{configuring, Configures, HasOpened, HasStopped}
+use Rattle.indexd_run.specs.Opened.{configuring, Configures, HasOpened, HasStopped, Past, course}
 use Rattle.indexd_run.specs.Previews.{is_missing_in, HasFed, Fed, Misses}
 use Rattle.indexd_run.specs.Shortened.{IsOfCheckpoint}
 use Rattle.indexd_run.specs.Stops.{loses}
@@ -145,42 +144,44 @@ missed_by choose begun config origin is forced long = record {
 
 -- it ends so, or its checkpoint stops it
 pub missed : {D : Type 0} (d : Ghosts D) {M : Type 0} (fits : NamedItems → Type 0) (holds : Chooser → List TimedCommand → M →
-    Type 0) (choose : Chooser) (history : List TimedCommand) (run k : ℕ)
-    (config : Config) (store later : Store M) (ahead mid ahead' : Option Moments) (first at last : D) (origin : ChannelMeta)
+    Type 0) (past : Past) (config : Config) (store later : Store M) (ahead mid ahead' : Option Moments) (first at last : D)
+    (origin : ChannelMeta)
     (left : Option (List ℕ)) (moment : ℤ) (other : Stop) →
-    IsConfig config → is_long origin.index ≡ true → AreGiven history →
-    HasOpened d fits holds choose history run k config store ahead mid first at → Told (Answered moment) mid ahead' →
+    IsConfig config → is_long origin.index ≡ true → AreGiven past.history →
+    HasOpened d fits holds past (course config ahead mid first at) store → Told (Answered moment) mid ahead' →
     later.run ≡ store.run → (other ≡ stops.NotFound) ⊎ IsOfCheckpoint other →
-    ((now : List TimedCommand) (base : ℕ) → AreGiven now → Represents d fits holds choose now base (length now) store at →
-    Always d at last (RecoversTo fits store.run choose now)) →
+    ((now : List TimedCommand) (base : ℕ) → AreGiven now → Represents d fits holds past.choose now base (length now) store at →
+    Always d at last (RecoversTo fits store.run past.choose now)) →
     (loses other ≡ false → (now : List TimedCommand) (base : ℕ) → AreGiven now →
-    Represents d fits holds choose now base (length now) store at → Represents d fits holds choose now base (length now) later last) →
-    HasStopped other d IsTaken fits choose history run k config ahead ahead' (left ≡ left)
-    (HasFed choose origin (Err other) ahead' left left) first last
-missed d fits holds choose history run k config store later ahead mid ahead' first at last origin left moment other is long given ready told
+    Represents d fits holds past.choose now base (length now) store at →
+    Represents d fits holds past.choose now base (length now) later last) →
+    HasStopped other d IsTaken fits past (course config ahead ahead' first last) (left ≡ left)
+    (HasFed past.choose origin (Err other) ahead' left left)
+missed d fits holds past config store later ahead mid ahead' first at last origin left moment other is long given ready told
     same why images held =
-    let begun : List TimedCommand = given_all choose (take ready.count history) ready.configured in
-    let forced : (state_after choose begun).force ≡ config.kept =
-    in_force choose (take ready.count history) ready.configured config (opened.is_configured choose (take ready.count history) config) refl
+    let begun : List TimedCommand = given_all past.choose (take ready.count past.history) ready.configured in
+    let forced : (state_after past.choose begun).force ≡ config.kept =
+    in_force past.choose (take ready.count past.history) ready.configured config
+    (opened.is_configured past.choose (take ready.count past.history) config) refl
     ready.configures in
-    let all : AreGiven begun = begun_taken IsTaken (λ moment. tt) choose (take ready.count history) config
-    (opened.is_configured choose (take ready.count history) config) ready.configured (λ moment. is)
-    (front_has IsTaken ready.count history given) ready.configures in
-    let fed = none_fed choose ready.count begun origin moment left (missed_by choose begun config origin is forced long) in
-    inr (fed_when d fits holds choose history run k config store ahead mid first at last ready later origin moment ahead' told left left
+    let all : AreGiven begun = begun_taken IsTaken (λ moment. tt) past.choose (take ready.count past.history) config
+    (opened.is_configured past.choose (take ready.count past.history) config) ready.configured (λ moment. is)
+    (front_has IsTaken ready.count past.history given) ready.configures in
+    let fed = none_fed past.choose ready.count begun origin moment left (missed_by past.choose begun config origin is forced long) in
+    inr (fed_when d fits holds past config store ahead mid first at last ready later origin moment ahead' told left left
     IsTaken (Err other)
-    (stopped_short d fits store.run holds IsTaken choose begun ready.count store later at at last stops.NotFound other
-    (λ orders. orders ≡ []) (λ orders. Fed choose ready.count begun origin moment (Err other) left left orders
-    × AreGiven (given_all choose begun orders))
+    (stopped_short d fits store.run holds IsTaken past.choose begun ready.count store later at at last stops.NotFound other
+    (λ orders. orders ≡ []) (λ orders. Fed past.choose ready.count begun origin moment (Err other) left left orders
+    × AreGiven (given_all past.choose begun orders))
     (λ orders none. (
-      subst (λ (os : List TimedCommand). Fed choose ready.count begun origin moment (Err other) left left os) (sym none)
-          (fed_stop choose ready.count begun origin moment stops.NotFound other left left [] why fed),
-      subst (λ (os : List TimedCommand). AreGiven (given_all choose begun os)) (sym none) all,
+      subst (λ (os : List TimedCommand). Fed past.choose ready.count begun origin moment (Err other) left left os) (sym none)
+          (fed_stop past.choose ready.count begun origin moment stops.NotFound other left left [] why fed),
+      subst (λ (os : List TimedCommand). AreGiven (given_all past.choose begun os)) (sym none) all,
     ))
-    (λ orders none. subst (λ (os : List TimedCommand). AreGiven (given_all choose begun os)) (sym none) all)
+    (λ orders none. subst (λ (os : List TimedCommand). AreGiven (given_all past.choose begun os)) (sym none) all)
     same (λ lost. absurd (cc)) (λ kept now taken hold. images now ready.count taken hold)
     (λ kept also now taken hold. held also now ready.count taken hold)
-    (none_given d fits holds choose begun ready.count store at (λ orders. orders ≡ []) refl ready.hold)))
+    (none_given d fits holds past.choose begun ready.count store at (λ orders. orders ≡ []) refl ready.hold)))
 
 -- only the disk is at fault where it says so
 pub by_disk : (P : Type 0) → (stops.NotFound ≡ stops.Disk) ⊎ P → P

@@ -1,23 +1,18 @@
 -- A run of a preview, by how it ends.
-use Rattle.std.proofs.Common.{◌≡◌, ◌≤◌, ◌⊎◌, inl, inr, ℕ, ℤ, true, false, List, [], ◌++◌, refl, sym, subst}
+use Rattle.std.proofs.Common.{◌≡◌, ◌≤◌, ℕ, ℤ, true, false, List, [], ◌++◌, refl, sym, subst}
 use Rattle.std.specs.Prelude.{Option}
-use Rattle.ix_base.specs.Clocks.{Moments}
-use Rattle.ix_base.specs.Faults.{Rose}
 use Rattle.ix_base.specs.Told.{HasWritten, HasBegun}
 use Rattle.indexd_core.specs.declared.prepare.PreparedPreview.{PreparedPreview}
 use Rattle.std.proofs.lemmas.List.{append-nil}
 use Rattle.indexd_core.specs.Sides.{Side}
 use Rattle.indexd_core.specs.Steps.{ReadsAll, RunStops, EndsAll, EndStops}
 use Rattle.indexd_core.specs.Stops.{stop_status}
-use Rattle.ix_fs.specs.declared.trees.TreeFile.{TreeFile}
-use Rattle.indexd_core.specs.Prepared.{Stated}
-use Rattle.indexd_core.specs.Runs.{Runs, Text, Wrote, WroteUnprepared, Previews, unprepared, ran, text_of}
-use Rattle.indexd_core.specs.declared.status.Status.{Status}
+use Rattle.indexd_core.specs.Runs.{Runs, Text, text_of}
 use Rattle.indexd_core.specs.declared.preview.Preview.{Preview}
 use Rattle.indexd_core.specs.declared.preview.Stop.{Stop}
 use Rattle.indexd_core.specs.declared.preview.Stop.TheVariants as stop
 use Rattle.indexd_core.specs.declared.status.Status.TheVariants as status
-use Rattle.indexd_core.proofs.PreviewLemmas.{took-nothing, nothing-shown, rose-since, rose-until}
+use Rattle.indexd_core.proofs.PreviewLemmas.{took-nothing, nothing-shown, rose-since}
 
 -- there was no room at the start
 pub no-room : (prepared : PreparedPreview) (m : ℤ) (input output : Side) → output.faults ≤ output.faults →
@@ -108,69 +103,3 @@ stopped-at-end stop.Output prepared new m input input' output output₁ output' 
         (ends.1 prepared input output input' r.taken r.at),
   );
 }
-
--- what the outcome says of the counts of faults, by the status
-pub not-usage : (ended : Status) (text : Text) (input input' output output' : Side) →
-    Runs ended text input input' output output' → ended ≡ status.Usage → ⊥
-not-usage ended text input input' output output' r is =
-    subst (λ (s : Status). Wrote s text r.taken input input' output output') is r.outcome
-
-pub not-heard : (ended : Status) (text : Text) (input input' output output' : Side) →
-    Runs ended text input input' output output' → ended ≡ status.ListenerFault → ⊥
-not-heard ended text input input' output output' r is =
-    subst (λ (s : Status). Wrote s text r.taken input input' output output') is r.outcome
-
-pub input-rose : (ended : Status) (text : Text) (input input' output output' : Side) →
-    Runs ended text input input' output output' → ended ≡ status.Input → Rose input.faults input'.faults
-input-rose ended text input input' output output' r is =
-    (subst (λ (s : Status). Wrote s text r.taken input input' output output') is r.outcome).0
-
-pub output-rose : (ended : Status) (text : Text) (input input' output output₁ output' : Side) →
-    Runs ended text input input' output output₁ → output₁.faults ≤ output'.faults → ended ≡ status.Output →
-    Rose output.faults output'.faults
-output-rose ended text input input' output output₁ output' r later is =
-    rose-until output.faults output₁.faults output'.faults
-    ((subst (λ (s : Status). Wrote s text r.taken input input' output output₁) is r.outcome).2) later
-
--- and of a whole run
-pub previews-not-usage : {ended : Status} {stated : Stated} {files : Option (List TreeFile)} {failed failed' : ℕ}
-    {ahead ahead' : Option Moments}
-    {input input' output output' : Side} →
-    Previews ended stated files failed failed' ahead ahead' input input' output output' → ended ≡ status.Usage → ⊥
-previews-not-usage {stated = stated} {files = files} {failed = failed} {failed' = failed'} {output = output} {output' = output'}
-    (unprepared a i w) is =
-    subst (λ (s : Status). WroteUnprepared s stated files failed failed' output output') is w
-previews-not-usage {ended = ended} {input = input} {input' = input'} {output = output} (ran p q r) is =
-    not-usage ended (text_of p r.shown) input input' output r.middle r.lines is
-
-pub previews-not-heard : {ended : Status} {stated : Stated} {files : Option (List TreeFile)} {failed failed' : ℕ}
-    {ahead ahead' : Option Moments}
-    {input input' output output' : Side} →
-    Previews ended stated files failed failed' ahead ahead' input input' output output' → ended ≡ status.ListenerFault → ⊥
-previews-not-heard {stated = stated} {files = files} {failed = failed} {failed' = failed'} {output = output} {output' = output'}
-    (unprepared a i w) is =
-    subst (λ (s : Status). WroteUnprepared s stated files failed failed' output output') is w
-previews-not-heard {ended = ended} {input = input} {input' = input'} {output = output} (ran p q r) is =
-    not-heard ended (text_of p r.shown) input input' output r.middle r.lines is
-
-pub previews-input : {ended : Status} {stated : Stated} {files : Option (List TreeFile)} {failed failed' : ℕ}
-    {ahead ahead' : Option Moments}
-    {input input' output output' : Side} →
-    Previews ended stated files failed failed' ahead ahead' input input' output output' → ended ≡ status.Input →
-    Rose input.faults input'.faults ⊎ Rose failed failed'
-previews-input {stated = stated} {files = files} {failed = failed} {failed' = failed'} {output = output} {output' = output'}
-    (unprepared a i w) is =
-    inr (subst (λ (s : Status). WroteUnprepared s stated files failed failed' output output') is w).0
-previews-input {ended = ended} {input = input} {input' = input'} {output = output} (ran p q r) is =
-    inl (input-rose ended (text_of p r.shown) input input' output r.middle r.lines is)
-
-pub previews-output : {ended : Status} {stated : Stated} {files : Option (List TreeFile)} {failed failed' : ℕ}
-    {ahead ahead' : Option Moments}
-    {input input' output output' : Side} →
-    Previews ended stated files failed failed' ahead ahead' input input' output output' → ended ≡ status.Output →
-    Rose output.faults output'.faults
-previews-output {stated = stated} {files = files} {failed = failed} {failed' = failed'} {output = output} {output' = output'}
-    (unprepared a i w) is =
-    absurd (subst (λ (s : Status). WroteUnprepared s stated files failed failed' output output') is w)
-previews-output {ended = ended} {input = input} {input' = input'} {output = output} {output' = output'} (ran p q r) is =
-    output-rose ended (text_of p r.shown) input input' output r.middle output' r.lines r.later is

@@ -15,12 +15,10 @@ use Rattle.ix_disk.specs.declared.disk.Disk.{Ghosts}
 use Rattle.ix_manifest.specs.Book.{NamedItems}
 use Rattle.ix_state.specs.Configs.{IsChooser}
 use Rattle.ix_state.specs.Taken.{IsTaken, AreGiven}
-use Rattle.ix_model.specs.Given.{Chooser}
 use Rattle.ix_model.specs.declared.commands.Config.{Config}
-use Rattle.ix_model.specs.declared.commands.TimedCommand.{TimedCommand}
 use Rattle.ix_replay.specs.Fits.{fits}
 use Rattle.ix_store.specs.declared.fault.MountFault.TheVariants as mounts
-use Rattle.indexd_run.specs.Opened.{Begins, Doing, HasStopped}
+use Rattle.indexd_run.specs.Opened.{Begins, Doing, HasStopped, Past, course}
 use Rattle.indexd_run.specs.Stops.{is_output, is_input}
 use Rattle.indexd_run.specs.declared.stop.Stop.{Stop}
 use Rattle.indexd_run.specs.declared.stop.Stop.TheVariants as stops
@@ -233,19 +231,19 @@ unread_at ended at files failed failed' output output' wrote is =
 -- ---- what is said of every start
 
 -- each part of the premise by itself
-pub from_start : {D : Type 0} (d : Ghosts D) (disk : D) (comes : Chooser → List TimedCommand → ℕ → ℕ → Type 0) →
-    ((choose : Chooser) (history : List TimedCommand) (run k : ℕ) → IsChooser choose → AreGiven history →
-    Begins d fits choose history run k disk → (image : Image) → d.seen disk ≡ Some image → comes choose history run k) →
+pub from_start : {D : Type 0} (d : Ghosts D) (disk : D) (comes : Past → Type 0) →
+    ((past : Past) → IsChooser past.choose → AreGiven past.history → Begins d fits past disk → (image : Image) →
+    d.seen disk ≡ Some image → comes past) →
     FromStart d disk comes
-from_start d disk comes so = λ choose history run k may. so choose history run k may.chooser may.given may.begins may.image may.tells
+from_start d disk comes so = λ past may. so past may.chooser may.given may.begins may.image may.tells
 
 -- ---- nothing is mounted for want of memory
 
 pub unmounted : {D : Type 0} (d : Ghosts D) (fits : NamedItems →
-    Type 0) (choose : Chooser) (history : List TimedCommand) (run k : ℕ) (config : Config) (ahead : Option Moments)
-    (untouched : Type 0) (may : Doing) (disk : D) → untouched → Begins d fits choose history run k disk → d.moment disk ≤ d.moment disk →
-    HasStopped stops.Memory d IsTaken fits choose history run k config ahead ahead untouched may disk disk
-unmounted d fits choose history run k config ahead untouched may disk same begins now = inl (
+    Type 0) (past : Past) (config : Config) (ahead : Option Moments)
+    (untouched : Type 0) (may : Doing) (disk : D) → untouched → Begins d fits past disk → d.moment disk ≤ d.moment disk →
+    HasStopped stops.Memory d IsTaken fits past (course config ahead ahead disk disk) untouched may
+unmounted d fits past config ahead untouched may disk same begins now = inl (
   inl (record {
     fault = mounts.NoMemory;
     stop_is = refl;

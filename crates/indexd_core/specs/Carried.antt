@@ -1,81 +1,44 @@
 -- What comes of whatever the words ask for. The clauses of `top` follow from it, each by a field.
-use Rattle.std.specs.Prelude.{◌≡◌, ◌≤◌, ◌⊎◌, ℕ, true, false, List, Option, Some, None}
-use Rattle.ix_base.specs.Clocks.{Moments}
+use Rattle.std.specs.Prelude.{◌≡◌, ◌≤◌, ◌⊎◌, true, false, Option, Some, None}
 use Rattle.ix_base.specs.Faults.{Rose}
-use Rattle.ix_fs.specs.declared.trees.TreeFile.{TreeFile}
 use Rattle.ix_disk.specs.declared.disk.Disk.{Ghosts}
 use Rattle.ix_serve.specs.Serving.{IsTold}
 use Rattle.indexd_settings.specs.Layers.{file_named}
 use Rattle.indexd_settings.specs.declared.layers.SettingsFile.{SettingsFile}
 use Rattle.indexd_cli.specs.Orders.{Asked, preview, btool, feed, serve, monitor, buckets, export, roll, thaw, tick, selftest}
 use Rattle.indexd_run.specs.declared.task.Task.{Task}
+use Rattle.indexd_core.specs.Around.{Around, but_store}
 use Rattle.indexd_core.specs.Blamed.{NamesDamage, IsFilled}
 use Rattle.indexd_core.specs.Btool.{Tells}
 use Rattle.indexd_core.specs.Commands.{is_built, is_stored, asked_for}
 use Rattle.indexd_core.specs.Feeds.{Feeds}
 use Rattle.indexd_core.specs.Locked.{HasRefused, EndsUsed}
 use Rattle.indexd_core.specs.Runs.{Previews, Refuses}
-use Rattle.ix_sessions.specs.Connections.{Listened}
 use Rattle.indexd_core.specs.Serves.{Serves}
 use Rattle.indexd_core.specs.Shortened.{LeavesShort}
-use Rattle.indexd_core.specs.Sides.{Side}
 use Rattle.indexd_core.specs.Stored.{FromStart, Stored, Tasked}
 use Rattle.indexd_core.specs.declared.status.Status.{Status}
 use Rattle.indexd_core.specs.declared.status.Status.TheVariants.{Usage, Input, DiskFault, Damaged, Output, ListenerFault, Full, InUse}
-
--- All that the program works over, as it stands: the files of settings, and how often the tree has
--- failed and has missed a file; what the clock is to tell; the input and the output; what the
--- listener tells, how often it has failed, and how many connections are out; the disk.
-pub record Around (D : Type 0) : Type 0 where
-  pub files : Option (List TreeFile)
-  pub failed : ℕ
-  pub missing : ℕ
-  pub ahead : Option Moments
-  pub input : Side
-  pub output : Side
-  pub heard : Listened
-  pub deaf : ℕ
-  pub out : ℕ
-  pub disk : D
-
-abbrev pub around : {D : Type 0} → Option (List TreeFile) → ℕ → ℕ → Option Moments → Side → Side → Listened → ℕ → ℕ → D → Around D
-around files failed missing ahead input output heard deaf out disk = record {
-  files = files;
-  failed = failed;
-  missing = missing;
-  ahead = ahead;
-  input = input;
-  output = output;
-  heard = heard;
-  deaf = deaf;
-  out = out;
-  disk = disk;
-}
 
 -- a task that is asked for so was run, and the input was left alone
 abbrev pub TaskOf : Asked → Status → {D : Type 0} → Ghosts D → Around D → Around D → Type 0
 TaskOf asked status d old new =
     (task : Task) × (asked_for task ≡ asked)
-    × Tasked status task old.files old.failed new.failed old.ahead new.ahead old.output new.output d old.disk new.disk
+    × Tasked status task d old new
     × (new.input ≡ old.input)
 
 -- What comes of each command. `btool` leaves the input and the clock alone, and `serve` the input.
 abbrev pub ComesOf : Option Asked → Status → {D : Type 0} → Ghosts D → Around D → Around D → Type 0
 ComesOf None status d old new = Unit {0}
 ComesOf (Some (preview host source sourcetype index false)) status d old new =
-    Previews status (record { host = host; source = source; sourcetype = sourcetype; index = index }) old.files old.failed new.failed
-    old.ahead new.ahead old.input new.input old.output new.output
+    Previews status (record { host = host; source = source; sourcetype = sourcetype; index = index }) (but_store old) (but_store new)
 ComesOf (Some (preview host source sourcetype index true)) status d old new =
-    Stored status (record { host = host; source = source; sourcetype = sourcetype; index = index }) old.files old.failed new.failed
-    old.ahead new.ahead old.input new.input old.output new.output d old.disk new.disk
+    Stored status (record { host = host; source = source; sourcetype = sourcetype; index = index }) d old new
 ComesOf (Some (btool name)) status d old new =
     ((file : SettingsFile) → file_named name ≡ Some file → Tells status file old.files old.failed new.failed old.output new.output)
     × (new.input ≡ old.input) × (new.ahead ≡ old.ahead)
-ComesOf (Some feed) status d old new =
-    Feeds status old.files old.failed new.failed old.ahead new.ahead old.input new.input old.output new.output d old.disk new.disk
-ComesOf (Some (serve port requests)) status d old new =
-    Serves status requests old.files old.failed new.failed old.ahead new.ahead old.heard new.heard old.output new.output d old.disk new.disk
-    × (new.input ≡ old.input)
+ComesOf (Some feed) status d old new = Feeds status d old new
+ComesOf (Some (serve port requests)) status d old new = Serves status requests d old new × (new.input ≡ old.input)
 ComesOf (Some (monitor close)) status d old new = Unit {0}
 ComesOf (Some buckets) status d old new = TaskOf buckets status d old new
 ComesOf (Some (export index range)) status d old new = TaskOf (export index range) status d old new
@@ -102,7 +65,7 @@ pub record HasCause (status : Status) {D : Type 0} (d : Ghosts D) (old new : Aro
   pub output : status ≡ Output → Rose old.output.faults new.output.faults
   pub disk : status ≡ DiskFault → Rose (d.faults old.disk) (d.faults new.disk)
   pub listener : status ≡ ListenerFault → Rose old.deaf new.deaf
-  pub undamaged : status ≡ Damaged → FromStart d old.disk (λ choose history run k. ⊥)
+  pub undamaged : status ≡ Damaged → FromStart d old.disk (λ past. ⊥)
   pub blamed : status ≡ Damaged → NamesDamage d old.disk new.disk old.output new.output
   pub full : status ≡ Full → IsFilled d old.disk
   pub in_use : status ≡ InUse → HasRefused d old.disk new.disk
@@ -110,7 +73,7 @@ pub record HasCause (status : Status) {D : Type 0} (d : Ghosts D) (old new : Aro
 -- what comes of what is asked for, or of words that ask for nothing
 pub record Carries (asked : Option Asked) (status : Status) {D : Type 0} (d : Ghosts D) (old new : Around D) : Type 0 where
   pub usage : status ≡ Usage → is_built asked ≡ false
-  pub refused : is_built asked ≡ false → Refuses status old.failed new.failed old.ahead new.ahead old.input new.input old.output new.output
+  pub refused : is_built asked ≡ false → Refuses status (but_store old) (but_store new)
   pub comes : ComesOf asked status d old new
   pub untouched : is_stored asked ≡ false → new.disk ≡ old.disk
   pub used : d.in_use old.disk ≡ Some true → is_stored asked ≡ true → EndsUsed status d old.disk new.disk

@@ -5,20 +5,18 @@ use Rattle.ix_disk.specs.Moments.{Always}
 use Rattle.ix_disk.specs.declared.disk.Disk.{Ghosts}
 use Rattle.ix_state.specs.Configs.{IsChooser}
 use Rattle.ix_state.specs.Taken.{AreGiven}
-use Rattle.ix_model.specs.Given.{Chooser}
 use Rattle.ix_model.specs.declared.commands.TimedCommand.{TimedCommand}
 use Rattle.ix_replay.specs.Fits.{fits}
 use Rattle.ix_sessions.specs.Feeding.{Start, Turn, known}
-use Rattle.ix_store.specs.Written.{RecoversToPrefix}
-use Rattle.indexd_run.specs.Opened.{Begins, Passes}
+use Rattle.indexd_run.specs.Opened.{Past, past_of, StandsFor, Begins, Passes}
 
 -- The premise of a run, for which `FromStart` asks: every image of the disk stands for a first part
--- of one history of commands that may be given, with the first k of them at least, and for this run
--- or a later one; and the disk tells what it reads.
-pub record MayRun {D : Type 0} (d : Ghosts D) (choose : Chooser) (history : List TimedCommand) (run k : ℕ) (disk : D) : Type 0 where
-  pub chooser : IsChooser choose
-  pub given : AreGiven history
-  pub begins : Begins d fits choose history run k disk
+-- of one history of commands that may be given, with the first so many of them at least, and for
+-- this run or a later one; and the disk tells what it reads.
+pub record MayRun {D : Type 0} (d : Ghosts D) (past : Past) (disk : D) : Type 0 where
+  pub chooser : IsChooser past.choose
+  pub given : AreGiven past.history
+  pub begins : Begins d fits past disk
   pub image : Image
   pub tells : d.seen disk ≡ Some image
 
@@ -26,10 +24,10 @@ pub record MayRun {D : Type 0} (d : Ghosts D) (choose : Chooser) (history : List
 -- there, and for no earlier run. Mounted: so it does up to the mount, and from then on for one of
 -- what was mounted and accepted since, with all that was mounted, and for the number of this run or
 -- a later one.
-pub data Leaves {D : Type 0} (d : Ghosts D) (choose : Chooser) (history : List TimedCommand) (run k : ℕ) (before disk : D) : Type 0 where
-  unmounted : Always d before disk (RecoversToPrefix fits run choose history k) → Leaves d choose history run k before disk
-  mounted : (new_run count : ℕ) (now : List TimedCommand) → k ≤ count → AreGiven now →
-      Passes d fits choose history run k now new_run count before disk → Leaves d choose history run k before disk
+pub data Leaves {D : Type 0} (d : Ghosts D) (past : Past) (before disk : D) : Type 0 where
+  unmounted : Always d before disk (StandsFor fits past) → Leaves d past before disk
+  mounted : (new_run count : ℕ) (now : List TimedCommand) → past.least ≤ count → AreGiven now →
+      Passes d fits past now new_run count before disk → Leaves d past before disk
 
 -- all that a disk may leave was left by another at one of its moments between these two
 abbrev pub IsLeftOf : {D E : Type 0} → Ghosts D → D → D → Ghosts E → E → Type 0
@@ -38,22 +36,21 @@ IsLeftOf d old new e disk = (image : Image) → e.may_leave disk image → d.lef
 -- A stop of a run: all that the next disk may leave was left at moments up to the mount, or at
 -- moments from it on. So it is where the power was lost, where the process was killed, and where
 -- the run has ended.
-abbrev pub IsStopOf : {D E : Type 0} (d : Ghosts D) (choose : Chooser) (history : List TimedCommand) (run k : ℕ) (before disk : D) →
-    Leaves d choose history run k before disk → Ghosts E → E → Type 0
-IsStopOf d choose history run k before disk (unmounted stood) e later = IsLeftOf d before disk e later
-IsStopOf d choose history run k before disk (mounted new_run count now least given passes) e later =
+abbrev pub IsStopOf : {D E : Type 0} (d : Ghosts D) (past : Past) (before disk : D) → Leaves d past before disk → Ghosts E → E → Type 0
+IsStopOf d past before disk (unmounted stood) e later = IsLeftOf d before disk e later
+IsStopOf d past before disk (mounted new_run count now least given passes) e later =
     IsLeftOf d before passes.mounted e later ⊎ IsLeftOf d passes.mounted disk e later
 
 -- The next run may begin: over some history that begins with what was sure to be there before, and
 -- over no earlier run.
-pub record MayGoOn {E : Type 0} (e : Ghosts E) (choose : Chooser) (history : List TimedCommand) (run k : ℕ) (later : E) : Type 0 where
+pub record MayGoOn {E : Type 0} (e : Ghosts E) (past : Past) (later : E) : Type 0 where
   pub next : List TimedCommand
   pub n : ℕ
   pub least_run : ℕ
-  pub least : k ≤ n
-  pub no_earlier : run ≤ least_run
-  pub first : take k next ≡ take k history
-  pub may_run : MayRun e choose next least_run n later
+  pub least : past.least ≤ n
+  pub no_earlier : past.run ≤ least_run
+  pub first : take past.least next ≡ take past.least past.history
+  pub may_run : MayRun e (past_of past.choose next least_run n) later
 
 -- ---- what was known as committed
 
@@ -63,7 +60,7 @@ pub record MayGoOn {E : Type 0} (e : Ghosts E) (choose : Chooser) (history : Lis
 abbrev pub GoesOnBehindEach : {D E : Type 0} → Ghosts D → Ghosts E → Start D → List TimedCommand → D → E → List (Turn D) → Type 0
 GoesOnBehindEach d e s now disk later [] = Unit {0}
 GoesOnBehindEach d e s now disk later (turn ∷ earlier) =
-    (IsLeftOf d turn.disk disk e later → MayRun e s.choose now s.run (known s (turn ∷ earlier)) later)
+    (IsLeftOf d turn.disk disk e later → MayRun e (past_of s.choose now s.run (known s (turn ∷ earlier))) later)
     × GoesOnBehindEach d e s now disk later earlier
 
 -- So it is behind each of these turns; and where the run was stopped at its exit, the next one may
@@ -71,4 +68,4 @@ GoesOnBehindEach d e s now disk later (turn ∷ earlier) =
 pub record KeepsKnown {D E : Type 0} (d : Ghosts D) (e : Ghosts E) (s : Start D) (turns : List (Turn D)) (whole : Type 0)
     (now : List TimedCommand) (disk : D) (later : E) : Type 0 where
   pub behind_each : GoesOnBehindEach d e s now disk later turns
-  pub exit : whole → IsLeftOf d disk disk e later → MayRun e s.choose now s.run (length now) later
+  pub exit : whole → IsLeftOf d disk disk e later → MayRun e (past_of s.choose now s.run (length now)) later

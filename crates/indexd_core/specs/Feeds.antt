@@ -1,19 +1,17 @@
 -- Requests that are served one behind the other from the input: `feed`.
-use Rattle.std.specs.Prelude.{◌≡◌, ◌≤◌, ◌++◌, ℕ, List, [], codes, decimal, Option}
-use Rattle.ix_base.specs.Clocks.{Moments}
-use Rattle.ix_fs.specs.declared.trees.TreeFile.{TreeFile}
+use Rattle.std.specs.Prelude.{◌≡◌, ◌≤◌, ◌++◌, ℕ, List, [], codes, decimal}
 use Rattle.ix_disk.specs.declared.disk.Disk.{Ghosts}
-use Rattle.ix_model.specs.declared.commands.Config.{Config}
 use Rattle.ix_state.specs.Taken.{IsTaken}
 use Rattle.ix_replay.specs.Fits.{fits}
 use Rattle.ix_sessions.specs.Reading.{ReadsTo}
 use Rattle.indexd_serve.specs.Ends.{fed_of}
-use Rattle.indexd_serve.specs.Serving.{HasServed, Requests}
+use Rattle.indexd_serve.specs.Serving.{exchange, HasServed, Requests}
 use Rattle.indexd_serve.specs.Sides.{IsSound}
 use Rattle.indexd_serve.specs.declared.end.End.{End}
 use Rattle.indexd_serve.specs.declared.end.End.TheVariants as ends
-use Rattle.indexd_run.specs.Opened.{HasShut}
+use Rattle.indexd_run.specs.Opened.{Course, HasShut}
 use Rattle.indexd_run.specs.declared.stop.Stop.{Stop}
+use Rattle.indexd_core.specs.Around.{Around, course_of}
 use Rattle.indexd_core.specs.Locked.{IsLockedOut}
 use Rattle.indexd_core.specs.Sides.{Side}
 use Rattle.indexd_core.specs.Stored.{status_of, line_of, damaged_line, FromStart, Whole}
@@ -53,24 +51,18 @@ end_line ends.Output = status_text Output
 -- replies, where the output is at the middle, stands the line of the status. All replies were
 -- written, unless the output has failed. Which requests were read, and where the run ended by them,
 -- goes by the bytes of the input, whatever the disk holds.
-pub data FeedComes (status : Status) {D : Type 0} (d : Ghosts D) (config : Config) (ahead ahead' : Option Moments)
-    (input input' output output' : Side) (disk disk' : D) : Type 0 where
-  shut : (stop : Stop) → status ≡ status_of stop →
-      FromStart d disk (λ choose history run k. HasShut stop d IsTaken fits choose history run k config ahead ahead' disk disk') →
-      input' ≡ input → Said (line_of [] stop) output output' →
-      FeedComes status d config ahead ahead' input input' output output' disk disk'
+pub data FeedComes (status : Status) {D : Type 0} (d : Ghosts D) (run : Course D) (input input' output output' : Side) : Type 0 where
+  shut : (stop : Stop) → status ≡ status_of stop → FromStart d run.before (λ past. HasShut stop d IsTaken fits past run) →
+      input' ≡ input → Said (line_of [] stop) output output' → FeedComes status d run input input' output output'
   served : (end : End) (middle : Side) → status ≡ end_status end → output.faults ≤ middle.faults → middle.faults ≤ output'.faults →
       ReadsTo (fed_of end) input.told input'.told →
-      FromStart d disk (λ choose history run k.
-      HasServed d IsTaken fits choose history run k config ahead
-      (Requests d fits (fed_of end) (IsSound output.faults middle.faults) input.told input'.told ahead' output.told middle.told disk') disk
-      disk') →
-      Said (end_line end) middle output' →
-      FeedComes status d config ahead ahead' input input' output output' disk disk'
+      FromStart d run.before (λ past. HasServed d IsTaken fits past run
+      (Requests d fits (fed_of end) (IsSound output.faults middle.faults)
+      (exchange input.told input'.told output.told middle.told))) →
+      Said (end_line end) middle output' → FeedComes status d run input input' output output'
 
-abbrev pub Feeds : Status → Option (List TreeFile) → ℕ → ℕ → Option Moments → Option Moments → Side → Side → Side → Side → {D : Type 0} →
-    Ghosts D → D → D → Type 0
-Feeds status files failed failed' ahead ahead' input input' output output' d disk disk' =
-    Whole status files failed failed' ((ahead' ≡ ahead) × (input' ≡ input) × (disk' ≡ disk)) ((ahead' ≡ ahead) × (input' ≡ input)
-    × IsLockedOut status d disk disk')
-    (λ config. FeedComes status d config ahead ahead' input input' output output' disk disk') output output'
+abbrev pub Feeds : Status → {D : Type 0} → Ghosts D → Around D → Around D → Type 0
+Feeds status d from to =
+    Whole status from to ((to.ahead ≡ from.ahead) × (to.input ≡ from.input) × (to.disk ≡ from.disk))
+    ((to.ahead ≡ from.ahead) × (to.input ≡ from.input) × IsLockedOut status d from.disk to.disk)
+    (λ config. FeedComes status d (course_of config from to) from.input to.input from.output to.output)

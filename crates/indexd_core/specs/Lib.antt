@@ -1,5 +1,6 @@
 pub mod Commands
 pub mod Sides
+pub mod Around
 pub mod Texts
 pub mod Stops
 pub mod Steps

@@ -7,6 +7,7 @@ use Rattle.ix_fs.specs.declared.trees.TreeFile.{TreeFile}
 use Rattle.indexd_settings.specs.Faults.{HasFault}
 use Rattle.indexd_settings.specs.Texts.{fault_line}
 use Rattle.indexd_settings.specs.declared.faults.ConfigurationFault.{ConfigurationFault}
+use Rattle.indexd_core.specs.Around.{Outside}
 use Rattle.indexd_core.specs.Prepared.{Stated, IsPrepared, IsNotFound, not_found_line}
 use Rattle.indexd_core.specs.declared.prepare.PreparedPreview.{PreparedPreview}
 use Rattle.indexd_core.specs.Sides.{Side, IsAtEnd}
@@ -100,20 +101,17 @@ WroteUnprepared InUse stated files failed failed' output output' = ⊥
 
 -- A whole run: it stops before it is prepared, or it runs with the settings that the files have for
 -- what is stated.
-pub data Previews (status : Status) (stated : Stated) (files : Option (List TreeFile)) (failed failed' : ℕ)
-    (ahead ahead' : Option Moments) (input input' output output' : Side) : Type 0 where
-  unprepared : ahead' ≡ ahead → input' ≡ input → WroteUnprepared status stated files failed failed' output output' →
-      Previews status stated files failed failed' ahead ahead' input input' output output'
-  ran : (prepared : PreparedPreview) → IsPrepared stated files prepared →
-      RunsPrepared status prepared ahead ahead' input input' output output' →
-      Previews status stated files failed failed' ahead ahead' input input' output output'
+pub data Previews (status : Status) (stated : Stated) (from to : Outside) : Type 0 where
+  unprepared : to.ahead ≡ from.ahead → to.input ≡ from.input →
+      WroteUnprepared status stated from.files from.failed to.failed from.output to.output → Previews status stated from to
+  ran : (prepared : PreparedPreview) → IsPrepared stated from.files prepared →
+      RunsPrepared status prepared from.ahead to.ahead from.input to.input from.output to.output → Previews status stated from to
 
 -- The words were refused, or there was no room to read them: nothing was asked or read, and the
 -- line of the status was written.
-pub record Refuses (status : Status) (failed failed' : ℕ) (ahead ahead' : Option Moments) (input input' output output' : Side) : Type 0
-  where
-    pub status_is : (status ≡ Usage) ⊎ (status ≡ Memory)
-    pub tree_not_asked : failed' ≡ failed
-    pub not_asked : ahead' ≡ ahead
-    pub not_read : input' ≡ input
-    pub line : Said (status_text status) output output'
+pub record Refuses (status : Status) (from to : Outside) : Type 0 where
+  pub status_is : (status ≡ Usage) ⊎ (status ≡ Memory)
+  pub tree_not_asked : to.failed ≡ from.failed
+  pub not_asked : to.ahead ≡ from.ahead
+  pub not_read : to.input ≡ from.input
+  pub line : Said (status_text status) from.output to.output

@@ -11,4 +11,4 @@ pub record IsBlank {D : Type 0} (d : Ghosts D) (disk : D) : Type 0 where
 
 -- What is said of every run from here is said of some run: nonsense cannot be said of all.
 abbrev pub IsStart : {D : Type 0} → Ghosts D → D → Type 0
-IsStart d disk = FromStart d disk (λ choose history run k. ⊥) → ⊥
+IsStart d disk = FromStart d disk (λ past. ⊥) → ⊥

@@ -1,7 +1,6 @@
 -- Runs over a store: what each gives to it and writes, by the status with which it ends.
-use Rattle.std.specs.Prelude.{◌≡◌, ◌≤◌, ◌++◌, nat_lt, ℕ, Bool, true, false, List, length, Option, Some, None, Ok, Err, IfSome, codes}
+use Rattle.std.specs.Prelude.{◌≡◌, ◌≤◌, ◌++◌, nat_lt, ℕ, Bool, false, List, length, Option, Some, None, Ok, Err, IfSome, codes}
 use Rattle.std.specs.Prelude.{decimal}
-use Rattle.ix_base.specs.Clocks.{Moments}
 use Rattle.ix_base.specs.Faults.{Rose}
 use Rattle.ix_base.specs.declared.events.ChannelMeta.{ChannelMeta}
 use Rattle.ix_base.specs.declared.files.Area.{Area}
@@ -12,19 +11,19 @@ use Rattle.ix_disk.specs.declared.disk.Disk.{Ghosts}
 use Rattle.ix_state.specs.Taken.{IsTaken}
 use Rattle.ix_model.specs.Given.{Chooser}
 use Rattle.ix_model.specs.declared.commands.Config.{Config}
-use Rattle.ix_model.specs.declared.commands.TimedCommand.{TimedCommand}
 use Rattle.ix_replay.specs.Fits.{fits}
 use Rattle.indexd_settings.specs.Given.{IsConfigOf}
 use Rattle.indexd_settings.specs.Faults.{HasFault}
 use Rattle.indexd_settings.specs.Texts.{fault_line}
 use Rattle.indexd_settings.specs.declared.faults.ConfigurationFault.{ConfigurationFault}
-use Rattle.indexd_run.specs.Opened.{Doing, WhenOpen, HasRun, HasStopped}
+use Rattle.indexd_run.specs.Opened.{Past, Course, Doing, WhenOpen, HasRun, HasStopped}
 use Rattle.indexd_run.specs.Previews.{HasFed, HasTaken}
 use Rattle.indexd_run.specs.Tasks.{says, HasDone, HasHalted}
 use Rattle.indexd_run.specs.declared.stop.Stop.{Stop}
 use Rattle.indexd_run.specs.declared.stop.Stop.TheVariants as stops
 use Rattle.indexd_run.specs.declared.task.Task.{Task}
 use Rattle.indexd_run.specs.declared.task.Task.TheVariants as tasks
+use Rattle.indexd_core.specs.Around.{Around, course_of}
 use Rattle.indexd_core.specs.Chain.{MayRun}
 use Rattle.indexd_core.specs.Prepared.{Stated, index_or_default, not_found_line}
 use Rattle.indexd_core.specs.Locked.{IsLockedOut}
@@ -104,30 +103,32 @@ named_in tasks.Tick = codes ""
 -- ---- runs
 
 -- Whatever the images at the start stand for: some history of commands, of which each has the first
--- k at least, and some least run. A premise that nothing meets would make all that is said so
+-- so many at least, and some least run. A premise that nothing meets would make all that is said so
 -- empty: whoever adds one to `MayRun` shows in `indexd_premises` what meets it.
-abbrev pub FromStart : {D : Type 0} → Ghosts D → D → (Chooser → List TimedCommand → ℕ → ℕ → Type 0) → Type 0
-FromStart d disk comes = (choose : Chooser) (history : List TimedCommand) (run k : ℕ) → MayRun d choose history run k disk →
-    comes choose history run k
+abbrev pub FromStart : {D : Type 0} → Ghosts D → D → (Past → Type 0) → Type 0
+FromStart d disk comes = (past : Past) → MayRun d past disk → comes past
 
--- A run with these settings. Done: what was given and written is as `whole` says, and every image
--- at the exit has all commands. Stopped: the middle is what the output was before the line of the
--- stop; what was given and written is as `part` says, where nothing was given behind the settings
--- `untouched` holds, and `wrote` in any case; every image at the exit has all commands, or where
--- the disk is at fault those that were mounted. In neither case has any image lost what was there
--- at the start.
-pub data Comes (status : Status) {D : Type 0} (d : Ghosts D) (config : Config) (named : List ℕ) (ahead ahead' : Option Moments)
-    (whole : Chooser → Doing) (untouched : Side → Type 0) (part : Stop → Side → Chooser → Doing) (wrote : Stop → Side → Type 0)
-    (output' : Side) (disk disk' : D) : Type 0 where
-  done : status ≡ Done →
-      FromStart d disk (λ choose history run k. HasRun false d IsTaken fits choose history run k
-      (WhenOpen choose config ahead (whole choose)) disk disk') →
-      Comes status d config named ahead ahead' whole untouched part wrote output' disk disk'
-  stopped : (stop : Stop) (middle : Side) → status ≡ status_of stop →
-      FromStart d disk (λ choose history run k. HasStopped stop d IsTaken fits choose history run k config ahead ahead' (untouched middle)
-      (part stop middle choose) disk disk') →
-      wrote stop middle → Said (line_of named stop) middle output' →
-      Comes status d config named ahead ahead' whole untouched part wrote output' disk disk'
+-- What a run gives and writes, by how it ends. Done: it is as `whole` says. Stopped: the side is
+-- what the output was before the line of the stop; it is as `part` says, where nothing was given
+-- behind the settings `untouched` holds, and `wrote` in any case.
+pub record Outcomes : Type 1 where
+  pub whole : Chooser → Doing
+  pub untouched : Side → Type 0
+  pub part : Stop → Side → Chooser → Doing
+  pub wrote : Stop → Side → Type 0
+
+-- A run that comes to this, with the line of its status, where a command names this. Done: every
+-- image at the exit has all commands. Stopped: so it is, or where the disk is at fault every image
+-- has those that were mounted. In neither case has any image lost what was there at the start.
+pub data Comes (status : Status) {D : Type 0} (d : Ghosts D) (run : Course D) (named : List ℕ) (to : Outcomes) (output' : Side) : Type 0
+  where
+    done : status ≡ Done →
+        FromStart d run.before (λ past. HasRun false d IsTaken fits past
+        (WhenOpen past.choose run.config run.ahead (to.whole past.choose)) run.before run.disk) →
+        Comes status d run named to output'
+    stopped : (stop : Stop) (middle : Side) → status ≡ status_of stop →
+        FromStart d run.before (λ past. HasStopped stop d IsTaken fits past run (to.untouched middle) (to.part stop middle past.choose)) →
+        to.wrote stop middle → Said (line_of named stop) middle output' → Comes status d run named to output'
 
 -- Nothing was done but to read the settings: at `Configuration` the line of the first fault of the
 -- files was written. The two numbers are how often the tree had failed before and after.
@@ -152,28 +153,28 @@ WroteUnread InUse files failed failed' output output' = ⊥
 -- A whole run: it stops before the settings are read, where all is `still` but the tree; or once
 -- they are read it is not given the store, and the line of that was written; or it runs with those
 -- of the files.
-pub data Whole (status : Status) (files : Option (List TreeFile)) (failed failed' : ℕ) (still out : Type 0) (comes : Config →
-    Type 0) (output output' : Side) : Type 0 where
-  unread : still → WroteUnread status files failed failed' output output' → Whole status files failed failed' still out comes output output'
-  locked_out : (config : Config) → IsConfigOf files config → out → Said (status_text status) output output' →
-      Whole status files failed failed' still out comes output output'
-  ran : (config : Config) → IsConfigOf files config → comes config → Whole status files failed failed' still out comes output output'
+pub data Whole (status : Status) {D : Type 0} (from to : Around D) (still out : Type 0) (comes : Config → Type 0) : Type 0 where
+  unread : still → WroteUnread status from.files from.failed to.failed from.output to.output → Whole status from to still out comes
+  locked_out : (config : Config) → IsConfigOf from.files config → out → Said (status_text status) from.output to.output →
+      Whole status from to still out comes
+  ran : (config : Config) → IsConfigOf from.files config → comes config → Whole status from to still out comes
 
 -- ---- tasks
 
 -- A run of a task with these settings. One that stops has written nothing before its line but where
 -- `says` allows it.
-abbrev pub TaskComes : Status → {D : Type 0} → Ghosts D → Config → Task → Option Moments → Option Moments → Side → Side → D → D → Type 0
-TaskComes status d config task ahead ahead' output output' disk disk' =
-    Comes status d config (named_in task) ahead ahead' (λ choose. HasDone d choose task ahead' output.told output'.told disk')
-    (λ middle. middle.told ≡ output.told) (λ stop middle choose. HasHalted d choose task stop ahead' output.told middle.told disk')
-    (λ stop middle. says task stop ≡ false → middle.told ≡ output.told) output' disk disk'
+abbrev pub TaskComes : Status → {D : Type 0} → Ghosts D → Course D → Task → Side → Side → Type 0
+TaskComes status d run task output output' = Comes status d run (named_in task) (record {
+  whole = λ choose. HasDone d choose task run.ahead' output.told output'.told run.disk;
+  untouched = λ middle. middle.told ≡ output.told;
+  part = λ stop middle choose. HasHalted d choose task stop run.ahead' output.told middle.told run.disk;
+  wrote = λ stop middle. says task stop ≡ false → middle.told ≡ output.told;
+}) output'
 
-abbrev pub Tasked : Status → Task → Option (List TreeFile) → ℕ → ℕ → Option Moments → Option Moments → Side → Side → {D : Type 0} →
-    Ghosts D → D → D → Type 0
-Tasked status task files failed failed' ahead ahead' output output' d disk disk' =
-    Whole status files failed failed' ((ahead' ≡ ahead) × (disk' ≡ disk)) ((ahead' ≡ ahead) × IsLockedOut status d disk disk')
-    (λ config. TaskComes status d config task ahead ahead' output output' disk disk') output output'
+abbrev pub Tasked : Status → Task → {D : Type 0} → Ghosts D → Around D → Around D → Type 0
+Tasked status task d from to =
+    Whole status from to ((to.ahead ≡ from.ahead) × (to.disk ≡ from.disk)) ((to.ahead ≡ from.ahead) × IsLockedOut status d from.disk to.disk)
+    (λ config. TaskComes status d (course_of config from to) task from.output to.output)
 
 -- ---- an input that is stored
 
@@ -194,23 +195,23 @@ stated_meta stated = record { host = stated.host; source = stated.source; source
 
 -- A run that stores an input with these settings. One that stops writes nothing but its line, and
 -- says how much it has read.
-abbrev pub InputComes : Status → {D : Type 0} → Ghosts D → Config → Stated → Option Moments → Option Moments → Side → Side → Side → Side →
-    D → D → Type 0
-InputComes status d config stated ahead ahead' input input' output output' disk disk' =
-    Comes status d config (named_by (index_or_default stated.index config.limits) None) ahead ahead'
-    (λ choose. HasFed choose (stated_meta stated) (Ok tt) ahead' input.told input'.told)
-    (λ middle. input'.told ≡ input.told) (λ stop middle choose. HasFed choose (stated_meta stated) (Err stop) ahead' input.told input'.told)
-    (λ stop middle. (middle ≡ output) × HasTaken (Err stop) input.told input'.told) output' disk disk'
+abbrev pub InputComes : Status → {D : Type 0} → Ghosts D → Course D → Stated → Side → Side → Side → Side → Type 0
+InputComes status d run stated input input' output output' =
+    Comes status d run (named_by (index_or_default stated.index run.config.limits) None) (record {
+      whole = λ choose. HasFed choose (stated_meta stated) (Ok tt) run.ahead' input.told input'.told;
+      untouched = λ middle. input'.told ≡ input.told;
+      part = λ stop middle choose. HasFed choose (stated_meta stated) (Err stop) run.ahead' input.told input'.told;
+      wrote = λ stop middle. (middle ≡ output) × HasTaken (Err stop) input.told input'.told;
+    }) output'
 
 -- One that is done has read the input to its end, and has written nothing.
 pub record Silent (input input' output output' : Side) : Type 0 where
   pub taken : HasTaken (Ok tt) input.told input'.told
   pub same : output' ≡ output
 
-abbrev pub Stored : Status → Stated → Option (List TreeFile) → ℕ → ℕ → Option Moments → Option Moments → Side → Side → Side → Side →
-    {D : Type 0} → Ghosts D → D → D → Type 0
-Stored status stated files failed failed' ahead ahead' input input' output output' d disk disk' =
-    Whole status files failed failed' ((ahead' ≡ ahead) × (input' ≡ input) × (disk' ≡ disk)) ((ahead' ≡ ahead) × (input' ≡ input)
-    × IsLockedOut status d disk disk')
-    (λ config. InputComes status d config stated ahead ahead' input input' output output' disk disk'
-    × (status ≡ Done → Silent input input' output output')) output output'
+abbrev pub Stored : Status → Stated → {D : Type 0} → Ghosts D → Around D → Around D → Type 0
+Stored status stated d from to =
+    Whole status from to ((to.ahead ≡ from.ahead) × (to.input ≡ from.input) × (to.disk ≡ from.disk))
+    ((to.ahead ≡ from.ahead) × (to.input ≡ from.input) × IsLockedOut status d from.disk to.disk)
+    (λ config. InputComes status d (course_of config from to) stated from.input to.input from.output to.output
+    × (status ≡ Done → Silent from.input to.input from.output to.output))

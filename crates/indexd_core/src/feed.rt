@@ -1,7 +1,7 @@
 //! The command `feed`: requests are served from the input to the output, and the line of the status
 //! is written behind the replies. `top` calls `feed`.
 
-ghost use Rattle.std.specs.Prelude.{◌≡◌, ◌≤◌, ◌⊎◌, true, Some};
+ghost use Rattle.std.specs.Prelude.{◌≡◌, ◌≤◌, ◌⊎◌, ℕ, true, Some};
 ghost use Rattle.ix_base.specs.Faults.{Rose};
 ghost use Rattle.ix_state.specs.Configs.{IsConfig};
 ghost use Rattle.ix_serve.specs.Serving.{IsTold};
@@ -13,6 +13,9 @@ ghost use Rattle.indexd_core.specs.Shortened.{LeavesShort};
 ghost use Rattle.indexd_core.specs.Sides.{side};
 ghost use Rattle.indexd_core.specs.Stored.{FromStart};
 ghost use Rattle.indexd_core.specs.Texts.{Said};
+ghost use Rattle.indexd_core.specs.Around.{around};
+ghost use Rattle.indexd_run.specs.Opened.{course};
+ghost use Rattle.ix_sessions.specs.Connections.{Listened};
 
 use crate::ends::{Named, say_damaged, say_stop};
 use crate::lock::{lock_out, say_locked_out};
@@ -93,9 +96,9 @@ fn feed_with<S: Source, W: Sink, C: Clock, D: Disk>(
     disk: &mut D,
 ) -> Status
     requires { IsConfig config }
-    ensures comes { FeedComes result D.Disk config (C.ahead clock.old) (C.ahead clock.new)
+    ensures comes { FeedComes result D.Disk (course config (C.ahead clock.old) (C.ahead clock.new) disk.old disk.new)
         (side (S.faults input.old) (S.left input.old)) (side (S.faults input.new) (S.left input.new))
-        (side (W.faults output.old) (W.given output.old)) (side (W.faults output.new) (W.given output.new)) disk.old disk.new }
+        (side (W.faults output.old) (W.given output.old)) (side (W.faults output.new) (W.given output.new)) }
     ensures short { LeavesShort result D.Disk disk.old disk.new }
     ensures output { result ≡ Status.Output → Rose (W.faults output.old) (W.faults output.new) }
     ensures input { result ≡ Status.Input → Rose (S.faults input.old) (S.faults input.new) }
@@ -104,7 +107,7 @@ fn feed_with<S: Source, W: Sink, C: Clock, D: Disk>(
     ensures told { IsTold D.Disk disk.old → IsTold D.Disk disk.new }
     ensures disk_later { D.Disk.faults disk.old ≤ D.Disk.faults disk.new }
     ensures disk { result ≡ Status.DiskFault → Rose (D.Disk.faults disk.old) (D.Disk.faults disk.new) }
-    ensures undamaged { result ≡ Status.Damaged → FromStart D.Disk disk.old (λ choose history run k. ⊥) }
+    ensures undamaged { result ≡ Status.Damaged → FromStart D.Disk disk.old (λ past. ⊥) }
     ensures blamed { result ≡ Status.Damaged → NamesDamage D.Disk disk.old disk.new
         (side (W.faults output.old) (W.given output.old)) (side (W.faults output.new) (W.given output.new)) }
     ensures full { result ≡ Status.Full → IsFilled D.Disk disk.old }
@@ -128,9 +131,11 @@ pub fn feed<S: Source, W: Sink, C: Clock, T: Tree, D: Disk>(
     tree: &mut T,
     disk: &mut D,
 ) -> Status
-    ensures feeds { Feeds result (T.files tree.old) (T.faults tree.old) (T.faults tree.new) (C.ahead clock.old) (C.ahead clock.new)
-        (side (S.faults input.old) (S.left input.old)) (side (S.faults input.new) (S.left input.new))
-        (side (W.faults output.old) (W.given output.old)) (side (W.faults output.new) (W.given output.new)) D.Disk disk.old disk.new }
+    ensures feeds { (heard : Listened) (deaf out : ℕ) → Feeds result D.Disk
+        (around (T.files tree.old) (T.faults tree.old) (T.missing tree.old) (C.ahead clock.old)
+        (side (S.faults input.old) (S.left input.old)) (side (W.faults output.old) (W.given output.old)) heard deaf out disk.old)
+        (around (T.files tree.new) (T.faults tree.new) (T.missing tree.new) (C.ahead clock.new)
+        (side (S.faults input.new) (S.left input.new)) (side (W.faults output.new) (W.given output.new)) heard deaf out disk.new) }
     ensures short { LeavesShort result D.Disk disk.old disk.new }
     ensures output { result ≡ Status.Output → Rose (W.faults output.old) (W.faults output.new) }
     ensures input { result ≡ Status.Input → Rose (S.faults input.old) (S.faults input.new) ⊎ Rose (T.faults tree.old) (T.faults tree.new) }
@@ -140,7 +145,7 @@ pub fn feed<S: Source, W: Sink, C: Clock, T: Tree, D: Disk>(
     ensures disk_later { D.Disk.faults disk.old ≤ D.Disk.faults disk.new }
     ensures disk { result ≡ Status.DiskFault → Rose (D.Disk.faults disk.old) (D.Disk.faults disk.new) }
     // A disk that keeps what was committed, and tells what it reads, is never damaged.
-    ensures undamaged { result ≡ Status.Damaged → FromStart D.Disk disk.old (λ choose history run k. ⊥) }
+    ensures undamaged { result ≡ Status.Damaged → FromStart D.Disk disk.old (λ past. ⊥) }
     ensures blamed { result ≡ Status.Damaged → NamesDamage D.Disk disk.old disk.new
         (side (W.faults output.old) (W.given output.old)) (side (W.faults output.new) (W.given output.new)) }
     ensures full { result ≡ Status.Full → IsFilled D.Disk disk.old }

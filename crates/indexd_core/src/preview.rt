@@ -12,6 +12,7 @@ ghost use Rattle.indexd_core.specs.declared.prepare.PreparedPreview.{PreparedPre
 ghost use Rattle.indexd_core.specs.Sides.{side, IsAtEnd};
 ghost use Rattle.indexd_core.specs.Texts.{lines_of};
 ghost use Rattle.indexd_core.specs.Runs.{Runs, RunsPrepared, Previews, text_of};
+ghost use Rattle.indexd_core.specs.Around.{outside_of};
 
 use crate::events::EventWriter;
 use crate::prepare::{PreparedPreview, prepare, say_stop};
@@ -263,10 +264,9 @@ pub fn run_preview<S: Source, W: Sink, C: Clock, T: Tree>(
     clock: &mut C,
     tree: &mut T,
 ) -> Status
-    ensures previews { Previews result (stated_of origin.entry) (T.files tree.old) (T.faults tree.old) (T.faults tree.new)
-        (C.ahead clock.old) (C.ahead clock.new)
-        (side (S.faults input.old) (S.left input.old)) (side (S.faults input.new) (S.left input.new))
-        (side (W.faults output.old) (W.given output.old)) (side (W.faults output.new) (W.given output.new)) }
+    ensures previews { Previews result (stated_of origin.entry)
+        (outside_of S.Source W.Sink C.Clock T.Tree input.old output.old clock.old tree.old)
+        (outside_of S.Source W.Sink C.Clock T.Tree input.new output.new clock.new tree.new) }
     ensures same { T.files tree.new ≡ T.files tree.old }
     ensures read_later { S.faults input.old ≤ S.faults input.new }
     ensures written_later { W.faults output.old ≤ W.faults output.new }

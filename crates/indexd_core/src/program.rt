@@ -9,7 +9,8 @@ ghost use Rattle.indexd_cli.specs.Orders.{asked};
 ghost use Rattle.indexd_cli.specs.Shown.{shown};
 ghost use Rattle.indexd_core.specs.Blamed.{NamesDamage, IsFilled};
 ghost use Rattle.indexd_core.specs.Btool.{Tells};
-ghost use Rattle.indexd_core.specs.Carried.{Carries, around};
+ghost use Rattle.indexd_core.specs.Around.{around, around_of, outside_of};
+ghost use Rattle.indexd_core.specs.Carried.{Carries};
 ghost use Rattle.indexd_core.specs.Commands.{asked_for, is_command, is_stored, is_task, is_heard, AskPreview, AskBtool, AskTask, AskStore};
 ghost use Rattle.indexd_core.specs.Commands.{AskFeed, AskServe};
 ghost use Rattle.indexd_core.specs.Feeds.{Feeds};
@@ -80,12 +81,8 @@ fn carry_out<S: Source, W: Sink, C: Clock, T: Tree, D: Disk, L: Listener>(
 ) -> Status
     requires { (words : List (List ℕ)) × (asked words ≡ Some (shown order)) }
     ensures carried { Carries (Some (shown order.entry)) result D.Disk
-        (around (T.files tree.old) (T.faults tree.old) (T.missing tree.old) (C.ahead clock.old)
-        (side (S.faults input.old) (S.left input.old)) (side (W.faults output.old) (W.given output.old))
-        (listened (L.waiting listener.old) (L.handed listener.old)) (L.faults listener.old) (L.out listener.old) disk.old)
-        (around (T.files tree.new) (T.faults tree.new) (T.missing tree.new) (C.ahead clock.new)
-        (side (S.faults input.new) (S.left input.new)) (side (W.faults output.new) (W.given output.new))
-        (listened (L.waiting listener.new) (L.handed listener.new)) (L.faults listener.new) (L.out listener.new) disk.new) }
+        (around_of S.Source W.Sink C.Clock T.Tree L.Listener input.old output.old clock.old tree.old listener.old disk.old)
+        (around_of S.Source W.Sink C.Clock T.Tree L.Listener input.new output.new clock.new tree.new listener.new disk.new) }
     ensures unheard { is_heard (Some (shown order.entry)) ≡ false → listener.new ≡ listener.old }
 {
     match order {
@@ -141,12 +138,8 @@ fn answer<S: Source, W: Sink, C: Clock, T: Tree, D: Disk, L: Listener>(
     listener: &mut L,
 ) -> Status
     ensures carried { Carries (asked words.now) result D.Disk
-        (around (T.files tree.old) (T.faults tree.old) (T.missing tree.old) (C.ahead clock.old)
-        (side (S.faults input.old) (S.left input.old)) (side (W.faults output.old) (W.given output.old))
-        (listened (L.waiting listener.old) (L.handed listener.old)) (L.faults listener.old) (L.out listener.old) disk.old)
-        (around (T.files tree.new) (T.faults tree.new) (T.missing tree.new) (C.ahead clock.new)
-        (side (S.faults input.new) (S.left input.new)) (side (W.faults output.new) (W.given output.new))
-        (listened (L.waiting listener.new) (L.handed listener.new)) (L.faults listener.new) (L.out listener.new) disk.new) }
+        (around_of S.Source W.Sink C.Clock T.Tree L.Listener input.old output.old clock.old tree.old listener.old disk.old)
+        (around_of S.Source W.Sink C.Clock T.Tree L.Listener input.new output.new clock.new tree.new listener.new disk.new) }
     ensures unheard { is_heard (asked words.now) ≡ false → listener.new ≡ listener.old }
 {
     let Ok(lent) = lend_words(alloc, words) else {
@@ -209,12 +202,13 @@ fn answer<S: Source, W: Sink, C: Clock, T: Tree, D: Disk, L: Listener>(
 /// it ends, `Endless` only where `preview` took 2^40 bytes or `feed` served 2^32 requests, and
 /// `Memory` where there was no room. The line of `Damaged` names a file and a place where a log was
 /// bad as the disk read at the start, or, behind a mount, where a file ends or no record of a bucket
-/// stands, as the disk reads at the exit; and `Full` comes only where the store has had its last run,
-/// or behind a mount. Of a disk that stands for a history it is said too that `NotFound` comes where
-/// INDEX is not configured, or the bucket is not in the archive, `TooManyChannels` where 256 channels
-/// are open, and `Full` where the store would pass its bounds or has had its last run; and `Damaged`
-/// never comes where each image stands for such a history. The line of the status stands behind the
-/// output.
+/// stands, as the disk reads at the exit; or, also behind a mount, it names `meta/1 at 0` where what
+/// the store has in memory contradicts itself. `Full` comes only where the store has had its last
+/// run, or behind a mount. Of a disk that stands for a history it is said too that `NotFound` comes
+/// where INDEX is not configured, or the bucket is not in the archive, `TooManyChannels` where 256
+/// channels are open, and `Full` where the store would pass its bounds or has had its last run; and
+/// `Damaged` never comes where each image stands for such a history. The line of the status stands
+/// behind the output.
 pub fn top<S: Source, W: Sink, C: Clock, T: Tree, D: Disk, L: Listener>(
     alloc: Global,
     words: &[Text],
@@ -228,19 +222,17 @@ pub fn top<S: Source, W: Sink, C: Clock, T: Tree, D: Disk, L: Listener>(
     // Words that are no command are refused. Then nothing is asked or read, and nothing but the
     // line is written.
     ensures usage { result ≡ Status.Usage → is_command words.now ≡ false }
-    ensures refused { is_command words.now ≡ false → Refuses result (T.faults tree.old) (T.faults tree.new) (C.ahead clock.old)
-        (C.ahead clock.new)
-        (side (S.faults input.old) (S.left input.old)) (side (S.faults input.new) (S.left input.new))
-        (side (W.faults output.old) (W.given output.old)) (side (W.faults output.new) (W.given output.new)) }
+    ensures refused { is_command words.now ≡ false → Refuses result
+        (outside_of S.Source W.Sink C.Clock T.Tree input.old output.old clock.old tree.old)
+        (outside_of S.Source W.Sink C.Clock T.Tree input.new output.new clock.new tree.new) }
 
     // At 0 the output is the lines of all events of the whole input, merged, dated and changed by
     // the settings chosen for it; exactly where the files have a fault the status is
     // `Configuration` and the output the line of the first one; at any other status it is known as
     // well.
-    ensures preview { (stated : Stated) → AskPreview words.now stated →
-        Previews result stated (T.files tree.old) (T.faults tree.old) (T.faults tree.new) (C.ahead clock.old) (C.ahead clock.new)
-        (side (S.faults input.old) (S.left input.old)) (side (S.faults input.new) (S.left input.new))
-        (side (W.faults output.old) (W.given output.old)) (side (W.faults output.new) (W.given output.new)) }
+    ensures preview { (stated : Stated) → AskPreview words.now stated → Previews result stated
+        (outside_of S.Source W.Sink C.Clock T.Tree input.old output.old clock.old tree.old)
+        (outside_of S.Source W.Sink C.Clock T.Tree input.new output.new clock.new tree.new) }
 
     // At 0 the output is the listing of the file, and exactly where one of its layers has a fault
     // the status is `Configuration` and the output the line of the first one.
@@ -252,16 +244,15 @@ pub fn top<S: Source, W: Sink, C: Clock, T: Tree, D: Disk, L: Listener>(
     // files in force, its text was written, and every image at the exit has all commands. At any
     // other status no image has lost what was mounted, and the status has its cause and its line.
     // What was given may be given again, so that a further run may begin.
-    ensures task { is_task (asked words.now) ≡ true → (task : Task) × AskTask words.now task ×
-        Tasked result task (T.files tree.old) (T.faults tree.old) (T.faults tree.new) (C.ahead clock.old) (C.ahead clock.new)
-        (side (W.faults output.old) (W.given output.old)) (side (W.faults output.new) (W.given output.new)) D.Disk disk.old disk.new }
+    ensures task { is_task (asked words.now) ≡ true → (task : Task) × AskTask words.now task × Tasked result task D.Disk
+        (around_of S.Source W.Sink C.Clock T.Tree L.Listener input.old output.old clock.old tree.old listener.old disk.old)
+        (around_of S.Source W.Sink C.Clock T.Tree L.Listener input.new output.new clock.new tree.new listener.new disk.new) }
 
     // An input that is stored: at 0 all of it was given to the store as the stream of a channel,
     // and every image at the exit has it.
-    ensures stored { (stated : Stated) → AskStore words.now stated →
-        Stored result stated (T.files tree.old) (T.faults tree.old) (T.faults tree.new) (C.ahead clock.old) (C.ahead clock.new)
-        (side (S.faults input.old) (S.left input.old)) (side (S.faults input.new) (S.left input.new))
-        (side (W.faults output.old) (W.given output.old)) (side (W.faults output.new) (W.given output.new)) D.Disk disk.old disk.new }
+    ensures stored { (stated : Stated) → AskStore words.now stated → Stored result stated D.Disk
+        (around_of S.Source W.Sink C.Clock T.Tree L.Listener input.old output.old clock.old tree.old listener.old disk.old)
+        (around_of S.Source W.Sink C.Clock T.Tree L.Listener input.new output.new clock.new tree.new listener.new disk.new) }
 
     // Requests of the input: they were served one behind the other, over what the store had, in a
     // run with a new number, up to where the run ended. Where that was goes by the bytes of the
@@ -270,20 +261,18 @@ pub fn top<S: Source, W: Sink, C: Clock, T: Tree, D: Disk, L: Listener>(
     // or input, output or disk fails. The replies stand in the output, and then the line of the
     // status. What a reply tells as stored is in every image from then on; at every end but a fault
     // of the disk each image has all commands that were accepted.
-    ensures fed { AskFeed words.now →
-        Feeds result (T.files tree.old) (T.faults tree.old) (T.faults tree.new) (C.ahead clock.old) (C.ahead clock.new)
-        (side (S.faults input.old) (S.left input.old)) (side (S.faults input.new) (S.left input.new))
-        (side (W.faults output.old) (W.given output.old)) (side (W.faults output.new) (W.given output.new)) D.Disk disk.old disk.new }
+    ensures fed { AskFeed words.now → Feeds result D.Disk
+        (around_of S.Source W.Sink C.Clock T.Tree L.Listener input.old output.old clock.old tree.old listener.old disk.old)
+        (around_of S.Source W.Sink C.Clock T.Tree L.Listener input.new output.new clock.new tree.new listener.new disk.new) }
 
     // Connections of the listener: so many were served, one request each, over what the store had,
     // in a run with a new number, and at 0 the output tells how many. How many were taken, and that
     // each was handed back, holds whatever the disk holds. On each stands the reply to what it
     // held. What a reply tells as stored is in every image from then on; at every end but a fault
     // of the disk each image has all commands that were accepted.
-    ensures served { (port requests : ℕ) → AskServe words.now port requests →
-        Serves result requests (T.files tree.old) (T.faults tree.old) (T.faults tree.new) (C.ahead clock.old) (C.ahead clock.new)
-        (listened (L.waiting listener.old) (L.handed listener.old)) (listened (L.waiting listener.new) (L.handed listener.new))
-        (side (W.faults output.old) (W.given output.old)) (side (W.faults output.new) (W.given output.new)) D.Disk disk.old disk.new }
+    ensures served { (port requests : ℕ) → AskServe words.now port requests → Serves result requests D.Disk
+        (around_of S.Source W.Sink C.Clock T.Tree L.Listener input.old output.old clock.old tree.old listener.old disk.old)
+        (around_of S.Source W.Sink C.Clock T.Tree L.Listener input.new output.new clock.new tree.new listener.new disk.new) }
 
     // `InUse` comes only where another program has the store, which the disk has refused to this
     // one: then nothing of it was changed, and by the clauses above the clock was not asked, the
@@ -318,11 +307,12 @@ pub fn top<S: Source, W: Sink, C: Clock, T: Tree, D: Disk, L: Listener>(
     ensures listener { result ≡ Status.ListenerFault → Rose (L.faults listener.old) (L.faults listener.new) }
     // A disk that tells what it reads, and whose images at the start stand for some history, is
     // never damaged.
-    ensures undamaged { result ≡ Status.Damaged → FromStart D.Disk disk.old (λ choose history run k. ⊥) }
+    ensures undamaged { result ≡ Status.Damaged → FromStart D.Disk disk.old (λ past. ⊥) }
     // Whatever the disk held: the line of `Damaged` names a file and a place where, as the disk read
     // at the start, a log was damaged, and nothing was mounted; or where, as it reads at the exit,
-    // the file ends or no record of a bucket stands, once a store was mounted. And `Full` comes only
-    // where, as the disk read, the store has had its last run; or from one that was mounted.
+    // the file ends or no record of a bucket stands, once a store was mounted; or `meta/1 at 0`,
+    // where what a mounted store has in memory contradicts itself. And `Full` comes only where, as
+    // the disk read, the store has had its last run; or from one that was mounted.
     ensures blamed { result ≡ Status.Damaged → NamesDamage D.Disk disk.old disk.new
         (side (W.faults output.old) (W.given output.old)) (side (W.faults output.new) (W.given output.new)) }
     ensures full { result ≡ Status.Full → IsFilled D.Disk disk.old }

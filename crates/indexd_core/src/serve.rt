@@ -12,9 +12,11 @@ ghost use Rattle.ix_sessions.specs.Connections.{listened};
 ghost use Rattle.indexd_core.specs.Serves.{EndsServing, ServeComes, Serves};
 ghost use Rattle.indexd_core.specs.Locked.{HasRefused, EndsUsed};
 ghost use Rattle.indexd_core.specs.Shortened.{LeavesShort};
-ghost use Rattle.indexd_core.specs.Sides.{side};
+ghost use Rattle.indexd_core.specs.Sides.{side, Side};
 ghost use Rattle.indexd_core.specs.Stored.{FromStart};
 ghost use Rattle.indexd_core.specs.Texts.{Said, status_text};
+ghost use Rattle.indexd_core.specs.Around.{around};
+ghost use Rattle.indexd_run.specs.Opened.{course};
 
 use crate::ends::{Named, say_damaged, say_stop};
 use crate::lock::{lock_out, say_locked_out};
@@ -108,9 +110,9 @@ fn serve_with<W: Sink, C: Clock, D: Disk, L: Listener>(
     listener: &mut L,
 ) -> Status
     requires { IsConfig config }
-    ensures comes { ServeComes result D.Disk config serving.requests (C.ahead clock.old) (C.ahead clock.new)
+    ensures comes { ServeComes result D.Disk (course config (C.ahead clock.old) (C.ahead clock.new) disk.old disk.new) serving.requests
         (listened (L.waiting listener.old) (L.handed listener.old)) (listened (L.waiting listener.new) (L.handed listener.new))
-        (side (W.faults output.old) (W.given output.old)) (side (W.faults output.new) (W.given output.new)) disk.old disk.new }
+        (side (W.faults output.old) (W.given output.old)) (side (W.faults output.new) (W.given output.new)) }
     ensures short { LeavesShort result D.Disk disk.old disk.new }
     ensures output { result ≡ Status.Output → Rose (W.faults output.old) (W.faults output.new) }
     ensures written_later { W.faults output.old ≤ W.faults output.new }
@@ -120,7 +122,7 @@ fn serve_with<W: Sink, C: Clock, D: Disk, L: Listener>(
     ensures disk { result ≡ Status.DiskFault → Rose (D.Disk.faults disk.old) (D.Disk.faults disk.new) }
     ensures listener { result ≡ Status.ListenerFault → Rose (L.faults listener.old) (L.faults listener.new) }
     ensures out { L.out listener.new ≡ L.out listener.old }
-    ensures undamaged { result ≡ Status.Damaged → FromStart D.Disk disk.old (λ choose history run k. ⊥) }
+    ensures undamaged { result ≡ Status.Damaged → FromStart D.Disk disk.old (λ past. ⊥) }
     ensures blamed { result ≡ Status.Damaged → NamesDamage D.Disk disk.old disk.new
         (side (W.faults output.old) (W.given output.old)) (side (W.faults output.new) (W.given output.new)) }
     ensures full { result ≡ Status.Full → IsFilled D.Disk disk.old }
@@ -164,10 +166,13 @@ pub fn serve<W: Sink, C: Clock, T: Tree, D: Disk, L: Listener>(
     disk: &mut D,
     listener: &mut L,
 ) -> Status
-    ensures serves { Serves result serving.requests (T.files tree.old) (T.faults tree.old) (T.faults tree.new) (C.ahead clock.old)
-        (C.ahead clock.new)
-        (listened (L.waiting listener.old) (L.handed listener.old)) (listened (L.waiting listener.new) (L.handed listener.new))
-        (side (W.faults output.old) (W.given output.old)) (side (W.faults output.new) (W.given output.new)) D.Disk disk.old disk.new }
+    ensures serves { (input : Side) → Serves result serving.requests D.Disk
+        (around (T.files tree.old) (T.faults tree.old) (T.missing tree.old) (C.ahead clock.old) input
+        (side (W.faults output.old) (W.given output.old)) (listened (L.waiting listener.old) (L.handed listener.old))
+        (L.faults listener.old) (L.out listener.old) disk.old)
+        (around (T.files tree.new) (T.faults tree.new) (T.missing tree.new) (C.ahead clock.new) input
+        (side (W.faults output.new) (W.given output.new)) (listened (L.waiting listener.new) (L.handed listener.new))
+        (L.faults listener.new) (L.out listener.new) disk.new) }
     ensures short { LeavesShort result D.Disk disk.old disk.new }
     ensures output { result ≡ Status.Output → Rose (W.faults output.old) (W.faults output.new) }
     ensures input { result ≡ Status.Input → Rose (T.faults tree.old) (T.faults tree.new) }
@@ -179,7 +184,7 @@ pub fn serve<W: Sink, C: Clock, T: Tree, D: Disk, L: Listener>(
     ensures listener { result ≡ Status.ListenerFault → Rose (L.faults listener.old) (L.faults listener.new) }
     ensures out { L.out listener.new ≡ L.out listener.old }
     // A disk that keeps what was committed, and tells what it reads, is never damaged.
-    ensures undamaged { result ≡ Status.Damaged → FromStart D.Disk disk.old (λ choose history run k. ⊥) }
+    ensures undamaged { result ≡ Status.Damaged → FromStart D.Disk disk.old (λ past. ⊥) }
     ensures blamed { result ≡ Status.Damaged → NamesDamage D.Disk disk.old disk.new
         (side (W.faults output.old) (W.given output.old)) (side (W.faults output.new) (W.given output.new)) }
     ensures full { result ≡ Status.Full → IsFilled D.Disk disk.old }

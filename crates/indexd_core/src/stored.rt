@@ -10,7 +10,7 @@ ghost use Rattle.ix_replay.specs.Fits.{fits};
 ghost use Rattle.ix_serve.specs.Serving.{IsTold};
 ghost use Rattle.ix_recovery.specs.Recalled.{GivesNone};
 ghost use Rattle.indexd_run.specs.Blamed.{Blames};
-ghost use Rattle.indexd_run.specs.Opened.{HasRun, HasStopped, WhenOpen};
+ghost use Rattle.indexd_run.specs.Opened.{HasRun, HasStopped, WhenOpen, course};
 ghost use Rattle.indexd_run.specs.Previews.{HasFed, HasTaken};
 ghost use Rattle.indexd_run.specs.Shortened.{EndsShort, StopsShort};
 ghost use Rattle.indexd_run.specs.Stops.{is_output, is_input};
@@ -19,9 +19,11 @@ ghost use Rattle.indexd_core.specs.Locked.{HasRefused, EndsUsed};
 ghost use Rattle.indexd_core.specs.Origins.{stated_of};
 ghost use Rattle.indexd_core.specs.Prepared.{index_or_default};
 ghost use Rattle.indexd_core.specs.Shortened.{LeavesShort};
-ghost use Rattle.indexd_core.specs.Sides.{side};
+ghost use Rattle.indexd_core.specs.Sides.{side, Side};
 ghost use Rattle.indexd_core.specs.Stored as defs;
 ghost use Rattle.indexd_core.specs.Stored.{AreShort, FromStart, InputComes, Silent, Stored, TaskComes, Tasked};
+ghost use Rattle.indexd_core.specs.Around.{around};
+ghost use Rattle.ix_sessions.specs.Connections.{Listened};
 
 use crate::ends::{Named, say_stop};
 use crate::lock::{lock_out, say_locked_out};
@@ -59,8 +61,8 @@ fn run_with<W: Sink, C: Clock, D: Disk>(
     disk: &mut D,
 ) -> Status
     requires { IsConfig config }
-    ensures comes { TaskComes result D.Disk config task.entry (C.ahead clock.old) (C.ahead clock.new)
-        (side (W.faults output.old) (W.given output.old)) (side (W.faults output.new) (W.given output.new)) disk.old disk.new }
+    ensures comes { TaskComes result D.Disk (course config (C.ahead clock.old) (C.ahead clock.new) disk.old disk.new) task.entry
+        (side (W.faults output.old) (W.given output.old)) (side (W.faults output.new) (W.given output.new)) }
     ensures short { LeavesShort result D.Disk disk.old disk.new }
     ensures output { result ≡ Status.Output → Rose (W.faults output.old) (W.faults output.new) }
     ensures input { result ≡ Status.Input → ⊥ }
@@ -68,7 +70,7 @@ fn run_with<W: Sink, C: Clock, D: Disk>(
     ensures told { IsTold D.Disk disk.old → IsTold D.Disk disk.new }
     ensures disk_later { D.Disk.faults disk.old ≤ D.Disk.faults disk.new }
     ensures disk { result ≡ Status.DiskFault → Rose (D.Disk.faults disk.old) (D.Disk.faults disk.new) }
-    ensures undamaged { result ≡ Status.Damaged → FromStart D.Disk disk.old (λ choose history run k. ⊥) }
+    ensures undamaged { result ≡ Status.Damaged → FromStart D.Disk disk.old (λ past. ⊥) }
     ensures blamed { result ≡ Status.Damaged → NamesDamage D.Disk disk.old disk.new
         (side (W.faults output.old) (W.given output.old)) (side (W.faults output.new) (W.given output.new)) }
     ensures full { result ≡ Status.Full → IsFilled D.Disk disk.old }
@@ -92,9 +94,11 @@ pub fn run_stored<W: Sink, C: Clock, T: Tree, D: Disk>(
     tree: &mut T,
     disk: &mut D,
 ) -> Status
-    ensures tasked { Tasked result task.entry (T.files tree.old) (T.faults tree.old) (T.faults tree.new) (C.ahead clock.old)
-        (C.ahead clock.new)
-        (side (W.faults output.old) (W.given output.old)) (side (W.faults output.new) (W.given output.new)) D.Disk disk.old disk.new }
+    ensures tasked { (input : Side) (heard : Listened) (deaf out : ℕ) → Tasked result task.entry D.Disk
+        (around (T.files tree.old) (T.faults tree.old) (T.missing tree.old) (C.ahead clock.old)
+        input (side (W.faults output.old) (W.given output.old)) heard deaf out disk.old)
+        (around (T.files tree.new) (T.faults tree.new) (T.missing tree.new) (C.ahead clock.new)
+        input (side (W.faults output.new) (W.given output.new)) heard deaf out disk.new) }
     ensures short { LeavesShort result D.Disk disk.old disk.new }
     ensures output { result ≡ Status.Output → Rose (W.faults output.old) (W.faults output.new) }
     ensures input { result ≡ Status.Input → Rose (T.faults tree.old) (T.faults tree.new) }
@@ -103,7 +107,7 @@ pub fn run_stored<W: Sink, C: Clock, T: Tree, D: Disk>(
     ensures disk_later { D.Disk.faults disk.old ≤ D.Disk.faults disk.new }
     ensures disk { result ≡ Status.DiskFault → Rose (D.Disk.faults disk.old) (D.Disk.faults disk.new) }
     // A disk that keeps what was committed, and tells what it reads, is never damaged.
-    ensures undamaged { result ≡ Status.Damaged → FromStart D.Disk disk.old (λ choose history run k. ⊥) }
+    ensures undamaged { result ≡ Status.Damaged → FromStart D.Disk disk.old (λ past. ⊥) }
     ensures blamed { result ≡ Status.Damaged → NamesDamage D.Disk disk.old disk.new
         (side (W.faults output.old) (W.given output.old)) (side (W.faults output.new) (W.given output.new)) }
     ensures full { result ≡ Status.Full → IsFilled D.Disk disk.old }
@@ -150,14 +154,13 @@ fn miss<C: Clock, D: Disk>(
     requires settings { IsConfig config }
     requires long { defs.is_long origin.now.index ≡ true }
     ensures stopped { (left : Option (List ℕ)) → FromStart D.Disk disk.old
-        (λ choose history run k. HasStopped result D.Disk IsTaken fits choose history run k config
-        (C.ahead clock.old) (C.ahead clock.new) (left ≡ left)
-        (HasFed choose origin.now (Err result) (C.ahead clock.new) left left) disk.old disk.new) }
+        (λ past. HasStopped result D.Disk IsTaken fits past (course config (C.ahead clock.old) (C.ahead clock.new) disk.old disk.new)
+        (left ≡ left) (HasFed past.choose origin.now (Err result) (C.ahead clock.new) left left)) }
     ensures short { StopsShort D.Disk fits result disk.old disk.new }
     ensures told { IsTold D.Disk disk.old → IsTold D.Disk disk.new }
     ensures later { D.Disk.faults disk.old ≤ D.Disk.faults disk.new }
     ensures cause { result ≡ Stop.Disk → Rose (D.Disk.faults disk.old) (D.Disk.faults disk.new) }
-    ensures undamaged { defs.status_of result ≡ Status.Damaged → FromStart D.Disk disk.old (λ choose history run k. ⊥) }
+    ensures undamaged { defs.status_of result ≡ Status.Damaged → FromStart D.Disk disk.old (λ past. ⊥) }
     ensures blamed { Blames result D.Disk fits GivesNone disk.old disk.new }
     ensures quiet { is_output result ≡ false }
     ensures unread { is_input result ≡ false }
@@ -184,21 +187,19 @@ fn store_input<C: Clock, S: Source, D: Disk>(
     requires host { length origin.host ≤ 1024 }
     requires source { length origin.source ≤ 1024 }
     requires sourcetype { IfSome origin.sourcetype (λ (name : List ℕ). length name ≤ 1024) }
-    ensures done { OnOk result (FromStart D.Disk disk.old (λ choose history run k. HasRun false D.Disk IsTaken fits choose history run k
-        (WhenOpen choose config (C.ahead clock.old) (HasFed choose origin result (C.ahead clock.new) (S.left input.old) (S.left input.new)))
-        disk.old disk.new)) }
+    ensures done { OnOk result (FromStart D.Disk disk.old (λ past. HasRun false D.Disk IsTaken fits past
+        (WhenOpen past.choose config (C.ahead clock.old) (HasFed past.choose origin result (C.ahead clock.new) (S.left input.old)
+        (S.left input.new))) disk.old disk.new)) }
     ensures stopped { IfErr result (λ stop. FromStart D.Disk disk.old
-        (λ choose history run k. HasStopped stop D.Disk IsTaken fits choose history run k config
-        (C.ahead clock.old) (C.ahead clock.new) (S.left input.new ≡ S.left input.old)
-        (HasFed choose origin result (C.ahead clock.new) (S.left input.old) (S.left input.new)) disk.old disk.new)) }
+        (λ past. HasStopped stop D.Disk IsTaken fits past (course config (C.ahead clock.old) (C.ahead clock.new) disk.old disk.new)
+        (S.left input.new ≡ S.left input.old) (HasFed past.choose origin result (C.ahead clock.new) (S.left input.old) (S.left input.new)))) }
     ensures short { EndsShort D.Disk fits result disk.old disk.new }
     ensures told { IsTold D.Disk disk.old → IsTold D.Disk disk.new }
     ensures later { D.Disk.faults disk.old ≤ D.Disk.faults disk.new }
     ensures cause { IsErrOf result Stop.Disk → Rose (D.Disk.faults disk.old) (D.Disk.faults disk.new) }
     ensures read_later { S.faults input.old ≤ S.faults input.new }
     ensures input { IsErrOf result Stop.Input → Rose (S.faults input.old) (S.faults input.new) }
-    ensures undamaged { IfErr result (λ stop. defs.status_of stop ≡ Status.Damaged →
-        FromStart D.Disk disk.old (λ choose history run k. ⊥)) }
+    ensures undamaged { IfErr result (λ stop. defs.status_of stop ≡ Status.Damaged → FromStart D.Disk disk.old (λ past. ⊥)) }
     ensures blamed { IfErr result (λ stop. Blames stop D.Disk fits GivesNone disk.old disk.new) }
     ensures quiet { IfErr result (λ stop. is_output stop ≡ false) }
     ensures read { HasTaken result (S.left input.old) (S.left input.new) }
@@ -235,9 +236,9 @@ fn store_with<S: Source, W: Sink, C: Clock, D: Disk>(
 ) -> Status
     requires settings { IsConfig config }
     requires short { AreShort (stated_of origin) }
-    ensures comes { InputComes result D.Disk config (stated_of origin.entry) (C.ahead clock.old) (C.ahead clock.new)
-        (side (S.faults input.old) (S.left input.old)) (side (S.faults input.new) (S.left input.new))
-        (side (W.faults output.old) (W.given output.old)) (side (W.faults output.new) (W.given output.new)) disk.old disk.new }
+    ensures comes { InputComes result D.Disk (course config (C.ahead clock.old) (C.ahead clock.new) disk.old disk.new)
+        (stated_of origin.entry) (side (S.faults input.old) (S.left input.old)) (side (S.faults input.new) (S.left input.new))
+        (side (W.faults output.old) (W.given output.old)) (side (W.faults output.new) (W.given output.new)) }
     ensures silent { result ≡ Status.Done → Silent
         (side (S.faults input.old) (S.left input.old)) (side (S.faults input.new) (S.left input.new))
         (side (W.faults output.old) (W.given output.old)) (side (W.faults output.new) (W.given output.new)) }
@@ -249,7 +250,7 @@ fn store_with<S: Source, W: Sink, C: Clock, D: Disk>(
     ensures told { IsTold D.Disk disk.old → IsTold D.Disk disk.new }
     ensures disk_later { D.Disk.faults disk.old ≤ D.Disk.faults disk.new }
     ensures disk { result ≡ Status.DiskFault → Rose (D.Disk.faults disk.old) (D.Disk.faults disk.new) }
-    ensures undamaged { result ≡ Status.Damaged → FromStart D.Disk disk.old (λ choose history run k. ⊥) }
+    ensures undamaged { result ≡ Status.Damaged → FromStart D.Disk disk.old (λ past. ⊥) }
     ensures blamed { result ≡ Status.Damaged → NamesDamage D.Disk disk.old disk.new
         (side (W.faults output.old) (W.given output.old)) (side (W.faults output.new) (W.given output.new)) }
     ensures full { result ≡ Status.Full → IsFilled D.Disk disk.old }
@@ -281,10 +282,11 @@ pub fn store_preview<S: Source, W: Sink, C: Clock, T: Tree, D: Disk>(
     disk: &mut D,
 ) -> Status
     requires { AreShort (stated_of origin) }
-    ensures stored { Stored result (stated_of origin.entry) (T.files tree.old) (T.faults tree.old) (T.faults tree.new) (C.ahead clock.old)
-        (C.ahead clock.new)
-        (side (S.faults input.old) (S.left input.old)) (side (S.faults input.new) (S.left input.new))
-        (side (W.faults output.old) (W.given output.old)) (side (W.faults output.new) (W.given output.new)) D.Disk disk.old disk.new }
+    ensures stored { (heard : Listened) (deaf out : ℕ) → Stored result (stated_of origin.entry) D.Disk
+        (around (T.files tree.old) (T.faults tree.old) (T.missing tree.old) (C.ahead clock.old)
+        (side (S.faults input.old) (S.left input.old)) (side (W.faults output.old) (W.given output.old)) heard deaf out disk.old)
+        (around (T.files tree.new) (T.faults tree.new) (T.missing tree.new) (C.ahead clock.new)
+        (side (S.faults input.new) (S.left input.new)) (side (W.faults output.new) (W.given output.new)) heard deaf out disk.new) }
     ensures short { LeavesShort result D.Disk disk.old disk.new }
     ensures output { result ≡ Status.Output → ⊥ }
     ensures input { result ≡ Status.Input → Rose (S.faults input.old) (S.faults input.new) ⊎ Rose (T.faults tree.old) (T.faults tree.new) }
@@ -294,7 +296,7 @@ pub fn store_preview<S: Source, W: Sink, C: Clock, T: Tree, D: Disk>(
     ensures disk_later { D.Disk.faults disk.old ≤ D.Disk.faults disk.new }
     ensures disk { result ≡ Status.DiskFault → Rose (D.Disk.faults disk.old) (D.Disk.faults disk.new) }
     // A disk that keeps what was committed, and tells what it reads, is never damaged.
-    ensures undamaged { result ≡ Status.Damaged → FromStart D.Disk disk.old (λ choose history run k. ⊥) }
+    ensures undamaged { result ≡ Status.Damaged → FromStart D.Disk disk.old (λ past. ⊥) }
     ensures blamed { result ≡ Status.Damaged → NamesDamage D.Disk disk.old disk.new
         (side (W.faults output.old) (W.given output.old)) (side (W.faults output.new) (W.given output.new)) }
     ensures full { result ≡ Status.Full → IsFilled D.Disk disk.old }

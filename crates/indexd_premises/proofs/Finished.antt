@@ -23,17 +23,17 @@ use Rattle.ix_run.specs.Giving.{given_all}
 use Rattle.ix_run.proofs.Gone.{stands_from}
 use Rattle.ix_serve.specs.Serving.{IsTold}
 use Rattle.ix_store.specs.Written.{RecoversTo, RecoversToPrefix}
-use Rattle.ix_fs.specs.declared.trees.TreeFile.{TreeFile}
 use Rattle.indexd_serve.specs.Ends.{FedBehind, HeardBehind, fed_of, heard_end}
-use Rattle.indexd_serve.specs.Serving.{HasServed, Requests, Connections}
+use Rattle.indexd_serve.specs.Serving.{exchange, HasServed, Requests, Connections}
 use Rattle.indexd_serve.specs.Sides.{IsSound}
 use Rattle.indexd_serve.specs.declared.end.End.{End}
 use Rattle.indexd_serve.specs.declared.end.End.TheVariants as ends
 use Rattle.indexd_serve.specs.declared.end.ServeEnd.{ServeEnd}
 use Rattle.indexd_serve.specs.declared.end.ServeEnd.TheVariants as serving
-use Rattle.indexd_run.specs.Opened.{Doing, WhenOpen, HasRun}
+use Rattle.indexd_run.specs.Opened.{Past, past_of, mounted_with, course, WhenOpen, HasRun}
 use Rattle.indexd_run.specs.declared.stop.Stop.{Stop}
 use Rattle.indexd_run.specs.declared.stop.Stop.TheVariants as stops
+use Rattle.indexd_core.specs.Around.{Around}
 use Rattle.indexd_core.specs.Feeds as feeds
 use Rattle.indexd_core.specs.Feeds.{FeedComes, end_status}
 use Rattle.indexd_core.specs.Locked.{IsLockedOut}
@@ -41,7 +41,7 @@ use Rattle.indexd_core.specs.Serves as serves
 use Rattle.indexd_core.specs.Chain.{MayRun}
 use Rattle.indexd_core.specs.Serves.{ServeComes, EndsServing}
 use Rattle.indexd_core.specs.Sides.{Side}
-use Rattle.indexd_core.specs.Stored.{status_of, FromStart, Comes, done, stopped, WroteUnread, Whole, unread, locked_out, ran}
+use Rattle.indexd_core.specs.Stored.{status_of, FromStart, Outcomes, Comes, done, stopped, WroteUnread, Whole, unread, locked_out, ran}
 use Rattle.indexd_core.specs.declared.status.Status.{Status}
 use Rattle.indexd_core.specs.declared.status.Status.TheVariants.{Done, ListenerFault, DiskFault, InUse}
 use Rattle.indexd_premises.specs.Standing.{HasHistory}
@@ -104,10 +104,13 @@ whole run choose history image stands =
 
 -- ---- runs
 
-module _ {D : Type 0} {d : Ghosts D} {disk : D} (choose : Chooser) (may : MayRun d choose [] 0 0 disk) where
+module _ {D : Type 0} {d : Ghosts D} {disk : D} (choose : Chooser) (may : MayRun d (past_of choose [] 0 0) disk) where
+  abbrev none : Past
+  none = past_of choose [] 0 0
+
   -- what is said of every run from here is said of this one
-  is_said : (comes : Chooser → List TimedCommand → ℕ → ℕ → Type 0) → FromStart d disk comes → comes choose [] 0 0
-  is_said comes from = from choose [] 0 0 may
+  is_said : (comes : Past → Type 0) → FromStart d disk comes → comes none
+  is_said comes from = from none may
 
   history_of : (now : List TimedCommand) (run : ℕ) (disk' : D) → 0 < run → AreGiven now →
       ((image : Image) → d.may_leave disk' image → RecoversToPrefix fits run choose now (length now) image) → IsTold d disk' →
@@ -121,58 +124,50 @@ module _ {D : Type 0} {d : Ghosts D} {disk : D} (choose : Chooser) (may : MayRun
   }
 
   of_run : (mays : List TimedCommand → List TimedCommand → List TimedCommand → Type 0) (disk' : D) → IsTold d disk' →
-      HasRun false d IsTaken fits choose [] 0 0 mays disk disk' → HasHistory d disk'
-  of_run mays disk' told was =
-      history_of (given_all choose (given_all choose (take was.count []) was.configured) was.orders) was.new_run disk' was.passes.later
-      was.given was.exit told
+      HasRun false d IsTaken fits none mays disk disk' → HasHistory d disk'
+  of_run mays disk' told was = history_of (given_all choose (mounted_with none was.count was.configured) was.orders) was.new_run disk'
+      was.passes.later was.given was.exit told
 
-  pub of_comes : (status : Status) (config : Config) (named : List ℕ) (ahead ahead' : Option Moments) (what : Chooser →
-      Doing) (untouched : Side → Type 0)
-      (part : Stop → Side → Chooser → Doing) (wrote : Stop → Side → Type 0) (output' : Side) (disk' : D) → IsTold d disk' → status ≡ Done →
-      Comes status d config named ahead ahead' what untouched part wrote output' disk disk' → HasHistory d disk'
-  of_comes status config named ahead ahead' what untouched part wrote output' disk' told is (done e from) =
-      of_run (WhenOpen choose config ahead (what choose)) disk' told
-      (is_said (λ choose history run k. HasRun false d IsTaken fits choose history run k (WhenOpen choose config ahead (what choose)) disk
-      disk') from)
-  of_comes status config named ahead ahead' what untouched part wrote output' disk' told is (stopped stop middle e from w s) =
-      absurd (not_done stop (sym e ∙ is))
+  module _ (status : Status) (config : Config) (ahead ahead' : Option Moments) where
+    pub of_comes : (named : List ℕ) (to : Outcomes) (output' : Side) (disk' : D) → IsTold d disk' → status ≡ Done →
+        Comes status d (course config ahead ahead' disk disk') named to output' → HasHistory d disk'
+    of_comes named to output' disk' told is (done e from) =
+        of_run (WhenOpen choose config ahead (to.whole choose)) disk' told
+        (is_said (λ past. HasRun false d IsTaken fits past (WhenOpen past.choose config ahead (to.whole past.choose)) disk disk') from)
+    of_comes named to output' disk' told is (stopped stop middle e from w s) = absurd (not_done stop (sym e ∙ is))
 
-  pub of_feed : (status : Status) (config : Config) (ahead ahead' : Option Moments) (input input' output output' : Side) (disk' : D) →
-      IsTold d disk' → status ≡ Done →
-      FeedComes status d config ahead ahead' input input' output output' disk disk' → HasHistory d disk'
-  of_feed status config ahead ahead' input input' output output' disk' told is (feeds.shut stop e from same said) =
-      absurd (not_done stop (sym e ∙ is))
-  of_feed status config ahead ahead' input input' output output' disk' told is (feeds.served end middle e l m reads from said) =
-      let was = is_said (λ choose history run k. HasServed d IsTaken fits choose history run k config ahead
-      (Requests d fits (fed_of end) (IsSound output.faults middle.faults) input.told input'.told ahead' output.told middle.told disk') disk
-      disk') from in
-      let requests = was.served in
-      history_of was.now was.new_run disk' was.passes.later was.given
-      (λ image left. whole was.new_run choose was.now image
-      (requests.all (open_behind requests.first end (sym e ∙ is) requests.ends_behind) image left)) told
+    pub of_feed : (input input' output output' : Side) (disk' : D) → IsTold d disk' → status ≡ Done →
+        FeedComes status d (course config ahead ahead' disk disk') input input' output output' → HasHistory d disk'
+    of_feed input input' output output' disk' told is (feeds.shut stop e from same said) = absurd (not_done stop (sym e ∙ is))
+    of_feed input input' output output' disk' told is (feeds.served end middle e l m reads from said) =
+        let was = is_said (λ past. HasServed d IsTaken fits past (course config ahead ahead' disk disk')
+        (Requests d fits (fed_of end) (IsSound output.faults middle.faults)
+        (exchange input.told input'.told output.told middle.told))) from in
+        let requests = was.served in
+        history_of was.now was.new_run disk' was.passes.later was.given
+        (λ image left. whole was.new_run choose was.now image
+        (requests.all (open_behind requests.first end (sym e ∙ is) requests.ends_behind) image left)) told
 
-  pub of_serve : (status : Status) (config : Config) (requests : ℕ) (ahead ahead' : Option Moments) (heard heard' : Listened)
-      (output output' : Side) (disk' : D) → IsTold d disk' → status ≡ Done →
-      ServeComes status d config requests ahead ahead' heard heard' output output' disk disk' → HasHistory d disk'
-  of_serve status config requests ahead ahead' heard heard' output output' disk' told is (serves.unbound e a h s said) = absurd (cc)
-  of_serve status config requests ahead ahead' heard heard' output output' disk' told is (serves.locked_out a h out said) =
-      absurd (not_out d disk disk' status is out)
-  of_serve status config requests ahead ahead' heard heard' output output' disk' told is (serves.shut stop e from same said) =
-      absurd (not_done stop (sym e ∙ is))
-  of_serve status config requests ahead ahead' heard heard' output output' disk' told is (serves.served end hears from wrote) =
-      let was = is_said (λ choose history run k. HasServed d IsTaken fits choose history run k config ahead
-      (Connections d fits requests end heard heard' ahead' disk') disk disk') from in
-      let visits = was.served in
-      let behind : HeardBehind visits.first serving.Done =
-      subst (HeardBehind visits.first) (served_whole status requests end output output' is wrote) visits.ends_behind in
-      history_of was.now was.new_run disk' was.passes.later was.given
-      (λ image left. whole was.new_run choose was.now image (visits.all (open_served visits.first behind) image left)) told
+    pub of_serve : (requests : ℕ) (heard heard' : Listened) (output output' : Side) (disk' : D) → IsTold d disk' → status ≡ Done →
+        ServeComes status d (course config ahead ahead' disk disk') requests heard heard' output output' → HasHistory d disk'
+    of_serve requests heard heard' output output' disk' told is (serves.unbound e a h s said) = absurd (cc)
+    of_serve requests heard heard' output output' disk' told is (serves.locked_out a h out said) =
+        absurd (not_out d disk disk' status is out)
+    of_serve requests heard heard' output output' disk' told is (serves.shut stop e from same said) =
+        absurd (not_done stop (sym e ∙ is))
+    of_serve requests heard heard' output output' disk' told is (serves.served end hears from wrote) =
+        let was = is_said (λ past. HasServed d IsTaken fits past (course config ahead ahead' disk disk')
+        (Connections d fits requests end heard heard')) from in
+        let visits = was.served in
+        let behind : HeardBehind visits.first serving.Done =
+        subst (HeardBehind visits.first) (served_whole status requests end output output' is wrote) visits.ends_behind in
+        history_of was.now was.new_run disk' was.passes.later was.given
+        (λ image left. whole was.new_run choose was.now image (visits.all (open_served visits.first behind) image left)) told
 
 -- one that is done has read the settings
-pub of_whole : (status : Status) (files : Option (List TreeFile)) (failed failed' : ℕ) (still out : Type 0) (comes : Config →
-    Type 0) (output output' : Side) (said : Type 0) → status ≡ Done →
-    (out → ⊥) → ((config : Config) → comes config → said) → Whole status files failed failed' still out comes output output' → said
-of_whole status files failed failed' still out comes output output' said is never f (unread s wrote) =
-    absurd (subst (λ (s : Status). WroteUnread s files failed failed' output output') is wrote)
-of_whole status files failed failed' still out comes output output' said is never f (locked_out config given o s) = absurd (never o)
-of_whole status files failed failed' still out comes output output' said is never f (ran config given c) = f config c
+pub of_whole : (status : Status) {D : Type 0} (from to : Around D) (still out : Type 0) (comes : Config → Type 0) (said : Type 0) →
+    status ≡ Done → (out → ⊥) → ((config : Config) → comes config → said) → Whole status from to still out comes → said
+of_whole status from to still out comes said is never f (unread s wrote) =
+    absurd (subst (λ (s : Status). WroteUnread s from.files from.failed to.failed from.output to.output) is wrote)
+of_whole status from to still out comes said is never f (locked_out config given o s) = absurd (never o)
+of_whole status from to still out comes said is never f (ran config given c) = f config c

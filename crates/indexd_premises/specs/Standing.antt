@@ -3,6 +3,7 @@ use Rattle.std.specs.Prelude.{◌≡◌, ◌<◌, ℕ, List, [], length}
 use Rattle.ix_disk.specs.declared.disk.Disk.{Ghosts}
 use Rattle.ix_model.specs.Given.{Chooser}
 use Rattle.ix_model.specs.declared.commands.TimedCommand.{TimedCommand}
+use Rattle.indexd_run.specs.Opened.{past_of}
 use Rattle.indexd_core.specs.Chain.{MayRun, MayGoOn}
 use Rattle.indexd_core.specs.declared.status.Status.{Status}
 use Rattle.indexd_core.specs.declared.status.Status.TheVariants.{Done}
@@ -14,11 +15,11 @@ pub record HasHistory {D : Type 0} (d : Ghosts D) (disk : D) : Type 0 where
   pub history : List TimedCommand
   pub run : ℕ
   pub begun : 0 < run
-  pub may_run : MayRun d choose history run (length history) disk
+  pub may_run : MayRun d (past_of choose history run (length history)) disk
 
 -- Whatever the status is, a second run may begin over some history; and at `Done` over one that
 -- every image has whole.
 pub record GoesOn (status : Status) {D : Type 0} (d : Ghosts D) (disk : D) : Type 0 where
   pub choose : Chooser
-  pub again : MayGoOn d choose [] 0 0 disk
+  pub again : MayGoOn d (past_of choose [] 0 0) disk
   pub whole : status ≡ Done → HasHistory d disk

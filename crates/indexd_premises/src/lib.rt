@@ -8,6 +8,7 @@
 
 ghost use Rattle.std.specs.Prelude.{◌≡◌, ℕ, [], true};
 ghost use Rattle.ix_model.specs.Given.{Chooser};
+ghost use Rattle.indexd_run.specs.Opened.{past_of};
 ghost use Rattle.indexd_core.specs.Chain.{MayRun};
 ghost use Rattle.indexd_core.specs.Commands.{is_task, AskStore, AskFeed, AskServe};
 ghost use Rattle.indexd_core.specs.Prepared.{Stated};
@@ -31,7 +32,7 @@ use std::alloc::Global;
 /// An empty disk in memory. It meets all that the clauses of `top` ask of a start.
 pub fn empty_disk(alloc: Global) -> MemDisk
     ensures blank { IsBlank ⟦<MemDisk as Disk>⟧ result }
-    ensures begins { (choose : Chooser) × MayRun ⟦<MemDisk as Disk>⟧ choose [] 0 0 result }
+    ensures begins { (choose : Chooser) × MayRun ⟦<MemDisk as Disk>⟧ (past_of choose [] 0 0) result }
     ensures start { IsStart ⟦<MemDisk as Disk>⟧ result }
 {
     ix_state::choosers_exist();

@@ -31,7 +31,7 @@ use Rattle.ix_run.specs.Running.{AlwaysRecoverable, HasAdvanced, IsNotGiven}
 use Rattle.ix_run.specs.declared.giving.GiveFault.{GiveFault}
 use Rattle.ix_run.specs.declared.giving.GiveFault.TheVariants.{Refused, Commit}
 use Rattle.indexd_run.specs.declared.stop.Stop.{Stop}
-use Rattle.indexd_run.specs.Ends.{IsLeft, HasLasted, Ends, Only, AtMost}
+use Rattle.indexd_run.specs.Ends.{IsLeft, HasLasted, Ends, Only, AtMost, outset}
 use Rattle.indexd_run.specs.Opened.{configuring, IsUnset}
 use Rattle.indexd_run.specs.declared.stop.Stop.TheVariants as stops
 use Rattle.indexd_run.specs.Stops.{of_mount, of_refusal, of_commit, of_give, of_run, of_checkpoint, loses, is_output, is_input, Caused}
@@ -55,7 +55,7 @@ module _ {D : Type 0} (g : Ghosts D) {M : Type 0} (fits : NamedItems → Type 0)
     Type 0) (choose : Chooser) (h : List TimedCommand) (base : ℕ) (order : TimedCommand) (store : Store M) (first last : D) where
   -- nothing was given
   none_left : HasAdvanced g fits run holds choose h [] base (length h) store first last →
-      IsLeft g fits run holds choose h base (AtMost order) store first last
+      IsLeft g fits holds (outset choose h base run first) (AtMost order) store last
   none_left gone = record {
     orders = [];
     allowed = inl refl;
@@ -73,7 +73,7 @@ module _ {D : Type 0} (g : Ghosts D) {M : Type 0} (fits : NamedItems → Type 0)
     same = omega (arith, gone.kept, hold.staged.within)
 
   none_lasted : HasAdvanced g fits run holds choose h [] base (length h) store first last →
-      HasLasted g fits run choose h (AtMost order) first last
+      HasLasted g fits (outset choose h base run first) (AtMost order) last
   none_lasted gone = record {
     orders = [];
     allowed = inl refl;
@@ -81,18 +81,18 @@ module _ {D : Type 0} (g : Ghosts D) {M : Type 0} (fits : NamedItems → Type 0)
   }
 
   by_loss : (lost : Bool) → HasAdvanced g fits run holds choose h [] base (length h) store first last →
-      Ends lost g fits run holds choose h base (AtMost order) store first last
+      Ends lost g fits holds (outset choose h base run first) (AtMost order) store last
   by_loss true gone = none_lasted gone
   by_loss false gone = none_left gone
 
   one_lasted : (fault : CommitFault) → AlwaysRecoverable g fits run choose (h ++ adds (state_after choose h) order) (length h) first last →
-      Ends (loses (of_commit fault)) g fits run holds choose h base (AtMost order) store first last
+      Ends (loses (of_commit fault)) g fits holds (outset choose h base run first) (AtMost order) store last
   one_lasted commits.Disk stood = record { orders = order ∷ []; allowed = inr refl; stood = stood }
   one_lasted (commits.Damaged file at) stood = record { orders = order ∷ []; allowed = inr refl; stood = stood }
 
   by_fault : (old : Store M) (fault : GiveFault) → old.run ≡ run →
       IsNotGiven g fits holds choose h base (length h) order old fault store first last →
-      Ends (loses (of_give fault)) g fits run holds choose h base (AtMost order) store first last
+      Ends (loses (of_give fault)) g fits holds (outset choose h base run first) (AtMost order) store last
   by_fault old (Refused refusal) same not = by_loss (loses (of_refusal refusal))
       (subst (λ (r : ℕ). HasAdvanced g fits r holds choose h [] base (length h) store first last) same not.1)
   by_fault old (Commit fault) same stood = one_lasted fault
@@ -100,13 +100,14 @@ module _ {D : Type 0} (g : Ghosts D) {M : Type 0} (fits : NamedItems → Type 0)
 
   pub stopped : (old : Store M) (fault : GiveFault) (stop : Stop) → old.run ≡ run → stop ≡ of_give fault →
       IsNotGiven g fits holds choose h base (length h) order old fault store first last →
-      Ends (loses stop) g fits run holds choose h base (AtMost order) store first last
-  stopped old fault stop same is not = subst (λ (s : Stop). Ends (loses s) g fits run holds choose h base (AtMost order) store first last)
+      Ends (loses stop) g fits holds (outset choose h base run first) (AtMost order) store last
+  stopped old fault stop same is not = subst (λ (s : Stop). Ends (loses s) g fits holds (outset choose h base run first)
+      (AtMost order) store last)
       (sym is) (by_fault old fault same not)
 
   pub left_by : (old : Store M) (answer : Accepted) → old.run ≡ run →
       IsKept g fits holds choose h base (length h) order old answer store first last →
-      IsLeft g fits run holds choose h base (Only order) store first last
+      IsLeft g fits holds (outset choose h base run first) (Only order) store last
   left_by old answer same kept = record {
     orders = order ∷ [];
     allowed = refl;

@@ -17,7 +17,7 @@ use Rattle.ix_store.specs.Written.{RecoversToPrefix}
 use Rattle.ix_store.specs.declared.fault.ExportFault.{ExportFault}
 use Rattle.ix_store.specs.declared.fault.ExportFault.TheVariants as exports
 use Rattle.ix_store.specs.declared.store.Store.{Store}
-use Rattle.indexd_run.specs.Ends.{IsLeft, Ends}
+use Rattle.indexd_run.specs.Ends.{IsLeft, Ends, outset}
 use Rattle.indexd_run.specs.Stops.{loses, of_export}
 use Rattle.indexd_run.specs.Tasks.{IsUnexported}
 use Rattle.indexd_run.specs.declared.stop.Stop.{Stop}
@@ -38,7 +38,7 @@ module _ {D : Type 0} (g : Ghosts D) {M : Type 0} (fits : NamedItems → Type 0)
 
   pub left_as_was : store.run ≡ old.run → Represents g fits holds choose h base (length h) old first → ImagesStep g first last Stays →
       Represents g fits holds choose h base (length h) store last →
-      IsLeft g fits old.run holds choose h base (λ (orders : List TimedCommand). orders ≡ []) store first last
+      IsLeft g fits holds (outset choose h base old.run first) (λ (orders : List TimedCommand). orders ≡ []) store last
   left_as_was same hold goes now = record {
     orders = [];
     allowed = refl;
@@ -47,7 +47,8 @@ module _ {D : Type 0} (g : Ghosts D) {M : Type 0} (fits : NamedItems → Type 0)
 
   pub not_exported : (fault : ExportFault) → store.run ≡ old.run → Represents g fits holds choose h base (length h) old first →
       ImagesStep g first last Stays → (is_of_disk fault ≡ false → Represents g fits holds choose h base (length h) store last) →
-      Ends (loses (of_export fault)) g fits old.run holds choose h base (λ (orders : List TimedCommand). orders ≡ []) store first last
+      Ends (loses (of_export fault)) g fits holds (outset choose h base old.run first)
+      (λ (orders : List TimedCommand). orders ≡ []) store last
   not_exported exports.Closed same hold goes now = left_as_was same hold goes (now refl)
   not_exported exports.UnknownIndex same hold goes now = left_as_was same hold goes (now refl)
   not_exported exports.Disk same hold goes now = record { orders = []; allowed = refl; stood = stayed hold goes }
@@ -58,9 +59,9 @@ module _ {D : Type 0} (g : Ghosts D) {M : Type 0} (fits : NamedItems → Type 0)
   pub stopped_as : (stop : Stop) (fault : ExportFault) → store.run ≡ old.run → stop ≡ of_export fault →
       Represents g fits holds choose h base (length h) old first → ImagesStep g first last Stays →
       (is_of_disk fault ≡ false → Represents g fits holds choose h base (length h) store last) →
-      Ends (loses stop) g fits old.run holds choose h base (λ (orders : List TimedCommand). orders ≡ []) store first last
+      Ends (loses stop) g fits holds (outset choose h base old.run first) (λ (orders : List TimedCommand). orders ≡ []) store last
   stopped_as stop fault same is hold goes now = subst (λ (s : Stop).
-      Ends (loses s) g fits old.run holds choose h base (λ (orders : List TimedCommand). orders ≡ []) store first last) (sym is)
+      Ends (loses s) g fits holds (outset choose h base old.run first) (λ (orders : List TimedCommand). orders ≡ []) store last) (sym is)
       (not_exported fault same hold goes now)
 
   -- an index is missed exactly where it is not seen, and a store that holds a history is not closed

@@ -23,7 +23,7 @@ use Rattle.ix_run.specs.declared.input.RunFault.TheVariants as runs
 use Rattle.ix_store.specs.Counting.{numbers}
 use Rattle.ix_store.specs.declared.store.Store.{Store}
 use Rattle.indexd_run.proofs.Begun.{next_in_turn}
-use Rattle.indexd_run.specs.Ends.{IsLeft, Ends}
+use Rattle.indexd_run.specs.Ends.{IsLeft, Ends, outset}
 use Rattle.indexd_run.specs.Previews.{Misses, IsRead, HasTaken, IsWhy, Fed}
 use Rattle.indexd_run.specs.declared.stop.Stop.{Stop}
 use Rattle.indexd_run.specs.declared.stop.Stop.TheVariants as stops
@@ -105,8 +105,8 @@ so choose base h given rest origin moment refusals.NoMemory why sound = tt
 
 module _ {D : Type 0} (g : Ghosts D) {M : Type 0} (fits : NamedItems → Type 0) (run : ℕ) (holds : Chooser → List TimedCommand → M →
     Type 0) (choose : Chooser) (h : List TimedCommand) (base : ℕ) (store : Store M) (first last : D) where
-  by_loss : (lost : Bool) (may : List TimedCommand → Type 0) → IsLeft g fits run holds choose h base may store first last →
-      Ends lost g fits run holds choose h base may store first last
+  by_loss : (lost : Bool) (may : List TimedCommand → Type 0) → IsLeft g fits holds (outset choose h base run first) may store last →
+      Ends lost g fits holds (outset choose h base run first) may store last
   by_loss true may left = record { orders = left.orders; allowed = left.allowed; stood = left.all.stood }
   by_loss false may left = left
 
@@ -120,7 +120,7 @@ module _ {D : Type 0} (g : Ghosts D) {M : Type 0} (fits : NamedItems → Type 0)
 
     pub feeds : (pieces : List (List ℕ)) (failed failed' : ℕ) → AllByRecursion IsBlock pieces → Told (Took (joined pieces)) left left' →
         runs_read (Ok tt) (length (joined pieces)) left' failed failed' → Misses choose h origin false → Given (Ok tt) pieces →
-        IsLeft g fits run holds choose h base (Fed choose base h origin moment (Ok tt) left left') store first last
+        IsLeft g fits holds (outset choose h base run first) (Fed choose base h origin moment (Ok tt) left left') store last
     feeds pieces failed failed' sizes took read found given = record {
       orders = storing open_is origin moment pieces;
       allowed = record {
@@ -151,8 +151,8 @@ module _ {D : Type 0} (g : Ghosts D) {M : Type 0} (fits : NamedItems → Type 0)
       }
 
       unfed : (fault : RunFault) → runs_read (Err fault) (length (joined pieces)) left' failed failed' → Given (Err fault) pieces →
-          Ends (loses (of_run fault)) g fits run holds choose h base (Fed choose base h origin moment (Err (of_run fault)) left left') store
-          first last
+          Ends (loses (of_run fault)) g fits holds (outset choose h base run first)
+          (Fed choose base h origin moment (Err (of_run fault)) left left') store last
       unfed (runs.Given (Refused refusal)) read given =
           by_loss (loses (of_refusal refusal)) (Fed choose base h origin moment (Err (of_refusal refusal)) left left') (record {
             orders = given.given;
@@ -188,18 +188,19 @@ module _ {D : Type 0} (g : Ghosts D) {M : Type 0} (fits : NamedItems → Type 0)
 
       pub unfed_as : (fault : RunFault) (stop : Stop) → stop ≡ of_run fault →
           runs_read (Err fault) (length (joined pieces)) left' failed failed' → Given (Err fault) pieces →
-          Ends (loses stop) g fits run holds choose h base (Fed choose base h origin moment (Err stop) left left') store first last
+          Ends (loses stop) g fits holds (outset choose h base run first) (Fed choose base h origin moment (Err stop) left left') store last
       unfed_as fault stop is read given = subst (λ (s : Stop).
-          Ends (loses s) g fits run holds choose h base (Fed choose base h origin moment (Err s) left left') store first last) (sym is)
+          Ends (loses s) g fits holds (outset choose h base run first) (Fed choose base h origin moment (Err s) left left') store last)
+          (sym is)
           (unfed fault read given)
 
   -- an input is not stopped by what stands on the disk
   pub fed_sound : (origin : ChannelMeta) (moment : ℤ) (result : Result Unit Stop) (left left' : Option (List ℕ)) →
-      result ≡ Err stops.Inconsistent → Ends (loses_in result) g fits run holds choose h base
-      (Fed choose base h origin moment result left left') store first last → ⊥
+      result ≡ Err stops.Inconsistent → Ends (loses_in result) g fits holds (outset choose h base run first)
+      (Fed choose base h origin moment result left left') store last → ⊥
   fed_sound origin moment result left left' is ends =
-      let was : IsLeft g fits run holds choose h base (Fed choose base h origin moment (Err stops.Inconsistent) left left') store first
-      last =
-      subst (λ (r : Result Unit Stop). Ends (loses_in r) g fits run holds choose h base (Fed choose base h origin moment r left left') store
-      first last) is ends in
+      let was : IsLeft g fits holds (outset choose h base run first)
+      (Fed choose base h origin moment (Err stops.Inconsistent) left left') store last =
+      subst (λ (r : Result Unit Stop). Ends (loses_in r) g fits holds (outset choose h base run first)
+      (Fed choose base h origin moment r left left') store last) is ends in
       was.allowed.end

@@ -29,7 +29,7 @@ use Rattle.ix_store.specs.Holding.{Represents, RepresentsStaged, IsMounted}
 use Rattle.ix_store.specs.Written.{RecoversToPrefix}
 use Rattle.ix_store.specs.declared.store.Store.{Store}
 use Rattle.indexd_run.specs.Asked.{Asks}
-use Rattle.indexd_run.specs.Ends.{IsLeft, Ends, Only, AtMost, same_kept}
+use Rattle.indexd_run.specs.Ends.{IsLeft, Ends, Only, AtMost, same_kept, outset}
 use Rattle.indexd_run.specs.Previews.{Fed, HasFed}
 use Rattle.indexd_run.specs.Shortened.{HasRunsLeft}
 use Rattle.indexd_run.specs.Stops.{loses, loses_in, is_output}
@@ -39,8 +39,8 @@ use Rattle.indexd_run.specs.declared.stop.Stop.TheVariants as stops
 use Rattle.indexd_run.specs.Tasks.{orders_in, GaveAll, Gave, IsWhy, IsFine, says, HasPrinted, HasDone, HasHalted}
 use Rattle.indexd_run.specs.declared.task.Task.{Task}
 use Rattle.indexd_run.proofs.Tasks.{left_weaker, ends_weaker}
-use Rattle.indexd_run.specs.Opened.{configuring, is_configured, Configures, Doing, IsNewRun, IsUnset, Passes, WhenOpen, WhenShut}
-use Rattle.indexd_run.specs.Opened.{HasOpened, HasRun, HasShut}
+use Rattle.indexd_run.specs.Opened.{configuring, is_configured, Configures, Doing, IsNewRun, IsUnset, Passes, WhenOpen, WhenShut, giving}
+use Rattle.indexd_run.specs.Opened.{HasOpened, HasRun, HasShut, Past, Course, course, StandsFor}
 
 some_is : (a b : Image) → Some a ≡ Some b → a ≡ b
 some_is a b is = cc
@@ -72,29 +72,34 @@ asked_once order orders ahead ahead' is told = subst (λ (os : List TimedCommand
 
 -- what stands on the disk is sound
 pub shut_sound : (stop : Stop) {D : Type 0} (g : Ghosts D) (takes : TimedCommand → Type 0) (fits : NamedItems →
-    Type 0) (choose : Chooser) (h : List TimedCommand) (run k : ℕ) (config : Config) (ahead ahead' : Option Moments) (first last : D) →
-    stop ≡ stops.Inconsistent → HasShut stop g takes fits choose h run k config ahead ahead' first last → ⊥
-shut_sound stop g takes fits choose h run k config ahead ahead' first last unsound (inl not) = not.sound unsound
-shut_sound stop g takes fits choose h run k config ahead ahead' first last unsound (inr was) =
-    sound_settings choose (take was.count h) (configuring config was.allowed.moment) stop unsound was.allowed.why
+    Type 0) (past : Past) (run : Course D) → stop ≡ stops.Inconsistent → HasShut stop g takes fits past run → ⊥
+shut_sound stop g takes fits past run unsound (inl not) = not.sound unsound
+shut_sound stop g takes fits past run unsound (inr was) =
+    sound_settings past.choose (take was.count past.history) (configuring run.config was.allowed.moment) stop unsound was.allowed.why
 
 module _ {D : Type 0} (g : Ghosts D) {M : Type 0} (fits : NamedItems → Type 0) (holds : Chooser → List TimedCommand → M →
-    Type 0) (choose : Chooser) where
+    Type 0) where
   -- where all is committed every image has all
-  all_stand : (now : List TimedCommand) (base run : ℕ) (store : Store M) (disk : D) → store.run ≡ run →
+  all_stand : (choose : Chooser) (now : List TimedCommand) (base run : ℕ) (store : Store M) (disk : D) → store.run ≡ run →
       Represents g fits holds choose now base (length now) store disk →
       (image : Image) → g.may_leave disk image → RecoversToPrefix fits run choose now (length now) image
-  all_stand now base run store disk same hold image left =
+  all_stand choose now base run store disk same hold image left =
       (stood_here g fits run holds choose now base (length now) (length now) store disk same (omega arith) hold).now image left
 
-  module _ (h : List TimedCommand) (run k : ℕ) (config : Config) where
-    pub committed : (image : Image) (store : Store M) (mid : D) → (is : IsMounted g fits holds choose h k image store mid) →
+  module _ (past : Past) (config : Config) where
+    abbrev choose : Chooser
+    choose = past.choose
+
+    abbrev h : List TimedCommand
+    h = past.history
+
+    pub committed : (image : Image) (store : Store M) (mid : D) → (is : IsMounted g fits holds choose h past.least image store mid) →
         Represents g fits holds choose (take is.count h) is.count (length (take is.count h)) store mid
     committed image store mid is = subst (λ (n : ℕ). Represents g fits holds choose (take is.count h) is.count n store mid)
         (sym (taken is.count h is.most)) is.hold
 
     -- what the store says of its settings is so of what was mounted
-    pub configured_as : (image : Image) (store : Store M) (mid : D) → (is : IsMounted g fits holds choose h k image store mid) →
+    pub configured_as : (image : Image) (store : Store M) (mid : D) → (is : IsMounted g fits holds choose h past.least image store mid) →
         (kept : List Kept) →
         ((choose : Chooser) (history : List TimedCommand) (base k : ℕ) (old : Snapshot) →
         RepresentsStaged fits holds choose history base k store old → kept ≡ (state_after choose history).force) →
@@ -104,14 +109,16 @@ module _ {D : Type 0} (g : Ghosts D) {M : Type 0} (fits : NamedItems → Type 0)
         (said choose (take is.count h) is.count is.count is.hold.old is.hold.staged)) ∙ (sym same_is ∙ answers)
 
     -- all that was mounted is in every image
-    all_mounted : (image : Image) (store : Store M) (mid : D) → (is : IsMounted g fits holds choose h k image store mid) → (other : Image) →
+    all_mounted : (image : Image) (store : Store M) (mid : D) → (is : IsMounted g fits holds choose h past.least image store mid) →
+        (other : Image) →
         g.may_leave mid other → RecoversToPrefix fits store.run choose (take is.count h) is.count other
     all_mounted image store mid is other may =
         (stood_here g fits store.run holds choose (take is.count h) is.count (length (take is.count h)) is.count store mid refl
         (omega (arith, taken is.count h is.most)) (committed image store mid is)).now other may
 
     -- its number is that behind the one that was found
-    numbered : (image : Image) (mounted store : Store M) (first mid : D) → (is : IsMounted g fits holds choose h k image mounted mid) →
+    numbered : (image : Image) (mounted store : Store M) (first mid : D) →
+        (is : IsMounted g fits holds choose h past.least image mounted mid) →
         g.seen first ≡ Some image → store.run ≡ mounted.run → IsNewRun g fits store.run first
     numbered image mounted store first mid is seen same other told =
         let the_same = some_is image other (sym seen ∙ told) in
@@ -129,10 +136,10 @@ module _ {D : Type 0} (g : Ghosts D) {M : Type 0} (fits : NamedItems → Type 0)
         }
 
     pub opened_same : (image : Image) (store : Store M) (first mid : D) (ahead : Option Moments) → g.seen first ≡ Some image →
-        (is : IsMounted g fits holds choose h k image store mid) → Always g first mid (RecoversToPrefix fits run choose h k) →
-        run < store.run →
+        (is : IsMounted g fits holds choose h past.least image store mid) → Always g first mid (StandsFor fits past) →
+        past.run < store.run →
         HasRunsLeft g fits first → is_configured choose (take is.count h) config ≡ true →
-        HasOpened g fits holds choose h run k config store ahead ahead first mid
+        HasOpened g fits holds past (course config ahead ahead first mid) store
     opened_same image store first mid ahead seen is stood later left same = record {
       count = is.count;
       least = is.least;
@@ -169,11 +176,11 @@ module _ {D : Type 0} (g : Ghosts D) {M : Type 0} (fits : NamedItems → Type 0)
         (omega (arith, taken count h most, length-append (take count h) (more_of choose (take count h) orders)))
 
     -- what was mounted, and what was given over it
-    over_mount : (new_run count : ℕ) (orders : List TimedCommand) (first mid last : D) → run < new_run → count ≤ length h →
+    over_mount : (new_run count : ℕ) (orders : List TimedCommand) (first mid last : D) → past.run < new_run → count ≤ length h →
         ((image : Image) → g.may_leave mid image → RecoversToPrefix fits new_run choose (take count h) count image) →
-        Always g first mid (RecoversToPrefix fits run choose h k) →
+        Always g first mid (StandsFor fits past) →
         AlwaysRecoverable g fits new_run choose (given_all choose (take count h) orders) (length (take count h)) mid last →
-        Passes g fits choose h run k (given_all choose (take count h) orders) new_run count first last
+        Passes g fits past (given_all choose (take count h) orders) new_run count first last
     over_mount new_run count orders first mid last later most at before stood = record {
       later = later;
       mounted = mid;
@@ -188,12 +195,12 @@ module _ {D : Type 0} (g : Ghosts D) {M : Type 0} (fits : NamedItems → Type 0)
     }
 
     pub opened_by : (image : Image) (mounted store : Store M) (first mid last : D) (ahead ahead' : Option Moments) →
-        g.seen first ≡ Some image → store.run ≡ mounted.run → (is : IsMounted g fits holds choose h k image mounted mid) →
-        Always g first mid (RecoversToPrefix fits run choose h k) → run < mounted.run →
+        g.seen first ≡ Some image → store.run ≡ mounted.run → (is : IsMounted g fits holds choose h past.least image mounted mid) →
+        Always g first mid (StandsFor fits past) → past.run < mounted.run →
         HasRunsLeft g fits first → is_configured choose (take is.count h) config ≡ false → (moment : ℤ) →
         Told (Answered moment) ahead ahead' →
-        IsLeft g fits mounted.run holds choose (take is.count h) is.count (Only (configuring config moment)) store mid last →
-        HasOpened g fits holds choose h run k config store ahead ahead' first last
+        IsLeft g fits holds (outset choose (take is.count h) is.count mounted.run mid) (Only (configuring config moment)) store last →
+        HasOpened g fits holds past (course config ahead ahead' first last) store
     opened_by image mounted store first mid last ahead ahead' seen same_run is before later runs other moment told left = record {
       count = is.count;
       least = is.least;
@@ -204,17 +211,17 @@ module _ {D : Type 0} (g : Ghosts D) {M : Type 0} (fits : NamedItems → Type 0)
       runs_left = runs;
       hold = left.all.hold;
       number = numbered image mounted store first mid is seen same_run;
-      passes = subst (λ (new_run : ℕ). Passes g fits choose h run k (given_all choose (take is.count h) left.orders) new_run is.count first
-          last) (sym same_run)
+      passes = subst (λ (new_run : ℕ). Passes g fits past (given_all choose (take is.count h) left.orders) new_run is.count first last)
+          (sym same_run)
           (over_mount mounted.run is.count left.orders first mid last later is.most (all_mounted image mounted mid is) before
           left.all.stood);
     }
 
     -- the run stops where settings are to be put in force
     module _ (image : Image) (mounted store : Store M) (first mid last : D) (ahead ahead' : Option Moments)
-        (seen : g.seen first ≡ Some image) (is : IsMounted g fits holds choose h k image mounted mid)
-        (before : Always g first mid (RecoversToPrefix fits run choose h k))
-        (later : run < mounted.run) (runs : HasRunsLeft g fits first) (other : is_configured choose (take is.count h) config ≡ false)
+        (seen : g.seen first ≡ Some image) (is : IsMounted g fits holds choose h past.least image mounted mid)
+        (before : Always g first mid (StandsFor fits past))
+        (later : past.run < mounted.run) (runs : HasRunsLeft g fits first) (other : is_configured choose (take is.count h) config ≡ false)
         (moment : ℤ) (told : Told (Answered moment) ahead ahead') (stop : Stop)
         (why : IsUnset choose (take is.count h) (configuring config moment) stop) where
       shut : (orders : List TimedCommand) → AtMost (configuring config moment) orders →
@@ -230,8 +237,9 @@ module _ {D : Type 0} (g : Ghosts D) {M : Type 0} (fits : NamedItems → Type 0)
 
       shut_by : (takes : TimedCommand → Type 0) → ((orders : List TimedCommand) → AtMost (configuring config moment) orders →
           AllByRecursion takes (given_all choose (take is.count h) orders)) →
-          (lost : Bool) → Ends lost g fits mounted.run holds choose (take is.count h) is.count (AtMost (configuring config moment)) store
-          mid last → HasRun lost g takes fits choose h run k (WhenShut choose config stop ahead ahead') first last
+          (lost : Bool) → Ends lost g fits holds (outset choose (take is.count h) is.count mounted.run mid)
+          (AtMost (configuring config moment)) store last → HasRun lost g takes fits past
+          (WhenShut choose config stop ahead ahead') first last
       shut_by takes given true ends = record {
         count = is.count;
         least = is.least;
@@ -261,20 +269,22 @@ module _ {D : Type 0} (g : Ghosts D) {M : Type 0} (fits : NamedItems → Type 0)
         given = given ends.orders ends.allowed;
         passes = over_mount mounted.run is.count ends.orders first mid last later is.most (all_mounted image mounted mid is) before
             ends.all.stood;
-        exit = all_stand (given_all choose (take is.count h) ends.orders) is.count mounted.run store last ends.all.same_run ends.all.hold;
+        exit = all_stand choose (given_all choose (take is.count h) ends.orders) is.count mounted.run store last ends.all.same_run
+            ends.all.hold;
       }
 
       pub stopped_by : (takes : TimedCommand → Type 0) →
           ((orders : List TimedCommand) → AtMost (configuring config moment) orders →
           AllByRecursion takes (given_all choose (take is.count h) orders)) →
-          Ends (loses stop) g fits mounted.run holds choose (take is.count h) is.count (AtMost (configuring config moment)) store mid last →
-          HasShut stop g takes fits choose h run k config ahead ahead' first last
+          Ends (loses stop) g fits holds (outset choose (take is.count h) is.count mounted.run mid)
+          (AtMost (configuring config moment)) store last →
+          HasShut stop g takes fits past (course config ahead ahead' first last)
       stopped_by takes given ends = inr (shut_by takes given (loses stop) ends)
 
     -- ---- commands behind these
 
     module _ (mounted : Store M) (ahead ahead' : Option Moments) (first mid last : D)
-        (opened : HasOpened g fits holds choose h run k config mounted ahead ahead' first mid) where
+        (opened : HasOpened g fits holds past (course config ahead ahead' first mid) mounted) where
       abbrev begun : List TimedCommand
       begun = given_all choose (take opened.count h) opened.configured
 
@@ -293,7 +303,7 @@ module _ {D : Type 0} (g : Ghosts D) {M : Type 0} (fits : NamedItems → Type 0)
           (longer fits mounted.run choose begun (more_of choose begun orders) opened.count opened.count image (omega arith) stands)
 
       over_opened : (orders : List TimedCommand) → AlwaysRecoverable g fits mounted.run choose (given_all choose begun orders)
-          (length begun) mid last → Passes g fits choose h run k (given_all choose begun orders) mounted.run opened.count first last
+          (length begun) mid last → Passes g fits past (given_all choose begun orders) mounted.run opened.count first last
       over_opened orders stood = record {
         later = opened.passes.later;
         mounted = opened.passes.mounted;
@@ -309,13 +319,13 @@ module _ {D : Type 0} (g : Ghosts D) {M : Type 0} (fits : NamedItems → Type 0)
             (since orders stood);
       }
 
-      when_open : (may : Doing) (orders : List TimedCommand) → may opened.count ahead' begun orders →
+      when_open : (may : Doing) (orders : List TimedCommand) → may (giving opened.count ahead' begun orders) →
           WhenOpen choose config ahead may (take opened.count h) opened.configured orders
       when_open may orders so = record {
         configures = opened.configures;
         told = ahead';
         asked = opened.asked;
-        behind = subst (λ (n : ℕ). may n ahead' begun orders) (sym (taken opened.count h opened.most)) so;
+        behind = subst (λ (n : ℕ). may (giving n ahead' begun orders)) (sym (taken opened.count h opened.most)) so;
       }
 
       -- what was given, and may be given
@@ -323,8 +333,9 @@ module _ {D : Type 0} (g : Ghosts D) {M : Type 0} (fits : NamedItems → Type 0)
       AndGiven takes may orders = may orders × AllByRecursion takes (given_all choose begun orders)
 
       pub run_by : (takes : TimedCommand → Type 0) (store : Store M) (may : Doing) (lost : Bool) →
-          Ends lost g fits mounted.run holds choose begun opened.count (AndGiven takes (may opened.count ahead' begun)) store mid last →
-          HasRun lost g takes fits choose h run k (WhenOpen choose config ahead may) first last
+          Ends lost g fits holds (outset choose begun opened.count mounted.run mid)
+          (AndGiven takes (λ orders. may (giving opened.count ahead' begun orders))) store last →
+          HasRun lost g takes fits past (WhenOpen choose config ahead may) first last
       run_by takes store may true ends = record {
         count = opened.count;
         least = opened.least;
@@ -351,7 +362,7 @@ module _ {D : Type 0} (g : Ghosts D) {M : Type 0} (fits : NamedItems → Type 0)
         allowed = when_open may ends.orders ends.allowed.0;
         given = ends.allowed.1;
         passes = over_opened ends.orders ends.all.stood;
-        exit = all_stand (given_all choose begun ends.orders) opened.count mounted.run store last ends.all.same_run ends.all.hold;
+        exit = all_stand choose (given_all choose begun ends.orders) opened.count mounted.run store last ends.all.same_run ends.all.hold;
       }
 
       -- ---- a task
@@ -360,53 +371,55 @@ module _ {D : Type 0} (g : Ghosts D) {M : Type 0} (fits : NamedItems → Type 0)
           (out out' : Option (List ℕ)) where
         pub done_when : (result : Result Unit Stop) (done : Unit) → result ≡ Ok done → IsFine choose begun task moment →
             HasPrinted HasWritten g choose begun task moment last out out' →
-            Ends (loses_in result) g fits mounted.run holds choose begun opened.count (Gave result (orders_in task moment)) store mid last →
+            Ends (loses_in result) g fits holds (outset choose begun opened.count mounted.run mid)
+            (Gave result (orders_in task moment)) store last →
             (takes : TimedCommand → Type 0) → ((orders : List TimedCommand) (moment : ℤ) → orders ≡ orders_in task moment →
             AllByRecursion takes (given_all choose begun orders)) →
-            HasRun false g takes fits choose h run k (WhenOpen choose config ahead (HasDone g choose task ahead'' out out' last)) first last
+            HasRun false g takes fits past (WhenOpen choose config ahead (HasDone g choose task ahead'' out out' last)) first last
         done_when result done is fine printed ends takes given =
             run_by takes store (HasDone g choose task ahead'' out out' last) false
             (left_weaker g fits mounted.run holds choose begun opened.count store mid last (λ orders. orders ≡ orders_in task moment)
-            (AndGiven takes (HasDone g choose task ahead'' out out' last opened.count ahead' begun))
+            (AndGiven takes (λ orders. HasDone g choose task ahead'' out out' last (giving opened.count ahead' begun orders)))
             (λ orders are. (
               record { moment = moment; orders_are = are; asked = asked; fine = fine; printed = printed },
               given orders moment are,
             ))
-            (subst (λ (r : Result Unit Stop). Ends (loses_in r) g fits mounted.run holds choose begun opened.count
-            (Gave r (orders_in task moment)) store mid last) is ends))
+            (subst (λ (r : Result Unit Stop). Ends (loses_in r) g fits holds (outset choose begun opened.count mounted.run mid)
+            (Gave r (orders_in task moment)) store last) is ends))
 
         pub halted_when : (result : Result Unit Stop) (stop : Stop) → result ≡ Err stop → IsWhy choose begun task moment stop →
             (says task stop ≡ true → HasPrinted HasBegun g choose begun task moment last out out') →
-            Ends (loses_in result) g fits mounted.run holds choose begun opened.count (Gave result (orders_in task moment)) store mid last →
+            Ends (loses_in result) g fits holds (outset choose begun opened.count mounted.run mid)
+            (Gave result (orders_in task moment)) store last →
             (takes : TimedCommand → Type 0) → ((orders : List TimedCommand) (moment : ℤ) →
             GaveAll (is_output stop) (orders_in task moment) orders → AllByRecursion takes (given_all choose begun orders)) →
-            HasRun (loses stop) g takes fits choose h run k
-            (WhenOpen choose config ahead (HasHalted g choose task stop ahead'' out out' last)) first last
+            HasRun (loses stop) g takes fits past (WhenOpen choose config ahead (HasHalted g choose task stop ahead'' out out' last)) first
+            last
         halted_when result stop is why printed ends takes given =
             run_by takes store (HasHalted g choose task stop ahead'' out out' last) (loses stop)
             (ends_weaker g fits mounted.run holds choose begun opened.count store mid last (loses stop)
             (GaveAll (is_output stop) (orders_in task moment))
-            (AndGiven takes (HasHalted g choose task stop ahead'' out out' last opened.count ahead' begun))
+            (AndGiven takes (λ orders. HasHalted g choose task stop ahead'' out out' last (giving opened.count ahead' begun orders)))
             (λ orders are. (
               record { moment = moment; orders_are = are; asked = asked; why = why; printed = printed },
               given orders moment are,
             ))
-            (subst (λ (r : Result Unit Stop). Ends (loses_in r) g fits mounted.run holds choose begun opened.count
-            (Gave r (orders_in task moment)) store mid last) is ends))
+            (subst (λ (r : Result Unit Stop). Ends (loses_in r) g fits holds (outset choose begun opened.count mounted.run mid)
+            (Gave r (orders_in task moment)) store last) is ends))
 
       -- ---- an input
 
       module _ (store : Store M) (origin : ChannelMeta) (moment : ℤ) (ahead'' : Option Moments)
           (told : Told (Answered moment) ahead' ahead'') (left left' : Option (List ℕ)) where
         abbrev fed_of : (TimedCommand → Type 0) → Result Unit Stop → Type 0
-        fed_of takes result = Ends (loses_in result) g fits mounted.run holds choose begun opened.count
-            (AndGiven takes (Fed choose opened.count begun origin moment result left left')) store mid last
+        fed_of takes result = Ends (loses_in result) g fits holds (outset choose begun opened.count mounted.run mid)
+            (AndGiven takes (Fed choose opened.count begun origin moment result left left')) store last
 
         pub fed_when : (takes : TimedCommand → Type 0) (result : Result Unit Stop) → fed_of takes result →
-            HasRun (loses_in result) g takes fits choose h run k
-            (WhenOpen choose config ahead (HasFed choose origin result ahead'' left left')) first last
+            HasRun (loses_in result) g takes fits past (WhenOpen choose config ahead (HasFed choose origin result ahead'' left left')) first
+            last
         fed_when takes result ends = run_by takes store (HasFed choose origin result ahead'' left left') (loses_in result)
             (ends_weaker g fits mounted.run holds choose begun opened.count store mid last (loses_in result)
             (AndGiven takes (Fed choose opened.count begun origin moment result left left'))
-            (AndGiven takes (HasFed choose origin result ahead'' left left' opened.count ahead' begun))
+            (AndGiven takes (λ orders. HasFed choose origin result ahead'' left left' (giving opened.count ahead' begun orders)))
             (λ orders fed. (record { moment = moment; asked = told; fed = fed.0 }, fed.1)) ends)

@@ -33,7 +33,7 @@ use Rattle.ix_run.proofs.Gone.{stands_from}
 use Rattle.ix_store.specs.Holding.{Represents}
 use Rattle.ix_store.specs.Written.{RecoversTo, RecoversToPrefix}
 use Rattle.ix_store.specs.declared.store.Store.{Store}
-use Rattle.indexd_run.specs.Ends.{IsLeft, Ends, AtMost}
+use Rattle.indexd_run.specs.Ends.{IsLeft, Ends, AtMost, outset}
 use Rattle.indexd_run.specs.Previews.{IsRead, HasTaken, IsWhy, Fed}
 use Rattle.indexd_run.specs.Shortened.{is_short_at, is_short, EndsShort, IsOfCheckpoint}
 use Rattle.indexd_run.specs.Stops.{of_checkpoint, of_run, loses, is_output}
@@ -144,8 +144,8 @@ module _ {D : Type 0} (g : Ghosts D) {M : Type 0} (fits : NamedItems → Type 0)
   pub ends_short : store.run ≡ before.run → HasImages → (lost : Bool) (may must : List TimedCommand → Type 0) →
       ((orders : List TimedCommand) → may orders → must orders) →
       ((orders : List TimedCommand) → may orders → AllByRecursion takes (given_all choose h orders)) →
-      (lost ≡ false → IsHeld) → IsLeft g fits run holds choose h base may before first mid →
-      Ends lost g fits run holds choose h base must store first last
+      (lost ≡ false → IsHeld) → IsLeft g fits holds (outset choose h base run first) may before mid →
+      Ends lost g fits holds (outset choose h base run first) must store last
   ends_short same images true may must so all held left =
       record {
         orders = left.orders;
@@ -178,16 +178,16 @@ module _ {D : Type 0} (g : Ghosts D) {M : Type 0} (fits : NamedItems → Type 0)
       ((orders : List TimedCommand) → may orders → AllByRecursion takes (given_all choose h orders)) →
       store.run ≡ before.run → (loses stop ≡ true → (other ≡ stop) × ((store ≡ before) × (last ≡ mid))) → (loses stop ≡ false → HasImages) →
       (loses stop ≡ false → loses other ≡ false → IsHeld) →
-      Ends (loses stop) g fits run holds choose h base may before first mid →
-      Ends (loses other) g fits run holds choose h base must store first last
+      Ends (loses stop) g fits holds (outset choose h base run first) may before mid →
+      Ends (loses other) g fits holds (outset choose h base run first) must store last
   stopped_short stop other may must so all same_run closed images held ends = by (loses stop) refl ends
     where
-      by : (lost : Bool) → loses stop ≡ lost → Ends lost g fits run holds choose h base may before first mid →
-          Ends (loses other) g fits run holds choose h base must store first last
+      by : (lost : Bool) → loses stop ≡ lost → Ends lost g fits holds (outset choose h base run first) may before mid →
+          Ends (loses other) g fits holds (outset choose h base run first) must store last
       by true is ends =
           let same = closed is in
           let lost : true ≡ loses other = sym (ap loses same.0 ∙ is) in
-          subst (λ (b : Bool). Ends b g fits run holds choose h base must store first last) lost
+          subst (λ (b : Bool). Ends b g fits holds (outset choose h base run first) must store last) lost
           (record {
             orders = ends.orders;
             allowed = so ends.orders ends.allowed;
@@ -200,8 +200,8 @@ module _ {D : Type 0} (g : Ghosts D) {M : Type 0} (fits : NamedItems → Type 0)
 pub ends_behind : {D : Type 0} (g : Ghosts D) {M : Type 0} (fits : NamedItems → Type 0) (run : ℕ) (holds : Chooser → List TimedCommand → M →
     Type 0) (choose : Chooser) (h : List TimedCommand) (base : ℕ) (store : Store M) (first mid last : D) (lost : Bool) →
     AlwaysRecoverable g fits run choose h (length h) first mid →
-    Ends lost g fits run holds choose h base (λ orders. orders ≡ []) store mid last →
-    Ends lost g fits run holds choose h base (λ orders. orders ≡ []) store first last
+    Ends lost g fits holds (outset choose h base run mid) (λ orders. orders ≡ []) store last →
+    Ends lost g fits holds (outset choose h base run first) (λ orders. orders ≡ []) store last
 ends_behind g fits run holds choose h base store first mid last true stood ends = record {
   orders = ends.orders;
   allowed = ends.allowed;

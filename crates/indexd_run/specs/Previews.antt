@@ -16,6 +16,7 @@ use Rattle.ix_run.specs.Giving.{given_all, AreAllowed}
 use Rattle.ix_run.specs.Storing.{tilde, joined, storing, end_order, input_limit, IsBlock, IsNextRefused}
 use Rattle.ix_model.specs.Shelved.{IsSet}
 use Rattle.ix_store.specs.Counting.{numbers}
+use Rattle.indexd_run.specs.Opened.{Giving}
 use Rattle.indexd_run.specs.Stops.{of_refusal}
 use Rattle.indexd_run.specs.declared.stop.Stop.{Stop}
 use Rattle.indexd_run.specs.declared.stop.Stop.TheVariants as stops
@@ -91,7 +92,7 @@ pub record Fed (choose : Chooser) (base : ℕ) (begun : List TimedCommand) (orig
 
 -- The clock was asked once, and all bytes arrived at that moment.
 pub record HasFed (choose : Chooser) (origin : ChannelMeta) (result : Result Unit Stop) (ahead' : Option Moments)
-    (left left' : Option (List ℕ)) (base : ℕ) (ahead : Option Moments) (begun orders : List TimedCommand) : Type 0 where
+    (left left' : Option (List ℕ)) (was : Giving) : Type 0 where
   pub moment : ℤ
-  pub asked : Told (Answered moment) ahead ahead'
-  pub fed : Fed choose base begun origin moment result left left' orders
+  pub asked : Told (Answered moment) was.ahead ahead'
+  pub fed : Fed choose was.mounted was.begun origin moment result left left' was.orders

@@ -24,6 +24,7 @@ use Rattle.ix_report.specs.Listing.{listing}
 use Rattle.ix_report.specs.Names.{closed_name}
 use Rattle.ix_run.specs.Giving.{given_all}
 use Rattle.indexd_run.specs.Asked.{Asks}
+use Rattle.indexd_run.specs.Opened.{Giving}
 use Rattle.indexd_run.specs.Stops.{of_refusal, is_output}
 use Rattle.indexd_run.specs.declared.stop.Stop.{Stop}
 use Rattle.indexd_run.specs.declared.stop.Stop.TheVariants as stops
@@ -203,18 +204,18 @@ IsUnsaid task view stop = (stop ≡ stops.Memory) ⊎ ((stop ≡ stops.Output) �
 -- A task was given behind what there was, at the moment that the clock told for it alone, and its
 -- text was written. The disk is that at the exit.
 pub record HasDone {D : Type 0} (d : Ghosts D) (choose : Chooser) (task : Task) (ahead' : Option Moments) (out out' : Option (List ℕ))
-    (disk : D) (base : ℕ) (ahead : Option Moments) (begun orders : List TimedCommand) : Type 0 where
+    (disk : D) (was : Giving) : Type 0 where
   pub moment : ℤ
-  pub orders_are : orders ≡ orders_in task moment
-  pub asked : Asks (orders_in task moment) ahead ahead'
-  pub fine : IsFine choose begun task moment
-  pub printed : HasPrinted HasWritten d choose begun task moment disk out out'
+  pub orders_are : was.orders ≡ orders_in task moment
+  pub asked : Asks (orders_in task moment) was.ahead ahead'
+  pub fine : IsFine choose was.begun task moment
+  pub printed : HasPrinted HasWritten d choose was.begun task moment disk out out'
 
 -- It stopped for its cause: where something was written, it is a front of the text.
 pub record HasHalted {D : Type 0} (d : Ghosts D) (choose : Chooser) (task : Task) (stop : Stop) (ahead' : Option Moments)
-    (out out' : Option (List ℕ)) (disk : D) (base : ℕ) (ahead : Option Moments) (begun orders : List TimedCommand) : Type 0 where
+    (out out' : Option (List ℕ)) (disk : D) (was : Giving) : Type 0 where
   pub moment : ℤ
-  pub orders_are : GaveAll (is_output stop) (orders_in task moment) orders
-  pub asked : Asks (orders_in task moment) ahead ahead'
-  pub why : IsWhy choose begun task moment stop
-  pub printed : says task stop ≡ true → HasPrinted HasBegun d choose begun task moment disk out out'
+  pub orders_are : GaveAll (is_output stop) (orders_in task moment) was.orders
+  pub asked : Asks (orders_in task moment) was.ahead ahead'
+  pub why : IsWhy choose was.begun task moment stop
+  pub printed : says task stop ≡ true → HasPrinted HasBegun d choose was.begun task moment disk out out'

@@ -1,7 +1,7 @@
 //! A run begins: the store is mounted, and the settings of the files are put in force. Each run
 //! over a store calls it first.
 
-ghost use Rattle.std.specs.Prelude.{◌≡◌, ◌≤◌, ℕ, ℤ, List, false, Some, Err, IfOk, IfErr, OnOk, IsErrOf};
+ghost use Rattle.std.specs.Prelude.{◌≡◌, ◌≤◌, ℕ, ℤ, false, Some, Err, IfOk, IfErr, OnOk, IsErrOf};
 ghost use Rattle.std.specs.List.{AllByRecursion};
 ghost use Rattle.ix_base.specs.Faults.{Rose};
 ghost use Rattle.ix_base.specs.Told.{Told};
@@ -9,11 +9,9 @@ ghost use Rattle.ix_base.specs.declared.files.File.{File};
 ghost use Rattle.ix_disk.specs.Image.{Image};
 ghost use Rattle.ix_commit.specs.Contents.{Anyhow};
 ghost use Rattle.ix_commit.specs.Snapshot.{LogsAtEnd};
-ghost use Rattle.ix_model.specs.Given.{Chooser};
-ghost use Rattle.ix_model.specs.declared.commands.TimedCommand.{TimedCommand};
 ghost use Rattle.ix_run.specs.Resting.{CheckpointReady};
 ghost use Rattle.indexd_run.specs.Blamed.{HasMounted, Blames};
-ghost use Rattle.indexd_run.specs.Opened.{Begins, configuring, HasOpened, HasShut};
+ghost use Rattle.indexd_run.specs.Opened.{Begins, configuring, HasOpened, HasShut, Past, course};
 ghost use Rattle.indexd_run.specs.Shortened.{StopsShort};
 ghost use Rattle.indexd_run.specs.Stops.{is_output, is_input};
 
@@ -38,19 +36,17 @@ pub fn open<M: Listing + Drop, D: Disk, C: Clock>(
     requires { (moment : ℤ) → M.takes (configuring config moment) }
     // Some prefix of what the images at the start stand for is there, with the settings; all is
     // committed, and no image has lost any of it.
-    ensures opened { IfOk result (λ store. (choose : Chooser) (history : List TimedCommand) (run k : ℕ) → M.is_chooser choose →
-        AllByRecursion M.takes history →
-        Begins D.Disk M.Book.fits choose history run k disk.old → (image : Image) → D.Disk.seen disk.old ≡ Some image →
-        HasOpened D.Disk M.Book.fits M.holds choose history run k config store (C.ahead clock.old) (C.ahead clock.new) disk.old disk.new) }
+    ensures opened { IfOk result (λ store. (past : Past) → M.is_chooser past.choose → AllByRecursion M.takes past.history →
+        Begins D.Disk M.Book.fits past disk.old → (image : Image) → D.Disk.seen disk.old ≡ Some image →
+        HasOpened D.Disk M.Book.fits M.holds past (course config (C.ahead clock.old) (C.ahead clock.new) disk.old disk.new) store) }
     // At a stop nothing of before is lost either, and it has its cause.
-    ensures stopped { IfErr result (λ stop. (choose : Chooser) (history : List TimedCommand) (run k : ℕ) → M.is_chooser choose →
-        AllByRecursion M.takes history →
-        Begins D.Disk M.Book.fits choose history run k disk.old → (image : Image) → D.Disk.seen disk.old ≡ Some image →
-        HasShut stop D.Disk M.takes M.Book.fits choose history run k config (C.ahead clock.old) (C.ahead clock.new) disk.old disk.new) }
+    ensures stopped { IfErr result (λ stop. (past : Past) → M.is_chooser past.choose → AllByRecursion M.takes past.history →
+        Begins D.Disk M.Book.fits past disk.old → (image : Image) → D.Disk.seen disk.old ≡ Some image →
+        HasShut stop D.Disk M.takes M.Book.fits past (course config (C.ahead clock.old) (C.ahead clock.new) disk.old disk.new)) }
     // A disk that keeps what was committed, and tells what it reads, is not damaged.
-    ensures undamaged { (file : File) (at : ℕ) → result ≡ Err (Stop.Damaged file at) →
-        (choose : Chooser) (history : List TimedCommand) (run k : ℕ) → M.is_chooser choose → AllByRecursion M.takes history →
-        Begins D.Disk M.Book.fits choose history run k disk.old → (image : Image) → D.Disk.seen disk.old ≡ Some image → ⊥ }
+    ensures undamaged { (file : File) (at : ℕ) → result ≡ Err (Stop.Damaged file at) → (past : Past) → M.is_chooser past.choose →
+        AllByRecursion M.takes past.history → Begins D.Disk M.Book.fits past disk.old → (image : Image) →
+        D.Disk.seen disk.old ≡ Some image → ⊥ }
     // Whatever the disk held: an open store was mounted, and a stop blames what the mount or the
     // mounted store has met.
     ensures mounted { OnOk result (HasMounted D.Disk M.Book.fits disk.old) }

@@ -1,7 +1,7 @@
 //! A preview whose events are stored: the input is given to the store as the stream of a channel.
 //! The program calls `run_preview`.
 
-ghost use Rattle.std.specs.Prelude.{◌≡◌, ◌≤◌, ℕ, ℤ, List, length, true, false, Some, Err, IfOk, IfErr, OnOk, IsErrOf};
+ghost use Rattle.std.specs.Prelude.{◌≡◌, ◌≤◌, ℕ, ℤ, List, length, true, false, Some, Err, IfErr, OnOk, IsErrOf};
 ghost use Rattle.std.specs.List.{AllByRecursion};
 ghost use Rattle.ix_base.specs.Faults.{Rose};
 ghost use Rattle.ix_base.specs.Told.{Told};
@@ -14,8 +14,8 @@ ghost use Rattle.ix_run.specs.Storing.{begin_order, block_order, end_order, IsBl
 ghost use Rattle.ix_run.specs.Resting.{CheckpointReady, ReadsShort};
 ghost use Rattle.ix_store.specs.Holding.{Represents};
 ghost use Rattle.indexd_run.specs.Blamed.{Blames, ReadsBad};
-ghost use Rattle.indexd_run.specs.Ends.{Ends};
-ghost use Rattle.indexd_run.specs.Opened.{Begins, configuring, WhenOpen, HasRun, HasStopped};
+ghost use Rattle.indexd_run.specs.Ends.{Ends, outset};
+ghost use Rattle.indexd_run.specs.Opened.{Begins, configuring, WhenOpen, HasRun, HasStopped, Past, course};
 ghost use Rattle.indexd_run.specs.Previews as defs;
 ghost use Rattle.indexd_run.specs.Previews.{HasTaken, Fed, HasFed};
 ghost use Rattle.indexd_run.specs.Shortened.{is_short, EndsShort};
@@ -58,8 +58,8 @@ fn store_all<M: Listing + Drop, D: Disk, S: Source>(
     ensures rest { loses_in result ≡ false → CheckpointReady D.Disk store.new.committer disk.new }
     ensures ends { (choose : Chooser) (history : List TimedCommand) (base : ℕ) → M.is_chooser choose → AllByRecursion M.takes history →
         Represents D.Disk M.Book.fits M.holds choose history base (length history) store.old disk.old →
-        Ends (loses_in result) D.Disk M.Book.fits store.old.run M.holds choose history base
-        (Fed choose base history arrival.origin arrival.moment result (S.left input.old) (S.left input.new)) store.new disk.old disk.new }
+        Ends (loses_in result) D.Disk M.Book.fits M.holds (outset choose history base store.old.run disk.old)
+        (Fed choose base history arrival.origin arrival.moment result (S.left input.old) (S.left input.new)) store.new disk.new }
     ensures read { HasTaken result (S.left input.old) (S.left input.new) }
     ensures quiet { IfErr result (λ stop. is_output stop ≡ false) }
     ensures undamaged { (file : File) (at : ℕ) → result ≡ Err (Stop.Damaged file at) →
@@ -96,8 +96,8 @@ fn store_preview<M: Listing + Drop, D: Disk, S: Source>(
     requires adds { (bytes : List ℕ) → IsBlock bytes → M.takes (block_order arrival.moment bytes) }
     ensures ends { (choose : Chooser) (history : List TimedCommand) (base : ℕ) → M.is_chooser choose → AllByRecursion M.takes history →
         Represents D.Disk M.Book.fits M.holds choose history base (length history) store.old disk.old →
-        Ends (loses_in result) D.Disk M.Book.fits store.old.run M.holds choose history base
-        (Fed choose base history arrival.origin arrival.moment result (S.left input.old) (S.left input.new)) store.new disk.old disk.new }
+        Ends (loses_in result) D.Disk M.Book.fits M.holds (outset choose history base store.old.run disk.old)
+        (Fed choose base history arrival.origin arrival.moment result (S.left input.old) (S.left input.new)) store.new disk.new }
     ensures read { HasTaken result (S.left input.old) (S.left input.new) }
     ensures quiet { IfErr result (λ stop. is_output stop ≡ false) }
     ensures short { is_short result ≡ true → ReadsShort D.Disk disk.new }
@@ -136,27 +136,22 @@ pub fn run_preview<M: Listing + Drop, D: Disk, C: Clock, S: Source>(
     requires adds { (moment : ℤ) (bytes : List ℕ) → IsBlock bytes → M.takes (block_order moment bytes) }
     // A run that is done has given all the commands that store the whole input, and every image at
     // the exit has them.
-    ensures done { OnOk result ((choose : Chooser) (history : List TimedCommand) (run k : ℕ) → M.is_chooser choose →
-        AllByRecursion M.takes history →
-        Begins D.Disk M.Book.fits choose history run k disk.old → (image : Image) → D.Disk.seen disk.old ≡ Some image →
-        HasRun false D.Disk M.takes M.Book.fits choose history run k
-        (WhenOpen choose config (C.ahead clock.old) (HasFed choose origin result (C.ahead clock.new) (S.left input.old) (S.left input.new)))
-        disk.old disk.new) }
+    ensures done { OnOk result ((past : Past) → M.is_chooser past.choose → AllByRecursion M.takes past.history →
+        Begins D.Disk M.Book.fits past disk.old → (image : Image) → D.Disk.seen disk.old ≡ Some image →
+        HasRun false D.Disk M.takes M.Book.fits past (WhenOpen past.choose config (C.ahead clock.old)
+        (HasFed past.choose origin result (C.ahead clock.new) (S.left input.old) (S.left input.new))) disk.old disk.new) }
     // One that stops has a cause, and has given a front of those that store what it has read.
-    ensures stopped { IfErr result (λ stop. (choose : Chooser) (history : List TimedCommand) (run k : ℕ) → M.is_chooser choose →
-        AllByRecursion M.takes history →
-        Begins D.Disk M.Book.fits choose history run k disk.old → (image : Image) → D.Disk.seen disk.old ≡ Some image →
-        HasStopped stop D.Disk M.takes M.Book.fits choose history run k config (C.ahead clock.old) (C.ahead clock.new)
-        (S.left input.new ≡ S.left input.old)
-        (HasFed choose origin result (C.ahead clock.new) (S.left input.old) (S.left input.new)) disk.old disk.new) }
+    ensures stopped { IfErr result (λ stop. (past : Past) → M.is_chooser past.choose → AllByRecursion M.takes past.history →
+        Begins D.Disk M.Book.fits past disk.old → (image : Image) → D.Disk.seen disk.old ≡ Some image →
+        HasStopped stop D.Disk M.takes M.Book.fits past (course config (C.ahead clock.old) (C.ahead clock.new) disk.old disk.new)
+        (S.left input.new ≡ S.left input.old) (HasFed past.choose origin result (C.ahead clock.new) (S.left input.old) (S.left input.new))) }
     // What is on the disk is not damaged where it keeps what was committed and tells what it reads,
-    ensures undamaged { (file : File) (at : ℕ) → result ≡ Err (Stop.Damaged file at) →
-        (choose : Chooser) (history : List TimedCommand) (run k : ℕ) → M.is_chooser choose → AllByRecursion M.takes history →
-        Begins D.Disk M.Book.fits choose history run k disk.old → (image : Image) → D.Disk.seen disk.old ≡ Some image → ⊥ }
+    ensures undamaged { (file : File) (at : ℕ) → result ≡ Err (Stop.Damaged file at) → (past : Past) → M.is_chooser past.choose →
+        AllByRecursion M.takes past.history → Begins D.Disk M.Book.fits past disk.old → (image : Image) →
+        D.Disk.seen disk.old ≡ Some image → ⊥ }
     // and what is in memory contradicts nothing.
-    ensures sound { IsErrOf result Stop.Inconsistent → (choose : Chooser) (history : List TimedCommand) (run k : ℕ) → M.is_chooser choose →
-        AllByRecursion M.takes history →
-        Begins D.Disk M.Book.fits choose history run k disk.old → (image : Image) → D.Disk.seen disk.old ≡ Some image → ⊥ }
+    ensures sound { IsErrOf result Stop.Inconsistent → (past : Past) → M.is_chooser past.choose → AllByRecursion M.takes past.history →
+        Begins D.Disk M.Book.fits past disk.old → (image : Image) → D.Disk.seen disk.old ≡ Some image → ⊥ }
     // Whatever the disk held, a stop blames what the mount or the mounted store has met.
     ensures blamed { IfErr result (λ stop. Blames stop D.Disk M.Book.fits M.gives_none disk.old disk.new) }
     // Its log is not long then, as the disk reads, whatever it stops for; but where memory was

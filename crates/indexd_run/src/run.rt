@@ -15,8 +15,8 @@ ghost use Rattle.ix_run.specs.Resting.{CheckpointReady, ReadsShort};
 ghost use Rattle.ix_store.specs.Holding.{Represents};
 ghost use Rattle.indexd_run.specs.Asked.{Asks};
 ghost use Rattle.indexd_run.specs.Blamed.{Blames, ReadsBad};
-ghost use Rattle.indexd_run.specs.Ends.{Ends};
-ghost use Rattle.indexd_run.specs.Opened.{Begins, configuring, WhenOpen, HasRun, HasStopped};
+ghost use Rattle.indexd_run.specs.Ends.{Ends, outset};
+ghost use Rattle.indexd_run.specs.Opened.{Begins, configuring, WhenOpen, HasRun, HasStopped, Past, course};
 ghost use Rattle.indexd_run.specs.Shortened.{is_short, EndsShort};
 ghost use Rattle.indexd_run.specs.Stops.{loses_in, is_output, is_input};
 ghost use Rattle.indexd_run.specs.Tasks.{command_in, orders_in, Gave, IsWhy, IsFine, moved_by, is_export, says, HasSaid, HasPrinted};
@@ -59,8 +59,8 @@ fn give_command<M: Listing + Drop, D: Disk>(
     ensures rest { loses_in result ≡ false → CheckpointReady D.Disk store.new.committer disk.new }
     ensures ends { (choose : Chooser) (history : List TimedCommand) (base : ℕ) → M.is_chooser choose → AllByRecursion M.takes history →
         Represents D.Disk M.Book.fits M.holds choose history base (length history) store.old disk.old →
-        Ends (loses_in result) D.Disk M.Book.fits store.old.run M.holds choose history base (Gave result (orders_in task.entry moment))
-        store.new disk.old disk.new }
+        Ends (loses_in result) D.Disk M.Book.fits M.holds (outset choose history base store.old.run disk.old)
+        (Gave result (orders_in task.entry moment)) store.new disk.new }
     ensures moved { IfOk result (λ count. (choose : Chooser) (history : List TimedCommand) (base : ℕ) → M.is_chooser choose →
         AllByRecursion M.takes history →
         Represents D.Disk M.Book.fits M.holds choose history base (length history) store.old disk.old →
@@ -108,8 +108,8 @@ fn give_task<M: Listing + Drop, D: Disk>(
     requires takes { AllByRecursion M.takes (orders_in task moment) }
     ensures ends { (choose : Chooser) (history : List TimedCommand) (base : ℕ) → M.is_chooser choose → AllByRecursion M.takes history →
         Represents D.Disk M.Book.fits M.holds choose history base (length history) store.old disk.old →
-        Ends (loses_in result) D.Disk M.Book.fits store.old.run M.holds choose history base (Gave result (orders_in task.entry moment))
-        store.new disk.old disk.new }
+        Ends (loses_in result) D.Disk M.Book.fits M.holds (outset choose history base store.old.run disk.old)
+        (Gave result (orders_in task.entry moment)) store.new disk.new }
     ensures moved { IfOk result (λ count. (choose : Chooser) (history : List TimedCommand) (base : ℕ) → M.is_chooser choose →
         AllByRecursion M.takes history →
         Represents D.Disk M.Book.fits M.holds choose history base (length history) store.old disk.old →
@@ -157,8 +157,8 @@ fn give_and_say<M: Listing + Drop, D: Disk, W: Sink>(
     requires takes { AllByRecursion M.takes (orders_in task moment) }
     ensures ends { (choose : Chooser) (history : List TimedCommand) (base : ℕ) → M.is_chooser choose → AllByRecursion M.takes history →
         Represents D.Disk M.Book.fits M.holds choose history base (length history) store.old disk.old →
-        Ends (loses_in result) D.Disk M.Book.fits store.old.run M.holds choose history base (Gave result (orders_in task.entry moment))
-        store.new disk.old disk.new }
+        Ends (loses_in result) D.Disk M.Book.fits M.holds (outset choose history base store.old.run disk.old)
+        (Gave result (orders_in task.entry moment)) store.new disk.new }
     ensures printed { OnOk result ((choose : Chooser) (history : List TimedCommand) (base : ℕ) → M.is_chooser choose →
         AllByRecursion M.takes history →
         Represents D.Disk M.Book.fits M.holds choose history base (length history) store.old disk.old →
@@ -208,8 +208,8 @@ fn carry_out<M: Listing + Drop, D: Disk, W: Sink>(
     requires takes { AllByRecursion M.takes (orders_in task moment) }
     ensures ends { (choose : Chooser) (history : List TimedCommand) (base : ℕ) → M.is_chooser choose → AllByRecursion M.takes history →
         Represents D.Disk M.Book.fits M.holds choose history base (length history) store.old disk.old →
-        Ends (loses_in result) D.Disk M.Book.fits store.old.run M.holds choose history base (Gave result (orders_in task.entry moment))
-        store.new disk.old disk.new }
+        Ends (loses_in result) D.Disk M.Book.fits M.holds (outset choose history base store.old.run disk.old)
+        (Gave result (orders_in task.entry moment)) store.new disk.new }
     ensures printed { OnOk result ((choose : Chooser) (history : List TimedCommand) (base : ℕ) → M.is_chooser choose →
         AllByRecursion M.takes history →
         Represents D.Disk M.Book.fits M.holds choose history base (length history) store.old disk.old →
@@ -261,30 +261,26 @@ pub fn run_task<M: Listing + Drop, D: Disk, C: Clock, W: Sink>(
     requires takes { (moment : ℤ) → AllByRecursion M.takes (orders_in task moment) }
     // A run that is done has given the task behind the settings and written its text, and every
     // image at the exit has all.
-    ensures done { OnOk result ((choose : Chooser) (history : List TimedCommand) (run k : ℕ) → M.is_chooser choose →
-        AllByRecursion M.takes history →
-        Begins D.Disk M.Book.fits choose history run k disk.old → (image : Image) → D.Disk.seen disk.old ≡ Some image →
-        HasRun false D.Disk M.takes M.Book.fits choose history run k
-        (WhenOpen choose config (C.ahead clock.old) (HasDone D.Disk choose task.entry (C.ahead clock.new) (W.given output.old)
-        (W.given output.new) disk.new)) disk.old disk.new) }
+    ensures done { OnOk result ((past : Past) → M.is_chooser past.choose → AllByRecursion M.takes past.history →
+        Begins D.Disk M.Book.fits past disk.old → (image : Image) → D.Disk.seen disk.old ≡ Some image →
+        HasRun false D.Disk M.takes M.Book.fits past (WhenOpen past.choose config (C.ahead clock.old)
+        (HasDone D.Disk past.choose task.entry (C.ahead clock.new) (W.given output.old) (W.given output.new) disk.new)) disk.old disk.new) }
     // One that stops has a cause. It has lost nothing of what was mounted, and where the disk is
     // not at fault nothing that was accepted since.
-    ensures stopped { IfErr result (λ stop. (choose : Chooser) (history : List TimedCommand) (run k : ℕ) → M.is_chooser choose →
-        AllByRecursion M.takes history →
-        Begins D.Disk M.Book.fits choose history run k disk.old → (image : Image) → D.Disk.seen disk.old ≡ Some image →
-        HasStopped stop D.Disk M.takes M.Book.fits choose history run k config (C.ahead clock.old) (C.ahead clock.new)
-        (W.given output.new ≡ W.given output.old)
-        (HasHalted D.Disk choose task.entry stop (C.ahead clock.new) (W.given output.old) (W.given output.new) disk.new) disk.old disk.new) }
+    ensures stopped { IfErr result (λ stop. (past : Past) → M.is_chooser past.choose → AllByRecursion M.takes past.history →
+        Begins D.Disk M.Book.fits past disk.old → (image : Image) → D.Disk.seen disk.old ≡ Some image →
+        HasStopped stop D.Disk M.takes M.Book.fits past (course config (C.ahead clock.old) (C.ahead clock.new) disk.old disk.new)
+        (W.given output.new ≡ W.given output.old) (HasHalted D.Disk past.choose task.entry stop (C.ahead clock.new) (W.given output.old)
+        (W.given output.new) disk.new)) }
     // Only an export, and an output that fails, leave a part of a text.
     ensures quiet { IfErr result (λ stop. says task.entry stop ≡ false → W.given output.new ≡ W.given output.old) }
     // What is on the disk is not damaged where it keeps what was committed and tells what it reads,
-    ensures undamaged { (file : File) (at : ℕ) → result ≡ Err (Stop.Damaged file at) →
-        (choose : Chooser) (history : List TimedCommand) (run k : ℕ) → M.is_chooser choose → AllByRecursion M.takes history →
-        Begins D.Disk M.Book.fits choose history run k disk.old → (image : Image) → D.Disk.seen disk.old ≡ Some image → ⊥ }
+    ensures undamaged { (file : File) (at : ℕ) → result ≡ Err (Stop.Damaged file at) → (past : Past) → M.is_chooser past.choose →
+        AllByRecursion M.takes past.history → Begins D.Disk M.Book.fits past disk.old → (image : Image) →
+        D.Disk.seen disk.old ≡ Some image → ⊥ }
     // and what is in memory contradicts nothing.
-    ensures sound { IsErrOf result Stop.Inconsistent → (choose : Chooser) (history : List TimedCommand) (run k : ℕ) → M.is_chooser choose →
-        AllByRecursion M.takes history →
-        Begins D.Disk M.Book.fits choose history run k disk.old → (image : Image) → D.Disk.seen disk.old ≡ Some image → ⊥ }
+    ensures sound { IsErrOf result Stop.Inconsistent → (past : Past) → M.is_chooser past.choose → AllByRecursion M.takes past.history →
+        Begins D.Disk M.Book.fits past disk.old → (image : Image) → D.Disk.seen disk.old ≡ Some image → ⊥ }
     // Whatever the disk held, a stop blames what the mount or the mounted store has met.
     ensures blamed { IfErr result (λ stop. Blames stop D.Disk M.Book.fits M.gives_none disk.old disk.new) }
     // Its log is not long then, as the disk reads, whatever it stops for; but where memory was

@@ -1,6 +1,6 @@
 //! The last command of a run.
 
-ghost use Rattle.std.specs.Prelude.{◌≡◌, ◌≤◌, ◌+◌, ℕ, List, length, true, false, Some, Err, IfOk, IfErr, OnOk, IsErrOf};
+ghost use Rattle.std.specs.Prelude.{◌≡◌, ◌≤◌, ◌+◌, ℕ, List, length, false, Some, Err, IfOk, IfErr, OnOk, IsErrOf};
 ghost use Rattle.std.specs.List.{AllByRecursion};
 ghost use Rattle.ix_base.specs.Faults.{Rose};
 ghost use Rattle.ix_base.specs.Told.{Told};
@@ -13,7 +13,7 @@ ghost use Rattle.ix_model.specs.declared.commands.TimedCommand.{TimedCommand};
 ghost use Rattle.ix_run.specs.Resting.{CheckpointReady};
 ghost use Rattle.ix_store.specs.Holding.{Represents, IsAnswer};
 ghost use Rattle.indexd_run.specs.Blamed.{ReadsBad};
-ghost use Rattle.indexd_run.specs.Ends.{IsLeft, Ends, Only, AtMost};
+ghost use Rattle.indexd_run.specs.Ends.{IsLeft, Ends, Only, AtMost, outset};
 ghost use Rattle.indexd_run.specs.Stops.{loses, loses_in, is_output, is_input, Caused};
 
 use crate::stop::{Stop, of_give};
@@ -33,10 +33,9 @@ pub fn run_last<M: Listing + Drop, D: Disk>(
     requires takes { M.takes (record { command = command; moment = moment }) }
     // The command is behind the others, and all are committed.
     ensures left { OnOk result ((choose : Chooser) (history : List TimedCommand) (base : ℕ) → M.is_chooser choose →
-        AllByRecursion M.takes history →
-        Represents D.Disk M.Book.fits M.holds choose history base (length history) store.old disk.old →
-        IsLeft D.Disk M.Book.fits store.old.run M.holds choose history base (Only (record { command = command; moment = moment })) store.new
-        disk.old disk.new) }
+        AllByRecursion M.takes history → Represents D.Disk M.Book.fits M.holds choose history base (length history) store.old disk.old →
+        IsLeft D.Disk M.Book.fits M.holds (outset choose history base store.old.run disk.old)
+        (Only (record { command = command; moment = moment })) store.new disk.new) }
     ensures answers { IfOk result (λ answer. (choose : Chooser) (history : List TimedCommand) (base : ℕ) → M.is_chooser choose →
         AllByRecursion M.takes history →
         Represents D.Disk M.Book.fits M.holds choose history base (length history) store.old disk.old →
@@ -44,10 +43,9 @@ pub fn run_last<M: Listing + Drop, D: Disk>(
     // A stop is the end of a run: what was accepted is committed, unless the disk is at fault. In
     // no case is anything of before lost.
     ensures stopped { IfErr result (λ stop. (choose : Chooser) (history : List TimedCommand) (base : ℕ) → M.is_chooser choose →
-        AllByRecursion M.takes history →
-        Represents D.Disk M.Book.fits M.holds choose history base (length history) store.old disk.old →
-        Ends (loses stop) D.Disk M.Book.fits store.old.run M.holds choose history base
-        (AtMost (record { command = command; moment = moment })) store.new disk.old disk.new) }
+        AllByRecursion M.takes history → Represents D.Disk M.Book.fits M.holds choose history base (length history) store.old disk.old →
+        Ends (loses stop) D.Disk M.Book.fits M.holds (outset choose history base store.old.run disk.old)
+        (AtMost (record { command = command; moment = moment })) store.new disk.new) }
     // It has a cause.
     ensures caused { IfErr result (λ stop. (choose : Chooser) (history : List TimedCommand) (base : ℕ) → M.is_chooser choose →
         AllByRecursion M.takes history →

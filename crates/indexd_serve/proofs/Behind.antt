@@ -18,20 +18,19 @@ use Rattle.ix_sessions.proofs.Growing.{knows_within}
 use Rattle.ix_sessions.proofs.Turning.{safe_turns}
 use Rattle.ix_sessions.proofs.Visiting.{safe_visits}
 use Rattle.ix_sessions.specs.Connections as connections
-use Rattle.ix_sessions.specs.Connections.{Listened, Listens, turns_of}
-use Rattle.ix_sessions.specs.Feeding.{AreSafe, Has, Kind, Start, coming, Turn, Runs, disk_after, history_after, known, is_open_end}
+use Rattle.ix_sessions.specs.Connections.{Listened, Listens, turns_of, hearing}
+use Rattle.ix_sessions.specs.Feeding.{AreSafe, Has, Kind, Start, coming, Turn, Runs, disk_after, history_after, known, is_open_end, talk}
 use Rattle.ix_sessions.specs.declared.feed.Fed.{Fed}
 use Rattle.ix_sessions.specs.declared.feed.Fed.TheVariants as fed
 use Rattle.ix_sessions.specs.declared.serve.Heard.{Heard}
 use Rattle.ix_sessions.specs.declared.serve.Heard.TheVariants as heard
 use Rattle.ix_commit.specs.declared.fault.CommitFault.TheVariants as commits
-use Rattle.ix_model.specs.Given.{Chooser}
 use Rattle.ix_model.specs.declared.commands.TimedCommand.{TimedCommand}
 use Rattle.ix_store.proofs.Counted.{take_whole}
 use Rattle.ix_store.specs.Written.{RecoversTo}
 use Rattle.ix_store.specs.declared.store.Store.{Store}
 use Rattle.indexd_serve.specs.Ends.{fed_behind, FedBehind, is_short, heard_end, heard_behind, HeardBehind, is_short_served}
-use Rattle.indexd_serve.specs.Serving.{Requests, Connections}
+use Rattle.indexd_serve.specs.Serving.{Requests, Connections, session, exchange}
 use Rattle.indexd_serve.specs.declared.end.ServeEnd.{ServeEnd}
 use Rattle.indexd_serve.specs.declared.end.ServeEnd.TheVariants as serving
 
@@ -179,9 +178,9 @@ listener_served first (Err checkpoints.NoMemory) is = absurd (cc)
 
 module _ {D : Type 0} (g : Ghosts D) {M : Type 0} (kind : Kind M) (s : Start D) (first : Fed) (clean : Type 0)
     (left left' : Option (List ℕ)) (ahead ahead' : Option Moments) (given given' : Option (List ℕ)) (store : Store M) (mid : D)
-    (runs : Runs g kind s first clean (coming left ahead) (coming left' ahead') given given' store mid) where
+    (runs : Runs g kind s first clean (talk (coming left ahead) given) (talk (coming left' ahead') given') store mid) where
   pub requests_closed : (now : List TimedCommand) × (AllByRecursion kind.takes now
-      × Requests g kind.fits first clean left left' ahead' given given' mid s ahead now)
+      × Requests g kind.fits first clean (exchange left left' given given') (session s ahead ahead' now mid))
   requests_closed = (
     history_after s runs.turns,
     (
@@ -207,7 +206,7 @@ module _ {D : Type 0} (g : Ghosts D) {M : Type 0} (kind : Kind M) (s : Start D) 
       is_open_end first ≡ true → store.run ≡ s.run → s.kept ≤ length s.history →
       Always g mid last (RecoversTo kind.fits store.run s.choose (history_after s runs.turns)) →
       (now : List TimedCommand) × (AllByRecursion kind.takes now
-      × Requests g kind.fits end clean left left' ahead' given given' last s ahead now)
+      × Requests g kind.fits end clean (exchange left left' given given') (session s ahead ahead' now last))
   requests_behind shortened end last is up same within made =
       let safe = safe_turns g kind.fits s runs.turns (coming left ahead) (coming left' ahead') runs.are in (
         history_after s runs.turns,
@@ -234,9 +233,9 @@ module _ {D : Type 0} (g : Ghosts D) {M : Type 0} (kind : Kind M) (s : Start D) 
 
 module _ {D : Type 0} (g : Ghosts D) {M : Type 0} (kind : Kind M) (s : Start D) (requests : ℕ) (first : Heard) (from to : Listened)
     (ahead ahead' : Option Moments) (store : Store M) (mid : D)
-    (listens : Listens g kind s requests first from to ahead ahead' store mid) where
+    (listens : Listens g kind s requests first (hearing from ahead) (hearing to ahead') store mid) where
   pub connections_closed : (end : ServeEnd) → end ≡ heard_end first → (now : List TimedCommand)
-      × (AllByRecursion kind.takes now × Connections g kind.fits requests end from to ahead' mid s ahead now)
+      × (AllByRecursion kind.takes now × Connections g kind.fits requests end from to (session s ahead ahead' now mid))
   connections_closed end is = (
     history_after s (turns_of listens.visits),
     (
@@ -259,7 +258,8 @@ module _ {D : Type 0} (g : Ghosts D) {M : Type 0} (kind : Kind M) (s : Start D) 
   pub connections_behind : (shortened : Result Unit CheckpointFault) (end : ServeEnd) (last : D) → end ≡ heard_behind first shortened →
       connections.is_open_end first ≡ true → store.run ≡ s.run → s.kept ≤ length s.history →
       Always g mid last (RecoversTo kind.fits store.run s.choose (history_after s (turns_of listens.visits))) →
-      (now : List TimedCommand) × (AllByRecursion kind.takes now × Connections g kind.fits requests end from to ahead' last s ahead now)
+      (now : List TimedCommand) × (AllByRecursion kind.takes now
+      × Connections g kind.fits requests end from to (session s ahead ahead' now last))
   connections_behind shortened end last is up same within made =
       let safe = safe_visits g kind.fits s listens.visits ahead ahead' listens.are in (
         history_after s (turns_of listens.visits),

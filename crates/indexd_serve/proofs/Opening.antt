@@ -20,31 +20,34 @@ use Rattle.ix_store.specs.Written.{RecoversToPrefix}
 use Rattle.ix_store.specs.declared.fault.MountFault.TheVariants as mounts
 use Rattle.ix_store.specs.declared.store.Store.{Store}
 use Rattle.ix_serve.specs.Serving.{IsTold}
-use Rattle.indexd_run.specs.Opened.{Begins, HasOpened, HasShut, Passes}
+use Rattle.indexd_run.specs.Opened.{Begins, HasOpened, HasShut, Passes, Past, Course, course, StandsFor, mounted_with}
 use Rattle.indexd_run.specs.declared.stop.Stop.TheVariants as stops
-use Rattle.indexd_serve.specs.Serving.{Serving, Requests, HasServed, begun_with}
+use Rattle.indexd_serve.specs.Serving.{Serving, Requests, HasServed, begun_with, Session, session, Exchange}
 
 -- where nothing was mounted for want of memory, all stands as it did
 pub unmounted : {D : Type 0} (g : Ghosts D) (takes : TimedCommand → Type 0) (fits : NamedItems →
-    Type 0) (choose : Chooser) (h : List TimedCommand) (run k : ℕ) (config : Config) (ahead : Option Moments) (disk : D) →
-    Begins g fits choose h run k disk → HasShut stops.Memory g takes fits choose h run k config ahead ahead disk disk
-unmounted g takes fits choose h run k config ahead disk begins = inl (record {
+    Type 0) (past : Past) (config : Config) (ahead : Option Moments) (disk : D) → Begins g fits past disk →
+    HasShut stops.Memory g takes fits past (course config ahead ahead disk disk)
+unmounted g takes fits past config ahead disk begins = inl (record {
   fault = mounts.NoMemory;
   stop_is = refl;
   sound = λ e. cc;
   spent = λ e. cc;
   not_asked = refl;
-  stood = always_begins g disk (RecoversToPrefix fits run choose h k) begins;
+  stood = always_begins g disk (StandsFor fits past) begins;
 })
 
 module _ {D : Type 0} (g : Ghosts D) {M : Type 0} (takes : TimedCommand → Type 0) (fits : NamedItems → Type 0) (holds : Chooser →
-    List TimedCommand → M → Type 0) (choose : Chooser) (h : List TimedCommand) (run k : ℕ) (config : Config) (store : Store M)
-    (ahead told : Option Moments) (first mid : D) (opened : HasOpened g fits holds choose h run k config store ahead told first mid) where
+    List TimedCommand → M → Type 0) (past : Past) (config : Config) (store : Store M)
+    (ahead told : Option Moments) (first mid : D) (opened : HasOpened g fits holds past (course config ahead told first mid) store) where
+  abbrev choose : Chooser
+  choose = past.choose
+
   abbrev begun : List TimedCommand
-  begun = given_all choose (take opened.count h) opened.configured
+  begun = mounted_with past opened.count opened.configured
 
   abbrev from : Start D
-  from = begun_with choose h opened.count opened.configured store.run mid
+  from = begun_with past opened.count opened.configured store.run mid
 
   at_least : opened.count ≤ length begun
   at_least = opened.hold.staged.from_base
@@ -73,7 +76,7 @@ module _ {D : Type 0} (g : Ghosts D) {M : Type 0} (takes : TimedCommand → Type
 
   passes_by : (turns : List (Turn D)) (last : D) → AreSafe g fits from turns →
       Always g (disk_after from turns) last (Has fits from turns (known from turns)) →
-      Passes g fits choose h run k (history_after from turns) store.run opened.count first last
+      Passes g fits past (history_after from turns) store.run opened.count first last
   passes_by turns last safe since =
       let P = RecoversToPrefix fits store.run choose (history_after from turns) opened.count in
       let now = disk_after from turns in
@@ -92,11 +95,12 @@ module _ {D : Type 0} (g : Ghosts D) {M : Type 0} (takes : TimedCommand → Type
             (always_weaker g now last _ _ (behind turns (known from turns) (knows_more g fits from turns safe)) since));
       }
 
-  pub served_behind : (serves : Serving D) (turns : List (Turn D)) (now : List TimedCommand) (last : D) → (IsTold g first → IsTold g mid) →
-      AllByRecursion takes now → now ≡ history_after from turns → serves from told now →
+  pub served_behind : (serves : Serving D) (turns : List (Turn D)) (now : List TimedCommand) (ahead' : Option Moments) (last : D) →
+      (IsTold g first → IsTold g mid) →
+      AllByRecursion takes now → now ≡ history_after from turns → serves (session from told ahead' now last) →
       AreSafe g fits from turns → Always g (disk_after from turns) last (Has fits from turns (known from turns)) →
-      HasServed g takes fits choose h run k config ahead serves first last
-  served_behind serves turns now last tells given same served safe since = record {
+      HasServed g takes fits past (course config ahead ahead' first last) serves
+  served_behind serves turns now ahead' last tells given same served safe since = record {
     count = opened.count;
     least = opened.least;
     most = opened.most;
@@ -112,18 +116,16 @@ module _ {D : Type 0} (g : Ghosts D) {M : Type 0} (takes : TimedCommand → Type
     runs_left = opened.runs_left;
     served = served;
     given = given;
-    passes = subst (λ (all : List TimedCommand). Passes g fits choose h run k all store.run opened.count first last) (sym same)
+    passes = subst (λ (all : List TimedCommand). Passes g fits past all store.run opened.count first last) (sym same)
         (passes_by turns last safe since);
   }
 
 -- more may be said of requests
 pub served_as : {D : Type 0} (g : Ghosts D) (takes : TimedCommand → Type 0) (fits : NamedItems →
-    Type 0) (choose : Chooser) (h : List TimedCommand) (run k : ℕ) (config : Config) (ahead : Option Moments) (serves says : Serving D)
-    (first last : D) →
-    (has : HasServed g takes fits choose h run k config ahead serves first last) →
-    says (begun_with choose h has.count has.configured has.new_run has.middle) has.told has.now →
-    HasServed g takes fits choose h run k config ahead says first last
-served_as g takes fits choose h run k config ahead serves says first last has said = record {
+    Type 0) (past : Past) (run : Course D) (serves says : Serving D) → (has : HasServed g takes fits past run serves) →
+    says (session (begun_with past has.count has.configured has.new_run has.middle) has.told run.ahead' has.now run.disk) →
+    HasServed g takes fits past run says
+served_as g takes fits past run serves says has said = record {
   count = has.count;
   least = has.least;
   most = has.most;
@@ -145,13 +147,10 @@ served_as g takes fits choose h run k config ahead serves says first last has sa
 -- what is said where something holds may be said where more does, and an end by another name that
 -- says the same
 pub requests_where : {D : Type 0} (g : Ghosts D) (fits : NamedItems →
-    Type 0) (end told : Fed) (clean cleaner : Type 0) (left left' : Option (List ℕ)) (ahead' : Option Moments)
-    (given given' : Option (List ℕ)) (disk : D)
-    (s : Start D) (ahead : Option Moments) (now : List TimedCommand) → (cleaner → clean) → told ≡ end →
-    Requests g fits end clean left left' ahead' given given' disk s ahead now →
-    Requests g fits told cleaner left left' ahead' given given' disk s ahead now
-requests_where g fits end told clean cleaner left left' ahead' given given' disk s ahead now so same has =
-    subst (λ (e : Fed). Requests g fits e cleaner left left' ahead' given given' disk s ahead now) (sym same) (record {
+    Type 0) (end told : Fed) (clean cleaner : Type 0) (link : Exchange) (s : Session D) → (cleaner → clean) → told ≡ end →
+    Requests g fits end clean link s → Requests g fits told cleaner link s
+requests_where g fits end told clean cleaner link s so same has =
+    subst (λ (e : Fed). Requests g fits e cleaner link s) (sym same) (record {
       turns = has.turns;
       now_is = has.now_is;
       are = has.are;

@@ -16,11 +16,11 @@ ghost use Rattle.ix_serve.specs.Serving.{IsClean, IsTold};
 ghost use Rattle.ix_serve.specs.Taking.{TakesAsks};
 ghost use Rattle.ix_store.specs.Holding.{Represents};
 ghost use Rattle.indexd_run.specs.Blamed.{HasMounted, Blames, ReadsBad};
-ghost use Rattle.indexd_run.specs.Opened.{Begins, configuring, HasShut};
+ghost use Rattle.indexd_run.specs.Opened.{Begins, configuring, HasShut, Past, course};
 ghost use Rattle.indexd_run.specs.Shortened.{StopsShort};
 ghost use Rattle.indexd_run.specs.Stops.{is_output, is_input};
 ghost use Rattle.indexd_serve.specs.Ends as ends;
-ghost use Rattle.indexd_serve.specs.Serving.{HasServed, Requests};
+ghost use Rattle.indexd_serve.specs.Serving.{HasServed, Requests, session, exchange};
 
 use crate::end::fed_behind;
 use indexd_run::{Stop, open};
@@ -48,12 +48,11 @@ fn feed_open<M: Listing + Drop, D: Disk, C: Clock, K: Link>(
     requires rest { CheckpointReady D.Disk store.old.committer disk.old }
     requires asks { TakesAsks M.takes }
     ensures requests { (choose : Chooser) (history : List TimedCommand) (base : ℕ) → M.is_chooser choose → AllByRecursion M.takes history →
-        Represents D.Disk M.Book.fits M.holds choose history base (length history) store.old disk.old →
-        (now : List TimedCommand) × (AllByRecursion M.takes now
-        × Requests D.Disk M.Book.fits result (IsClean (K.faults link.old) (K.faults link.new) (K.standing link.old)
-        (K.standing link.new))
-        (K.left link.old) (K.left link.new) (C.ahead clock.new) (K.given link.old) (K.given link.new) disk.new
-        (start choose history base (length history) store.old.run disk.old) (C.ahead clock.old) now) }
+        Represents D.Disk M.Book.fits M.holds choose history base (length history) store.old disk.old → (now : List TimedCommand)
+        × (AllByRecursion M.takes now × Requests D.Disk M.Book.fits result
+        (IsClean (K.faults link.old) (K.faults link.new) (K.standing link.old) (K.standing link.new))
+        (exchange (K.left link.old) (K.left link.new) (K.given link.old) (K.given link.new))
+        (session (start choose history base (length history) store.old.run disk.old) (C.ahead clock.old) (C.ahead clock.new) now disk.new)) }
     ensures reads { ReadsTo result (K.left link.old) (K.left link.new) }
     ensures unbroken { (file : File) (at : ℕ) → result ≡ Fed.Broken (CommitFault.Damaged file at) →
         (choose : Chooser) (history : List TimedCommand) (base : ℕ) → M.is_chooser choose →
@@ -91,20 +90,18 @@ pub fn run_feed<M: Listing + Drop, D: Disk, C: Clock, K: Link>(
     // Requests are served over some prefix of what was there, with the settings in force, up to
     // this end. All replies are written, unless the count of the link has risen, and that of its
     // writing side.
-    ensures served { IfOk result (λ end. (choose : Chooser) (history : List TimedCommand) (run k : ℕ) → M.is_chooser choose →
-        AllByRecursion M.takes history →
-        Begins D.Disk M.Book.fits choose history run k disk.old → (image : Image) → D.Disk.seen disk.old ≡ Some image →
-        HasServed D.Disk M.takes M.Book.fits choose history run k config (C.ahead clock.old)
+    ensures served { IfOk result (λ end. (past : Past) → M.is_chooser past.choose → AllByRecursion M.takes past.history →
+        Begins D.Disk M.Book.fits past disk.old → (image : Image) → D.Disk.seen disk.old ≡ Some image →
+        HasServed D.Disk M.takes M.Book.fits past (course config (C.ahead clock.old) (C.ahead clock.new) disk.old disk.new)
         (Requests D.Disk M.Book.fits end (IsClean (K.faults link.old) (K.faults link.new) (K.standing link.old) (K.standing link.new))
-        (K.left link.old) (K.left link.new) (C.ahead clock.new) (K.given link.old) (K.given link.new) disk.new) disk.old disk.new) }
+        (exchange (K.left link.old) (K.left link.new) (K.given link.old) (K.given link.new)))) }
     // Which requests were read, and where the run ended by them, goes by the bytes of the link,
     // whatever the disk holds.
     ensures reads { IfOk result (λ end. ReadsTo end (K.left link.old) (K.left link.new)) }
     // A run that stops before them has lost nothing, has its cause, and leaves the link alone.
-    ensures shut { IfErr result (λ stop. (choose : Chooser) (history : List TimedCommand) (run k : ℕ) → M.is_chooser choose →
-        AllByRecursion M.takes history →
-        Begins D.Disk M.Book.fits choose history run k disk.old → (image : Image) → D.Disk.seen disk.old ≡ Some image →
-        HasShut stop D.Disk M.takes M.Book.fits choose history run k config (C.ahead clock.old) (C.ahead clock.new) disk.old disk.new) }
+    ensures shut { IfErr result (λ stop. (past : Past) → M.is_chooser past.choose → AllByRecursion M.takes past.history →
+        Begins D.Disk M.Book.fits past disk.old → (image : Image) → D.Disk.seen disk.old ≡ Some image →
+        HasShut stop D.Disk M.takes M.Book.fits past (course config (C.ahead clock.old) (C.ahead clock.new) disk.old disk.new)) }
     ensures untouched { OnErr result (link.new ≡ link.old) }
     // Behind the run the current log is not long, as the disk reads; but for want of memory, where
     // the disk is at fault, or where nothing was mounted.
@@ -117,17 +114,15 @@ pub fn run_feed<M: Listing + Drop, D: Disk, C: Clock, K: Link>(
     // Damage that ends the requests is named as the disk reads.
     ensures placed { (file : File) (at : ℕ) → result ≡ Ok (Fed.Broken (CommitFault.Damaged file at)) → ReadsBad D.Disk disk.new file at }
     // What is on the disk is not damaged where it keeps what was committed and tells what it reads,
-    ensures undamaged { (file : File) (at : ℕ) → result ≡ Err (Stop.Damaged file at) →
-        (choose : Chooser) (history : List TimedCommand) (run k : ℕ) → M.is_chooser choose → AllByRecursion M.takes history →
-        Begins D.Disk M.Book.fits choose history run k disk.old → (image : Image) → D.Disk.seen disk.old ≡ Some image → ⊥ }
-    ensures unbroken { (file : File) (at : ℕ) → result ≡ Ok (Fed.Broken (CommitFault.Damaged file at)) →
-        (choose : Chooser) (history : List TimedCommand) (run k : ℕ) → M.is_chooser choose →
-        AllByRecursion M.takes history → Begins D.Disk M.Book.fits choose history run k disk.old → (image : Image) →
+    ensures undamaged { (file : File) (at : ℕ) → result ≡ Err (Stop.Damaged file at) → (past : Past) → M.is_chooser past.choose →
+        AllByRecursion M.takes past.history → Begins D.Disk M.Book.fits past disk.old → (image : Image) →
+        D.Disk.seen disk.old ≡ Some image → ⊥ }
+    ensures unbroken { (file : File) (at : ℕ) → result ≡ Ok (Fed.Broken (CommitFault.Damaged file at)) → (past : Past) →
+        M.is_chooser past.choose → AllByRecursion M.takes past.history → Begins D.Disk M.Book.fits past disk.old → (image : Image) →
         D.Disk.seen disk.old ≡ Some image → ⊥ }
     // and what is in memory contradicts nothing.
-    ensures sound { IsErrOf result Stop.Inconsistent → (choose : Chooser) (history : List TimedCommand) (run k : ℕ) → M.is_chooser choose →
-        AllByRecursion M.takes history →
-        Begins D.Disk M.Book.fits choose history run k disk.old → (image : Image) → D.Disk.seen disk.old ≡ Some image → ⊥ }
+    ensures sound { IsErrOf result Stop.Inconsistent → (past : Past) → M.is_chooser past.choose → AllByRecursion M.takes past.history →
+        Begins D.Disk M.Book.fits past disk.old → (image : Image) → D.Disk.seen disk.old ≡ Some image → ⊥ }
     ensures quiet { IfErr result (λ stop. is_output stop ≡ false) }
     ensures still { IfErr result (λ stop. is_input stop ≡ false) }
     // The link is the same still, a disk that tells what it reads goes on telling, and no count

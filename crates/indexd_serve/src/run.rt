@@ -7,17 +7,15 @@ ghost use Rattle.ix_base.specs.Faults.{Rose};
 ghost use Rattle.ix_base.specs.declared.files.File.{File};
 ghost use Rattle.ix_disk.specs.Image.{Image};
 ghost use Rattle.ix_sessions.specs.Reading.{ReadsTo};
-ghost use Rattle.ix_model.specs.Given.{Chooser};
-ghost use Rattle.ix_model.specs.declared.commands.TimedCommand.{TimedCommand};
 ghost use Rattle.ix_run.specs.Resting.{ReadsShort};
 ghost use Rattle.ix_serve.specs.Serving.{IsTold};
 ghost use Rattle.ix_serve.specs.Taking.{TakesAsks};
 ghost use Rattle.indexd_run.specs.Blamed.{HasMounted, Blames, ReadsBad};
-ghost use Rattle.indexd_run.specs.Opened.{Begins, configuring, HasShut};
+ghost use Rattle.indexd_run.specs.Opened.{Begins, configuring, HasShut, Past, course};
 ghost use Rattle.indexd_run.specs.Shortened.{StopsShort};
 ghost use Rattle.indexd_run.specs.Stops.{is_output, is_input};
 ghost use Rattle.indexd_serve.specs.Ends.{fed_of, is_short};
-ghost use Rattle.indexd_serve.specs.Serving.{HasServed, Requests};
+ghost use Rattle.indexd_serve.specs.Serving.{HasServed, Requests, exchange};
 ghost use Rattle.indexd_serve.specs.Sides.{IsSound};
 
 use crate::end::{End, end_of};
@@ -48,22 +46,19 @@ pub fn run_streams<M: Listing + Drop, D: Disk, C: Clock, S: Source, W: Sink>(
     requires asks { TakesAsks M.takes }
     // Requests are served over some prefix of what was there, with the settings in force, up to
     // this end. All replies are written, unless the count of the output has risen.
-    ensures served { IfOk result (λ end. (choose : Chooser) (history : List TimedCommand) (run k : ℕ) → M.is_chooser choose →
-        AllByRecursion M.takes history →
-        Begins D.Disk M.Book.fits choose history run k disk.old → (image : Image) → D.Disk.seen disk.old ≡ Some image →
-        HasServed D.Disk M.takes M.Book.fits choose history run k config (C.ahead clock.old)
-        (Requests D.Disk M.Book.fits (fed_of end) (IsSound (W.faults output.old) (W.faults output.new)) (S.left input.old)
-        (S.left input.new) (C.ahead clock.new)
-        (W.given output.old) (W.given output.new) disk.new) disk.old disk.new) }
+    ensures served { IfOk result (λ end. (past : Past) → M.is_chooser past.choose → AllByRecursion M.takes past.history →
+        Begins D.Disk M.Book.fits past disk.old → (image : Image) → D.Disk.seen disk.old ≡ Some image →
+        HasServed D.Disk M.takes M.Book.fits past (course config (C.ahead clock.old) (C.ahead clock.new) disk.old disk.new)
+        (Requests D.Disk M.Book.fits (fed_of end) (IsSound (W.faults output.old) (W.faults output.new))
+        (exchange (S.left input.old) (S.left input.new) (W.given output.old) (W.given output.new)))) }
     // Which requests were read, and where the run ended by them, goes by the bytes of the input,
     // whatever the disk holds.
     ensures reads { IfOk result (λ end. ReadsTo (fed_of end) (S.left input.old) (S.left input.new)) }
     // A run that stops before them has lost nothing, has its cause, and leaves the input and the
     // output alone.
-    ensures shut { IfErr result (λ stop. (choose : Chooser) (history : List TimedCommand) (run k : ℕ) → M.is_chooser choose →
-        AllByRecursion M.takes history →
-        Begins D.Disk M.Book.fits choose history run k disk.old → (image : Image) → D.Disk.seen disk.old ≡ Some image →
-        HasShut stop D.Disk M.takes M.Book.fits choose history run k config (C.ahead clock.old) (C.ahead clock.new) disk.old disk.new) }
+    ensures shut { IfErr result (λ stop. (past : Past) → M.is_chooser past.choose → AllByRecursion M.takes past.history →
+        Begins D.Disk M.Book.fits past disk.old → (image : Image) → D.Disk.seen disk.old ≡ Some image →
+        HasShut stop D.Disk M.takes M.Book.fits past (course config (C.ahead clock.old) (C.ahead clock.new) disk.old disk.new)) }
     ensures unread { OnErr result (input.new ≡ input.old) }
     ensures unwritten { OnErr result (output.new ≡ output.old) }
     // Behind the run the current log is not long, as the disk reads; but for want of memory, where
@@ -77,16 +72,15 @@ pub fn run_streams<M: Listing + Drop, D: Disk, C: Clock, S: Source, W: Sink>(
     // Damage that ends the requests is named as the disk reads.
     ensures placed { (file : File) (at : ℕ) → result ≡ Ok (End.Damaged file at) → ReadsBad D.Disk disk.new file at }
     // What is on the disk is not damaged where it keeps what was committed and tells what it reads,
-    ensures undamaged { (file : File) (at : ℕ) → result ≡ Err (Stop.Damaged file at) →
-        (choose : Chooser) (history : List TimedCommand) (run k : ℕ) → M.is_chooser choose → AllByRecursion M.takes history →
-        Begins D.Disk M.Book.fits choose history run k disk.old → (image : Image) → D.Disk.seen disk.old ≡ Some image → ⊥ }
-    ensures unbroken { (file : File) (at : ℕ) → result ≡ Ok (End.Damaged file at) →
-        (choose : Chooser) (history : List TimedCommand) (run k : ℕ) → M.is_chooser choose → AllByRecursion M.takes history →
-        Begins D.Disk M.Book.fits choose history run k disk.old → (image : Image) → D.Disk.seen disk.old ≡ Some image → ⊥ }
+    ensures undamaged { (file : File) (at : ℕ) → result ≡ Err (Stop.Damaged file at) → (past : Past) → M.is_chooser past.choose →
+        AllByRecursion M.takes past.history → Begins D.Disk M.Book.fits past disk.old → (image : Image) →
+        D.Disk.seen disk.old ≡ Some image → ⊥ }
+    ensures unbroken { (file : File) (at : ℕ) → result ≡ Ok (End.Damaged file at) → (past : Past) → M.is_chooser past.choose →
+        AllByRecursion M.takes past.history → Begins D.Disk M.Book.fits past disk.old → (image : Image) →
+        D.Disk.seen disk.old ≡ Some image → ⊥ }
     // and what is in memory contradicts nothing.
-    ensures sound { IsErrOf result Stop.Inconsistent → (choose : Chooser) (history : List TimedCommand) (run k : ℕ) → M.is_chooser choose →
-        AllByRecursion M.takes history →
-        Begins D.Disk M.Book.fits choose history run k disk.old → (image : Image) → D.Disk.seen disk.old ≡ Some image → ⊥ }
+    ensures sound { IsErrOf result Stop.Inconsistent → (past : Past) → M.is_chooser past.choose → AllByRecursion M.takes past.history →
+        Begins D.Disk M.Book.fits past disk.old → (image : Image) → D.Disk.seen disk.old ≡ Some image → ⊥ }
     ensures quiet { IfErr result (λ stop. is_output stop ≡ false) }
     ensures still { IfErr result (λ stop. is_input stop ≡ false) }
     // A disk that tells what it reads goes on telling, no count falls, and each fault has its

@@ -16,11 +16,11 @@ ghost use Rattle.ix_serve.specs.Serving.{IsTold};
 ghost use Rattle.ix_serve.specs.Taking.{TakesAsks};
 ghost use Rattle.ix_store.specs.Holding.{Represents};
 ghost use Rattle.indexd_run.specs.Blamed.{HasMounted, Blames, ReadsBad};
-ghost use Rattle.indexd_run.specs.Opened.{Begins, configuring, HasShut};
+ghost use Rattle.indexd_run.specs.Opened.{Begins, configuring, HasShut, Past, course};
 ghost use Rattle.indexd_run.specs.Shortened.{StopsShort};
 ghost use Rattle.indexd_run.specs.Stops.{is_output, is_input};
 ghost use Rattle.indexd_serve.specs.Ends as ends;
-ghost use Rattle.indexd_serve.specs.Serving.{HasServed, Connections};
+ghost use Rattle.indexd_serve.specs.Serving.{HasServed, Connections, session};
 
 use crate::end::{ServeEnd, heard_behind, heard_end};
 use indexd_run::{Stop, open};
@@ -48,11 +48,11 @@ fn serve_open<M: Listing + Drop, D: Disk, C: Clock, L: Listener>(
     requires rest { CheckpointReady D.Disk store.old.committer disk.old }
     requires asks { TakesAsks M.takes }
     ensures connections { (choose : Chooser) (history : List TimedCommand) (base : ℕ) → M.is_chooser choose →
-        AllByRecursion M.takes history →
-        Represents D.Disk M.Book.fits M.holds choose history base (length history) store.old disk.old →
-        (now : List TimedCommand) × (AllByRecursion M.takes now × Connections D.Disk M.Book.fits requests result
-        (listened (L.waiting listener.old) (L.handed listener.old)) (listened (L.waiting listener.new) (L.handed listener.new))
-        (C.ahead clock.new) disk.new (start choose history base (length history) store.old.run disk.old) (C.ahead clock.old) now) }
+        AllByRecursion M.takes history → Represents D.Disk M.Book.fits M.holds choose history base (length history) store.old disk.old →
+        (now : List TimedCommand) × (AllByRecursion M.takes now
+        × Connections D.Disk M.Book.fits requests result (listened (L.waiting listener.old) (L.handed listener.old))
+        (listened (L.waiting listener.new) (L.handed listener.new))
+        (session (start choose history base (length history) store.old.run disk.old) (C.ahead clock.old) (C.ahead clock.new) now disk.new)) }
     ensures reads { HearsMany (ends.AsManyServed requests result) (listened (L.waiting listener.old) (L.handed listener.old))
         (listened (L.waiting listener.new) (L.handed listener.new)) }
     ensures unbroken { (file : File) (at : ℕ) → result ≡ ServeEnd.Damaged file at →
@@ -94,21 +94,19 @@ pub fn run_serve<M: Listing + Drop, D: Disk, C: Clock, L: Listener>(
     requires asks { TakesAsks M.takes }
     // Connections are served over some prefix of what was there, with the settings in force, up to
     // this end.
-    ensures served { IfOk result (λ end. (choose : Chooser) (history : List TimedCommand) (run k : ℕ) → M.is_chooser choose →
-        AllByRecursion M.takes history →
-        Begins D.Disk M.Book.fits choose history run k disk.old → (image : Image) → D.Disk.seen disk.old ≡ Some image →
-        HasServed D.Disk M.takes M.Book.fits choose history run k config (C.ahead clock.old)
+    ensures served { IfOk result (λ end. (past : Past) → M.is_chooser past.choose → AllByRecursion M.takes past.history →
+        Begins D.Disk M.Book.fits past disk.old → (image : Image) → D.Disk.seen disk.old ≡ Some image →
+        HasServed D.Disk M.takes M.Book.fits past (course config (C.ahead clock.old) (C.ahead clock.new) disk.old disk.new)
         (Connections D.Disk M.Book.fits requests end (listened (L.waiting listener.old) (L.handed listener.old))
-        (listened (L.waiting listener.new) (L.handed listener.new)) (C.ahead clock.new) disk.new) disk.old disk.new) }
+        (listened (L.waiting listener.new) (L.handed listener.new)))) }
     // How many connections were taken, that each request was read of what its connection held, and
     // that each was handed back, holds whatever the disk holds.
     ensures reads { IfOk result (λ end. HearsMany (ends.AsManyServed requests end)
         (listened (L.waiting listener.old) (L.handed listener.old)) (listened (L.waiting listener.new) (L.handed listener.new))) }
     // A run that stops before them has lost nothing, has its cause, and leaves the listener alone.
-    ensures shut { IfErr result (λ stop. (choose : Chooser) (history : List TimedCommand) (run k : ℕ) → M.is_chooser choose →
-        AllByRecursion M.takes history →
-        Begins D.Disk M.Book.fits choose history run k disk.old → (image : Image) → D.Disk.seen disk.old ≡ Some image →
-        HasShut stop D.Disk M.takes M.Book.fits choose history run k config (C.ahead clock.old) (C.ahead clock.new) disk.old disk.new) }
+    ensures shut { IfErr result (λ stop. (past : Past) → M.is_chooser past.choose → AllByRecursion M.takes past.history →
+        Begins D.Disk M.Book.fits past disk.old → (image : Image) → D.Disk.seen disk.old ≡ Some image →
+        HasShut stop D.Disk M.takes M.Book.fits past (course config (C.ahead clock.old) (C.ahead clock.new) disk.old disk.new)) }
     ensures untouched { OnErr result (listener.new ≡ listener.old) }
     // Behind the run the current log is not long, as the disk reads; but for want of memory, where
     // the disk is at fault, or where nothing was mounted.
@@ -121,17 +119,15 @@ pub fn run_serve<M: Listing + Drop, D: Disk, C: Clock, L: Listener>(
     // Damage that ends the connections is named as the disk reads.
     ensures placed { (file : File) (at : ℕ) → result ≡ Ok (ServeEnd.Damaged file at) → ReadsBad D.Disk disk.new file at }
     // What is on the disk is not damaged where it keeps what was committed and tells what it reads,
-    ensures undamaged { (file : File) (at : ℕ) → result ≡ Err (Stop.Damaged file at) →
-        (choose : Chooser) (history : List TimedCommand) (run k : ℕ) → M.is_chooser choose → AllByRecursion M.takes history →
-        Begins D.Disk M.Book.fits choose history run k disk.old → (image : Image) → D.Disk.seen disk.old ≡ Some image → ⊥ }
-    ensures unbroken { (file : File) (at : ℕ) → result ≡ Ok (ServeEnd.Damaged file at) →
-        (choose : Chooser) (history : List TimedCommand) (run k : ℕ) → M.is_chooser choose →
-        AllByRecursion M.takes history → Begins D.Disk M.Book.fits choose history run k disk.old → (image : Image) →
+    ensures undamaged { (file : File) (at : ℕ) → result ≡ Err (Stop.Damaged file at) → (past : Past) → M.is_chooser past.choose →
+        AllByRecursion M.takes past.history → Begins D.Disk M.Book.fits past disk.old → (image : Image) →
+        D.Disk.seen disk.old ≡ Some image → ⊥ }
+    ensures unbroken { (file : File) (at : ℕ) → result ≡ Ok (ServeEnd.Damaged file at) → (past : Past) → M.is_chooser past.choose →
+        AllByRecursion M.takes past.history → Begins D.Disk M.Book.fits past disk.old → (image : Image) →
         D.Disk.seen disk.old ≡ Some image → ⊥ }
     // and what is in memory contradicts nothing.
-    ensures sound { IsErrOf result Stop.Inconsistent → (choose : Chooser) (history : List TimedCommand) (run k : ℕ) → M.is_chooser choose →
-        AllByRecursion M.takes history →
-        Begins D.Disk M.Book.fits choose history run k disk.old → (image : Image) → D.Disk.seen disk.old ≡ Some image → ⊥ }
+    ensures sound { IsErrOf result Stop.Inconsistent → (past : Past) → M.is_chooser past.choose → AllByRecursion M.takes past.history →
+        Begins D.Disk M.Book.fits past disk.old → (image : Image) → D.Disk.seen disk.old ≡ Some image → ⊥ }
     ensures quiet { IfErr result (λ stop. is_output stop ≡ false) }
     ensures still { IfErr result (λ stop. is_input stop ≡ false) }
     // A disk that tells what it reads goes on telling, as many connections are out as before, no

@@ -26,7 +26,7 @@ use Rattle.ix_store.proofs.Lawful.{held_stands}
 use Rattle.ix_serve.specs.Answer.{Says, is_whole}
 use Rattle.ix_serve.specs.Entries.{entry}
 use Rattle.ix_sessions.specs.Feeding.{Comes, Kind, Start, Coming, Turn, IsTurn, AreSafe, Came, Has, history_after, disk_after, reply_text}
-use Rattle.ix_sessions.specs.Feeding.{known, AreTurns, EndsAs, AreTold, IsUndamagedEnd, Reaches, Feeds, Runs, IsWholeEnd, is_open_end}
+use Rattle.ix_sessions.specs.Feeding.{known, AreTurns, EndsAs, AreTold, IsUndamagedEnd, Reaches, Feeds, Runs, IsWholeEnd, is_open_end, talk}
 use Rattle.ix_sessions.specs.Feeding.{end_of, most_requests}
 use Rattle.ix_serve.specs.Prefixes.{StandsIn}
 use Rattle.ix_serve.specs.Replies.{Reply, text_of}
@@ -147,7 +147,7 @@ module _ {D : Type 0} (g : Ghosts D) {M : Type 0} (kind : Kind M) (s : Start D) 
     (given given' given'' : Option (List ℕ)) (before store : Store M) (disk new : D)
     (moment : ℤ) (clean clean' : Type 0) (result : Result Served ServeFault)
     (same : before.run ≡ s.run) (goes_on : store.run ≡ before.run) (shown : Told (Answered moment) mid.ahead to.ahead)
-    (reached : Reaches g kind s count from mid given given' before disk)
+    (reached : Reaches g kind s count (talk from given) (talk mid given') before disk)
     (serves : Serves g kind.fits kind.holds (entry s.choose (history_after s reached.turns) s.base reached.kept before.run moment) clean
     result mid.left to.left given' given'' store disk new)
     (tells : IsTold g disk → IsTold g new) (taken : AllByRecursion kind.takes (history_after s reached.turns ++ serves.answers.answer.more))
@@ -178,7 +178,7 @@ module _ {D : Type 0} (g : Ghosts D) {M : Type 0} (kind : Kind M) (s : Start D) 
     unfolding turn
     told_on is = let before = reached.told is in (tells before.0, (tells before.0, before.1))
 
-    pub reach_on : end_of (count + 1) result ≡ None → Reaches g kind s (count + 1) from to given given'' store new
+    pub reach_on : end_of (count + 1) result ≡ None → Reaches g kind s (count + 1) (talk from given) (talk to given'') store new
     unfolding turn
     reach_on none =
         let fine = stays_open (count + 1) result none in
@@ -199,7 +199,7 @@ module _ {D : Type 0} (g : Ghosts D) {M : Type 0} (kind : Kind M) (s : Start D) 
         }
 
     pub feeds_on : (clean' → clean) → (end : Fed) → end_of (count + 1) result ≡ Some end →
-        Feeds g kind s end clean' from to given given'' store new
+        Feeds g kind s end clean' (talk from given) (talk to given'') store new
     unfolding turn
     feeds_on cleaner end is = record {
       turns = turn ∷ reached.turns;
@@ -228,7 +228,8 @@ module _ {D : Type 0} (g : Ghosts D) {M : Type 0} (kind : Kind M) (s : Start D) 
 -- a run that was not ended by a turn
 pub feeds_all : {D : Type 0} (g : Ghosts D) {M : Type 0} (kind : Kind M) (s : Start D) (clean : Type 0) (from to : Coming)
     (given given' : Option (List ℕ)) (store : Store M) (new : D) (count : ℕ) → count ≡ most_requests → store.run ≡ s.run →
-    (reached : Reaches g kind s count from to given given' store new) → Feeds g kind s fed.Endless clean from to given given' store new
+    (reached : Reaches g kind s count (talk from given) (talk to given') store new) →
+    Feeds g kind s fed.Endless clean (talk from given) (talk to given') store new
 feeds_all g kind s clean from to given given' store new count most same reached = record {
   turns = reached.turns;
   are = reached.are;
@@ -286,9 +287,9 @@ all_held g kind s turns store disk same hold image may =
 
 module _ {D : Type 0} (g : Ghosts D) {M : Type 0} (kind : Kind M) (s : Start D) (end : Fed) (clean : Type 0) (from to : Coming)
     (given given' : Option (List ℕ)) (store : Store M) (mid : D)
-    (feeds : Feeds g kind s end clean from to given given' store mid) where
+    (feeds : Feeds g kind s end clean (talk from given) (talk to given') store mid) where
   -- the store was not open for a commit
-  pub runs_closed : is_open_end end ≡ false → Runs g kind s end clean from to given given' store mid
+  pub runs_closed : is_open_end end ≡ false → Runs g kind s end clean (talk from given) (talk to given') store mid
   runs_closed down = record {
     turns = feeds.turns;
     are = feeds.are;
@@ -314,7 +315,7 @@ module _ {D : Type 0} (g : Ghosts D) {M : Type 0} (kind : Kind M) (s : Start D) 
     runs_on : (last : Fed) → EndsAs last feeds.turns → (IsWholeEnd last → IsWholeEnd end) → IsUndamagedEnd g new last →
         (is_open_end last ≡ true → Represents g kind.fits kind.holds s.choose after s.base (length after) later new) →
         (is_open_end last ≡ true → later.run ≡ s.run) →
-        Runs g kind s last clean from to given given' later new
+        Runs g kind s last clean (talk from given) (talk to given') later new
     runs_on last ends whole undamaged held goes_on =
         let was = feeds.held up in
         record {
@@ -335,7 +336,7 @@ module _ {D : Type 0} (g : Ghosts D) {M : Type 0} (kind : Kind M) (s : Start D) 
     -- the commit was made
     pub runs_committed : later.run ≡ s.run → ((kept : ℕ) → Represents g kind.fits kind.holds s.choose after s.base kept store mid →
         Represents g kind.fits kind.holds s.choose after s.base (length after) later new) →
-        Runs g kind s end clean from to given given' later new
+        Runs g kind s end clean (talk from given) (talk to given') later new
     runs_committed same_run done = runs_on end (inl feeds.ends) (λ is. is)
         (λ file at is image seen. absurd (false≢true (sym (ap is_open_end is) ∙ up)))
         (λ _. done (feeds.held up).0 (feeds.held up).2) (λ _. same_run)
@@ -343,7 +344,7 @@ module _ {D : Type 0} (g : Ghosts D) {M : Type 0} (kind : Kind M) (s : Start D) 
     -- the commit met a fault
     pub runs_broken : (cause : CommitFault) → ((kept : ℕ) → Represents g kind.fits kind.holds s.choose after s.base kept store mid →
         (file : File) (at : ℕ) → cause ≡ commits.Damaged file at → (image : Image) → g.seen new ≡ Some image → ⊥) →
-        Runs g kind s (fed.Broken cause) clean from to given given' later new
+        Runs g kind s (fed.Broken cause) clean (talk from given) (talk to given') later new
     runs_broken cause undamaged = runs_on (fed.Broken cause) (inr (cause, refl, end, up, feeds.ends)) (λ is. absurd is)
         (λ file at is image seen. undamaged (feeds.held up).0 (feeds.held up).2 file at (broken_is _ _ is) image seen)
         (λ is. absurd (false≢true is)) (λ is. absurd (false≢true is))

@@ -1,5 +1,5 @@
 -- How visits follow each other.
-use Rattle.std.proofs.Common.{◌≡◌, ◌≤◌, ◌<◌, ◌+◌, ◌⊎◌, ◌∙◌, ℕ, ℤ, true, false, List, [], ◌∷◌, length, take, ◌++◌, refl, sym, ap, subst}
+use Rattle.std.proofs.Common.{◌≡◌, ◌≤◌, ◌<◌, ◌+◌, ◌⊎◌, ◌∙◌, ℕ, ℤ, true, false, List, [], ◌∷◌, length, ◌++◌, refl, sym, ap, subst}
 use Rattle.std.proofs.Common.{⊎_elim, inl, inr, Option, Some, None, Result, Ok, Err, arith, append_assoc, append-nil}
 use Rattle.std.specs.Prelude.{IfSome}
 use Rattle.std.specs.List.{AllByRecursion}
@@ -21,7 +21,6 @@ use Rattle.ix_commit.specs.declared.fault.CommitFault.TheVariants as commits
 use Rattle.ix_net.specs.Links.{Standing, LinkStep}
 use Rattle.ix_net.specs.Listeners.{Handed, Begins, TakesFirst, Adds, handed_back, has_risen}
 use Rattle.ix_net.proofs.GoesLemmas.{not_risen}
-use Rattle.ix_model.specs.Given.{Chooser}
 use Rattle.ix_model.specs.declared.commands.TimedCommand.{TimedCommand}
 use Rattle.ix_store.specs.Holding.{Represents}
 use Rattle.ix_store.specs.Written.{RecoversTo}
@@ -38,7 +37,7 @@ use Rattle.ix_serve.specs.declared.served.ServeFault.TheVariants as fault
 use Rattle.ix_serve.proofs.Standing.{of_all}
 use Rattle.ix_sessions.specs.Connections.{Comes, Visit, Listened, listened, HasHeard, turns_of, backs_of, held_by, IsVisit, AreVisits}
 use Rattle.ix_sessions.specs.Connections.{EndsAt, EndsIn, IsUndamagedEnd, Taken, HandedBack, Attends, Visits, Hears, Listens, break_of}
-use Rattle.ix_sessions.specs.Connections.{is_open_end}
+use Rattle.ix_sessions.specs.Connections.{is_open_end, hearing}
 use Rattle.ix_sessions.specs.Feeding.{Kind, Start, start, Turn, AreSafe, AreTold, Has, first_entry, history_after, disk_after, known}
 use Rattle.ix_sessions.specs.Feeding.{reply_text}
 use Rattle.ix_sessions.specs.declared.serve.Heard.{Heard}
@@ -105,7 +104,7 @@ pub attends : {D : Type 0} (g : Ghosts D) {M : Type 0} (kind : Kind M) (s : Star
     (serves : Serves g kind.fits kind.holds (first_entry s moment) (IsClean faults faults' begun ended) came left left' given given' store
     s.disk new) →
     (came ≡ Err fault.Link → Rose faults faults') → AllByRecursion kind.takes (s.history ++ serves.answers.answer.more) →
-    Attends g kind s came from to ahead ahead' store new
+    Attends g kind s came (hearing from ahead) (hearing to ahead') store new
 attends g kind s came from to ahead ahead' begun ended faults faults' left left' given given' store new moment begins goes waits backs shown
     serves by_link taken =
     let held : ended.held ≡ left = goes.held ∙ begins.held in
@@ -178,9 +177,9 @@ safe_visits g fits s (visit ∷ earlier) ahead ahead' are = (safe_visits g fits 
 module _ {D : Type 0} (g : Ghosts D) {M : Type 0} (kind : Kind M) (s : Start D) (count : ℕ) (from mid to : Listened)
     (ahead ahead' ahead'' : Option Moments) (before store : Store M) (disk new : D)
     (came : Result Served ServeFault) (same : before.run ≡ s.run) (goes_on : store.run ≡ before.run)
-    (visited : Visits g kind s count from mid ahead ahead' before disk)
-    (next : Attends g kind (start s.choose (history_after s (turns_of visited.visits)) s.base visited.kept before.run disk) came mid to
-    ahead' ahead'' store new)
+    (visited : Visits g kind s count (hearing from ahead) (hearing mid ahead') before disk)
+    (next : Attends g kind (start s.choose (history_after s (turns_of visited.visits)) s.base visited.kept before.run disk) came
+    (hearing mid ahead') (hearing to ahead'') store new)
     (tells : IsTold g disk → IsTold g new) where
   turn : Turn D
   turn = record { kept = visited.kept; moment = next.moment; read = next.read; answer = next.answer; result = came; disk = new }
@@ -219,7 +218,7 @@ module _ {D : Type 0} (g : Ghosts D) {M : Type 0} (kind : Kind M) (s : Start D) 
   unfolding turn visit
   visits_told is = let past = visited.told is in (tells past.0, (tells past.0, past.1))
 
-  pub visits_on : break_of came ≡ None → Visits g kind s (count + 1) from to ahead ahead'' store new
+  pub visits_on : break_of came ≡ None → Visits g kind s (count + 1) (hearing from ahead) (hearing to ahead'') store new
   unfolding turn visit
   visits_on none =
       let fine = stays_open came none in
@@ -240,7 +239,7 @@ module _ {D : Type 0} (g : Ghosts D) {M : Type 0} (kind : Kind M) (s : Start D) 
       }
 
   pub hears_broken : (requests : ℕ) (cause : CommitFault) → count < requests → break_of came ≡ Some cause →
-      Hears g kind s requests (heard.Broken cause) from to ahead ahead'' store new
+      Hears g kind s requests (heard.Broken cause) (hearing from ahead) (hearing to ahead'') store new
   unfolding turn visit
   hears_broken requests cause less is = record {
     visits = visit ∷ visited.visits;
@@ -258,9 +257,9 @@ module _ {D : Type 0} (g : Ghosts D) {M : Type 0} (kind : Kind M) (s : Start D) 
 
 module _ {D : Type 0} (g : Ghosts D) {M : Type 0} (kind : Kind M) (s : Start D) (count : ℕ) (from to : Listened)
     (ahead ahead' : Option Moments) (store : Store M) (new : D) (same : store.run ≡ s.run)
-    (visited : Visits g kind s count from to ahead ahead' store new) where
+    (visited : Visits g kind s count (hearing from ahead) (hearing to ahead') store new) where
   hears : (requests : ℕ) (end : Heard) → EndsAt requests end visited.visits → IsUndamagedEnd g new end →
-      Hears g kind s requests end from to ahead ahead' store new
+      Hears g kind s requests end (hearing from ahead) (hearing to ahead') store new
   hears requests end ends undamaged =
       let turns = turns_of visited.visits in
       record {
@@ -279,22 +278,23 @@ module _ {D : Type 0} (g : Ghosts D) {M : Type 0} (kind : Kind M) (s : Start D) 
       }
 
   -- all were served
-  pub hears_all : (requests : ℕ) → count ≡ requests → Hears g kind s requests heard.Done from to ahead ahead' store new
+  pub hears_all : (requests : ℕ) → count ≡ requests → Hears g kind s requests heard.Done (hearing from ahead) (hearing to ahead') store new
   hears_all requests most = hears requests heard.Done (visited.made ∙ most, visited.on) (λ file at is image seen. cc is)
 
   -- the listener failed, which left all as it was
   pub hears_stopped : (requests : ℕ) → count < requests →
       (waiting : Option (List (Option (List ℕ)))) (handed : Option (List Handed)) (ahead'' : Option Moments) (later : Store M) (last : D) →
       waiting ≡ to.waiting → handed ≡ to.handed → ahead'' ≡ ahead' → later ≡ store → last ≡ new →
-      Hears g kind s requests heard.Listener from (listened waiting handed) ahead ahead'' later last
+      Hears g kind s requests heard.Listener (hearing from ahead) (hearing (listened waiting handed) ahead'') later last
   hears_stopped requests less waiting handed ahead'' later last w b a l d =
-      subst (λ (x : Option (List (Option (List ℕ)))). Hears g kind s requests heard.Listener from (listened x handed) ahead ahead'' later
-      last) (sym w)
-      (subst (λ (x : Option (List Handed)). Hears g kind s requests heard.Listener from (listened to.waiting x) ahead ahead'' later last)
+      subst (λ (x : Option (List (Option (List ℕ)))). Hears g kind s requests heard.Listener (hearing from ahead)
+      (hearing (listened x handed) ahead'') later last) (sym w)
+      (subst (λ (x : Option (List Handed)). Hears g kind s requests heard.Listener (hearing from ahead)
+      (hearing (listened to.waiting x) ahead'') later last)
       (sym b)
-      (subst (λ (x : Option Moments). Hears g kind s requests heard.Listener from to ahead x later last) (sym a)
-      (subst (λ (x : Store M). Hears g kind s requests heard.Listener from to ahead ahead' x last) (sym l)
-      (subst (λ (x : D). Hears g kind s requests heard.Listener from to ahead ahead' store x) (sym d)
+      (subst (λ (x : Option Moments). Hears g kind s requests heard.Listener (hearing from ahead) (hearing to x) later last) (sym a)
+      (subst (λ (x : Store M). Hears g kind s requests heard.Listener (hearing from ahead) (hearing to ahead') x last) (sym l)
+      (subst (λ (x : D). Hears g kind s requests heard.Listener (hearing from ahead) (hearing to ahead') store x) (sym d)
       (hears requests heard.Listener (omega (arith, less, visited.made), visited.on) (λ file at is image seen. cc is))))))
 
 -- what is so of a store and a disk that were left alone
@@ -312,9 +312,9 @@ measured_still {D} g {M} store later disk last s d is =
 
 module _ {D : Type 0} (g : Ghosts D) {M : Type 0} (kind : Kind M) (s : Start D) (requests : ℕ) (end : Heard) (from to : Listened)
     (ahead ahead' : Option Moments) (store : Store M) (mid : D)
-    (heard_all : Hears g kind s requests end from to ahead ahead' store mid) where
+    (heard_all : Hears g kind s requests end (hearing from ahead) (hearing to ahead') store mid) where
   -- the store was not open for a commit
-  pub listens_closed : is_open_end end ≡ false → Listens g kind s requests end from to ahead ahead' store mid
+  pub listens_closed : is_open_end end ≡ false → Listens g kind s requests end (hearing from ahead) (hearing to ahead') store mid
   listens_closed down = record {
     visits = heard_all.visits;
     are = heard_all.are;
@@ -338,7 +338,7 @@ module _ {D : Type 0} (g : Ghosts D) {M : Type 0} (kind : Kind M) (s : Start D) 
     listens_on : (last : Heard) → EndsIn requests last heard_all.visits → IsUndamagedEnd g new last →
         (is_open_end last ≡ true → Represents g kind.fits kind.holds s.choose after s.base (length after) later new) →
         (is_open_end last ≡ true → later.run ≡ s.run) →
-        Listens g kind s requests last from to ahead ahead' later new
+        Listens g kind s requests last (hearing from ahead) (hearing to ahead') later new
     listens_on last ends undamaged held goes_on =
         let was = heard_all.held up in
         record {
@@ -358,7 +358,7 @@ module _ {D : Type 0} (g : Ghosts D) {M : Type 0} (kind : Kind M) (s : Start D) 
     -- the commit was made
     pub listens_committed : later.run ≡ s.run → ((kept : ℕ) → Represents g kind.fits kind.holds s.choose after s.base kept store mid →
         Represents g kind.fits kind.holds s.choose after s.base (length after) later new) →
-        Listens g kind s requests end from to ahead ahead' later new
+        Listens g kind s requests end (hearing from ahead) (hearing to ahead') later new
     listens_committed same_run done = listens_on end (inl heard_all.ends)
         (λ file at is image seen. absurd (false≢true (sym (ap is_open_end is) ∙ up)))
         (λ _. done (heard_all.held up).0 (heard_all.held up).2) (λ _. same_run)
@@ -366,7 +366,7 @@ module _ {D : Type 0} (g : Ghosts D) {M : Type 0} (kind : Kind M) (s : Start D) 
     -- the commit met a fault
     pub listens_broken : (cause : CommitFault) → ((kept : ℕ) → Represents g kind.fits kind.holds s.choose after s.base kept store mid →
         (file : File) (at : ℕ) → cause ≡ commits.Damaged file at → (image : Image) → g.seen new ≡ Some image → ⊥) →
-        Listens g kind s requests (heard.Broken cause) from to ahead ahead' later new
+        Listens g kind s requests (heard.Broken cause) (hearing from ahead) (hearing to ahead') later new
     listens_broken cause undamaged = listens_on (heard.Broken cause) (inr (cause, refl, end, up, heard_all.ends))
         (λ file at is image seen. undamaged (heard_all.held up).0 (heard_all.held up).2 file at (broken_is _ _ is) image seen)
         (λ is. absurd (false≢true is)) (λ is. absurd (false≢true is))

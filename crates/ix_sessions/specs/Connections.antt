@@ -137,6 +137,14 @@ pub record Listened : Type 0 where
 abbrev pub listened : Option (List (Option (List ℕ))) → Option (List Handed) → Listened
 listened waiting handed = record { waiting = waiting; handed = handed }
 
+-- that, and what the clock is to tell
+pub record Hearing : Type 0 where
+  pub heard : Listened
+  pub ahead : Option Moments
+
+abbrev pub hearing : Listened → Option Moments → Hearing
+hearing heard ahead = record { heard = heard; ahead = ahead }
+
 -- the connections of these visits were taken, and handed back
 pub record HasHeard {D : Type 0} (visits : List (Visit D)) (from to : Listened) : Type 0 where
   pub waits : Told (Taken (held_by visits)) from.waiting to.waiting
@@ -146,20 +154,20 @@ pub record HasHeard {D : Type 0} (visits : List (Visit D)) (from to : Listened) 
 
 -- One connection: it was the first that waited, its request was served, and it was handed back.
 pub record Attends {D : Type 0} (d : Ghosts D) {M : Type 0} (kind : Kind M) (s : Start D) (came : Result Served ServeFault)
-    (from to : Listened) (ahead ahead' : Option Moments) (store : Store M) (new : D) : Type 0 where
+    (from to : Hearing) (store : Store M) (new : D) : Type 0 where
   pub read : Found
   pub answer : Answer
   pub left : Option (List ℕ)
   pub back : Handed
   pub moment : ℤ
   pub took : Told (Fits read) back.held left
-  pub shown : Told (Answered moment) ahead ahead'
+  pub shown : Told (Answered moment) from.ahead to.ahead
   pub says : Says (first_entry s moment) (IsTold d new) read came answer
   pub reply_came : Came answer.reply (is_whole read) came
   pub replied : IsReplied back answer.reply
   pub by_link : came ≡ Err fault.Link → back.rose ≡ true
-  pub waits : Told (TakesFirst back.held) from.waiting to.waiting
-  pub backs : Told (Adds back) from.handed to.handed
+  pub waits : Told (TakesFirst back.held) from.heard.waiting to.heard.waiting
+  pub backs : Told (Adds back) from.heard.handed to.heard.handed
   pub taken : AllByRecursion kind.takes (s.history ++ answer.more)
   pub held : IsOpen came → HoldsFrom d kind.fits kind.holds (first_entry s moment) answer.commits (s.history ++ answer.more) store new
   pub images : Always d s.disk new (StandsIn kind.fits s.run s.choose (s.history ++ answer.more) s.kept)
@@ -168,13 +176,13 @@ pub record Attends {D : Type 0} (d : Ghosts D) {M : Type 0} (kind : Kind M) (s :
 -- ---- the whole
 
 -- Since the start these visits were made, behind none of which the run ended.
-pub record Visits {D : Type 0} (d : Ghosts D) {M : Type 0} (kind : Kind M) (s : Start D) (count : ℕ) (from to : Listened)
-    (ahead ahead' : Option Moments) (store : Store M) (new : D) : Type 0 where
+pub record Visits {D : Type 0} (d : Ghosts D) {M : Type 0} (kind : Kind M) (s : Start D) (count : ℕ)
+    (from to : Hearing) (store : Store M) (new : D) : Type 0 where
   pub visits : List (Visit D)
-  pub are : AreVisits d kind.fits s visits ahead ahead'
+  pub are : AreVisits d kind.fits s visits from.ahead to.ahead
   pub made : length visits ≡ count
   pub on : HaveGoneOn visits
-  pub heard : HasHeard visits from to
+  pub heard : HasHeard visits from.heard to.heard
   pub taken : AllByRecursion kind.takes (history_after s (turns_of visits))
   pub at : disk_after s (turns_of visits) ≡ new
   pub kept : ℕ
@@ -183,12 +191,12 @@ pub record Visits {D : Type 0} (d : Ghosts D) {M : Type 0} (kind : Kind M) (s : 
   pub told : IsTold d s.disk → IsTold d new × AreTold d (turns_of visits)
 
 -- Visits to the end of a run.
-pub record Hears {D : Type 0} (d : Ghosts D) {M : Type 0} (kind : Kind M) (s : Start D) (requests : ℕ) (end : Heard) (from to : Listened)
-    (ahead ahead' : Option Moments) (store : Store M) (new : D) : Type 0 where
+pub record Hears {D : Type 0} (d : Ghosts D) {M : Type 0} (kind : Kind M) (s : Start D) (requests : ℕ) (end : Heard)
+    (from to : Hearing) (store : Store M) (new : D) : Type 0 where
   pub visits : List (Visit D)
-  pub are : AreVisits d kind.fits s visits ahead ahead'
+  pub are : AreVisits d kind.fits s visits from.ahead to.ahead
   pub ends : EndsAt requests end visits
-  pub heard : HasHeard visits from to
+  pub heard : HasHeard visits from.heard to.heard
   pub taken : AllByRecursion kind.takes (history_after s (turns_of visits))
   pub told : IsTold d s.disk → AreTold d (turns_of visits)
   pub held : is_open_end end ≡ true → (kept : ℕ) × (known s (turns_of visits) ≤ kept)
@@ -199,12 +207,12 @@ pub record Hears {D : Type 0} (d : Ghosts D) {M : Type 0} (kind : Kind M) (s : S
 -- A run with the commit at its end. The listener tells of each connection what it held and what was
 -- written on it. Behind the visits each image has all that is known as committed then: so it has
 -- each command that a reply tells as stored.
-pub record Listens {D : Type 0} (d : Ghosts D) {M : Type 0} (kind : Kind M) (s : Start D) (requests : ℕ) (end : Heard) (from to : Listened)
-    (ahead ahead' : Option Moments) (store : Store M) (new : D) : Type 0 where
+pub record Listens {D : Type 0} (d : Ghosts D) {M : Type 0} (kind : Kind M) (s : Start D) (requests : ℕ) (end : Heard)
+    (from to : Hearing) (store : Store M) (new : D) : Type 0 where
   pub visits : List (Visit D)
-  pub are : AreVisits d kind.fits s visits ahead ahead'
+  pub are : AreVisits d kind.fits s visits from.ahead to.ahead
   pub ends : EndsIn requests end visits
-  pub heard : HasHeard visits from to
+  pub heard : HasHeard visits from.heard to.heard
   pub taken : AllByRecursion kind.takes (history_after s (turns_of visits))
   pub told : IsTold d s.disk → AreTold d (turns_of visits)
   pub behind : Always d (disk_after s (turns_of visits)) new (Has kind.fits s (turns_of visits) (known s (turns_of visits)))

@@ -102,6 +102,14 @@ pub record Coming : Type 0 where
 abbrev pub coming : Option (List ℕ) → Option Moments → Coming
 coming left ahead = record { left = left; ahead = ahead }
 
+-- that, and what was written to the link
+pub record Talk : Type 0 where
+  pub coming : Coming
+  pub given : Option (List ℕ)
+
+abbrev pub talk : Coming → Option (List ℕ) → Talk
+talk coming given = record { coming = coming; given = given }
+
 -- ---- turns
 
 -- One request: how many commands were known as committed before it, its moment, what was read, what
@@ -243,14 +251,14 @@ IsUndamagedEnd d disk end = (file : File) (at : ℕ) → end ≡ fed.Broken (com
 
 -- Since the start these turns were served, behind none of which the run ended. Their replies were
 -- written, and their commands are held.
-pub record Reaches {D : Type 0} (d : Ghosts D) {M : Type 0} (kind : Kind M) (s : Start D) (count : ℕ) (from to : Coming)
-    (given given' : Option (List ℕ)) (store : Store M) (new : D) : Type 0 where
+pub record Reaches {D : Type 0} (d : Ghosts D) {M : Type 0} (kind : Kind M) (s : Start D) (count : ℕ)
+    (from to : Talk) (store : Store M) (new : D) : Type 0 where
   pub turns : List (Turn D)
-  pub are : AreTurns d kind.fits s turns from to
+  pub are : AreTurns d kind.fits s turns from.coming to.coming
   pub taken : AllByRecursion kind.takes (history_after s turns)
   pub served : length turns ≡ count
   pub on : GoOn turns
-  pub written : HasWritten (output turns) given given'
+  pub written : HasWritten (output turns) from.given to.given
   pub at : disk_after s turns ≡ new
   pub kept : ℕ
   pub knows : known s turns ≤ kept
@@ -258,15 +266,15 @@ pub record Reaches {D : Type 0} (d : Ghosts D) {M : Type 0} (kind : Kind M) (s :
   pub told : IsTold d s.disk → IsTold d new × AreTold d turns
 
 -- Turns to the end of a run.
-pub record Feeds {D : Type 0} (d : Ghosts D) {M : Type 0} (kind : Kind M) (s : Start D) (end : Fed) (clean : Type 0) (from to : Coming)
-    (given given' : Option (List ℕ)) (store : Store M) (new : D) : Type 0 where
+pub record Feeds {D : Type 0} (d : Ghosts D) {M : Type 0} (kind : Kind M) (s : Start D) (end : Fed) (clean : Type 0)
+    (from to : Talk) (store : Store M) (new : D) : Type 0 where
   pub turns : List (Turn D)
-  pub are : AreTurns d kind.fits s turns from to
+  pub are : AreTurns d kind.fits s turns from.coming to.coming
   pub taken : AllByRecursion kind.takes (history_after s turns)
   pub ends : EndsBy end turns
-  pub written : IsWholeEnd end → HasWritten (output turns) given given'
-  pub sent : clean → HasWritten (output turns) given given'
-  pub begun : HasBegun (output turns) given given'
+  pub written : IsWholeEnd end → HasWritten (output turns) from.given to.given
+  pub sent : clean → HasWritten (output turns) from.given to.given
+  pub begun : HasBegun (output turns) from.given to.given
   pub told : IsTold d s.disk → AreTold d turns
   pub held : is_open_end end ≡ true → (kept : ℕ) × (known s turns ≤ kept)
       × Represents d kind.fits kind.holds s.choose (history_after s turns) s.base kept store new
@@ -282,15 +290,15 @@ EndsAs end turns = EndsBy end turns ⊎ ((cause : CommitFault) × (end ≡ fed.B
 -- no fault of the link or the disk, and also where the link is clean; else a front of them. Behind
 -- the turns each image has all that is known as committed then: so it has each command that a reply
 -- tells as stored.
-pub record Runs {D : Type 0} (d : Ghosts D) {M : Type 0} (kind : Kind M) (s : Start D) (end : Fed) (clean : Type 0) (from to : Coming)
-    (given given' : Option (List ℕ)) (store : Store M) (new : D) : Type 0 where
+pub record Runs {D : Type 0} (d : Ghosts D) {M : Type 0} (kind : Kind M) (s : Start D) (end : Fed) (clean : Type 0)
+    (from to : Talk) (store : Store M) (new : D) : Type 0 where
   pub turns : List (Turn D)
-  pub are : AreTurns d kind.fits s turns from to
+  pub are : AreTurns d kind.fits s turns from.coming to.coming
   pub taken : AllByRecursion kind.takes (history_after s turns)
   pub ends : EndsAs end turns
-  pub written : IsWholeEnd end → HasWritten (output turns) given given'
-  pub sent : clean → HasWritten (output turns) given given'
-  pub begun : HasBegun (output turns) given given'
+  pub written : IsWholeEnd end → HasWritten (output turns) from.given to.given
+  pub sent : clean → HasWritten (output turns) from.given to.given
+  pub begun : HasBegun (output turns) from.given to.given
   pub told : IsTold d s.disk → AreTold d turns
   pub behind : Always d (disk_after s turns) new (Has kind.fits s turns (known s turns))
   pub undamaged : IsUndamagedEnd d new end

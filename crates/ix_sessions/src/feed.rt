@@ -6,7 +6,7 @@ ghost use Rattle.ix_commit.specs.Snapshot.{LogsAtEnd, NothingStaged, KnowsLogLen
 ghost use Rattle.ix_model.specs.Given.{Chooser};
 ghost use Rattle.ix_model.specs.declared.commands.TimedCommand.{TimedCommand};
 ghost use Rattle.ix_sessions.specs.Feeding as defs;
-ghost use Rattle.ix_sessions.specs.Feeding.{Feeds, IsPlacedEnd, Runs, kind, start, coming};
+ghost use Rattle.ix_sessions.specs.Feeding.{Feeds, IsPlacedEnd, Runs, kind, start, coming, talk};
 ghost use Rattle.ix_sessions.specs.Reading.{ReadsTo};
 ghost use Rattle.ix_net.specs.Links.{LinkStep};
 ghost use Rattle.ix_serve.specs.Serving.{IsClean, IsTold};
@@ -117,8 +117,8 @@ fn feed_all<K: Link, M: Listing + Drop, C: Clock, D: Disk>(
         Represents D.Disk M.Book.fits M.holds choose history base k store.old disk.old →
         Feeds D.Disk (kind M.takes M.Book.fits M.holds) (start choose history base k store.old.run disk.old) result
         (IsClean (K.faults link.old) (K.faults link.new) (K.standing link.old) (K.standing link.new))
-        (coming (K.left link.old) (C.ahead clock.old)) (coming (K.left link.new) (C.ahead clock.new)) (K.given link.old) (K.given link.new)
-        store.new disk.new }
+        (talk (coming (K.left link.old) (C.ahead clock.old)) (K.given link.old))
+        (talk (coming (K.left link.new) (C.ahead clock.new)) (K.given link.new)) store.new disk.new }
     ensures reads { ReadsTo result (K.left link.old) (K.left link.new) }
     ensures placed { IsPlacedEnd D.Disk disk.new result }
     ensures run { store.new.run ≡ store.old.run }
@@ -159,8 +159,8 @@ pub fn run_feed<K: Link, M: Listing + Drop, C: Clock, D: Disk>(
         Represents D.Disk M.Book.fits M.holds choose history base k store.old disk.old →
         Runs D.Disk (kind M.takes M.Book.fits M.holds) (start choose history base k store.old.run disk.old) result
         (IsClean (K.faults link.old) (K.faults link.new) (K.standing link.old) (K.standing link.new))
-        (coming (K.left link.old) (C.ahead clock.old)) (coming (K.left link.new) (C.ahead clock.new)) (K.given link.old) (K.given link.new)
-        store.new disk.new }
+        (talk (coming (K.left link.old) (C.ahead clock.old)) (K.given link.old))
+        (talk (coming (K.left link.new) (C.ahead clock.new)) (K.given link.new)) store.new disk.new }
     // Which requests were read, and where the run ended by them, goes by the bytes of the link,
     // also where the disk holds no history.
     ensures reads { ReadsTo result (K.left link.old) (K.left link.new) }

@@ -10,7 +10,7 @@ ghost use Rattle.ix_serve.specs.Answer.{Found};
 ghost use Rattle.ix_serve.specs.Serving.{IsOpen, IsPlaced, IsTold};
 ghost use Rattle.ix_serve.specs.Taking.{TakesAsks};
 ghost use Rattle.ix_sessions.specs.Connections as defs;
-ghost use Rattle.ix_sessions.specs.Connections.{Attends, Hears, IsPlacedEnd, Listens, listened};
+ghost use Rattle.ix_sessions.specs.Connections.{Attends, Hears, IsPlacedEnd, Listens, listened, hearing};
 ghost use Rattle.ix_sessions.specs.Feeding.{kind, start};
 ghost use Rattle.ix_sessions.specs.Reading.{AsMany, HearsMany, IsHeard};
 ghost use Rattle.ix_store.specs.Holding.{Represents};
@@ -71,11 +71,10 @@ fn serve_next<L: Listener, M: Listing + Drop, C: Clock, D: Disk>(
     requires over { LogsAtEnd D.Disk store.old.committer disk.old }
     requires takes { TakesAsks M.takes }
     ensures attends { IfOk result (λ came. (choose : Chooser) (history : List TimedCommand) (base k : ℕ) → M.is_chooser choose →
-        AllByRecursion M.takes history →
-        Represents D.Disk M.Book.fits M.holds choose history base k store.old disk.old →
+        AllByRecursion M.takes history → Represents D.Disk M.Book.fits M.holds choose history base k store.old disk.old →
         Attends D.Disk (kind M.takes M.Book.fits M.holds) (start choose history base k store.old.run disk.old) came
-        (listened (L.waiting listener.old) (L.handed listener.old)) (listened (L.waiting listener.new) (L.handed listener.new))
-        (C.ahead clock.old) (C.ahead clock.new) store.new disk.new) }
+        (hearing (listened (L.waiting listener.old) (L.handed listener.old)) (C.ahead clock.old))
+        (hearing (listened (L.waiting listener.new) (L.handed listener.new)) (C.ahead clock.new)) store.new disk.new) }
     ensures reads { OnOk result ((read : Found) × IsHeard read (listened (L.waiting listener.old) (L.handed listener.old))
         (listened (L.waiting listener.new) (L.handed listener.new))) }
     ensures placed { IfOk result (λ came. IsPlaced D.Disk (M.shown store.old.memory) disk.new came) }
@@ -116,8 +115,8 @@ fn serve_all<L: Listener, M: Listing + Drop, C: Clock, D: Disk>(
     ensures hears { (choose : Chooser) (history : List TimedCommand) (base k : ℕ) → M.is_chooser choose → AllByRecursion M.takes history →
         Represents D.Disk M.Book.fits M.holds choose history base k store.old disk.old →
         Hears D.Disk (kind M.takes M.Book.fits M.holds) (start choose history base k store.old.run disk.old) requests result
-        (listened (L.waiting listener.old) (L.handed listener.old)) (listened (L.waiting listener.new) (L.handed listener.new))
-        (C.ahead clock.old) (C.ahead clock.new) store.new disk.new }
+        (hearing (listened (L.waiting listener.old) (L.handed listener.old)) (C.ahead clock.old))
+        (hearing (listened (L.waiting listener.new) (L.handed listener.new)) (C.ahead clock.new)) store.new disk.new }
     ensures reads { HearsMany (AsMany requests result) (listened (L.waiting listener.old) (L.handed listener.old))
         (listened (L.waiting listener.new) (L.handed listener.new)) }
     ensures placed { IsPlacedEnd D.Disk disk.new result }
@@ -164,8 +163,8 @@ pub fn run_serve<L: Listener, M: Listing + Drop, C: Clock, D: Disk>(
     ensures listens { (choose : Chooser) (history : List TimedCommand) (base k : ℕ) → M.is_chooser choose → AllByRecursion M.takes history →
         Represents D.Disk M.Book.fits M.holds choose history base k store.old disk.old →
         Listens D.Disk (kind M.takes M.Book.fits M.holds) (start choose history base k store.old.run disk.old) requests result
-        (listened (L.waiting listener.old) (L.handed listener.old)) (listened (L.waiting listener.new) (L.handed listener.new))
-        (C.ahead clock.old) (C.ahead clock.new) store.new disk.new }
+        (hearing (listened (L.waiting listener.old) (L.handed listener.old)) (C.ahead clock.old))
+        (hearing (listened (L.waiting listener.new) (L.handed listener.new)) (C.ahead clock.new)) store.new disk.new }
     // Which connections were taken, and what came of each, goes by what they held, also where the
     // disk holds no history.
     ensures reads { HearsMany (AsMany requests result) (listened (L.waiting listener.old) (L.handed listener.old))

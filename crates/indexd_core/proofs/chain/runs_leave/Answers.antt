@@ -3,8 +3,8 @@ use Rattle.indexd_core.proofs.chain.runs_leave.Goals as goal
 
 pub returns : goal.returns
 returns g c = record {
-  fed = λ choose history run k before disk. feeds_leave g.D.Disk choose history run k before disk;
-  served = λ choose history run k before disk. serves_leave g.D.Disk choose history run k before disk;
-  tasked = λ choose history run k before disk. task_leaves g.D.Disk choose history run k before disk;
-  stored = λ choose history run k before disk. stored_leaves g.D.Disk choose history run k before disk;
+  fed = λ past status from to may. feeds_leave g.D.Disk past from to may status;
+  served = λ past status requests from to may. serves_leave g.D.Disk past from to may status requests;
+  tasked = λ past status task from to may. task_leaves g.D.Disk past from to may status task;
+  stored = λ past status stated from to may. stored_leaves g.D.Disk past from to may status stated;
 }

@@ -11,19 +11,18 @@ use Rattle.indexd_core.proofs.chain.the_next_run_may_begin.Goals as goal
 
 pub returns : goal.returns
 returns g c = record {
-  anywhere = λ choose history run k before disk later image may leaves tells stop.
-      goes_on g.D.Disk g.E.Disk g.met.D.Disk.only_now choose history run k before disk may leaves later image tells stop;
-  mounted = λ choose history now run k new_run count before disk later image may given passes tells stop.
-      from_mount g.D.Disk g.E.Disk g.met.D.Disk.only_now choose history run k before disk may now new_run count given passes later image
-      tells stop;
-  fed = λ choose history run k failed failed' config end left left' given given' ahead ahead' before disk later image may was tells.
-      let s = begun_with choose history was.count was.configured was.new_run was.middle in
-      keeps_known g.D.Disk g.E.Disk g.met.D.Disk.only_now s was.now disk later image may.chooser was.given tells was.served.turns
+  anywhere = λ past before disk later image may leaves tells stop.
+      goes_on g.D.Disk g.E.Disk g.met.D.Disk.only_now past before disk may leaves later image tells stop;
+  mounted = λ past now new_run count before disk later image may given passes tells stop.
+      from_mount g.D.Disk g.E.Disk g.met.D.Disk.only_now past before disk may now new_run count given passes later image tells stop;
+  fed = λ past run end failed failed' link later image may was tells.
+      let s = begun_with past was.count was.configured was.new_run was.middle in
+      keeps_known g.D.Disk g.E.Disk g.met.D.Disk.only_now s was.now run.disk later image may.chooser was.given tells was.served.turns
       (feeding.is_open_end was.served.first ≡ true) was.served.now_is (safe_turns g.D.Disk fits s was.served.turns _ _ was.served.are)
       was.served.behind was.served.all;
-  heard = λ choose history run k requests config end from to ahead ahead' before disk later image may was tells.
-      let s = begun_with choose history was.count was.configured was.new_run was.middle in
-      keeps_known g.D.Disk g.E.Disk g.met.D.Disk.only_now s was.now disk later image may.chooser was.given tells
+  heard = λ past run requests end from to later image may was tells.
+      let s = begun_with past was.count was.configured was.new_run was.middle in
+      keeps_known g.D.Disk g.E.Disk g.met.D.Disk.only_now s was.now run.disk later image may.chooser was.given tells
       (turns_of was.served.visits) (connections.is_open_end was.served.first ≡ true) was.served.now_is
       (safe_visits g.D.Disk fits s was.served.visits _ _ was.served.are) was.served.behind was.served.all;
 }

@@ -17,7 +17,7 @@ returns-in-None g c =
     let did = c.feed_with.ensures in
     let alone = c.lock_out.ensures.alone in
     record {
-      feeds = ran c.in-Ok.config c.in-Ok.ensures.of_files (feed_from alone did.comes);
+      feeds = λ heard deaf left. ran c.in-Ok.config c.in-Ok.ensures.of_files (feed_from alone c.in-Ok.config _ _ _ did.comes);
       short = short_from alone c.feed_with.result c.feed_with.new.disk did.short;
       output = did.output;
       input = λ is. inl (did.input is);
@@ -45,7 +45,7 @@ returns-in-Some g c =
     let out = subst (λ (s : Status). IsLockedOut s g.D.Disk c.args.disk.now c.lock_out.new.disk) (sym said.status) c.in-Some.ensures.out in
     let no = λ (at : Status). out_no g.D.Disk c.args.disk.now c.lock_out.new.disk c.say_locked_out.result at out in
     record {
-      feeds = locked_out c.in-Ok.config c.in-Ok.ensures.of_files (
+      feeds = λ heard deaf left. locked_out c.in-Ok.config c.in-Ok.ensures.of_files (
         refl,
         refl,
         out,
@@ -82,7 +82,7 @@ returns-in-Err g c =
     (side (g.W.Sink.faults c.args.output.now) (g.W.Sink.given c.args.output.now))
     (side (g.W.Sink.faults c.say_unread.new.output) (g.W.Sink.given c.say_unread.new.output)) wrote in
     record {
-      feeds = unread (refl, refl, refl) wrote;
+      feeds = λ heard deaf left. unread (refl, refl, refl) wrote;
       short = λ ok. inr (inl (left_alone g.D.Disk c.args.disk.now));
       output = λ is. absurd (at statuses.Output is);
       input = λ is. inr (at statuses.Input is).0;

@@ -9,7 +9,7 @@ returns g c = λ input heard deaf left.
     record {
       usage = λ is. absurd (did.usage is);
       refused = λ no. absurd (yes_no _ (task_is_built c.args.task) no);
-      comes = task_comes g.D.Disk _ _ _ c.args.task did.tasked refl;
+      comes = task_comes g.D.Disk _ _ _ c.args.task (did.tasked input heard deaf left) refl;
       untouched = λ no. absurd (yes_no _ (task_is_stored c.args.task) no);
       used = λ known stored. did.used known;
       short = did.short;

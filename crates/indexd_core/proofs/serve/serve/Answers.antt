@@ -11,7 +11,7 @@ pub returns-in-Ok : goal.returns-in-Ok
 returns-in-Ok g c =
     let did = c.serve_with.ensures in
     record {
-      serves = ran c.in-Ok.config c.in-Ok.ensures.of_files did.comes;
+      serves = λ input. ran c.in-Ok.config c.in-Ok.ensures.of_files did.comes;
       short = did.short;
       output = did.output;
       input = λ is. absurd (did.input is);
@@ -44,7 +44,7 @@ returns-in-Err g c =
     (side (g.W.Sink.faults c.args.output.now) (g.W.Sink.given c.args.output.now))
     (side (g.W.Sink.faults c.say_unread.new.output) (g.W.Sink.given c.say_unread.new.output)) wrote in
     record {
-      serves = unread (refl, refl, refl) wrote;
+      serves = λ input. unread (refl, refl, refl) wrote;
       short = λ ok. inr (inl (left_alone g.D.Disk c.args.disk.now));
       output = λ is. absurd (at statuses.Output is);
       input = λ is. (at statuses.Input is).0;

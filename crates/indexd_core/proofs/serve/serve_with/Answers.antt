@@ -8,6 +8,7 @@ use Rattle.indexd_serve.specs.Ends.{AsManyServed}
 use Rattle.ix_state.specs.Taken.{IsTaken}
 use Rattle.indexd_serve.specs.Serving.{HasServed, Connections}
 use Rattle.indexd_run.specs.declared.stop.Stop.TheVariants as stops
+use Rattle.indexd_run.specs.Opened.{course}
 use Rattle.indexd_core.specs.Locked.{IsLockedOut, is_before_store}
 use Rattle.indexd_core.specs.Serves.{unbound, locked_out, shut, served}
 use Rattle.indexd_core.specs.Sides.{side}
@@ -88,21 +89,21 @@ returns-in-Ok g c = record {
       (subst (λ (from : Listened). HearsMany (AsManyServed c.args.serving.requests c.in-Ok.end) from
       (listened (g.L.Listener.waiting run.listener) (g.L.Listener.handed run.listener)))
       (same_listened _ _ _ _ c.bind.ensures.waiting c.bind.ensures.handed) c.in-Ok.ensures.reads)
-      (served_from c.lock_out.ensures.alone c.args.config (g.C.Clock.ahead c.args.clock.now)
+      (served_from c.lock_out.ensures.alone c.args.config (g.C.Clock.ahead c.args.clock.now) (g.C.Clock.ahead run.clock) run.disk
       (Connections g.D.Disk fits c.args.serving.requests c.in-Ok.end
       (listened (g.L.Listener.waiting c.args.listener.now) (g.L.Listener.handed c.args.listener.now))
-      (listened (g.L.Listener.waiting run.listener) (g.L.Listener.handed run.listener)) (g.C.Clock.ahead run.clock) run.disk) run.disk
+      (listened (g.L.Listener.waiting run.listener) (g.L.Listener.handed run.listener)))
       (subst (λ w. FromStart g.D.Disk c.lock_out.new.disk
-      (λ choose history least k. HasServed g.D.Disk IsTaken fits choose history least k c.args.config (g.C.Clock.ahead c.args.clock.now)
+      (λ past. HasServed g.D.Disk IsTaken fits past (course c.args.config (g.C.Clock.ahead c.args.clock.now)
+      (g.C.Clock.ahead run.clock) c.lock_out.new.disk run.disk)
       (Connections g.D.Disk fits c.args.serving.requests c.in-Ok.end (listened w (g.L.Listener.handed c.args.listener.now))
-      (listened (g.L.Listener.waiting run.listener) (g.L.Listener.handed run.listener)) (g.C.Clock.ahead run.clock) run.disk)
-      c.lock_out.new.disk run.disk))
+      (listened (g.L.Listener.waiting run.listener) (g.L.Listener.handed run.listener)))))
       c.bind.ensures.waiting
       (subst (λ b. FromStart g.D.Disk c.lock_out.new.disk
-      (λ choose history least k. HasServed g.D.Disk IsTaken fits choose history least k c.args.config (g.C.Clock.ahead c.args.clock.now)
+      (λ past. HasServed g.D.Disk IsTaken fits past (course c.args.config (g.C.Clock.ahead c.args.clock.now)
+      (g.C.Clock.ahead run.clock) c.lock_out.new.disk run.disk)
       (Connections g.D.Disk fits c.args.serving.requests c.in-Ok.end (listened (g.L.Listener.waiting c.bind.new.self) b)
-      (listened (g.L.Listener.waiting run.listener) (g.L.Listener.handed run.listener)) (g.C.Clock.ahead run.clock) run.disk)
-      c.lock_out.new.disk run.disk))
+      (listened (g.L.Listener.waiting run.listener) (g.L.Listener.handed run.listener)))))
       c.bind.ensures.handed (from_start _ _ _ c.in-Ok.ensures.served)))) c.say_end.ensures.said;
   short = λ ok. inl (c.in-Ok.ensures.short (serve_short c.say_end.result _ c.in-Ok.end _ _ c.say_end.ensures.said ok));
   output = λ is. output_served c.say_end.result _ _ _ c.in-Ok.end c.say_end.ensures.said is;
@@ -137,8 +138,9 @@ pub returns-in-Err-run_serve : goal.returns-in-Err-run_serve
 returns-in-Err-run_serve g c = record {
   comes = let named : named_of c.of_index.result ≡ [] = cc (c.of_index.ensures) in
       shut c.in-Err-run_serve.stop c.say_stop.ensures.status
-      (shut_from c.lock_out.ensures.alone c.in-Err-run_serve.stop c.args.config (g.C.Clock.ahead c.args.clock.now)
-      (g.C.Clock.ahead c.run_serve.new.clock) c.run_serve.new.disk (from_start _ _ _ c.in-Err-run_serve.ensures.shut))
+      (shut_from c.lock_out.ensures.alone c.args.config (g.C.Clock.ahead c.args.clock.now)
+      (g.C.Clock.ahead c.run_serve.new.clock) c.run_serve.new.disk c.in-Err-run_serve.stop
+      (from_start _ _ _ c.in-Err-run_serve.ensures.shut))
       (same_listened _ _ _ _ (ap (λ l. g.L.Listener.waiting l) c.in-Err-run_serve.ensures.untouched
       ∙ c.bind.ensures.waiting) (ap (λ l. g.L.Listener.handed l) c.in-Err-run_serve.ensures.untouched ∙ c.bind.ensures.handed))
       (subst (λ (name : List ℕ). Said (line_of name c.in-Err-run_serve.stop)

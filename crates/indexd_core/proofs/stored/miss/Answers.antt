@@ -8,6 +8,7 @@ use Rattle.indexd_run.specs.declared.stop.Stop.TheVariants as stops
 use Rattle.indexd_run.proofs.Blaming.{once_mounted, damaged_stop, missed_sound}
 use Rattle.indexd_run.proofs.Joining.{shut_sound}
 use Rattle.indexd_run.proofs.Shortening.{by_end}
+use Rattle.indexd_run.specs.Opened.{course}
 use Rattle.indexd_core.specs.Stored.{status_of}
 use Rattle.indexd_core.specs.declared.status.Status.TheVariants as statuses
 use Rattle.indexd_core.proofs.MissedLemmas.{missed, by_disk}
@@ -20,16 +21,16 @@ open-requires g c = λ moment. c.requires.settings
 
 pub returns-in-Err : goal.returns-in-Err
 returns-in-Err g c = record {
-  stopped = λ left. from_start _ _ _ (λ choose history run k chooser taken begins image seen.
-      inl (c.in-Err.ensures.stopped choose history run k chooser taken begins image seen, refl));
+  stopped = λ left. from_start _ _ _ (λ past chooser taken begins image seen.
+      inl (c.in-Err.ensures.stopped past chooser taken begins image seen, refl));
   short = c.in-Err.ensures.short;
   told = tells_on g.D.Disk _ c.args.disk.now c.open.new.disk c.open.ensures.told;
   later = c.open.ensures.later;
   cause = λ is. c.open.ensures.cause (c.in-Err.is ∙ err_as c.in-Err.stop _ is);
   undamaged = λ is. by_blame c.in-Err.stop _ is
-      (λ unsound. from_start _ _ _ (λ choose history run k chooser taken begins image seen.
-      shut_sound c.in-Err.stop g.D.Disk IsTaken _ choose history run k c.args.config _ _ c.args.disk.now c.open.new.disk unsound
-      (c.in-Err.ensures.stopped choose history run k chooser taken begins image seen)))
+      (λ unsound. from_start _ _ _ (λ past chooser taken begins image seen.
+      shut_sound c.in-Err.stop g.D.Disk IsTaken _ past (course c.args.config _ _ c.args.disk.now c.open.new.disk) unsound
+      (c.in-Err.ensures.stopped past chooser taken begins image seen)))
       (λ file at damaged. from_start _ _ _ (c.open.ensures.undamaged file at (c.in-Err.is ∙ err_as c.in-Err.stop _ damaged)));
   blamed = c.in-Err.ensures.blamed;
   quiet = c.in-Err.ensures.quiet;
@@ -38,15 +39,15 @@ returns-in-Err g c = record {
 
 pub returns : goal.returns
 returns g c = record {
-  stopped = λ left. from_start _ _ _ (λ choose history run k chooser taken begins image seen.
-      missed g.D.Disk _ _ choose history run k c.args.config c.in-Ok.store c.stop_run.new.store (g.C.Clock.ahead c.args.clock.now)
+  stopped = λ left. from_start _ _ _ (λ past chooser taken begins image seen.
+      missed g.D.Disk _ _ past c.args.config c.in-Ok.store c.stop_run.new.store (g.C.Clock.ahead c.args.clock.now)
       (g.C.Clock.ahead c.open.new.clock) (g.C.Clock.ahead c.now-moment.new.self)
       c.args.disk.now c.open.new.disk c.stop_run.new.disk c.args.origin.now left c.now-moment.result c.stop_run.result c.requires.settings
       c.requires.long taken
-      (c.in-Ok.ensures.opened choose history run k chooser taken begins image seen) c.now-moment.ensures c.stop_run.ensures.run
+      (c.in-Ok.ensures.opened past chooser taken begins image seen) c.now-moment.ensures c.stop_run.ensures.run
       c.stop_run.ensures.why
-      (λ now base all hold. c.stop_run.ensures.images refl choose now base chooser all hold)
-      (λ kept now base all hold. c.stop_run.ensures.held refl kept choose now base chooser all hold));
+      (λ now base all hold. c.stop_run.ensures.images refl past.choose now base chooser all hold)
+      (λ kept now base all hold. c.stop_run.ensures.held refl kept past.choose now base chooser all hold));
   short = λ ok. inl (c.stop_run.ensures.short ok);
   told = λ is. tells_on g.D.Disk _ c.open.new.disk c.stop_run.new.disk c.stop_run.ensures.told
       (tells_on g.D.Disk _ c.args.disk.now c.open.new.disk c.open.ensures.told is);

@@ -17,7 +17,8 @@ returns-in-None g c =
     let did = c.store_with.ensures in
     let alone = c.lock_out.ensures.alone in
     record {
-      stored = ran c.in-Ok.config c.in-Ok.ensures.of_files ((comes_from alone did.comes, did.silent));
+      stored = λ heard deaf left. ran c.in-Ok.config c.in-Ok.ensures.of_files
+          ((comes_from alone c.in-Ok.config _ _ _ did.comes, did.silent));
       short = short_from alone c.store_with.result c.store_with.new.disk did.short;
       output = did.output;
       input = λ is. inl (did.input is);
@@ -45,7 +46,7 @@ returns-in-Some g c =
     let out = subst (λ (s : Status). IsLockedOut s g.D.Disk c.args.disk.now c.lock_out.new.disk) (sym said.status) c.in-Some.ensures.out in
     let no = λ (at : Status). out_no g.D.Disk c.args.disk.now c.lock_out.new.disk c.say_locked_out.result at out in
     record {
-      stored = locked_out c.in-Ok.config c.in-Ok.ensures.of_files (
+      stored = λ heard deaf left. locked_out c.in-Ok.config c.in-Ok.ensures.of_files (
         refl,
         refl,
         out,
@@ -82,7 +83,7 @@ returns-in-Err g c =
     (side (g.W.Sink.faults c.args.output.now) (g.W.Sink.given c.args.output.now))
     (side (g.W.Sink.faults c.say_unread.new.output) (g.W.Sink.given c.say_unread.new.output)) wrote in
     record {
-      stored = unread (refl, refl, refl) wrote;
+      stored = λ heard deaf left. unread (refl, refl, refl) wrote;
       short = λ ok. inr (inl (left_alone g.D.Disk c.args.disk.now));
       output = λ is. at statuses.Output is;
       input = λ is. inr (at statuses.Input is).0;

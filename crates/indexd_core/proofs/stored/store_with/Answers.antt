@@ -3,7 +3,7 @@ use Rattle.std.specs.Prelude.{Ok, Err}
 use Rattle.ix_base.specs.declared.events.ChannelMeta.{ChannelMeta}
 use Rattle.ix_replay.specs.Fits.{fits}
 use Rattle.ix_state.specs.Taken.{IsTaken}
-use Rattle.indexd_run.specs.Opened.{WhenOpen, HasRun, HasStopped}
+use Rattle.indexd_run.specs.Opened.{WhenOpen, HasRun, HasStopped, course}
 use Rattle.indexd_run.specs.Previews.{HasFed}
 use Rattle.indexd_run.proofs.Feeding.{none_taken}
 use Rattle.indexd_run.specs.declared.stop.Stop.TheVariants as stops
@@ -23,7 +23,7 @@ use Rattle.indexd_core.proofs.stored.store_with.Goals as goal
 pub returns-in_default : goal.returns-in_default
 returns-in_default g c = record {
   comes = stopped stops.Memory (side (g.W.Sink.faults c.args.output.now) (g.W.Sink.given c.args.output.now)) refl
-      (λ choose history run k may. unmounted g.D.Disk _ choose history run k c.args.config _ _ _ c.args.disk.now refl may.begins
+      (λ past may. unmounted g.D.Disk _ past c.args.config _ _ _ c.args.disk.now refl may.begins
       (omega arith))
       (refl, none_taken stops.Memory (g.S.Source.left c.args.input.now) refl) c.say.ensures.said;
   silent = λ is. absurd (apart statuses.Memory statuses.Done refl is);
@@ -47,11 +47,10 @@ pub returns-in-Ok-store_input : goal.returns-in-Ok-store_input
 returns-in-Ok-store_input g c = record {
   comes = done refl
       (subst (λ (meta : ChannelMeta). FromStart g.D.Disk c.args.disk.now
-      (λ choose history run k. HasRun false g.D.Disk IsTaken fits choose history run k
-      (WhenOpen choose c.args.config (g.C.Clock.ahead c.args.clock.now)
-      (HasFed choose meta (Ok tt) (g.C.Clock.ahead c.store_input.new.clock) (g.S.Source.left c.args.input.now)
-      (g.S.Source.left c.store_input.new.input)))
-      c.args.disk.now c.store_input.new.disk)) c.in-Ok.ensures.meta c.in-Ok-store_input.ensures.done);
+      (λ past. HasRun false g.D.Disk IsTaken fits past (WhenOpen past.choose c.args.config (g.C.Clock.ahead c.args.clock.now)
+      (HasFed past.choose meta (Ok tt) (g.C.Clock.ahead c.store_input.new.clock) (g.S.Source.left c.args.input.now)
+      (g.S.Source.left c.store_input.new.input))) c.args.disk.now c.store_input.new.disk)) c.in-Ok.ensures.meta
+      c.in-Ok-store_input.ensures.done);
   silent = λ is. record { taken = c.in-Ok-store_input.ensures.read; same = refl };
   short = left_at_ok g.D.Disk c.args.disk.now c.store_input.new.disk c.store_input.result statuses.Done tt c.in-Ok-store_input.is
       c.store_input.ensures.short;
@@ -76,12 +75,12 @@ returns g c = record {
       cc (c.of_index.ensures, c.as_slice.ensures, c.in-Ok.ensures.index) in
       stopped c.in-Err.stop (side (g.W.Sink.faults c.args.output.now) (g.W.Sink.given c.args.output.now)) c.say_stop.ensures.status
       (subst (λ (meta : ChannelMeta). FromStart g.D.Disk c.args.disk.now
-      (λ choose history run k. HasStopped c.in-Err.stop g.D.Disk IsTaken fits choose history run k c.args.config
-      (g.C.Clock.ahead c.args.clock.now) (g.C.Clock.ahead c.store_input.new.clock)
+      (λ past. HasStopped c.in-Err.stop g.D.Disk IsTaken fits past
+      (course c.args.config (g.C.Clock.ahead c.args.clock.now)
+      (g.C.Clock.ahead c.store_input.new.clock) c.args.disk.now c.store_input.new.disk)
       (g.S.Source.left c.store_input.new.input ≡ g.S.Source.left c.args.input.now)
-      (HasFed choose meta (Err c.in-Err.stop) (g.C.Clock.ahead c.store_input.new.clock) (g.S.Source.left c.args.input.now)
-      (g.S.Source.left c.store_input.new.input))
-      c.args.disk.now c.store_input.new.disk)) c.in-Ok.ensures.meta c.in-Err.ensures.stopped)
+      (HasFed past.choose meta (Err c.in-Err.stop) (g.C.Clock.ahead c.store_input.new.clock) (g.S.Source.left c.args.input.now)
+      (g.S.Source.left c.store_input.new.input)))) c.in-Ok.ensures.meta c.in-Err.ensures.stopped)
       (refl, c.in-Err.ensures.read)
       (subst (λ (named : List ℕ). Said (line_of named c.in-Err.stop)
       (side (g.W.Sink.faults c.args.output.now) (g.W.Sink.given c.args.output.now))

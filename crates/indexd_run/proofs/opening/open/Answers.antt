@@ -26,14 +26,14 @@ run_last-requires-clause-takes g c = c.requires (to_z w64 (of_z w64 c.now-moment
 
 pub returns-then-same_kept : goal.returns-then-same_kept
 returns-then-same_kept g c = record {
-  opened = λ choose history run k chooser taken begins image seen.
-      let is = c.in-Ok.ensures.mounted choose history run k chooser taken begins image seen in
+  opened = λ past chooser taken begins image seen.
+      let is = c.in-Ok.ensures.mounted past.choose past.history past.run past.least chooser taken begins image seen in
       let same : c.same_kept.result ≡ same_kept c.kept.result.now c.args.config.kept = c.same_kept.ensures
       ∙ ap₂ same_kept c.as_slice.ensures c.as_slice-2.ensures in
-      opened_same g.D.Disk _ g.M.StoreMemory.holds choose history run k c.args.config image c.in-Ok.store c.args.disk.now c.mount.new.disk
-      (g.C.Clock.ahead c.args.clock.now) seen is (c.in-Ok.ensures.images choose history run k begins)
-      (c.in-Ok.ensures.above choose history run k begins image seen) c.in-Ok.ensures.begun
-      (configured_as g.D.Disk _ g.M.StoreMemory.holds choose history run k c.args.config image c.in-Ok.store c.mount.new.disk is
+      opened_same g.D.Disk _ g.M.StoreMemory.holds past c.args.config image c.in-Ok.store c.args.disk.now c.mount.new.disk
+      (g.C.Clock.ahead c.args.clock.now) seen is (c.in-Ok.ensures.images past.choose past.history past.run past.least begins)
+      (c.in-Ok.ensures.above past.choose past.history past.run past.least begins image seen) c.in-Ok.ensures.begun
+      (configured_as g.D.Disk _ g.M.StoreMemory.holds past c.args.config image c.in-Ok.store c.mount.new.disk is
       c.kept.result.now c.kept.ensures c.same_kept.result true same c.if-same_kept.true);
   stopped = tt;
   undamaged = λ file at is. absurd (not_err is);
@@ -51,20 +51,21 @@ returns-then-same_kept g c = record {
 
 pub returns-in-Ok-run_last : goal.returns-in-Ok-run_last
 returns-in-Ok-run_last g c = record {
-  opened = λ choose history run k chooser taken begins image seen.
+  opened = λ past chooser taken begins image seen.
       let fits : SFits w64 c.now-moment.result = search rules in
-      let is = c.in-Ok.ensures.mounted choose history run k chooser taken begins image seen in
+      let is = c.in-Ok.ensures.mounted past.choose past.history past.run past.least chooser taken begins image seen in
       let same : c.same_kept.result ≡ same_kept c.kept.result.now c.args.config.kept = c.same_kept.ensures
       ∙ ap₂ same_kept c.as_slice.ensures c.as_slice-2.ensures in
-      let left = simp to_z-of_z at (c.in-Ok-run_last.ensures.left choose (take is.count history) is.count chooser
-      (front_has g.M.StoreMemory.takes is.count history taken)
-      (committed g.D.Disk _ g.M.StoreMemory.holds choose history run k c.args.config image c.in-Ok.store c.mount.new.disk is)) in
-      opened_by g.D.Disk _ g.M.StoreMemory.holds choose history run k c.args.config image c.in-Ok.store c.run_last.new.store c.args.disk.now
+      let left = simp to_z-of_z at (c.in-Ok-run_last.ensures.left past.choose (take is.count past.history) is.count chooser
+      (front_has g.M.StoreMemory.takes is.count past.history taken)
+      (committed g.D.Disk _ g.M.StoreMemory.holds past c.args.config image c.in-Ok.store c.mount.new.disk is)) in
+      opened_by g.D.Disk _ g.M.StoreMemory.holds past c.args.config image c.in-Ok.store c.run_last.new.store c.args.disk.now
       c.mount.new.disk c.run_last.new.disk
       (g.C.Clock.ahead c.args.clock.now) (g.C.Clock.ahead c.now-moment.new.self) seen c.run_last.ensures.run is
-      (c.in-Ok.ensures.images choose history run k begins) (c.in-Ok.ensures.above choose history run k begins image seen)
+      (c.in-Ok.ensures.images past.choose past.history past.run past.least begins)
+      (c.in-Ok.ensures.above past.choose past.history past.run past.least begins image seen)
       c.in-Ok.ensures.begun
-      (configured_as g.D.Disk _ g.M.StoreMemory.holds choose history run k c.args.config image c.in-Ok.store c.mount.new.disk is
+      (configured_as g.D.Disk _ g.M.StoreMemory.holds past c.args.config image c.in-Ok.store c.mount.new.disk is
       c.kept.result.now c.kept.ensures c.same_kept.result false same c.if-same_kept.false)
       c.now-moment.result c.now-moment.ensures left;
   stopped = tt;
@@ -89,48 +90,55 @@ returns-in-Ok-run_last g c = record {
 pub returns-in-Err-run_last : goal.returns-in-Err-run_last
 returns-in-Err-run_last g c = record {
   opened = tt;
-  stopped = λ choose history run k chooser taken begins image seen.
+  stopped = λ past chooser taken begins image seen.
       let fits : SFits w64 c.now-moment.result = search rules in
-      let is = c.in-Ok.ensures.mounted choose history run k chooser taken begins image seen in
+      let is = c.in-Ok.ensures.mounted past.choose past.history past.run past.least chooser taken begins image seen in
       let same : c.same_kept.result ≡ same_kept c.kept.result.now c.args.config.kept = c.same_kept.ensures
       ∙ ap₂ same_kept c.as_slice.ensures c.as_slice-2.ensures in
-      let all = committed g.D.Disk _ g.M.StoreMemory.holds choose history run k c.args.config image c.in-Ok.store c.mount.new.disk is in
-      let front = front_has g.M.StoreMemory.takes is.count history taken in
-      let caused = simp to_z-of_z at (c.in-Err-run_last.ensures.caused choose (take is.count history) is.count chooser front all) in
+      let all = committed g.D.Disk _ g.M.StoreMemory.holds past c.args.config image c.in-Ok.store c.mount.new.disk is in
+      let front = front_has g.M.StoreMemory.takes is.count past.history taken in
+      let caused = simp to_z-of_z at (c.in-Err-run_last.ensures.caused past.choose (take is.count past.history) is.count chooser front all)
+      in
       let order = configuring c.args.config c.now-moment.result in
-      let ends = simp to_z-of_z at (c.in-Err-run_last.ensures.stopped choose (take is.count history) is.count chooser front all) in
-      let short = stopped_short g.D.Disk _ c.in-Ok.store.run g.M.StoreMemory.holds g.M.StoreMemory.takes choose (take is.count history)
+      let ends = simp to_z-of_z at (c.in-Err-run_last.ensures.stopped past.choose (take is.count past.history) is.count chooser front all)
+      in
+      let short = stopped_short g.D.Disk _ c.in-Ok.store.run g.M.StoreMemory.holds g.M.StoreMemory.takes past.choose
+      (take is.count past.history)
       is.count c.run_last.new.store c.stop_run.new.store c.mount.new.disk c.run_last.new.disk c.stop_run.new.disk
       c.in-Err-run_last.stop c.stop_run.result (AtMost order) (AtMost order) (λ orders at_most. at_most)
-      (λ orders at_most. all_taken g.M.StoreMemory.takes g.met.M.StoreMemory.ticks_are_taken choose (take is.count history) orders front
+      (λ orders at_most. all_taken g.M.StoreMemory.takes g.met.M.StoreMemory.ticks_are_taken past.choose
+      (take is.count past.history) orders front
       (most_taken g.M.StoreMemory.takes order orders (c.requires c.now-moment.result) at_most))
       c.stop_run.ensures.run c.stop_run.ensures.closed (λ kept now given held.
-      c.stop_run.ensures.images kept choose now is.count chooser given held)
-      (λ kept also now given held. c.stop_run.ensures.held kept also choose now is.count chooser given held) ends in
-      stopped_by g.D.Disk _ g.M.StoreMemory.holds choose history run k c.args.config image c.in-Ok.store c.stop_run.new.store
+      c.stop_run.ensures.images kept past.choose now is.count chooser given held)
+      (λ kept also now given held. c.stop_run.ensures.held kept also past.choose now is.count chooser given held) ends in
+      stopped_by g.D.Disk _ g.M.StoreMemory.holds past c.args.config image c.in-Ok.store c.stop_run.new.store
       c.args.disk.now c.mount.new.disk c.stop_run.new.disk
       (g.C.Clock.ahead c.args.clock.now) (g.C.Clock.ahead c.now-moment.new.self) seen is
-      (c.in-Ok.ensures.images choose history run k begins) (c.in-Ok.ensures.above choose history run k begins image seen)
+      (c.in-Ok.ensures.images past.choose past.history past.run past.least begins)
+      (c.in-Ok.ensures.above past.choose past.history past.run past.least begins image seen)
       c.in-Ok.ensures.begun
-      (configured_as g.D.Disk _ g.M.StoreMemory.holds choose history run k c.args.config image c.in-Ok.store c.mount.new.disk is
+      (configured_as g.D.Disk _ g.M.StoreMemory.holds past c.args.config image c.in-Ok.store c.mount.new.disk is
       c.kept.result.now c.kept.ensures c.same_kept.result false same c.if-same_kept.false)
       c.now-moment.result c.now-moment.ensures c.stop_run.result
-      (by_end (λ (stop : Stop). IsUnset choose (take is.count history) order stop) c.in-Err-run_last.stop c.stop_run.result
-      (unset choose c.in-Ok.store.drawn (take is.count history) c.args.config c.now-moment.result c.in-Err-run_last.stop caused) tt tt
+      (by_end (λ (stop : Stop). IsUnset past.choose (take is.count past.history) order stop) c.in-Err-run_last.stop c.stop_run.result
+      (unset past.choose c.in-Ok.store.drawn (take is.count past.history) c.args.config c.now-moment.result c.in-Err-run_last.stop caused)
+      tt tt
       c.stop_run.ensures.why) g.M.StoreMemory.takes
-      (λ orders at_most. all_taken g.M.StoreMemory.takes g.met.M.StoreMemory.ticks_are_taken choose (take is.count history) orders front
+      (λ orders at_most. all_taken g.M.StoreMemory.takes g.met.M.StoreMemory.ticks_are_taken past.choose
+      (take is.count past.history) orders front
       (most_taken g.M.StoreMemory.takes order orders (c.requires c.now-moment.result) at_most)) short;
-  undamaged = λ file at is choose history run k chooser taken begins image seen.
+  undamaged = λ file at is past chooser taken begins image seen.
       let mounted = seen_on _ (g.D.Disk.seen c.args.disk.now) (g.D.Disk.seen c.mount.new.disk) image c.mount.ensures.told seen in
       let later = seen_on _ (g.D.Disk.seen c.mount.new.disk) (g.D.Disk.seen c.run_last.new.disk) mounted.0 c.run_last.ensures.told mounted.1
       in
-      let found = c.in-Ok.ensures.mounted choose history run k chooser taken begins image seen in
-      let all = committed g.D.Disk _ g.M.StoreMemory.holds choose history run k c.args.config image c.in-Ok.store c.mount.new.disk found in
+      let found = c.in-Ok.ensures.mounted past.choose past.history past.run past.least chooser taken begins image seen in
+      let all = committed g.D.Disk _ g.M.StoreMemory.holds past c.args.config image c.in-Ok.store c.mount.new.disk found in
       let blamed = damaged_end c.in-Err-run_last.stop c.stop_run.result file at c.stop_run.ensures.why is in
       let same = c.stop_run.ensures.closed (ap loses blamed) in
       c.run_last.ensures.undamaged file at (c.in-Err-run_last.is
-      ∙ ap (λ (s : Stop). Err s) blamed) choose (take found.count history) found.count chooser
-      (front_has g.M.StoreMemory.takes found.count history taken) all later.0 later.1;
+      ∙ ap (λ (s : Stop). Err s) blamed) past.choose (take found.count past.history) found.count chooser
+      (front_has g.M.StoreMemory.takes found.count past.history taken) all later.0 later.1;
   mounted = tt;
   blamed = once_mounted g.D.Disk g.M.Book.ManifestState.fits g.M.StoreMemory.gives_none c.args.disk.now c.stop_run.new.disk
       c.stop_run.result (record { run = c.in-Ok.store.run; number = c.in-Ok.ensures.number; runs_left = c.in-Ok.ensures.begun })
@@ -161,7 +169,7 @@ returns-in-Err-run_last g c = record {
 pub returns-in-Err : goal.returns-in-Err
 returns-in-Err g c = record {
   opened = tt;
-  stopped = λ choose history run k chooser taken begins image seen. inl (record {
+  stopped = λ past chooser taken begins image seen. inl (record {
     fault = c.in-Err.fault;
     stop_is = c.of_mount.ensures;
     sound = λ unsound.
@@ -172,13 +180,13 @@ returns-in-Err g c = record {
         let mount_is : c.in-Err.fault ≡ mounts.Full = full_of_mount c.in-Err.fault is in
         c.in-Err.ensures.full (ap (λ (f : MountFault). Err f) mount_is);
     not_asked = refl;
-    stood = c.in-Err.ensures.images choose history run k begins;
+    stood = c.in-Err.ensures.images past.choose past.history past.run past.least begins;
   });
-  undamaged = λ file at is choose history run k chooser taken begins image seen.
+  undamaged = λ file at is past chooser taken begins image seen.
       let stop : of_mount c.in-Err.fault ≡ stops.Damaged file at = sym c.of_mount.ensures ∙ same_stop is in
       let fault = damaged_of_mount c.in-Err.fault file at stop in
       let was : c.mount.result ≡ Err (mounts.Damaged file at) = c.in-Err.is ∙ ap (λ (f : MountFault). Err f) fault in
-      c.mount.ensures.undamaged file at was choose history run k chooser taken begins image seen;
+      c.mount.ensures.undamaged file at was past.choose past.history past.run past.least chooser taken begins image seen;
   mounted = tt;
   blamed = subst (λ (stop : Stop). Blames stop g.D.Disk g.M.Book.ManifestState.fits g.M.StoreMemory.gives_none c.args.disk.now
       c.mount.new.disk) (sym c.of_mount.ensures)

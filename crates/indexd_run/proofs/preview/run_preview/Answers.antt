@@ -3,7 +3,7 @@ use Rattle.std.specs.Prelude.{Err}
 use Rattle.std.proofs.lemmas.Int.{to_z-of_z}
 use mir.Val.{SFits}
 use Rattle.ix_run.specs.Giving.{given_all}
-use Rattle.indexd_run.specs.Opened.{is_configured, WhenOpen, HasRun}
+use Rattle.indexd_run.specs.Opened.{is_configured, WhenOpen, HasRun, course}
 use Rattle.std.specs.List.{AllByRecursion}
 use Rattle.indexd_run.specs.Previews.{Fed, HasFed}
 use Rattle.indexd_run.specs.Stops.{loses_in}
@@ -20,84 +20,91 @@ use Rattle.indexd_run.proofs.Tasks.{ends_weaker, on_ok_by, if_err_by}
 use Rattle.indexd_run.proofs.preview.run_preview.Goals as goal
 
 pub returns-in-Err-clause-stopped : goal.returns-in-Err-clause-stopped
-returns-in-Err-clause-stopped g c = λ choose history run k chooser taken begins image seen.
-    inl (c.in-Err.ensures.stopped choose history run k chooser taken begins image seen, refl)
+returns-in-Err-clause-stopped g c = λ past chooser taken begins image seen.
+    inl (c.in-Err.ensures.stopped past chooser taken begins image seen, refl)
 
 pub returns-in-Err-clause-sound : goal.returns-in-Err-clause-sound
-returns-in-Err-clause-sound g c = λ unsound choose history run k chooser taken begins image seen.
-    shut_sound c.in-Err.stop g.D.Disk g.M.StoreMemory.takes _ choose history run k c.args.config _ _ c.args.disk.now c.open.new.disk
-    (cc (unsound)) (c.in-Err.ensures.stopped choose history run k chooser taken begins image seen)
+returns-in-Err-clause-sound g c = λ unsound past chooser taken begins image seen.
+    shut_sound c.in-Err.stop g.D.Disk g.M.StoreMemory.takes _ past (course c.args.config _ _ c.args.disk.now c.open.new.disk)
+    (cc (unsound)) (c.in-Err.ensures.stopped past chooser taken begins image seen)
 
 pub returns-clause-sound : goal.returns-clause-sound
-returns-clause-sound g c = λ unsound choose history run k chooser taken begins image seen.
-    let opened = c.in-Ok.ensures.opened choose history run k chooser taken begins image seen in
-    let taken_now = begun_taken g.M.StoreMemory.takes g.met.M.StoreMemory.ticks_are_taken choose (take opened.count history) c.args.config
-    (is_configured choose (take opened.count history) c.args.config) opened.configured
-    c.requires.settings (front_has g.M.StoreMemory.takes opened.count history taken) opened.configures in
-    fed_sound g.D.Disk _ c.in-Ok.store.run g.M.StoreMemory.holds choose (given_all choose (take opened.count history) opened.configured)
+returns-clause-sound g c = λ unsound past chooser taken begins image seen.
+    let opened = c.in-Ok.ensures.opened past chooser taken begins image seen in
+    let taken_now = begun_taken g.M.StoreMemory.takes g.met.M.StoreMemory.ticks_are_taken past.choose
+    (take opened.count past.history) c.args.config
+    (is_configured past.choose (take opened.count past.history) c.args.config) opened.configured
+    c.requires.settings (front_has g.M.StoreMemory.takes opened.count past.history taken) opened.configures in
+    fed_sound g.D.Disk _ c.in-Ok.store.run g.M.StoreMemory.holds past.choose
+    (given_all past.choose (take opened.count past.history) opened.configured)
     opened.count c.store_preview.new.store c.open.new.disk c.store_preview.new.disk
     c.args.origin _ c.store_preview.result (g.S.Source.left c.args.input.now) (g.S.Source.left c.store_preview.new.input) unsound
-    (c.store_preview.ensures.ends choose (given_all choose (take opened.count history) opened.configured) opened.count chooser taken_now
+    (c.store_preview.ensures.ends past.choose (given_all past.choose (take opened.count past.history) opened.configured) opened.count
+    chooser taken_now
     opened.hold)
 
 pub returns-clause-done : goal.returns-clause-done
-returns-clause-done g c = on_ok_by c.store_preview.result _ (λ done is. λ choose history run k chooser taken begins image seen.
+returns-clause-done g c = on_ok_by c.store_preview.result _ (λ done is. λ past chooser taken begins image seen.
     let fits : SFits w64 c.now-moment.result = search rules in
-    let opened = c.in-Ok.ensures.opened choose history run k chooser taken begins image seen in
-    let taken_now = begun_taken g.M.StoreMemory.takes g.met.M.StoreMemory.ticks_are_taken choose (take opened.count history) c.args.config
-    (is_configured choose (take opened.count history) c.args.config) opened.configured
-    c.requires.settings (front_has g.M.StoreMemory.takes opened.count history taken) opened.configures in
-    let begun = given_all choose (take opened.count history) opened.configured in
-    let fed = Fed choose opened.count begun c.args.origin c.now-moment.result c.store_preview.result (g.S.Source.left c.args.input.now)
+    let opened = c.in-Ok.ensures.opened past chooser taken begins image seen in
+    let taken_now = begun_taken g.M.StoreMemory.takes g.met.M.StoreMemory.ticks_are_taken past.choose
+    (take opened.count past.history) c.args.config
+    (is_configured past.choose (take opened.count past.history) c.args.config) opened.configured
+    c.requires.settings (front_has g.M.StoreMemory.takes opened.count past.history taken) opened.configures in
+    let begun = given_all past.choose (take opened.count past.history) opened.configured in
+    let fed = Fed past.choose opened.count begun c.args.origin c.now-moment.result c.store_preview.result (g.S.Source.left c.args.input.now)
     (g.S.Source.left c.store_preview.new.input) in
-    let ends = simp to_z-of_z at (c.store_preview.ensures.ends choose (given_all choose (take opened.count history) opened.configured)
+    let ends = simp to_z-of_z at (c.store_preview.ensures.ends past.choose
+    (given_all past.choose (take opened.count past.history) opened.configured)
     opened.count chooser taken_now opened.hold) in
-    subst (λ (lost : Bool). HasRun lost g.D.Disk g.M.StoreMemory.takes g.M.Book.ManifestState.fits choose history run k
-    (WhenOpen choose c.args.config (g.C.Clock.ahead c.args.clock.now)
-    (HasFed choose c.args.origin c.store_preview.result (g.C.Clock.ahead c.now-moment.new.self) (g.S.Source.left c.args.input.now)
+    subst (λ (lost : Bool). HasRun lost g.D.Disk g.M.StoreMemory.takes g.M.Book.ManifestState.fits past
+    (WhenOpen past.choose c.args.config (g.C.Clock.ahead c.args.clock.now)
+    (HasFed past.choose c.args.origin c.store_preview.result (g.C.Clock.ahead c.now-moment.new.self) (g.S.Source.left c.args.input.now)
     (g.S.Source.left c.store_preview.new.input))) c.args.disk.now c.store_preview.new.disk) (ap loses_in is)
-    (fed_when g.D.Disk _ g.M.StoreMemory.holds choose history run k c.args.config c.in-Ok.store (g.C.Clock.ahead c.args.clock.now)
+    (fed_when g.D.Disk _ g.M.StoreMemory.holds past c.args.config c.in-Ok.store (g.C.Clock.ahead c.args.clock.now)
     (g.C.Clock.ahead c.open.new.clock) c.args.disk.now c.open.new.disk c.store_preview.new.disk opened
     c.store_preview.new.store c.args.origin c.now-moment.result (g.C.Clock.ahead c.now-moment.new.self) c.now-moment.ensures
     (g.S.Source.left c.args.input.now) (g.S.Source.left c.store_preview.new.input) g.M.StoreMemory.takes c.store_preview.result
-    (ends_weaker g.D.Disk _ c.in-Ok.store.run g.M.StoreMemory.holds choose begun opened.count c.store_preview.new.store c.open.new.disk
+    (ends_weaker g.D.Disk _ c.in-Ok.store.run g.M.StoreMemory.holds past.choose begun opened.count c.store_preview.new.store c.open.new.disk
     c.store_preview.new.disk (loses_in c.store_preview.result) fed (λ orders. fed orders
-    × AllByRecursion g.M.StoreMemory.takes (given_all choose begun orders))
+    × AllByRecursion g.M.StoreMemory.takes (given_all past.choose begun orders))
     (λ orders was. (
       was,
-      all_taken g.M.StoreMemory.takes g.met.M.StoreMemory.ticks_are_taken choose begun orders taken_now
-          (fed_taken g.M.StoreMemory.takes choose opened.count begun c.args.origin c.now-moment.result c.store_preview.result
+      all_taken g.M.StoreMemory.takes g.met.M.StoreMemory.ticks_are_taken past.choose begun orders taken_now
+          (fed_taken g.M.StoreMemory.takes past.choose opened.count begun c.args.origin c.now-moment.result c.store_preview.result
           (g.S.Source.left c.args.input.now) (g.S.Source.left c.store_preview.new.input) orders
           (c.requires.ends c.now-moment.result) (c.requires.begins c.now-moment.result) (c.requires.adds c.now-moment.result) was),
     )) ends)))
 
 pub returns-clause-stopped : goal.returns-clause-stopped
-returns-clause-stopped g c = if_err_by c.store_preview.result _ (λ stop is. λ choose history run k chooser taken begins image seen.
+returns-clause-stopped g c = if_err_by c.store_preview.result _ (λ stop is. λ past chooser taken begins image seen.
     let fits : SFits w64 c.now-moment.result = search rules in
-    let opened = c.in-Ok.ensures.opened choose history run k chooser taken begins image seen in
-    let taken_now = begun_taken g.M.StoreMemory.takes g.met.M.StoreMemory.ticks_are_taken choose (take opened.count history) c.args.config
-    (is_configured choose (take opened.count history) c.args.config) opened.configured
-    c.requires.settings (front_has g.M.StoreMemory.takes opened.count history taken) opened.configures in
-    let begun = given_all choose (take opened.count history) opened.configured in
-    let fed = Fed choose opened.count begun c.args.origin c.now-moment.result c.store_preview.result (g.S.Source.left c.args.input.now)
+    let opened = c.in-Ok.ensures.opened past chooser taken begins image seen in
+    let taken_now = begun_taken g.M.StoreMemory.takes g.met.M.StoreMemory.ticks_are_taken past.choose
+    (take opened.count past.history) c.args.config
+    (is_configured past.choose (take opened.count past.history) c.args.config) opened.configured
+    c.requires.settings (front_has g.M.StoreMemory.takes opened.count past.history taken) opened.configures in
+    let begun = given_all past.choose (take opened.count past.history) opened.configured in
+    let fed = Fed past.choose opened.count begun c.args.origin c.now-moment.result c.store_preview.result (g.S.Source.left c.args.input.now)
     (g.S.Source.left c.store_preview.new.input) in
-    let ends = simp to_z-of_z at (c.store_preview.ensures.ends choose (given_all choose (take opened.count history) opened.configured)
+    let ends = simp to_z-of_z at (c.store_preview.ensures.ends past.choose
+    (given_all past.choose (take opened.count past.history) opened.configured)
     opened.count chooser taken_now opened.hold) in
-    inr (subst (λ (lost : Bool). HasRun lost g.D.Disk g.M.StoreMemory.takes g.M.Book.ManifestState.fits choose history run k
-    (WhenOpen choose c.args.config (g.C.Clock.ahead c.args.clock.now)
-    (HasFed choose c.args.origin c.store_preview.result (g.C.Clock.ahead c.now-moment.new.self) (g.S.Source.left c.args.input.now)
+    inr (subst (λ (lost : Bool). HasRun lost g.D.Disk g.M.StoreMemory.takes g.M.Book.ManifestState.fits past
+    (WhenOpen past.choose c.args.config (g.C.Clock.ahead c.args.clock.now)
+    (HasFed past.choose c.args.origin c.store_preview.result (g.C.Clock.ahead c.now-moment.new.self) (g.S.Source.left c.args.input.now)
     (g.S.Source.left c.store_preview.new.input))) c.args.disk.now c.store_preview.new.disk) (ap loses_in is)
-    (fed_when g.D.Disk _ g.M.StoreMemory.holds choose history run k c.args.config c.in-Ok.store (g.C.Clock.ahead c.args.clock.now)
+    (fed_when g.D.Disk _ g.M.StoreMemory.holds past c.args.config c.in-Ok.store (g.C.Clock.ahead c.args.clock.now)
     (g.C.Clock.ahead c.open.new.clock) c.args.disk.now c.open.new.disk c.store_preview.new.disk opened
     c.store_preview.new.store c.args.origin c.now-moment.result (g.C.Clock.ahead c.now-moment.new.self) c.now-moment.ensures
     (g.S.Source.left c.args.input.now) (g.S.Source.left c.store_preview.new.input) g.M.StoreMemory.takes c.store_preview.result
-    (ends_weaker g.D.Disk _ c.in-Ok.store.run g.M.StoreMemory.holds choose begun opened.count c.store_preview.new.store c.open.new.disk
+    (ends_weaker g.D.Disk _ c.in-Ok.store.run g.M.StoreMemory.holds past.choose begun opened.count c.store_preview.new.store c.open.new.disk
     c.store_preview.new.disk (loses_in c.store_preview.result) fed (λ orders. fed orders
-    × AllByRecursion g.M.StoreMemory.takes (given_all choose begun orders))
+    × AllByRecursion g.M.StoreMemory.takes (given_all past.choose begun orders))
     (λ orders was. (
       was,
-      all_taken g.M.StoreMemory.takes g.met.M.StoreMemory.ticks_are_taken choose begun orders taken_now
-          (fed_taken g.M.StoreMemory.takes choose opened.count begun c.args.origin c.now-moment.result c.store_preview.result
+      all_taken g.M.StoreMemory.takes g.met.M.StoreMemory.ticks_are_taken past.choose begun orders taken_now
+          (fed_taken g.M.StoreMemory.takes past.choose opened.count begun c.args.origin c.now-moment.result c.store_preview.result
           (g.S.Source.left c.args.input.now) (g.S.Source.left c.store_preview.new.input) orders
           (c.requires.ends c.now-moment.result) (c.requires.begins c.now-moment.result) (c.requires.adds c.now-moment.result) was),
     )) ends))))
@@ -111,15 +118,17 @@ returns-in-Err-clause-undamaged g c = λ file at is.
     c.open.ensures.undamaged file at was
 
 pub returns-clause-undamaged : goal.returns-clause-undamaged
-returns-clause-undamaged g c = λ file at is choose history run k chooser taken begins image seen.
+returns-clause-undamaged g c = λ file at is past chooser taken begins image seen.
     let mounted = seen_on _ (g.D.Disk.seen c.args.disk.now) (g.D.Disk.seen c.open.new.disk) image c.open.ensures.told seen in
     let later = seen_on _ (g.D.Disk.seen c.open.new.disk) (g.D.Disk.seen c.store_preview.new.disk) mounted.0 c.store_preview.ensures.told
     mounted.1 in
-    let opened = c.in-Ok.ensures.opened choose history run k chooser taken begins image seen in
-    let taken_now = begun_taken g.M.StoreMemory.takes g.met.M.StoreMemory.ticks_are_taken choose (take opened.count history) c.args.config
-    (is_configured choose (take opened.count history) c.args.config) opened.configured
-    c.requires.settings (front_has g.M.StoreMemory.takes opened.count history taken) opened.configures in
-    c.store_preview.ensures.undamaged file at is choose (given_all choose (take opened.count history) opened.configured) opened.count
+    let opened = c.in-Ok.ensures.opened past chooser taken begins image seen in
+    let taken_now = begun_taken g.M.StoreMemory.takes g.met.M.StoreMemory.ticks_are_taken past.choose
+    (take opened.count past.history) c.args.config
+    (is_configured past.choose (take opened.count past.history) c.args.config) opened.configured
+    c.requires.settings (front_has g.M.StoreMemory.takes opened.count past.history taken) opened.configures in
+    c.store_preview.ensures.undamaged file at is past.choose
+    (given_all past.choose (take opened.count past.history) opened.configured) opened.count
     chooser taken_now opened.hold later.0 later.1
 
 pub returns-clause-short : goal.returns-clause-short

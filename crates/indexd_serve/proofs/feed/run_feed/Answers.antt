@@ -4,44 +4,48 @@ use Rattle.ix_disk.proofs.Runs.{rose_later}
 use Rattle.ix_net.proofs.GoesLemmas.{goes_nowhere}
 use Rattle.ix_run.specs.Giving.{given_all}
 use Rattle.ix_serve.specs.Serving.{IsClean}
-use Rattle.indexd_run.specs.Opened.{is_configured}
+use Rattle.indexd_run.specs.Opened.{is_configured, course}
 use Rattle.indexd_run.specs.declared.stop.Stop.TheVariants as stops
 use Rattle.indexd_run.proofs.Joining.{front_has, begun_taken, shut_sound}
 use Rattle.indexd_run.proofs.Undamaged.{seen_on}
 use Rattle.ix_sessions.proofs.Turning.{safe_turns}
-use Rattle.indexd_serve.specs.Serving.{Requests}
+use Rattle.indexd_serve.specs.Serving.{Requests, exchange}
 use Rattle.indexd_serve.proofs.Opening.{served_behind}
 use Rattle.indexd_serve.proofs.Ending.{same_ok}
 use Rattle.ix_serve.proofs.Standing.{tells_on}
 use Rattle.indexd_serve.proofs.feed.run_feed.Goals as goal
 
 pub returns-clause-served : goal.returns-clause-served
-returns-clause-served g c = λ choose history run k chooser taken begins image seen.
-    let opened = c.in-Ok.ensures.opened choose history run k chooser taken begins image seen in
-    let taken_now = begun_taken g.M.StoreMemory.takes g.met.M.StoreMemory.ticks_are_taken choose (take opened.count history) c.args.config
-    (is_configured choose (take opened.count history) c.args.config) opened.configured
-    c.requires.settings (front_has g.M.StoreMemory.takes opened.count history taken) opened.configures in
-    let requests = c.feed_open.ensures.requests choose (given_all choose (take opened.count history) opened.configured) opened.count chooser
+returns-clause-served g c = λ past chooser taken begins image seen.
+    let opened = c.in-Ok.ensures.opened past chooser taken begins image seen in
+    let taken_now = begun_taken g.M.StoreMemory.takes g.met.M.StoreMemory.ticks_are_taken past.choose
+    (take opened.count past.history) c.args.config
+    (is_configured past.choose (take opened.count past.history) c.args.config) opened.configured
+    c.requires.settings (front_has g.M.StoreMemory.takes opened.count past.history taken) opened.configures in
+    let requests = c.feed_open.ensures.requests past.choose
+    (given_all past.choose (take opened.count past.history) opened.configured) opened.count chooser
     taken_now opened.hold in
-    served_behind g.D.Disk g.M.StoreMemory.takes g.M.Book.ManifestState.fits g.M.StoreMemory.holds choose history run k c.args.config
+    served_behind g.D.Disk g.M.StoreMemory.takes g.M.Book.ManifestState.fits g.M.StoreMemory.holds past c.args.config
     c.in-Ok.store (g.C.Clock.ahead c.args.clock.now) (g.C.Clock.ahead c.open.new.clock) c.args.disk.now c.open.new.disk opened
     (Requests g.D.Disk g.M.Book.ManifestState.fits c.feed_open.result
     (IsClean (g.K.Link.faults c.args.link.now) (g.K.Link.faults c.feed_open.new.link) (g.K.Link.standing c.args.link.now)
-    (g.K.Link.standing c.feed_open.new.link))
-    (g.K.Link.left c.args.link.now) (g.K.Link.left c.feed_open.new.link) (g.C.Clock.ahead c.feed_open.new.clock)
-    (g.K.Link.given c.args.link.now) (g.K.Link.given c.feed_open.new.link) c.feed_open.new.disk)
-    requests.1.1.turns requests.0 c.feed_open.new.disk (tells_on g.D.Disk _ c.args.disk.now c.open.new.disk c.open.ensures.told)
+    (g.K.Link.standing c.feed_open.new.link)) (exchange (g.K.Link.left c.args.link.now) (g.K.Link.left c.feed_open.new.link)
+    (g.K.Link.given c.args.link.now) (g.K.Link.given c.feed_open.new.link)))
+    requests.1.1.turns requests.0 (g.C.Clock.ahead c.feed_open.new.clock) c.feed_open.new.disk
+    (tells_on g.D.Disk _ c.args.disk.now c.open.new.disk c.open.ensures.told)
     requests.1.0 requests.1.1.now_is requests.1.1
     (safe_turns g.D.Disk g.M.Book.ManifestState.fits _ requests.1.1.turns _ _ requests.1.1.are) requests.1.1.behind
 
 pub returns-clause-unbroken : goal.returns-clause-unbroken
-returns-clause-unbroken g c = λ file at is choose history run k chooser taken begins image seen.
+returns-clause-unbroken g c = λ file at is past chooser taken begins image seen.
     let mounted = seen_on _ (g.D.Disk.seen c.args.disk.now) (g.D.Disk.seen c.open.new.disk) image c.open.ensures.told seen in
-    let opened = c.in-Ok.ensures.opened choose history run k chooser taken begins image seen in
-    let taken_now = begun_taken g.M.StoreMemory.takes g.met.M.StoreMemory.ticks_are_taken choose (take opened.count history) c.args.config
-    (is_configured choose (take opened.count history) c.args.config) opened.configured
-    c.requires.settings (front_has g.M.StoreMemory.takes opened.count history taken) opened.configures in
-    c.feed_open.ensures.unbroken file at (same_ok is) choose (given_all choose (take opened.count history) opened.configured) opened.count
+    let opened = c.in-Ok.ensures.opened past chooser taken begins image seen in
+    let taken_now = begun_taken g.M.StoreMemory.takes g.met.M.StoreMemory.ticks_are_taken past.choose
+    (take opened.count past.history) c.args.config
+    (is_configured past.choose (take opened.count past.history) c.args.config) opened.configured
+    c.requires.settings (front_has g.M.StoreMemory.takes opened.count past.history taken) opened.configures in
+    c.feed_open.ensures.unbroken file at (same_ok is) past.choose
+    (given_all past.choose (take opened.count past.history) opened.configured) opened.count
     chooser taken_now opened.hold mounted.0 mounted.1
 
 pub returns-clause-disk : goal.returns-clause-disk
@@ -52,9 +56,9 @@ pub returns-clause-link : goal.returns-clause-link
 returns-clause-link g c = λ is. c.feed_open.ensures.comes.by_link (same_ok is)
 
 pub returns-in-Err-clause-sound : goal.returns-in-Err-clause-sound
-returns-in-Err-clause-sound g c = λ unsound choose history run k chooser taken begins image seen.
-    shut_sound c.in-Err.stop g.D.Disk g.M.StoreMemory.takes _ choose history run k c.args.config _ _ c.args.disk.now c.open.new.disk
-    (cc (unsound)) (c.in-Err.ensures.stopped choose history run k chooser taken begins image seen)
+returns-in-Err-clause-sound g c = λ unsound past chooser taken begins image seen.
+    shut_sound c.in-Err.stop g.D.Disk g.M.StoreMemory.takes _ past (course c.args.config _ _ c.args.disk.now c.open.new.disk)
+    (cc (unsound)) (c.in-Err.ensures.stopped past chooser taken begins image seen)
 
 pub returns-in-Err-clause-undamaged : goal.returns-in-Err-clause-undamaged
 returns-in-Err-clause-undamaged g c = λ file at is.

@@ -1,7 +1,7 @@
 use Rattle.std.proofs.Common.{rules, ◌∙◌, inr, ap, sym, subst}
 use Rattle.std.specs.Prelude.{Ok, Err}
 use Rattle.indexd_serve.specs.Ends.{fed_of, is_short}
-use Rattle.indexd_serve.specs.Serving.{HasServed, Requests}
+use Rattle.indexd_serve.specs.Serving.{HasServed, Requests, exchange}
 use Rattle.indexd_serve.specs.Sides.{IsSound}
 use Rattle.indexd_serve.proofs.Opening.{served_as, requests_where}
 use Rattle.indexd_serve.proofs.Ending.{told_end, of_disk, of_damaged, of_input, of_output, same_ok, same_err, read_failed, write_failed}
@@ -9,23 +9,23 @@ use Rattle.indexd_serve.proofs.Ending.{has_failed, along, along_two}
 use Rattle.ix_sessions.specs.Reading.{ReadsTo}
 use Rattle.ix_sessions.specs.declared.feed.Fed.{Fed}
 use Rattle.indexd_serve.proofs.run.run_streams.Goals as goal
+use Rattle.indexd_run.specs.Opened.{course}
 
 pub returns-in-Ok-clause-served : goal.returns-in-Ok-clause-served
-returns-in-Ok-clause-served g c = λ choose history run k chooser taken begins image seen.
-    let has = c.in-Ok.ensures.served choose history run k chooser taken begins image seen in
+returns-in-Ok-clause-served g c = λ past chooser taken begins image seen.
+    let has = c.in-Ok.ensures.served past chooser taken begins image seen in
     let requests = has.served in
-    let told = served_as g.D.Disk g.M.StoreMemory.takes _ choose history run k c.args.config _ _
+    let told = served_as g.D.Disk g.M.StoreMemory.takes _ past _ _
     (Requests g.D.Disk g.M.Book.ManifestState.fits (fed_of c.end_of.result)
     (IsSound (g.W.Sink.faults c.new-link.result.sink.now) (g.W.Sink.faults c.run_feed.new.link.sink.now))
-    (g.S.Source.left c.new-link.result.source.now) (g.S.Source.left c.run_feed.new.link.source.now) (g.C.Clock.ahead c.run_feed.new.clock)
-    (g.W.Sink.given c.new-link.result.sink.now) (g.W.Sink.given c.run_feed.new.link.sink.now) c.run_feed.new.disk) _ _ has
-    (requests_where g.D.Disk _ c.in-Ok.fed (fed_of c.end_of.result) _ _ _ _ _ _ _ _ _ _ _ (λ sound. inr sound)
+    (exchange (g.S.Source.left c.new-link.result.source.now) (g.S.Source.left c.run_feed.new.link.source.now)
+    (g.W.Sink.given c.new-link.result.sink.now) (g.W.Sink.given c.run_feed.new.link.sink.now))) has
+    (requests_where g.D.Disk _ c.in-Ok.fed (fed_of c.end_of.result) _ _ _ _ (λ sound. inr sound)
     (ap fed_of c.end_of.ensures ∙ told_end c.in-Ok.fed c.run_feed.new.link.failed) requests) in
-    along (λ s s' w w'. HasServed g.D.Disk g.M.StoreMemory.takes g.M.Book.ManifestState.fits choose history run k c.args.config
-    (g.C.Clock.ahead c.args.clock.now)
+    along (λ s s' w w'. HasServed g.D.Disk g.M.StoreMemory.takes g.M.Book.ManifestState.fits past
+    (course c.args.config (g.C.Clock.ahead c.args.clock.now) (g.C.Clock.ahead c.run_feed.new.clock) c.args.disk.now c.run_feed.new.disk)
     (Requests g.D.Disk g.M.Book.ManifestState.fits (fed_of c.end_of.result) (IsSound (g.W.Sink.faults w) (g.W.Sink.faults w'))
-    (g.S.Source.left s) (g.S.Source.left s') (g.C.Clock.ahead c.run_feed.new.clock) (g.W.Sink.given w) (g.W.Sink.given w')
-    c.run_feed.new.disk) c.args.disk.now c.run_feed.new.disk)
+    (exchange (g.S.Source.left s) (g.S.Source.left s') (g.W.Sink.given w) (g.W.Sink.given w'))))
     c.new-link.ensures.read (search rules) c.new-link.ensures.written (search rules) told
 
 pub returns-in-Ok-clause-short : goal.returns-in-Ok-clause-short

@@ -6,7 +6,7 @@ use Rattle.ix_model.specs.Given.{Chooser}
 use Rattle.ix_model.specs.declared.commands.TimedCommand.{TimedCommand}
 use Rattle.ix_store.specs.Holding.{Represents}
 use Rattle.ix_serve.specs.Serving.{IsTold}
-use Rattle.ix_sessions.specs.Feeding.{Reaches, kind, start, coming}
+use Rattle.ix_sessions.specs.Feeding.{Reaches, kind, start, coming, talk}
 use Rattle.ix_sessions.specs.Reading.{ReadsOn}
 use Rattle.ix_sessions.proofs.feed.feed_all.Given as goal
 
@@ -25,6 +25,6 @@ invariant-loop-served g l = record {
       Represents g.D.Disk g.M.Book.ManifestState.fits g.M.StoreMemory.holds choose h base k l.fn.store l.fn.disk →
       Reaches g.D.Disk (kind g.M.StoreMemory.takes g.M.Book.ManifestState.fits g.M.StoreMemory.holds)
       (start choose h base k l.fn.store.run l.fn.disk) l.served
-      (coming (g.K.Link.left l.fn.link) (g.C.Clock.ahead l.fn.clock)) (coming (g.K.Link.left l.link) (g.C.Clock.ahead l.clock))
-      (g.K.Link.given l.fn.link) (g.K.Link.given l.link) l.store l.disk;
+      (talk (coming (g.K.Link.left l.fn.link) (g.C.Clock.ahead l.fn.clock)) (g.K.Link.given l.fn.link))
+      (talk (coming (g.K.Link.left l.link) (g.C.Clock.ahead l.clock)) (g.K.Link.given l.link)) l.store l.disk;
 }

@@ -5,7 +5,7 @@ use Rattle.ix_model.specs.Given.{Chooser}
 use Rattle.ix_model.specs.declared.commands.TimedCommand.{TimedCommand}
 use Rattle.ix_store.specs.Holding.{Represents}
 use Rattle.ix_serve.specs.Serving.{IsTold}
-use Rattle.ix_sessions.specs.Connections.{Visits, listened}
+use Rattle.ix_sessions.specs.Connections.{Visits, listened, hearing}
 use Rattle.ix_sessions.specs.Feeding.{kind, start}
 use Rattle.ix_sessions.specs.Reading.{HearsMany}
 use Rattle.ix_sessions.proofs.serve.serve_all.Given as goal
@@ -26,7 +26,6 @@ invariant-loop-served g l = record {
       Represents g.D.Disk g.M.Book.ManifestState.fits g.M.StoreMemory.holds choose h base k l.fn.store l.fn.disk →
       Visits g.D.Disk (kind g.M.StoreMemory.takes g.M.Book.ManifestState.fits g.M.StoreMemory.holds)
       (start choose h base k l.fn.store.run l.fn.disk) l._served
-      (listened (g.L.Listener.waiting l.fn.listener) (g.L.Listener.handed l.fn.listener))
-      (listened (g.L.Listener.waiting l.listener) (g.L.Listener.handed l.listener))
-      (g.C.Clock.ahead l.fn.clock) (g.C.Clock.ahead l.clock) l.store l.disk;
+      (hearing (listened (g.L.Listener.waiting l.fn.listener) (g.L.Listener.handed l.fn.listener)) (g.C.Clock.ahead l.fn.clock))
+      (hearing (listened (g.L.Listener.waiting l.listener) (g.L.Listener.handed l.listener)) (g.C.Clock.ahead l.clock)) l.store l.disk;
 }
