@@ -1,7 +1,7 @@
 -- Which files a pass visits, in the order in which it visits them.
-use Rattle.std.specs.Prelude.{◌==◌, ◌&&◌, nat_le, not, ℕ, Bool, if◌then◌else◌, List, [], ◌∷◌, ◌++◌, length, map, filter, is_some}
-use Rattle.std.specs.Prelude.{unwrap_or, bytes_eq}
-use Rattle.std.specs.List.{list_any}
+use Rattle.std.specs.Prelude.{◌≡◌, ◌≤◌, ◌==◌, ◌&&◌, nat_le, not, ℕ, Bool, true, false, if◌then◌else◌, List, [], ◌∷◌, ◌++◌, length, map}
+use Rattle.std.specs.Prelude.{filter, is_some, unwrap_or, bytes_eq, Contains}
+use Rattle.std.specs.List.{list_any, AllByRecursion}
 use Rattle.ix_conf.specs.Stars.{fits_stars}
 use Rattle.ix_fs.specs.declared.trees.TreeFile.{TreeFile}
 use Rattle.ix_fs.specs.Trees.{bytes_at, names_in}
@@ -63,3 +63,31 @@ sought_from files earlier (input ∷ inputs) = sought_in files earlier input ++ 
 
 abbrev pub sought : List TreeFile → List Input → List Watched
 sought files inputs = sought_from files [] inputs
+
+-- ---- files of any tree, also of one that does not tell its files
+
+-- a path that an input gives: its own, or where that has a `*` one in its folder whose name fits
+abbrev pub IsPathBy : Bool → List ℕ → List ℕ → Type 0
+IsPathBy false own path = path ≡ own
+IsPathBy true own path = (name : List ℕ) × (path ≡ front_of own ++ name) × (fits_stars (segment_of own) name ≡ true)
+
+abbrev pub IsPathOf : Input → List ℕ → Type 0
+IsPathOf input path = IsPathBy (has_star input.path) input.path path
+
+-- A file that an input has watched, with what the input states of it.
+pub record IsFileBy (input : Input) (file : Watched) : Type 0 where
+  pub path : IsPathOf input file.path
+  pub short : length file.path ≤ 4096
+  pub is : file ≡ watched input file.path
+
+-- One that some input of several has watched.
+pub record IsFileOf (inputs : List Input) (file : Watched) : Type 0 where
+  pub input : Input
+  pub among : Contains inputs input
+  pub has : IsFileBy input file
+
+-- Further files of an input stand behind those that were there.
+pub record Adds (input : Input) (files files' : List Watched) : Type 0 where
+  pub more : List Watched
+  pub own : AllByRecursion (IsFileBy input) more
+  pub behind : files' ≡ files ++ more

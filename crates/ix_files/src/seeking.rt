@@ -1,7 +1,7 @@
 //! The files of the inputs are sought in a tree.
 
-ghost use Rattle.std.specs.Prelude.{◌≡◌, ◌++◌, [], ◌∷◌, IfOk, IfErr, IfSome, OnOk, unwrap_or};
-ghost use Rattle.std.specs.List.{list_any};
+ghost use Rattle.std.specs.Prelude.{◌≡◌, ◌++◌, [], ◌∷◌, true, IfOk, IfErr, IfSome, OnOk, unwrap_or};
+ghost use Rattle.std.specs.List.{list_any, AllByRecursion};
 ghost use Rattle.ix_files.specs.Sought as defs;
 ghost use Rattle.ix_fs.specs.Trees.{HasTreeCause};
 
@@ -108,8 +108,10 @@ impl Seeker<'_> {
         path: &[u8],
         files: &mut Sequence<Watched>,
     ) -> Result<(), TreeFault>
+        requires { defs.IsPathOf self.input.now path.now }
         ensures added { OnOk result (IfSome (T.files tree.old) (λ all. files.new ≡ files.old
             ++ defs.sought_at all self.entry.earlier.now self.entry.input.now (path.now ∷ []))) }
+        ensures own { OnOk result (defs.Adds self.entry.input.now files.old files.new) }
         ensures there { IfErr result (λ fault. fault ≡ TreeFault.Missing → ⊥) }
         ensures same { T.files tree.new ≡ T.files tree.old }
         ensures cause { HasTreeCause (T.faults tree.old) (T.faults tree.new) (T.missing tree.old) (T.missing tree.new) result }
@@ -128,8 +130,10 @@ impl Seeker<'_> {
         name: &[u8],
         files: &mut Sequence<Watched>,
     ) -> Result<(), TreeFault>
+        requires { defs.has_star self.input.now.path ≡ true }
         ensures added { OnOk result (IfSome (T.files tree.old) (λ all. files.new ≡ files.old
             ++ defs.sought_at all self.entry.earlier.now self.entry.input.now (defs.fitting_of self.entry.input.now.path (name.now ∷ [])))) }
+        ensures own { OnOk result (defs.Adds self.entry.input.now files.old files.new) }
         ensures there { IfErr result (λ fault. fault ≡ TreeFault.Missing → ⊥) }
         ensures same { T.files tree.new ≡ T.files tree.old }
         ensures cause { HasTreeCause (T.faults tree.old) (T.faults tree.new) (T.missing tree.old) (T.missing tree.new) result }
@@ -150,8 +154,10 @@ impl Seeker<'_> {
         names: &[Bytes],
         files: &mut Sequence<Watched>,
     ) -> Result<(), TreeFault>
+        requires { defs.has_star self.input.now.path ≡ true }
         ensures added { OnOk result (IfSome (T.files tree.old) (λ all. files.new ≡ files.old
             ++ defs.sought_at all self.entry.earlier.now self.entry.input.now (defs.fitting_of self.entry.input.now.path names.now))) }
+        ensures own { OnOk result (defs.Adds self.entry.input.now files.old files.new) }
         ensures there { IfErr result (λ fault. fault ≡ TreeFault.Missing → ⊥) }
         ensures same { T.files tree.new ≡ T.files tree.old }
         ensures cause { HasTreeCause (T.faults tree.old) (T.faults tree.new) (T.missing tree.old) (T.missing tree.new) result }
@@ -168,8 +174,10 @@ impl Seeker<'_> {
         tree: &mut T,
         files: &mut Sequence<Watched>,
     ) -> Result<(), TreeFault>
+        requires { defs.has_star self.input.now.path ≡ true }
         ensures added { OnOk result (IfSome (T.files tree.old) (λ all. files.new ≡ files.old
             ++ defs.sought_at all self.entry.earlier.now self.entry.input.now (defs.fitting all self.entry.input.now.path))) }
+        ensures own { OnOk result (defs.Adds self.entry.input.now files.old files.new) }
         ensures there { IfErr result (λ fault. fault ≡ TreeFault.Missing → ⊥) }
         ensures same { T.files tree.new ≡ T.files tree.old }
         ensures cause { HasTreeCause (T.faults tree.old) (T.faults tree.new) (T.missing tree.old) (T.missing tree.new) result }
@@ -190,6 +198,7 @@ impl Seeker<'_> {
     ) -> Result<(), TreeFault>
         ensures added { OnOk result (IfSome (T.files tree.old) (λ all. files.new ≡ files.old
             ++ defs.sought_in all self.entry.earlier.now self.entry.input.now)) }
+        ensures own { OnOk result (defs.Adds self.entry.input.now files.old files.new) }
         ensures there { IfErr result (λ fault. fault ≡ TreeFault.Missing → ⊥) }
         ensures same { T.files tree.new ≡ T.files tree.old }
         ensures cause { HasTreeCause (T.faults tree.old) (T.faults tree.new) (T.missing tree.old) (T.missing tree.new) result }
@@ -214,6 +223,8 @@ pub fn watched_files<T: Tree>(
     inputs: &[Input],
 ) -> Result<Sequence<Watched>, TreeFault>
     ensures files { IfOk result (λ files. IfSome (T.files tree.old) (λ all. files ≡ defs.sought all inputs.now)) }
+    // Whatever the tree tells, each is of a path that an input gives, with what that input states.
+    ensures own { IfOk result (λ files. AllByRecursion (defs.IsFileOf inputs.now) files) }
     // What is missing is no fault.
     ensures there { IfErr result (λ fault. fault ≡ TreeFault.Missing → ⊥) }
     ensures same { T.files tree.new ≡ T.files tree.old }
