@@ -14,7 +14,7 @@ ghost use Rattle.indexd_core.specs.Commands.{is_task, AskStore, AskFeed, AskServ
 ghost use Rattle.indexd_core.specs.Prepared.{Stated};
 ghost use Rattle.indexd_core.specs.Starts.{IsBlank, IsStart};
 ghost use Rattle.indexd_cli.specs.Orders.{asked};
-ghost use Rattle.indexd_premises.specs.Standing.{GoesOn};
+ghost use Rattle.indexd_premises.specs.Standing.{GoesOn, IsLeftOpen, IsOverStore};
 
 #[cfg(test)]
 mod tests;
@@ -68,4 +68,31 @@ pub fn first_run<S: Source, W: Sink, C: Clock, T: Tree, L: Listener>(
         alloc, words, input, output, clock, tree, &mut disk, listener,
     );
     (status, disk)
+}
+
+/// Runs the program twice over one disk in memory, which is empty at first: on `words`, and behind
+/// that on `again`; and answers with the second status the disk that is left. What the first run
+/// leaves meets all that the clauses of `top` ask of a start, whatever its status is. So nothing is
+/// damaged in the second one either, and a third may begin behind it.
+pub fn second_run<S: Source, W: Sink, C: Clock, T: Tree, L: Listener>(
+    alloc: Global,
+    words: &[Text],
+    again: &[Text],
+    input: &mut S,
+    output: &mut W,
+    clock: &mut C,
+    tree: &mut T,
+    listener: &mut L,
+) -> (Status, MemDisk)
+    ensures undamaged { IsOverStore words.now → result.0 ≡ Status.Damaged → ⊥ }
+    ensures goes_on { IsOverStore words.now → IsOverStore again.now → IsLeftOpen ⟦<MemDisk as Disk>⟧ result.1 }
+{
+    runs_leave::<MemDisk>();
+    an_exit_is_a_stop::<MemDisk>();
+    the_next_run_may_begin::<MemDisk, MemDisk>();
+    let (_first, mut disk) = first_run(alloc, words, input, output, clock, tree, listener);
+    let ended = top(
+        alloc, again, input, output, clock, tree, &mut disk, listener,
+    );
+    (ended, disk)
 }

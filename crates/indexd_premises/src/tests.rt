@@ -1,6 +1,7 @@
-//! First runs that come to status 0, of which the clauses of `first_run` speak.
+//! First and second runs that come to status 0, of which the clauses of `first_run` and `second_run`
+//! speak.
 
-use crate::first_run;
+use crate::{first_run, second_run};
 use indexd_core::Status;
 use ix_base::{Bytes, FailPlan, MemClock, MemSink, MemSource, Text};
 use ix_fs::{MemTree, TreeFileList};
@@ -66,4 +67,35 @@ fn first_runs_are_done(rt: HostRuntime) {
     check(&rt, alloc, "preview --host h --source s --store");
     check(&rt, alloc, "feed");
     check(&rt, alloc, "serve --port 8089 --requests 1");
+}
+
+/// The number of the status of a second run behind such a first one.
+fn code_behind(alloc: Global, line: &str, again: &str) -> u8 {
+    let words = words_of(alloc, line);
+    let further = words_of(alloc, again);
+    let mut input = MemSource::in_pieces(Bytes::new(alloc), 1, FailPlan::none(alloc));
+    let mut output = MemSink::new(alloc, FailPlan::none(alloc));
+    let mut clock = MemClock::new([NOON].to_vec(alloc).unwrap_or(Vec::new(alloc)));
+    let mut tree = MemTree::new(TreeFileList::new(alloc), FailPlan::none(alloc));
+    let mut listener = listener_of(alloc);
+    let (status, _disk) = second_run(
+        alloc,
+        &words,
+        &further,
+        &mut input,
+        &mut output,
+        &mut clock,
+        &mut tree,
+        &mut listener,
+    );
+    status.code()
+}
+
+#[test]
+fn second_runs_are_done(rt: HostRuntime) {
+    let alloc = rt.alloc();
+    for line in ["tick", "feed", "serve --port 8089 --requests 1"] {
+        let code = code_behind(alloc, line, "buckets");
+        assert!(rt; code == 0, "{line}: {code}");
+    }
 }

@@ -1,0 +1,32 @@
+-- What a run over a store leaves has room for a further one. For `second_run`.
+use Rattle.std.proofs.Common.{◌≡◌, ◌⊎◌, inl, inr, ℕ, true, List, [], refl, arith}
+use Rattle.ix_disk.specs.declared.disk.Disk.{Ghosts}
+use Rattle.indexd_run.specs.Opened.{Past}
+use Rattle.indexd_cli.specs.Orders.{asked}
+use Rattle.indexd_core.specs.Chain.{MayGoOn}
+use Rattle.indexd_core.specs.Commands.{is_task, AskStore, AskFeed, AskServe}
+use Rattle.indexd_core.specs.Prepared.{Stated}
+use Rattle.indexd_premises.specs.Standing.{IsLeftOpen, IsOverStore}
+
+-- what holds of each of the four kinds of runs over a store
+pub of_words : (words : List (List ℕ)) (P : Type 0) → (is_task (asked words) ≡ true → P) → ((stated : Stated) → AskStore words stated → P) →
+    (AskFeed words → P) → ((port requests : ℕ) → AskServe words port requests → P) → IsOverStore words → P
+of_words words P task stored fed served (inl asks) = task asks
+of_words words P task stored fed served (inr (inl asks)) = stored asks.0 asks.1
+of_words words P task stored fed served (inr (inr (inl asks))) = fed asks
+of_words words P task stored fed served (inr (inr (inr asks))) = served asks.0 asks.1 asks.2
+
+-- a run that goes on from anywhere goes on from nothing
+pub from_nothing : {D : Type 0} (d : Ghosts D) (past : Past) (disk : D) → MayGoOn d past disk → IsLeftOpen d disk
+from_nothing d past disk on = (
+  past.choose,
+  record {
+    next = on.next;
+    n = on.n;
+    least_run = on.least_run;
+    least = omega arith;
+    no_earlier = omega arith;
+    first = refl;
+    may_run = on.may_run;
+  },
+)
