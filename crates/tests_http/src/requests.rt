@@ -148,11 +148,23 @@ const HEADS: &str = "\
     ~GET /buckets HTTP/2.0\r\n\r\n\
     ~\0\
     ~GET /|x|16380|\
+    ~GET /|x|16379|\
+    ~GET /|x|16378|\
     ~GET /buckets HTTP/1.1\r\nA: |x|16354|\r\n\r\n\
     ~GET /buckets HTTP/1.1\r\nA: |x|16355|\r\n\r\n\
     ~GET /buckets HTTP/1.1\r\n|A: b\r\n|64|\r\n\
     ~GET /buckets HTTP/1.1\r\n|A: b\r\n|65|\r\nrest\
     ~GET /buckets HTTP/1.1\r\n|A: b\r\n|65|\
+    ~G(T /buckets HTTP/1.1\r\n\r\n\
+    ~GET  /buckets HTTP/1.1\r\n\r\n\
+    ~GET /buckets HTTP/1.1 \r\n\r\n\
+    ~GET /buckets HTTP/1.1\rA: b\
+    ~GET /buckets HTTP/1.1\r\n: b\r\n\r\n\
+    ~GET /buckets HTTP/1.1\r\nA\r\n\r\n\
+    ~GET /buckets HTTP/1.1\r\nA : b\r\n\r\n\
+    ~GET /buckets HTTP/1.1\r\nA: b\r\n c\r\n\r\n\
+    ~GET /buckets HTTP/1.1\r\nA: \x01b\r\n\r\n\
+    ~GET /buckets HTTP/1.1\r\nA:\tb\u{e9} \r\nA:\r\n\r\n\
     ~GET /nothing HTTP/1.1\r\n\r\n\
     ~DELETE /buckets HTTP/1.1\r\n\r\n\
     ~get /buckets HTTP/1.1\r\n\r\n\
@@ -169,7 +181,10 @@ const HEADS: &str = "\
     ~GET /indexes/main/events?earliest=-5&&%6catest=12345678901 HTTP/1.1\r\n\r\n\
     ~GET /indexes/main/events?earliest=1&earliest=2 HTTP/1.1\r\n\r\n\
     ~GET /indexes/main/events?earliest=+1 HTTP/1.1\r\n\r\n\
-    ~GET /indexes/main/events?latest=123456789012 HTTP/1.1\r\n\r\n";
+    ~GET /indexes/main/events?latest=123456789012 HTTP/1.1\r\n\r\n\
+    ~GET /indexes/main/events?earliest=%2d%31& HTTP/1.1\r\n\r\n\
+    ~GET /indexes/main/events?earliest= HTTP/1.1\r\n\r\n\
+    ~GET /indexes/main/events?latest=1&x HTTP/1.1\r\n\r\n";
 
 const HEADS_SAID: &str = "\
     Ended 0 left\n\
@@ -180,11 +195,23 @@ const HEADS_SAID: &str = "\
     BadHead false 6 left\n\
     BadHead false 0 left\n\
     BadHead false 1 left\n\
+    BadHead false 0 left\n\
+    Cut 0 left\n\
     Buckets 0 left\n\
     BadHead false 1 left\n\
     Buckets 0 left\n\
     BadHead false 4 left\n\
     Cut 0 left\n\
+    BadHead false 23 left\n\
+    BadHead false 21 left\n\
+    BadHead false 4 left\n\
+    BadHead false 3 left\n\
+    BadHead false 6 left\n\
+    BadHead false 3 left\n\
+    BadHead false 7 left\n\
+    BadHead false 5 left\n\
+    BadHead false 5 left\n\
+    Buckets 0 left\n\
     NoRoute true 0 left\n\
     WrongMethod true 0 left\n\
     WrongMethod true 0 left\n\
@@ -200,6 +227,9 @@ const HEADS_SAID: &str = "\
     NoRoute true 0 left\n\
     Events main -5 12345678901 0 left\n\
     BadQuery true 0 left\n\
+    BadQuery true 0 left\n\
+    BadQuery true 0 left\n\
+    Events main -1 - 0 left\n\
     BadQuery true 0 left\n\
     BadQuery true 0 left\n";
 
@@ -303,11 +333,21 @@ const BODIES: &str = "\
     ~POST /channels/c/blocks HTTP/1.1\r\nContent-Length: 5\r\nContent-Length: 5\r\n\r\nabcde\
     ~POST /channels/c/blocks HTTP/1.1\r\nContent-Length: 99999999999\r\n\r\nabc\
     ~POST /channels/c/blocks HTTP/1.1\r\nContent-Length: +5\r\n\r\nabcde\
+    ~POST /channels/c/end HTTP/1.1\r\nContent-Length:\r\n\r\nabc\
+    ~GET /nothing HTTP/1.1\r\nContent-Length: 1\r\nContent-Length: 1\r\n\r\nabc\
+    ~GET /nothing HTTP/1.1\r\nContent-Length: 1048577\r\n\r\nabc\
+    ~GET /nothing HTTP/1.1\r\nTransfer-Encoding: chunked\r\n\r\nabc\
+    ~DELETE /buckets HTTP/1.1\r\nTransfer-Encoding: chunked\r\n\r\nabc\
     ~PUT /channels/c HTTP/1.1\r\nTransfer-Encoding: chunked\r\n\r\nabc\
     ~GET /buckets HTTP/1.1\r\ntransfer-encoding: x\r\nContent-Length: 1\r\n\r\nabc\
     ~POST /channels/c/blocks HTTP/1.1\r\nContent-Encoding: Identity\r\nContent-Length: 2\r\n\r\nabc\
     ~POST /channels/c/blocks HTTP/1.1\r\nContent-Encoding: gzip\r\nContent-Length: 2\r\n\r\nabc\
     ~POST /channels/c/blocks HTTP/1.1\r\nContent-Encoding: identity, identity\r\nContent-Length: 2\r\n\r\nabc\
+    ~POST /channels/c/blocks HTTP/1.1\r\nContent-Encoding: identity\r\nContent-Encoding: identity\r\nContent-Length: 2\r\n\r\nabc\
+    ~POST /channels/c/blocks HTTP/1.1\r\nContent-Encoding: identity\r\nContent-Encoding: gzip\r\nContent-Length: 2\r\n\r\nabc\
+    ~POST /channels/c/blocks HTTP/1.1\r\nContent-Encoding: \r\nContent-Length: 2\r\n\r\nabc\
+    ~POST /channels/c/blocks HTTP/1.1\r\nContent-Encoding: gzip\r\nContent-Length: 1048577\r\n\r\nabc\
+    ~POST /channels/c/blocks HTTP/1.1\r\nContent-Encoding: gzip\r\n\r\nabc\
     ~POST /channels/c/end HTTP/1.1\r\nContent-Encoding: gzip\r\nContent-Length: 2\r\n\r\nabc\
     ~GET /indexes/main/events?a=1 HTTP/1.1\r\nContent-Length: 2\r\n\r\nabc\
     ~DELETE /channels/c/blocks HTTP/1.1\r\nContent-Length: 2\r\n\r\nabc\
@@ -316,6 +356,15 @@ const BODIES: &str = "\
     ~POST /acks HTTP/1.1\r\nContent-Length: 41\r\n\r\n{\"acks\":[0,18446744073709551616],\"run\":7}\
     ~POST /acks HTTP/1.1\r\nContent-Length: 22\r\n\r\n{\"run\":1.0,\"acks\":[1]}\
     ~POST /acks HTTP/1.1\r\nContent-Length: 9\r\n\r\n{\"run\":1}\
+    ~POST /acks HTTP/1.1\r\nContent-Length: 27\r\n\r\n{\"run\":1,\"acks\":[],\"run\":2}\
+    ~POST /acks HTTP/1.1\r\nContent-Length: 20\r\n\r\n{\"run\":-0,\"acks\":[]}\
+    ~POST /acks HTTP/1.1\r\nContent-Length: 22\r\n\r\n\u{feff}{\"run\":1,\"acks\":[]}\
+    ~POST /acks HTTP/1.1\r\nContent-Length: 20\r\n\r\n{\"run\":1,\"acks\":[]}}\
+    ~POST /acks HTTP/1.1\r\nContent-Length: 0\r\n\r\n\
+    ~PUT /channels/c HTTP/1.1\r\nContent-Length: 30\r\n\r\n{\"host\":\"\\ud800\",\"source\":\"s\"}\
+    ~PUT /channels/c HTTP/1.1\r\nContent-Length: 34\r\n\r\n{\"host\":\"h\",\"source\":\"\\u0073\\n\"}  \
+    ~PUT /channels/c HTTP/1.1\r\nContent-Length: 26\r\n\r\n{\"host\":null,\"source\":\"s\"}\
+    ~PUT /channels/c HTTP/1.1\r\nContent-Length: 36\r\n\r\n{\"host\":\"h\",\"source\":\"s\",\"index\":\"\"}\
     ~POST /acks HTTP/1.1\r\nContent-Length: 400\r\n\r\n[|[|199|]]]]]]]]]]]]]]]]]]]]]]]]]]]]]]]]]]]]]]]]]]]]]]]]]]]]]]]]]]]]]]]]]]]]]]]]]]]]]]]]]]]]]]]]]]]]]]]]]]]]]]]]]]]]]]]]]]]]]]]]]]]]]]]]]]]]]]]]]]]]]]]]]]]]]]]]]]]]]]]]]]]]]]]]]]]]]]]]]]]]]]]]]]]]]]]]]]]]]]]]";
 
 const BODIES_SAID: &str = "\
@@ -335,17 +384,36 @@ const BODIES_SAID: &str = "\
     BadHead false 5 left\n\
     BadHead false 3 left\n\
     BadHead false 5 left\n\
+    BadHead false 3 left\n\
+    BadHead false 3 left\n\
+    NoRoute false 3 left\n\
+    NoRoute false 3 left\n\
+    WrongMethod false 3 left\n\
     NoLength false 3 left\n\
     NoLength false 3 left\n\
     Block c ab 1 left\n\
     Encoded true 1 left\n\
     Encoded true 1 left\n\
+    Block c ab 1 left\n\
+    Encoded true 1 left\n\
+    Encoded true 1 left\n\
+    Encoded false 3 left\n\
+    NoLength true 3 left\n\
     Encoded true 1 left\n\
     TooLong true 1 left\n\
     WrongMethod true 1 left\n\
     Acks 1 0 left\n\
     Acks 7 0 18446744073709551615 0 left\n\
     BadBody true 0 left\n\
+    BadBody true 0 left\n\
+    BadBody true 0 left\n\
+    Acks 2 0 left\n\
+    BadBody true 0 left\n\
+    BadBody true 0 left\n\
+    BadBody true 0 left\n\
+    BadBody true 0 left\n\
+    BadBody true 0 left\n\
+    Begin c h s\n - - 0 left\n\
     BadBody true 0 left\n\
     BadBody true 0 left\n\
     BadBody true 0 left\n";

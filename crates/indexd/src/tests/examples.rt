@@ -1,6 +1,6 @@
 //! Worked examples: the runs of each, one behind the other over one disk.
 
-use crate::tests::runs::{AGE, Files, KEPT, LATER, NOON, ON_TIME, PLAIN, STORE};
+use crate::tests::runs::{A_B_C, AGE, Files, KEPT, LATER, NOON, ON_TIME, PLAIN, STORE};
 use crate::tests::steps::{BUCKET, Script, Step, check, check_each};
 use ix_base::{Area, File};
 
@@ -29,7 +29,7 @@ const LOST: Files<'static> = "\
     transforms:[toweb]\nREGEX = .\nDEST_KEY = _MetaData:Index\nFORMAT = web\n§\
     indexes:[default]\nlastChanceIndex = lost\n[lost]\n";
 
-static STORED: [Script<'static>; 2] = [
+static STORED: [Script<'static>; 3] = [
     &[
         Step::Run(
             (NOON, "buckets", PLAIN, ""),
@@ -82,6 +82,27 @@ static STORED: [Script<'static>; 2] = [
             ),
             "0: main\t1690000000.000000\th\ts\tunknown\t\t1690000000 b\n",
         ),
+    ],
+    // an input that was cut leaves a line open, which a run with an index that is not there leaves
+    // alone, and which the next input settles
+    &[
+        Step::Cut(STORE, PLAIN, "a\nb", "4: indexd: input fault\n"),
+        Step::Run(
+            (
+                NOON,
+                "preview --host h --source s --index web --store",
+                PLAIN,
+                "c",
+            ),
+            "10: indexd: not found: web\n",
+        ),
+        Step::Run(
+            (NOON, "buckets", PLAIN, ""),
+            "0: index main stored 1 bytes 58 frozen 0\nbucket main hot_v1_0 hot 1 58\n\
+            events settled 1 nulled 0 dropped 0\n",
+        ),
+        Step::Run((NOON, STORE, PLAIN, "c"), "0: "),
+        Step::Run((NOON, "export main", PLAIN, ""), A_B_C),
     ],
 ];
 

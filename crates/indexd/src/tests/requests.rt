@@ -100,6 +100,34 @@ fn limits_of_requests(rt: HostRuntime) {
     check(&rt, rt.alloc(), &MANY);
 }
 
+/// A line has 2,097,152 times its bytes.
+const SWOLLEN: Files<'static> = "props:[default]\nSHOULD_LINEMERGE = false\n\
+    SEDCMD-a = s/(.+)/\\1\\1\\1\\1\\1\\1\\1\\1/\n\
+    SEDCMD-b = s/(.+)/\\1\\1\\1\\1\\1\\1\\1\\1/\n\
+    SEDCMD-c = s/(.+)/\\1\\1\\1\\1\\1\\1\\1\\1/\n\
+    SEDCMD-d = s/(.+)/\\1\\1\\1\\1\\1\\1\\1\\1/\n\
+    SEDCMD-e = s/(.+)/\\1\\1\\1\\1\\1\\1\\1\\1/\n\
+    SEDCMD-f = s/(.+)/\\1\\1\\1\\1\\1\\1\\1\\1/\n\
+    SEDCMD-g = s/(.+)/\\1\\1\\1\\1\\1\\1\\1\\1/\n";
+
+/// The first line has 4,194,304 bytes then, each of which is shown by four letters.
+const LARGE: Exchanges<'static> = "\
+    PUT /channels/c¦¦{\"host\":\"h\",\"source\":\"s\"}¦201 Created¦{\"channel\":\"c\"}¶\
+    POST /channels/c/blocks¦¦\u{e9}\nb¦200 OK¦{\"ack\":0,\"run\":1}¶\
+    GET /indexes/main/events¦¦¦413 Payload Too Large¦{\"error\":\"TooLong\"}¶\
+    GET /indexes/main/events?latest=1700000000¦¦¦200 OK¦¶\
+    POST /channels/c/end¦¦¦200 OK¦{\"ack\":1,\"run\":1}¶\
+    GET /buckets¦¦¦200 OK¦index main stored 2 bytes 6291570 frozen 0\n\
+    bucket main hot_v1_0 hot 2 6291570\nevents settled 2 nulled 0 dropped 0\n";
+
+static SWELLING: [Step; 1] = [Step::Feed(SWOLLEN, LARGE, "0", "")];
+
+/// The lines of a reply have at most 16,777,216 bytes. Where there are more, the run goes on.
+#[test]
+fn a_reply_of_too_many_lines_is_refused(rt: HostRuntime) {
+    check(&rt, rt.alloc(), &SWELLING);
+}
+
 const UNACKNOWLEDGED: Exchanges<'static> = "\
     PUT /channels/c¦¦{\"host\":\"h\",\"source\":\"s\"}¦201 Created¦{\"channel\":\"c\"}¶\
     POST /channels/c/blocks¦¦x\ny\nz¦200 OK¦{\"ack\":0,\"run\":1}";

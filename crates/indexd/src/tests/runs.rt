@@ -227,6 +227,12 @@ pub(crate) fn previewed(alloc: Global, run: Run<'_>) -> String {
     said(alloc, run, &mut disk_of(alloc))
 }
 
+/// What a run says that exports the events `a`, `b` and `c` of noon.
+pub(crate) const A_B_C: &str = "\
+    0: main\t1700000000.000000\th\ts\tunknown\t\ta\n\
+    main\t1700000000.000000\th\ts\tunknown\t\tb\n\
+    main\t1700000000.000000\th\ts\tunknown\t\tc\n";
+
 /// A run by what the clock shows, its words, its files and its input.
 pub(crate) type Task = (i64, &'static str, Files<'static>, &'static str);
 

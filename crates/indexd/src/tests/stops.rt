@@ -159,7 +159,7 @@ fn check_stops(
 
 /// Whether a run is done: it does not blame the disk.
 fn is_done(said: String) -> bool {
-    said.as_str() != "5: indexd: disk fault\n"
+    !said.as_str().ends_with("indexd: disk fault\n")
 }
 
 /// Fails a call of a run.
@@ -280,8 +280,18 @@ fn a_stop_while_more_events_are_stored(rt: HostRuntime) {
 }
 
 #[test]
+fn a_call_that_fails_while_a_store_begins(rt: HostRuntime) {
+    check_script(&rt, rt.alloc(), &[0], Hindrance::Fails);
+}
+
+#[test]
 fn a_call_that_fails_while_a_bucket_freezes(rt: HostRuntime) {
-    check_script(&rt, rt.alloc(), &[2], Hindrance::Fails);
+    check_script(&rt, rt.alloc(), &[1, 2], Hindrance::Fails);
+}
+
+#[test]
+fn a_call_that_fails_while_a_bucket_is_thawed(rt: HostRuntime) {
+    check_script(&rt, rt.alloc(), &[3], Hindrance::Fails);
 }
 
 #[test]
@@ -326,6 +336,11 @@ fn a_stop_while_settings_change(rt: HostRuntime) {
     check_behind(&rt, rt.alloc(), &OPENED, &CHANGE, ALL);
 }
 
+#[test]
+fn a_call_that_fails_while_settings_change(rt: HostRuntime) {
+    check_behind(&rt, rt.alloc(), &OPENED, &CHANGE, Hindrance::Fails);
+}
+
 /// A channel is begun, and a block of two whole lines and a begun one is sent.
 const REQUESTS: &str =
     "PUT /channels/c HTTP/1.1\r\nContent-Length: 25\r\n\r\n{\"host\":\"h\",\"source\":\"s\"}POST /channels/c/blocks HTTP/1.1\r\nContent-Length: 5\r\n\r\nx\ny\nz";
@@ -348,6 +363,11 @@ static SERVE: Trial = Trial {
 #[test]
 fn a_stop_while_a_block_is_served(rt: HostRuntime) {
     check_behind(&rt, rt.alloc(), &[], &SERVE, ALL);
+}
+
+#[test]
+fn a_call_that_fails_while_a_block_is_served(rt: HostRuntime) {
+    check_behind(&rt, rt.alloc(), &[], &SERVE, Hindrance::Fails);
 }
 
 /// A store with three events whose log is long: bytes behind its last gate, which mean nothing, make it so.
