@@ -196,19 +196,20 @@ fn answer<S: Source, W: Sink, C: Clock, T: Tree, D: Disk, L: Listener>(
 ///
 /// Any other words are `Usage`. `Configuration` comes exactly where the files that the command
 /// reads have a fault, and `InUse` exactly where another program has the store. `Input` comes only
-/// where the input of `preview` or the tree has failed, `Output` only where the output has,
-/// `DiskFault` only where the disk has, `ListenerFault` only where the listener has, also where it
-/// does not get its port, `Unreadable` where a request of `feed` was cut or it is not known where
-/// it ends, `Endless` only where `preview` took 2^40 bytes or `feed` served 2^32 requests, and
-/// `Memory` where there was no room. The line of `Damaged` names a file and a place where a log was
-/// bad as the disk read at the start, or, behind a mount, where a file ends or no record of a bucket
-/// stands, as the disk reads at the exit; or, also behind a mount, it names `meta/1 at 0` where what
-/// the store has in memory contradicts itself. `Full` comes only where the store has had its last
-/// run, or behind a mount. Of a disk that stands for a history it is said too that `NotFound` comes
-/// where INDEX is not configured, or the bucket is not in the archive, `TooManyChannels` where 256
-/// channels are open, and `Full` where the store would pass its bounds or has had its last run; and
-/// `Damaged` never comes where each image stands for such a history. The line of the status stands
-/// behind the output.
+/// where the input of `preview` or `feed`, or the tree, has failed, `Output` only where the output
+/// has, `DiskFault` only where the disk has, `ListenerFault` only where the listener has, also where
+/// it does not get its port, `Unreadable` where a request of `feed` was cut or it is not known where
+/// it ends, and `Memory` where there was no room. Where nothing was mounted, the line of `Damaged`
+/// names a file and a place where a log was bad as the disk read at the start. Behind a mount it
+/// names the end of a file, a place in one where no record of a bucket of some size stands, as the
+/// disk reads at the exit, or `meta/1 at 0` where what the store has in memory contradicts itself:
+/// that this is the place of the damage is said by `commit` and `export` of the store, and not here.
+/// `Full` comes only where the store has had its last run, or behind a mount. Of a disk that stands
+/// for a history it is said too that `NotFound` comes where INDEX is not configured, or the bucket
+/// is not in the archive, `TooManyChannels` where 256 channels are open, `Full` where the store
+/// would pass its bounds or has had its last run, and `Endless` where `preview` took 2^40 bytes or
+/// `feed` served 2^32 requests; and `Damaged` never comes where each image stands for such a
+/// history. The line of the status stands behind the output.
 pub fn top<S: Source, W: Sink, C: Clock, T: Tree, D: Disk, L: Listener>(
     alloc: Global,
     words: &[Text],
