@@ -21,6 +21,7 @@ use ix_fs::Tree;
 use ix_life::LimitSet;
 use ix_props::Settings;
 use std::alloc::Global;
+use thiserror::Error;
 
 /// What a preview is prepared with.
 #[derive(Drop)]
@@ -34,15 +35,19 @@ pub struct PreparedPreview {
 }
 
 /// Why a preview is not prepared.
-#[derive(Drop)]
+#[derive(Debug, Drop, Error)]
 pub enum PrepareStop {
     /// There was no room in memory.
+    #[error("there was no room in memory")]
     Memory,
     /// The tree failed.
+    #[error("the tree failed")]
     Input,
     /// The settings have a fault.
+    #[error("{0}")]
     Refused(ConfigurationFault),
     /// The stated index, whose name this is, is not configured.
+    #[error("the stated index is not configured")]
     NotFound(Bytes),
 }
 

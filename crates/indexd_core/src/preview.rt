@@ -24,6 +24,7 @@ use ix_parse::Channel;
 use std::alloc::Global;
 use std::marker::Brand;
 use std::sync::ledger::{Blank, Ledger};
+use thiserror::Error;
 
 /// How many bytes of input are taken at the most.
 const INPUT_LIMIT: u64 = 1 << 40;
@@ -43,13 +44,16 @@ pub struct Preview {
 }
 
 /// Why a run stops before its end.
-#[derive(Clone, Copy)]
+#[derive(Clone, Copy, Debug, PartialEq, Eq, Error)]
 pub enum Stop {
     /// There was no room in memory.
+    #[error("there was no room in memory")]
     Memory,
     /// Reading failed.
+    #[error("reading failed")]
     Input,
     /// Writing failed.
+    #[error("writing failed")]
     Output,
 }
 

@@ -9,31 +9,42 @@ use ix_manifest::CheckpointFault;
 use ix_model::Refusal;
 use ix_run::{GiveFault, RunFault};
 use ix_store::{ExportFault, MountFault};
+use thiserror::Error;
 
 /// Why a run over a store stops before its end.
-#[derive(Clone, Copy, Debug, PartialEq, Eq)]
+#[derive(Clone, Copy, Debug, PartialEq, Eq, Error)]
 pub enum Stop {
     /// There was no room in memory.
+    #[error("there was no room in memory")]
     Memory,
     /// The disk has failed.
+    #[error("the disk failed")]
     Disk,
     /// In this file, from this place on, does not stand what was committed.
+    #[error("the file {file:?} is damaged at byte {at}")]
     Damaged { file: File, at: u64 },
     /// What is in memory contradicts a command of the run: it is refused in its turn, or lacks what
     /// it was just given for. A run over a disk that stands for a history never stops so (`sound`
     /// of the runs).
+    #[error("what is in memory contradicts a command")]
     Inconsistent,
     /// What is named is not there.
+    #[error("what is named is not there")]
     NotFound,
     /// 256 channels are open.
+    #[error("256 channels are open")]
     TooManyChannels,
     /// The store would come to pass the bounds of what it can keep.
+    #[error("the store is full")]
     Full,
     /// What the text is written to has failed. What was to be done to the store is done.
+    #[error("writing failed")]
     Output,
     /// Reading the input failed. What was read before is stored.
+    #[error("reading failed")]
     Input,
     /// As much of the input was taken as is taken of one, and is stored.
+    #[error("the input is too long")]
     Endless,
 }
 

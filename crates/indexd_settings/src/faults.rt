@@ -17,28 +17,31 @@ use thiserror::Error;
 #[derive(Debug, Drop, Error)]
 pub enum ConfigurationFault {
     /// A layer of this file is no text of settings.
-    #[error("a settings file is refused: {refusal}")]
+    #[error("{refusal}")]
     File {
         file: SettingsFile,
         refusal: LayerFault,
     },
     /// All files are texts of settings, and a value of props.conf, or of a transform or zone that
     /// it names, is none of its kind.
-    #[error("props.conf has a bad value: {0}")]
+    #[error("the settings of channels are refused: {0}")]
     Props(SettingFault),
     /// There is no fault but in a value of indexes.conf or in the name of an index.
-    #[error("indexes.conf has a bad value: {0}")]
+    #[error("the settings of indexes are refused: {0}")]
     Indexes(LimitFault),
 }
 
 /// Why there are no settings.
-#[derive(Drop)]
+#[derive(Debug, Drop, Error)]
 pub enum ConfigurationStop {
     /// There was no room in memory.
+    #[error("there was no room in memory")]
     Memory,
     /// The tree failed.
+    #[error("the tree failed")]
     Input,
     /// The settings have a fault.
+    #[error("{0}")]
     Refused(ConfigurationFault),
 }
 

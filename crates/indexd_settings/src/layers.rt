@@ -30,20 +30,23 @@ pub enum SettingsFile {
 
 /// The fault of a file, and the layer that it stands in.
 #[derive(Debug, Drop, Error)]
-#[error("a layer of a settings file is refused: {fault}")]
+#[error("a layer of a settings file is refused{fault}")]
 pub struct LayerFault {
     pub layer: Bytes,
     pub fault: ConfFault,
 }
 
 /// Why layers were not read.
-#[derive(Drop)]
+#[derive(Debug, Drop, Error)]
 pub enum LayerStop {
     /// There was no room in memory.
+    #[error("there was no room in memory")]
     Memory,
     /// The tree failed.
+    #[error("the tree failed")]
     Input,
     /// A file has a fault.
+    #[error("{0}")]
     Refused(LayerFault),
 }
 

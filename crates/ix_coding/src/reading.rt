@@ -6,8 +6,11 @@ ghost use Rattle.std.specs.Option.{option_copied};
 ghost use Rattle.ix_coding.specs.Spelling.{byte, four, eight, signed, flag, string, option, IsShort, IsShortOption};
 ghost use Rattle.ix_coding.specs.Reading.{Gives, byte_at, four_at, eight_at, signed_at, flag_at, string_at, option_at};
 
+use thiserror::Error;
+
 /// No prefix of the bytes is a spelling of such a field.
-#[derive(Clone, Copy, Debug, PartialEq, Eq)]
+#[derive(Clone, Copy, Debug, PartialEq, Eq, Error)]
+#[error("the bytes are no such field")]
 pub struct BadField;
 
 /// Reads one byte. It fails where there is none.
