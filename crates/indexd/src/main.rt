@@ -64,7 +64,7 @@ fn main(rt: HostRuntime) -> ExitCode {
     let mut input = StdSource::new(rt.reader());
     let mut clock = HostClock::new(&rt);
     let mut tree = HostTree::new(&rt);
-    let mut disk = HostDisk::new(&rt);
+    let mut disk = HostDisk::new(rt.alloc(), &rt);
     let mut listener = TcpListen::new(rt.alloc(), &rt);
     let status = top(
         rt.alloc(),

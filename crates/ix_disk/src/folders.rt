@@ -24,7 +24,7 @@ pub struct Folders {
 const FOLDER_MODE: u32 = 0o700;
 
 /// The number of an area.
-fn number_of(area: Area) -> usize
+pub fn number_of(area: Area) -> usize
     ensures { result < 5 }
 {
     match area {

@@ -11,6 +11,7 @@ use crate::machine::{FirstFault, LockFiles, Reason, done, if_there, reason_of};
 use crate::paths::{FilePath, LOCK_PATH};
 use crate::{Disk, LockFault};
 use ix_base::{Failed, File};
+use std::alloc::Global;
 use std::fs::{self, Metadata, OpenFile, OpenOptions, Permissions};
 use std::io::{ErrorKind, Read, Seek, SeekFrom, Write};
 use std::os::unix::fs::{MetadataExt, OpenOptionsExt, PermissionsExt};
@@ -18,8 +19,12 @@ use std::rt::Files;
 
 /// The disk over the files `var/<area>/<number>` of the current folder. A folder that is missing is
 /// made with the first file in it. It tells nothing of what the files hold. It counts each call of
-/// the system that failed in the end, and remembers why the first one did. It takes no memory. Only
-/// the user that the program runs as can read what it makes.
+/// the system that failed in the end, and remembers why the first one did. Only the user that the
+/// program runs as can read what it makes.
+///
+/// Of every file that it has written it remembers which one it is and how far it was written, until
+/// it removes it. That takes memory: where it lacks, a write of a further file fails, and nothing
+/// is written.
 ///
 /// The file that was written last stays open until another is written, so that a sync goes to the
 /// handle that was written and learns of each error of its writes. Once the system could not sync,
@@ -188,7 +193,7 @@ fn open_lock<R: Files>(rt: &R, path: &str) -> Result<R::File, Reason> {
 
 impl<R: LockFiles + Drop> HostDisk<R> {
     /// The disk of the current folder, by this runtime.
-    pub fn new(rt: R) -> Self
+    pub fn new(alloc: Global, rt: R) -> Self
         ensures faults { ⟦<HostDisk<R> as Disk>⟧.faults result ≡ 0 }
         ensures refused { ⟦<HostDisk<R> as Disk>⟧.refused result ≡ 0 }
     {
@@ -199,7 +204,7 @@ impl<R: LockFiles + Drop> HostDisk<R> {
             first: None,
             lock: None,
             written: None,
-            known: Known::new(),
+            known: Known::new(alloc),
             folders: Folders::new(),
             lost: false,
         }
@@ -328,6 +333,7 @@ impl<R: LockFiles + Drop> HostDisk<R> {
         if is_of(&self.written, file) {
             return Ok(());
         }
+        self.known.make_room()?;
         self.close()?;
         let path = FilePath::of(file);
         let handle = if is_there {
@@ -336,7 +342,7 @@ impl<R: LockFiles + Drop> HostDisk<R> {
             open_new(&self.rt, &mut self.folders, file, path.as_str())?
         };
         let found = done(handle.metadata())?;
-        self.known.keep(file, found_of(&found));
+        self.known.keep(file, found_of(&found))?;
         self.written = Some(Written {
             file,
             handle,

@@ -1,8 +1,13 @@
 //! What the disk of the machine has written, to tell a file that was cut, replaced or removed
-//! behind its back.
+//! behind its back. `HostDisk` keeps it.
 
+ghost use Rattle.std.specs.Prelude.{vec_len};
+ghost use Rattle.std.specs.List.Sorted.{IsSearchInRange};
+
+use crate::folders::number_of;
 use crate::machine::Reason;
 use ix_base::File;
+use std::alloc::Global;
 
 /// What the system knows of a plain file.
 #[derive(Clone, Copy)]
@@ -19,42 +24,40 @@ struct Mark {
     written: Found,
 }
 
-/// How many files are remembered.
-const ROOM: usize = 16;
-
-/// The files that were written last.
+/// Every file that was written and not removed since, in the order of areas and numbers.
 #[derive(Drop)]
 pub struct Known {
-    marks: [Option<Mark>; ROOM],
-    /// The place of the mark that is given up next.
-    next: usize,
+    marks: Vec<Mark>,
+}
+
+const NO_ROOM: Reason = Reason::Found("there was no room in memory");
+
+/// What files are ordered by.
+fn key_of(file: File) -> (usize, u64) {
+    (number_of(file.area), file.number)
 }
 
 impl Known {
-    pub fn new() -> Self {
+    pub fn new(alloc: Global) -> Self {
         Known {
-            marks: [None; ROOM],
-            next: 0,
+            marks: Vec::new(alloc),
         }
     }
 
-    /// What is remembered of a file.
-    fn of(&self, file: File) -> Option<Found> {
-        for mark in &self.marks {
-            if let Some(mark) = mark {
-                if mark.file == file {
-                    return Some(mark.written);
-                }
-            }
-        }
-        None
+    /// The place of a file's mark, or the one where it would be put.
+    fn place_of(&self, file: File) -> Result<usize, usize>
+        ensures { IsSearchInRange result (vec_len self.now.marks) }
+    {
+        self.marks
+            .binary_search_by_key(&key_of(file), |mark| key_of(mark.file))
     }
 
     /// Whether what the system knows of the file now is what was left of it. It fails where not.
     pub fn judge(&self, file: File, found: Option<Found>) -> Result<(), Reason> {
-        let Some(written) = self.of(file) else {
+        let Ok(place) = self.place_of(file) else {
             return Ok(());
         };
+        let written = self.marks[place].written;
         match found {
             None => Err(Reason::Found("it is gone")),
             Some(found) if found.node != written.node => {
@@ -65,35 +68,41 @@ impl Known {
         }
     }
 
-    /// Remembers a file as it is now.
-    pub fn keep(&mut self, file: File, written: Found) {
-        self.forget(file);
-        if let Some(mark) = self.marks.get_mut(self.next) {
-            *mark = Some(Mark { file, written });
+    /// Makes room for one more file, so that the next one is kept without memory. It fails where
+    /// memory lacks.
+    pub fn make_room(&mut self) -> Result<(), Reason> {
+        match self.marks.reserve(1) {
+            Ok(()) => Ok(()),
+            Err(_) => Err(NO_ROOM),
         }
-        let next = self.next.saturating_add(1);
-        self.next = if next < ROOM { next } else { 0 };
+    }
+
+    /// Remembers a file as it is now. It fails where no room was made for it and memory lacks.
+    pub fn keep(&mut self, file: File, written: Found) -> Result<(), Reason> {
+        let mark = Mark { file, written };
+        match self.place_of(file) {
+            Ok(place) => self.marks[place] = mark,
+            Err(place) => {
+                if self.marks.insert(place, mark).is_err() {
+                    return Err(NO_ROOM);
+                }
+            }
+        }
+        Ok(())
     }
 
     /// Remembers nothing of a file.
     pub fn forget(&mut self, file: File) {
-        for mark in &mut self.marks {
-            if let Some(kept) = mark {
-                if kept.file == file {
-                    *mark = None;
-                }
-            }
+        if let Ok(place) = self.place_of(file) {
+            let _ = self.marks.remove(place);
         }
     }
 
     /// The file was written up to this place.
     pub fn reach(&mut self, file: File, end: u64) {
-        for mark in &mut self.marks {
-            if let Some(kept) = mark {
-                if kept.file == file && kept.written.length < end {
-                    kept.written.length = end;
-                }
-            }
+        if let Ok(place) = self.place_of(file) {
+            let written = &mut self.marks[place].written;
+            written.length = written.length.max(end);
         }
     }
 }

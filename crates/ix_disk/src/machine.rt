@@ -3,6 +3,7 @@
 use crate::paths::{FilePath, LOCK_PATH};
 use arrayvec::ArrayString;
 use ix_base::File;
+use std::error::Error;
 use std::fmt::{self, Display, Formatter, Write};
 use std::fs::{self, TryLockError};
 use std::io::{self, ErrorKind};
@@ -32,13 +33,32 @@ impl<R: LockFiles> LockFiles for &R {
 }
 
 /// Why a call on a file failed.
-#[derive(Clone, Copy)]
+#[derive(Clone, Copy, Debug)]
 pub enum Reason {
     /// The number of the system's error.
     System(i32),
     /// What the disk found by itself.
     Found(&'static str),
 }
+
+impl Display for Reason {
+    /// The text that the system has for its error, or what the disk found.
+    fn fmt<W: fmt::Write>(&self, f: &mut Formatter<W>) -> fmt::Result {
+        match self {
+            Reason::Found(text) => f.write_str(text),
+            Reason::System(code) => {
+                let mut text = ArrayString::<256>::new();
+                let _ = write!(text, "{}", io::Error::from_raw_os_error(*code));
+                match text.as_str().split_once(" (os error ") {
+                    Some((front, _)) => f.write_str(front),
+                    None => f.write_str(text.as_str()),
+                }
+            }
+        }
+    }
+}
+
+impl Error for Reason {}
 
 /// Why a call of the system failed.
 pub fn reason_of(fault: &io::Error) -> Reason {
@@ -67,30 +87,22 @@ pub fn if_there<T: Drop>(found: io::Result<T>) -> Result<Option<T>, Reason> {
 
 /// The first fault of a disk: the file that the call was on, or none where it was the lock, and why
 /// it failed.
-#[derive(Clone, Copy)]
+#[derive(Clone, Copy, Debug)]
 pub struct FirstFault {
     pub file: Option<File>,
     pub reason: Reason,
 }
 
 impl Display for FirstFault {
-    /// The path, and the text that the system has for the error.
+    /// The path, and the text of the reason.
     fn fmt<W: fmt::Write>(&self, f: &mut Formatter<W>) -> fmt::Result {
         match self.file {
             Some(file) => f.write_str(FilePath::of(file).as_str())?,
             None => f.write_str(LOCK_PATH)?,
         }
         f.write_str(": ")?;
-        match self.reason {
-            Reason::Found(text) => f.write_str(text),
-            Reason::System(code) => {
-                let mut text = ArrayString::<256>::new();
-                let _ = write!(text, "{}", io::Error::from_raw_os_error(code));
-                match text.as_str().split_once(" (os error ") {
-                    Some((front, _)) => f.write_str(front),
-                    None => f.write_str(text.as_str()),
-                }
-            }
-        }
+        self.reason.fmt(f)
     }
 }
+
+impl Error for FirstFault {}

@@ -31,6 +31,16 @@ const CUT_ONE: File = File {
     number: 4,
 };
 
+const EARLY: File = File {
+    area: Area::Meta,
+    number: 5,
+};
+
+const LATER: File = File {
+    area: Area::Cold,
+    number: 100,
+};
+
 const BUCKET: File = File {
     area: Area::Home,
     number: 7,
@@ -450,6 +460,8 @@ pub enum Step {
     LockBeside,
     /// A write of one byte at any place.
     Byte(File, u64),
+    /// A write of one byte to each of so many files, whose numbers follow this one's.
+    Row(File, u64),
     Change(Change),
     /// What a file of the machine holds is shown.
     Show(&'static str),
@@ -466,6 +478,17 @@ fn note_lock<R: LockFiles + Drop>(text: &mut String, disk: &mut HostDisk<R>) {
     }
 }
 
+/// Writes what a write of one byte to each of so many files answers.
+fn note_row<D: Disk>(text: &mut String, disk: &mut D, first: File, count: u64) {
+    for number in first.number..first.number.saturating_add(count) {
+        let file = File {
+            area: first.area,
+            number,
+        };
+        note_done(text, disk.write_at(file, 0, b"x"));
+    }
+}
+
 fn note_step<R: LockFiles + AllocGlobal + Drop>(
     text: &mut String,
     rt: &R,
@@ -479,6 +502,7 @@ fn note_step<R: LockFiles + AllocGlobal + Drop>(
         Step::Lock => note_lock(text, disk),
         Step::LockBeside => note_lock(text, beside),
         Step::Byte(file, at) => note_done(text, disk.write_at(file, at, b"x")),
+        Step::Row(first, count) => note_row(text, disk, first, count),
         Step::Change(change) => note_change(text, rt, change),
         Step::Show(path) => note_file(text, rt, path),
     }
@@ -581,6 +605,18 @@ const CUT: &[Step] = &[
 
 const CUT_SAID: &str = "ok ok failed ok failed [...]failed failed failed failed 6 ";
 
+/// A file is cut that was written before 17 others.
+const CUT_LATER: &[Step] = &[
+    Step::All(&[Ask::Write(EARLY, 0, b"early")]),
+    Step::Row(LATER, 17),
+    Step::Change(Change::Empty("var/meta/5")),
+    Step::All(&[Ask::Length(EARLY), Ask::Read(EARLY, 0)]),
+    Step::All(&[Ask::Sync(EARLY), Ask::Sync(LATER)]),
+];
+
+const CUT_LATER_SAID: &str = "ok ok ok ok ok ok ok ok ok ok ok ok ok ok ok ok ok ok \
+    failed [...]failed failed failed 4 ";
+
 const BY_THE_OWNER: &str = "ok [x]1 1 ";
 
 const BY_OTHERS: &str = "failed []0 0 1 ";
@@ -599,5 +635,6 @@ fn the_disk_of_the_machine_has_real_files(rt: HostRuntime) {
     compare(&rt, taken, TAKEN_AWAY_SAID);
     compare(&rt, steps_said(&rt, REPLACED), REPLACED_SAID);
     compare(&rt, steps_said(&rt, CUT), CUT_SAID);
+    compare(&rt, steps_said(&rt, CUT_LATER), CUT_LATER_SAID);
     compare_read_only(&rt, steps_said(&rt, READ_ONLY));
 }

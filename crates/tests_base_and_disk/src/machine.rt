@@ -65,8 +65,8 @@ fn note_machine<R: LockFiles + AllocGlobal + Copy + Drop>(
     rt: R,
     work: MachineWork<'_>,
 ) {
-    let mut disk = HostDisk::new(rt);
-    let mut beside = HostDisk::new(rt);
+    let mut disk = HostDisk::new(rt.alloc(), rt);
+    let mut beside = HostDisk::new(rt.alloc(), rt);
     note_work(text, &rt, &mut disk, &mut beside, work);
     drop(beside);
     let faults = disk.faults();

@@ -13,7 +13,7 @@ use std::io::Read;
 use std::rt::Files;
 
 /// A file, and its path.
-type Named<'a> = (File, &'a str);
+pub type Named<'a> = (File, &'a str);
 
 const ROOT: Named<'static> = (
     File {
@@ -23,7 +23,7 @@ const ROOT: Named<'static> = (
     "var/meta/0",
 );
 
-const LOG: Named<'static> = (
+pub const LOG: Named<'static> = (
     File {
         area: Area::Meta,
         number: 1,
@@ -39,7 +39,7 @@ const NEXT: Named<'static> = (
     "var/meta/2",
 );
 
-const BUCKET: Named<'static> = (
+pub const BUCKET: Named<'static> = (
     File {
         area: Area::Home,
         number: 7,
@@ -49,7 +49,7 @@ const BUCKET: Named<'static> = (
 
 /// A call of a disk.
 #[derive(Clone, Copy)]
-enum Call<'a> {
+pub enum Call<'a> {
     Lock,
     Write(Named<'a>, u64, &'a [u8]),
     Sync(Named<'a>),
@@ -167,7 +167,7 @@ fn note_disk<F: LockFiles + Drop, R: Files>(
     run: Run<'_>,
     calls: &[Call<'_>],
 ) {
-    let mut disk = HostDisk::new(files);
+    let mut disk = HostDisk::new(run.alloc, files);
     note_calls(text, rt, &mut disk, run, calls);
     if run.watch.forgotten() > 0 {
         say(text, "closed unsynced");
@@ -196,7 +196,7 @@ fn note_run<R: LockFiles + Copy + Drop>(
 
 /// Makes the calls of a part in a folder of the machine, of which the call of the system fails that is due. It answers how
 /// many calls of the system there were.
-fn note_part<R: LockFiles + Copy + Drop>(
+pub fn note_part<R: LockFiles + Copy + Drop>(
     text: &mut String,
     (rt, alloc): (R, Global),
     top: &str,
@@ -258,8 +258,8 @@ fn a_disk_answers_no_ok_behind_a_fault_that_is_not_so(rt: HostRuntime) {
 }
 
 /// Writes the first fault of a disk over these files.
-fn note_fault<F: LockFiles + Drop>(text: &mut String, files: F) {
-    let mut disk = HostDisk::new(files);
+fn note_fault<F: LockFiles + Drop>(text: &mut String, alloc: Global, files: F) {
+    let mut disk = HostDisk::new(alloc, files);
     for call in LIFE {
         let _ = is_done(&mut disk, *call);
     }
@@ -283,7 +283,7 @@ fn note_first<R: LockFiles + Copy + Drop>(
         top,
         watch: &watch,
     };
-    note_fault(text, files);
+    note_fault(text, alloc, files);
 }
 
 /// The first call makes `var`, and the others make, write and sync the first file, each in a folder of its own.

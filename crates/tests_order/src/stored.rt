@@ -105,7 +105,7 @@ fn note_step<F: LockFiles + Drop>(
     place: Place<'_>,
     step: Step<'_>,
 ) -> bool {
-    let mut disk = HostDisk::new(files);
+    let mut disk = HostDisk::new(place.alloc, files);
     let is_done = is_done(place.alloc, step, &mut disk);
     if is_done == (disk.faults() > 0) {
         say(text, "another cause");
@@ -175,7 +175,7 @@ fn note_events(text: &mut String, lines: &str, done: usize) {
 
 /// Writes what is wrong with the store that was left in the folder of these files.
 fn note_left<F: LockFiles + Drop>(text: &mut String, alloc: Global, files: F, done: usize) {
-    let mut disk = HostDisk::new(files);
+    let mut disk = HostDisk::new(alloc, files);
     let (status, bytes) = run(alloc, "export main", "", &mut disk);
     drop(disk);
     if status != Status::Done {
