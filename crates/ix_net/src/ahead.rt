@@ -45,6 +45,25 @@ impl Ahead {
         n
     }
 
+    /// Whether there is no room behind the bytes.
+    pub(crate) fn is_full(&self) -> bool {
+        self.to >= ROOM
+    }
+
+    /// The room behind the bytes, where more are read to.
+    pub(crate) fn rest(&mut self) -> &mut [u8] {
+        let to = self.to.min(ROOM);
+        &mut self.bytes[to..]
+    }
+
+    /// So many bytes were read behind the others. They are lent.
+    pub(crate) fn add(&mut self, count: usize) -> &[u8] {
+        let from = self.to.min(ROOM);
+        let to = from + count.min(ROOM - from);
+        self.to = to;
+        &self.bytes[from..to]
+    }
+
     /// Where the next bytes are read to. Those that were not taken are forgotten.
     pub(crate) fn room(&mut self) -> &mut [u8] {
         self.from = 0;

@@ -4,10 +4,12 @@
 #![tactic(auto)]
 
 mod ahead;
+mod arriving;
 mod link;
 mod listener;
 mod mem_link;
 mod mem_listener;
+mod outline;
 mod pair;
 mod patience;
 mod queue;

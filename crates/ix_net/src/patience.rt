@@ -55,7 +55,7 @@ impl Patience {
         }
     }
 
-    /// Whether a peer that has sent nothing was waited for too long between these moments. Where
+    /// Whether a peer whose head has not come was waited for too long between these moments. Where
     /// the machine tells no time it was.
     pub(crate) fn is_over_between(since: Option<Instant>, now: Option<Instant>) -> bool {
         match (since, now) {

@@ -4,10 +4,11 @@ ghost use Rattle.std.specs.Prelude.{◌≡◌, ◌≤◌, ◌+◌, ◌-◌, ℕ,
 ghost use Rattle.ix_base.specs.Faults.{Rose};
 ghost use Rattle.ix_net.specs.Listeners.{Handed, Begins};
 
+use crate::arriving::{Arriving, look};
 use crate::link::Link;
 use crate::listener::Listener;
 use crate::patience::{Patience, tick};
-use crate::queue::{Queue, begins, look};
+use crate::queue::Queue;
 use crate::tcp_link::TcpLink;
 use ix_base::Failed;
 use std::alloc::Global;
@@ -104,8 +105,10 @@ fn further_stream<L: OpenListener<Stream: OpenStream>>(
 
 /// A listener of the system, on 127.0.0.1. It tells nothing of its connections.
 ///
-/// A connection whose peer sends nothing waits beside the others, and holds up none of them. One
-/// that has sent nothing for ten seconds is handed out, and fails as soon as it is read.
+/// A connection is handed out once the head of its request has come, or the first 8,192 bytes of it,
+/// or its peer sends no more, or what came can be no head. Until then it waits beside the others,
+/// and holds up none of them. One whose head has not come within ten seconds is handed out then, and
+/// fails as soon as more is read of it than has come.
 #[derive(Drop)]
 pub struct TcpListen<R: Net + Clock + Clone + Drop> {
     rt: R,
@@ -193,35 +196,39 @@ impl<R: Net + Clock + Clone + Drop> TcpListen<R> {
         }
     }
 
-    /// A new connection whose peer sends something at once. One whose peer does not has to wait.
-    fn greet(&mut self) -> Result<Option<R::Stream>, Failed>
+    /// A new connection, where its head comes at once. Else it has to wait.
+    fn greet(&mut self) -> Result<Option<(Arriving<R::Stream>, Patience)>, Failed>
         ensures out { self.new.out ≡ self.old.out }
         ensures faults { self.new.faults ≡ self.old.faults }
     {
-        match self.new_stream()? {
-            Some(stream) if begins(&stream) => Ok(Some(stream)),
-            Some(stream) => Ok(self.queue.push(stream, &self.rt)),
-            None => {
-                self.rt.sleep(look());
-                Ok(None)
-            }
+        let Some(stream) = self.new_stream()? else {
+            self.rt.sleep(look());
+            return Ok(None);
+        };
+        let mut arriving = Arriving::new(stream);
+        if let Some(patience) = arriving.greet().patience() {
+            return Ok(Some((arriving, patience)));
+        }
+        match self.queue.push(arriving, &self.rt) {
+            Some(arriving) => Ok(Some((arriving, Patience::new()))),
+            None => Ok(None),
         }
     }
 
-    /// The next connection whose peer need not be waited for, and the patience with it.
-    fn next_peer(&mut self) -> Option<(R::Stream, Patience)>
+    /// The next connection whose head need not be waited for, and the patience with its peer.
+    fn next_peer(&mut self) -> Option<(Arriving<R::Stream>, Patience)>
         ensures out { self.new.out ≡ self.old.out }
         ensures faults { self.new.faults ≡ self.old.faults }
     {
         for _ in 0..u64::MAX {
             match self.queue.take(&self.rt) {
-                Some((stream, patience)) if stream.set_nonblocking(false).is_ok() => {
-                    return Some((stream, patience));
+                Some((arriving, patience)) if arriving.set_waits(true) => {
+                    return Some((arriving, patience));
                 }
                 _ => {}
             }
             match self.greet() {
-                Ok(Some(stream)) => return Some((stream, Patience::new())),
+                Ok(Some(next)) => return Some(next),
                 Ok(None) => {}
                 Err(_) => return None,
             }
@@ -237,8 +244,9 @@ impl<R: Net + Clock + Clone + Drop> TcpListen<R> {
             (⟦<TcpLink<R> as Link>⟧.faults link)) }
     {
         let clock = self.rt.clone().ok()?;
-        let (stream, patience) = self.next_peer()?;
-        Some(TcpLink::new(stream, clock, patience))
+        let (arriving, patience) = self.next_peer()?;
+        let (stream, ahead) = arriving.into_parts();
+        Some(TcpLink::new(stream, ahead, clock, patience))
     }
 }
 

@@ -112,14 +112,15 @@ fn drain<S: Read, C: Clock>(stream: &mut S, clock: &C, room: &mut [u8]) {
 }
 
 impl<R: Net + Clock + Drop> TcpLink<R> {
-    pub(crate) fn new(stream: R::Stream, clock: R, patience: Patience) -> Self
+    /// A connection of which these bytes were read ahead.
+    pub(crate) fn new(stream: R::Stream, ahead: Ahead, clock: R, patience: Patience) -> Self
         ensures start { result.start ≡ 0 }
         ensures faults { result.faults ≡ 0 }
     {
         TcpLink {
             stream,
             clock,
-            ahead: Ahead::new(),
+            ahead,
             patience,
             has_ended: false,
             start: 0,

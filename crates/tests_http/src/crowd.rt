@@ -1,6 +1,7 @@
-//! Peers that connect and send nothing, over a network of this test in which time goes on only where a call waits: they wait
-//! beside the others, and hold up none of them.
+//! Peers that connect and send nothing, or their heads bit by bit, over a network of this test in which time goes on only where
+//! a call waits: they wait beside the others, and hold up none of them.
 
+ghost use Rattle.std.specs.Io.{ReadsAtMost};
 ghost use Rattle.std.specs.Prelude.{◌≤◌, length};
 
 use crate::said::{compare, note, read};
@@ -14,21 +15,75 @@ use std::time::{Clock, Duration};
 
 const ASKED: &[u8] = b"GET /buckets HTTP/1.1\r\n\r\n";
 
+/// The first part of it, and the rest.
+const FRONT: &[u8] = b"GET /buckets";
+
+const REST: &[u8] = b" HTTP/1.1\r\n\r\n";
+
+/// What is no head, however it goes on.
+const STRAY: &[u8] = b"EHLO here\r\n";
+
+/// Nor is this, though each of its lines is whole.
+const MISNAMED: &[u8] = b"GET / HTTP/1.1\r\nBad Name: x\r\n";
+
+/// What the peers do, but for the last one, which asks.
+#[derive(Clone, Copy, Debug, PartialEq, Eq)]
+enum Habit {
+    /// They send nothing.
+    Silent,
+    /// They send a byte whenever they are read from.
+    Dripping,
+    /// They send what is no head, and go on listening.
+    Stray,
+    /// They send lines of which one is no header line, and go on listening.
+    Misnamed,
+    /// They send a half of what they ask, and the other half a second later.
+    Halting,
+    /// They send a part of what they ask, and then no more.
+    Ending,
+}
+
 /// Peers that have connected, one behind the other.
 #[derive(Drop)]
 struct Crowd {
-    /// So many send nothing. The last one, behind them, asks.
-    silent: u64,
+    habit: Habit,
+    /// So many have that habit. The last one, behind them, asks.
+    many: u64,
     accepted: Cell<u64>,
     milliseconds: Cell<u64>,
+    /// How many pieces one of them has sent.
+    sent: Cell<u64>,
 }
 
-fn make_crowd(silent: u64) -> Crowd {
+fn make_crowd(habit: Habit, many: u64) -> Crowd {
     Crowd {
-        silent,
+        habit,
+        many,
         accepted: Cell::new(0),
         milliseconds: Cell::new(0),
+        sent: Cell::new(0),
     }
+}
+
+impl Crowd {
+    /// The number of the next piece, where it is due: a second goes by between two.
+    fn next_piece(&self) -> Option<u64> {
+        let number = self.sent.get();
+        if self.milliseconds.get() < number.saturating_mul(1000) {
+            return None;
+        }
+        self.sent.set(number.saturating_add(1));
+        Some(number)
+    }
+}
+
+/// Copies bytes into the front of a buffer, and answers how many.
+fn copy(bytes: &[u8], buf: &mut [u8]) -> usize
+    ensures { result ≤ length buf.old }
+{
+    let n = buf.len().min(bytes.len());
+    buf[..n].copy_from_slice(&bytes[..n]);
+    n
 }
 
 /// The network, its clock and its listener, or one of its connections.
@@ -39,8 +94,24 @@ struct Guest<'a> {
 }
 
 impl Guest<'_> {
-    fn is_silent(&self) -> bool {
-        self.number < self.crowd.silent
+    fn asks(&self) -> bool {
+        self.number >= self.crowd.many
+    }
+
+    /// What comes of one that has the habit of the crowd.
+    fn comes(&self, buf: &mut [u8]) -> io::Result<usize>
+        ensures { ReadsAtMost result buf.new }
+    {
+        match (self.crowd.habit, self.crowd.next_piece()) {
+            (Habit::Dripping, _) => Ok(copy(b"G", buf)),
+            (Habit::Stray, Some(0)) => Ok(copy(STRAY, buf)),
+            (Habit::Misnamed, Some(0)) => Ok(copy(MISNAMED, buf)),
+            (Habit::Halting, Some(0)) => Ok(copy(FRONT, buf)),
+            (Habit::Halting, Some(1)) => Ok(copy(REST, buf)),
+            (Habit::Ending, Some(0)) => Ok(copy(FRONT, buf)),
+            (Habit::Ending, _) => Ok(0),
+            _ => Err(would_block()),
+        }
     }
 
     fn wait(&self, milliseconds: u64) {
@@ -94,7 +165,7 @@ impl<'a> OpenListener for Guest<'a> {
 
     fn accept(&self) -> io::Result<(Guest<'a>, SocketAddr)> {
         let number = self.crowd.accepted.get();
-        if number > self.crowd.silent {
+        if number > self.crowd.many {
             return Err(would_block());
         }
         self.crowd.accepted.set(number.saturating_add(1));
@@ -126,24 +197,14 @@ impl OpenStream for Guest<'_> {
     fn set_write_timeout(&self, _dur: Option<Duration>) -> io::Result<()> {
         Ok(())
     }
-
-    fn peek(&self, buf: &mut [u8]) -> io::Result<usize> {
-        if self.is_silent() {
-            return Err(would_block());
-        }
-        Ok(buf.len().min(1))
-    }
 }
 
 impl Read for Guest<'_> {
     fn read(&mut self, buf: &mut [u8]) -> io::Result<usize> {
-        if self.is_silent() {
-            self.wait(500);
-            return Err(would_block());
+        if self.asks() {
+            return Ok(copy(ASKED, buf));
         }
-        let n = buf.len().min(ASKED.len());
-        buf[..n].copy_from_slice(&ASKED[..n]);
-        Ok(n)
+        self.comes(buf)
     }
 }
 
@@ -194,9 +255,9 @@ fn note_net<R: Net + Clock + Clone + Drop>(
     drop(listener);
 }
 
-/// What becomes of connections where so many peers are silent, and one behind them asks.
-fn note_crowd(text: &mut String, alloc: Global, silent: u64, taken: (u64, u64)) {
-    let crowd = make_crowd(silent);
+/// What becomes of connections where so many peers have a habit, and one behind them asks.
+fn note_crowd(text: &mut String, alloc: Global, (habit, many): (Habit, u64), taken: (u64, u64)) {
+    let crowd = make_crowd(habit, many);
     let guest = Guest {
         crowd: &crowd,
         number: 0,
@@ -204,12 +265,12 @@ fn note_crowd(text: &mut String, alloc: Global, silent: u64, taken: (u64, u64)) 
     note_net(text, alloc, guest, &crowd, taken);
 }
 
-fn crowds_said(alloc: Global) -> String {
+fn silent_said(alloc: Global) -> String {
     let mut text = String::new(alloc);
-    note_crowd(&mut text, alloc, 0, (0, 1));
-    note_crowd(&mut text, alloc, 3, (0, 4));
-    note_crowd(&mut text, alloc, 600, (0, 1));
-    note_crowd(&mut text, alloc, 600, (511, 2));
+    note_crowd(&mut text, alloc, (Habit::Silent, 0), (0, 1));
+    note_crowd(&mut text, alloc, (Habit::Silent, 3), (0, 4));
+    note_crowd(&mut text, alloc, (Habit::Silent, 600), (0, 1));
+    note_crowd(&mut text, alloc, (Habit::Silent, 600), (511, 2));
     text
 }
 
@@ -220,5 +281,29 @@ fn silent_peers_hold_up_no_other(rt: HostRuntime) {
     let wanted = "true 0 1 \
         true 0 4 false 10005 4 false 10005 4 false 10005 4 \
         false 10005 512 false 10005 512 true 10005 601 ";
-    compare(&rt, crowds_said(rt.alloc()), wanted);
+    compare(&rt, silent_said(rt.alloc()), wanted);
+}
+
+fn slow_said(alloc: Global) -> String {
+    let mut text = String::new(alloc);
+    note_crowd(&mut text, alloc, (Habit::Dripping, 3), (0, 4));
+    note_crowd(&mut text, alloc, (Habit::Dripping, 400), (0, 2));
+    note_crowd(&mut text, alloc, (Habit::Halting, 1), (0, 2));
+    note_crowd(&mut text, alloc, (Habit::Stray, 1), (0, 2));
+    note_crowd(&mut text, alloc, (Habit::Misnamed, 1), (0, 2));
+    note_crowd(&mut text, alloc, (Habit::Ending, 1), (0, 2));
+    text
+}
+
+/// The one that asks is served at once, also behind 400 that drip. Those are given up after ten seconds, and one whose head comes
+/// in two parts is served as soon as it has come. What can be no head is refused at once, and one that is cut is taken at once.
+#[test]
+fn peers_that_drip_in_the_head_hold_up_no_other(rt: HostRuntime) {
+    let wanted = "true 0 4 false 10005 4 false 10005 4 false 10005 4 \
+        true 0 401 false 10005 401 \
+        true 0 2 true 1000 2 \
+        true 0 1 true 0 2 \
+        true 0 1 true 0 2 \
+        false 0 1 true 0 2 ";
+    compare(&rt, slow_said(rt.alloc()), wanted);
 }

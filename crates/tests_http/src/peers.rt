@@ -1,4 +1,5 @@
-//! Peers that hold a connection up, over a network of this test in which time goes on only where a call waits.
+//! Peers that hold a connection up, over a network of this test in which time goes on only where a call waits. It has no
+//! connection wait beside others, so that each is waited for at once.
 
 ghost use Rattle.std.specs.Prelude.{◌≤◌, length};
 
@@ -36,6 +37,8 @@ struct Scene {
     /// The errors that the next calls of `accept` answer, the last one first.
     refusals: Cell<[i32; 4]>,
     milliseconds: Cell<u64>,
+    /// So many milliseconds a read waits at the most.
+    patience: Cell<u64>,
     has_asked: Cell<bool>,
     has_shut_down: Cell<bool>,
     drained: Cell<u64>,
@@ -46,6 +49,7 @@ fn make_scene(peer: Peer, refusals: [i32; 4]) -> Scene {
         peer,
         refusals: Cell::new(refusals),
         milliseconds: Cell::new(0),
+        patience: Cell::new(500),
         has_asked: Cell::new(false),
         has_shut_down: Cell::new(false),
         drained: Cell::new(0),
@@ -59,9 +63,14 @@ impl Scene {
     }
 
     /// Lets the time of a wait go by, and answers its error.
-    fn refused(&self) -> io::Error {
-        self.wait(500);
+    fn refused(&self, milliseconds: u64) -> io::Error {
+        self.wait(milliseconds);
         io::Error::from(ErrorKind::WouldBlock)
+    }
+
+    /// The same for a read.
+    fn read_refused(&self) -> io::Error {
+        self.refused(self.patience.get())
     }
 
     fn ask(&self, buf: &mut [u8]) -> usize
@@ -138,7 +147,9 @@ impl OpenStream for Stage<'_> {
         Ok(())
     }
 
-    fn set_read_timeout(&self, _dur: Option<Duration>) -> io::Result<()> {
+    fn set_read_timeout(&self, dur: Option<Duration>) -> io::Result<()> {
+        let milliseconds = dur.map_or(0, |dur| dur.subsec_millis() as u64);
+        self.scene.patience.set(milliseconds);
         Ok(())
     }
 
@@ -151,7 +162,7 @@ impl Read for Stage<'_> {
     fn read(&mut self, buf: &mut [u8]) -> io::Result<usize> {
         let scene = self.scene;
         match scene.peer {
-            Peer::Dripping if !buf.is_empty() => {
+            Peer::Dripping if !buf.is_empty() && scene.patience.get() > 400 => {
                 scene.wait(400);
                 buf[0] = b'G';
                 Ok(1)
@@ -163,7 +174,7 @@ impl Read for Stage<'_> {
                 scene.drained.set(drained.saturating_add(buf.len() as u64));
                 Ok(buf.len())
             }
-            _ => Err(scene.refused()),
+            _ => Err(scene.read_refused()),
         }
     }
 }
@@ -171,7 +182,7 @@ impl Read for Stage<'_> {
 impl Write for Stage<'_> {
     fn write(&mut self, buf: &[u8]) -> io::Result<usize> {
         match self.scene.peer {
-            Peer::Deaf => Err(self.scene.refused()),
+            Peer::Deaf => Err(self.scene.refused(500)),
             Peer::Slow => {
                 self.scene.wait(400);
                 Ok(buf.len().min(1))
@@ -234,8 +245,8 @@ fn peers_said(alloc: Global) -> String {
 
 #[test]
 fn no_peer_is_waited_for_long(rt: HostRuntime) {
-    let wanted = "false false 10500 10500 false 0 \
-        false false 10400 10400 false 0 \
+    let wanted = "false false 10505 10505 false 0 \
+        false false 10405 10405 false 0 \
         true false 10500 10500 false 0 \
         true false 10400 10400 false 0 \
         true true 0 2001 true 16392192 ";
@@ -269,6 +280,6 @@ fn a_connection_that_is_lost_ends_no_listener(rt: HostRuntime) {
     compare(
         &rt,
         refusals_said(rt.alloc()),
-        "true 0 true 4000 false 0 false 0 ",
+        "true 5 true 4005 false 0 false 0 ",
     );
 }
