@@ -24,5 +24,8 @@ header_lines n kind =
     codes "\r\nContent-Length: " ++ decimal n ++ codes "\r\nContent-Type: " ++ type_of kind
     ++ codes "\r\nConnection: close\r\n\r\n"
 
+abbrev pub head_text : ℕ → Kind → ℕ → List ℕ
+head_text status kind n = status_line status ++ header_lines n kind
+
 abbrev pub reply_text : ℕ → Kind → List ℕ → List ℕ
-reply_text status kind body = status_line status ++ header_lines (length body) kind ++ body
+reply_text status kind body = head_text status kind (length body) ++ body

@@ -1,5 +1,5 @@
-//! A link that gathers what is written to it, so that a short reply goes out at once. `write_reply`
-//! makes one.
+//! A link that gathers what is written to it, so that a reply goes out in few writes. `write_reply`
+//! makes one of a whole reply, and one of a head.
 
 ghost use Rattle.std.specs.Prelude.{◌≡◌, ◌≤◌, ℕ, List, [], Option, Some, None};
 ghost use Rattle.ix_base.specs.Faults.{Rose};
@@ -10,7 +10,7 @@ use ix_base::Failed;
 use ix_net::Link;
 
 /// How many bytes are gathered at the most.
-const ROOM: usize = 1024;
+const ROOM: usize = 8192;
 
 /// Bytes that were written. It fails where there is no room for more, and nothing is read from it.
 #[derive(Drop)]

@@ -4,7 +4,7 @@ ghost use Rattle.std.specs.Prelude.{◌≡◌, ◌≤◌, ◌<◌, ℕ, [], ◌+
 ghost use Rattle.ix_base.specs.Faults.{HasCause, Rose};
 ghost use Rattle.ix_base.specs.Told.{HasWritten, HasBegun};
 ghost use Rattle.ix_net.specs.Links.{LinkStep};
-ghost use Rattle.ix_http.specs.Replies.{reason_of, phrase_of, type_of, status_line, header_lines, reply_text};
+ghost use Rattle.ix_http.specs.Replies.{reason_of, phrase_of, type_of, status_line, header_lines, head_text, reply_text};
 
 use crate::gather::Gather;
 use crate::kinds::Kind;
@@ -126,7 +126,37 @@ fn put_headers<K: Link>(link: &mut K, length: usize, kind: Kind) -> Result<(), F
     Ok(())
 }
 
-/// Writes a reply piece by piece.
+/// Writes the head of a reply piece by piece.
+fn put_head<K: Link>(link: &mut K, status: u16, kind: Kind, length: usize) -> Result<(), Failed>
+    ensures written { OnOk result (HasWritten (head_text status kind length) (K.given link.old) (K.given link.new)) }
+    ensures begun { OnErr result (HasBegun (head_text status kind length) (K.given link.old) (K.given link.new)) }
+    ensures left { K.left link.new ≡ K.left link.old }
+    ensures goes { LinkStep (K.standing link.old) (K.standing link.new) }
+    ensures side { OnErr result (Rose (K.standing link.old).writing (K.standing link.new).writing) }
+    ensures cause { HasCause (K.faults link.old) (K.faults link.new) result }
+{
+    put_status(link, status)?;
+    put_headers(link, length, kind)?;
+    Ok(())
+}
+
+/// Writes the head of a reply as one piece.
+fn write_head<K: Link>(link: &mut K, status: u16, kind: Kind, length: usize) -> Result<(), Failed>
+    ensures written { OnOk result (HasWritten (head_text status kind length) (K.given link.old) (K.given link.new)) }
+    ensures begun { OnErr result (HasBegun (head_text status kind length) (K.given link.old) (K.given link.new)) }
+    ensures left { K.left link.new ≡ K.left link.old }
+    ensures goes { LinkStep (K.standing link.old) (K.standing link.new) }
+    ensures side { OnErr result (Rose (K.standing link.old).writing (K.standing link.new).writing) }
+    ensures cause { HasCause (K.faults link.old) (K.faults link.new) result }
+{
+    let mut head = Gather::new();
+    match put_head(&mut head, status, kind, length) {
+        Ok(()) => link.put(head.as_slice()),
+        Err(_) => put_head(link, status, kind, length),
+    }
+}
+
+/// Writes a reply as two pieces, its head and its body.
 fn put_reply<K: Link>(link: &mut K, status: u16, kind: Kind, body: &[u8]) -> Result<(), Failed>
     ensures written { OnOk result (HasWritten (reply_text status kind body.now) (K.given link.old) (K.given link.new)) }
     ensures begun { OnErr result (HasBegun (reply_text status kind body.now) (K.given link.old) (K.given link.new)) }
@@ -135,15 +165,14 @@ fn put_reply<K: Link>(link: &mut K, status: u16, kind: Kind, body: &[u8]) -> Res
     ensures side { OnErr result (Rose (K.standing link.old).writing (K.standing link.new).writing) }
     ensures cause { HasCause (K.faults link.old) (K.faults link.new) result }
 {
-    put_status(link, status)?;
-    put_headers(link, body.len(), kind)?;
+    write_head(link, status, kind, body.len())?;
     link.put(body)?;
     Ok(())
 }
 
 /// Writes a reply: the status line with the phrase of the status, the length and the type of the
-/// body, `Connection: close`, and the body. A short one is one piece. Where the link fails, a front
-/// of it is written. It takes no memory.
+/// body, `Connection: close`, and the body. Up to 8,192 bytes are one piece, and more are two.
+/// Where the link fails, a front of it is written. It takes no memory.
 pub fn write_reply<K: Link>(
     link: &mut K,
     status: u16,
