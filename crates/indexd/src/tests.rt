@@ -9,6 +9,7 @@ mod damage;
 mod events;
 mod examples;
 mod exchanges;
+mod faults;
 mod hostile;
 mod kept;
 mod program;

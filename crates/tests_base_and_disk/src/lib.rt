@@ -13,6 +13,8 @@ mod disk;
 #[cfg(test)]
 mod export;
 #[cfg(test)]
+mod faults;
+#[cfg(test)]
 mod items;
 #[cfg(test)]
 mod log;

@@ -2,7 +2,11 @@
 #![tactic(auto)]
 
 #[cfg(test)]
+mod calls;
+#[cfg(test)]
 mod crowd;
+#[cfg(test)]
+mod faults;
 #[cfg(test)]
 mod peers;
 #[cfg(test)]

@@ -4,6 +4,8 @@
 #[cfg(test)]
 mod order;
 #[cfg(test)]
+mod removed;
+#[cfg(test)]
 mod said;
 #[cfg(test)]
 mod stored;
