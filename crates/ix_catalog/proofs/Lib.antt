@@ -16,3 +16,5 @@ pub mod Finding
 pub mod LeadingAll
 pub mod LeadingShelves
 pub mod Failing
+pub mod DeskLemmas
+pub mod ToldLemmas

@@ -5,6 +5,7 @@
 
 mod buckets;
 mod changes;
+mod desk;
 mod housekeeping;
 mod housekeeping_result;
 mod index_table;
