@@ -81,8 +81,7 @@ module _ {D : Type 0} {d : Ghosts D} {old mid : D} (alone : IsLeftAlone d old mi
     allowed = was.allowed;
     given = was.given;
     passes = passes_from begins was.passes;
-    committed = was.committed;
-    lasts = was.lasts;
+    exit = was.exit;
   }
 
   module _ (config : Config) (ahead ahead' : Option Moments) (new : D) where

@@ -17,5 +17,3 @@ pub mod Starts
 pub mod Chain
 pub mod Locked
 pub mod Blamed
-pub mod Monitors
-pub mod Selftests

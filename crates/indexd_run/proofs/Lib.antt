@@ -1,4 +1,3 @@
-pub mod Leaving
 pub mod Ending
 pub mod Undamaged
 pub mod SameKept

@@ -19,8 +19,7 @@ use Rattle.ix_sessions.proofs.Turning.{safe_turns}
 use Rattle.ix_sessions.proofs.Visiting.{safe_visits}
 use Rattle.ix_sessions.specs.Connections as connections
 use Rattle.ix_sessions.specs.Connections.{Listened, Listens, turns_of, hearing}
-use Rattle.ix_serve.specs.Kinds.{Kind}
-use Rattle.ix_sessions.specs.Feeding.{AreSafe, Has, Start, coming, Turn, Runs, disk_after, history_after, known, is_open_end, talk}
+use Rattle.ix_sessions.specs.Feeding.{AreSafe, Has, Kind, Start, coming, Turn, Runs, disk_after, history_after, known, is_open_end, talk}
 use Rattle.ix_sessions.specs.declared.feed.Fed.{Fed}
 use Rattle.ix_sessions.specs.declared.feed.Fed.TheVariants as fed
 use Rattle.ix_sessions.specs.declared.serve.Heard.{Heard}

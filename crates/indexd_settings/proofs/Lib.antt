@@ -2,4 +2,3 @@ pub mod LayerLemmas
 pub mod MergedLemmas
 pub mod ValueLemmas
 pub mod GivenLemmas
-pub mod InputLemmas

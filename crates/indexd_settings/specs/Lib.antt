@@ -4,4 +4,3 @@ pub mod Faults
 pub mod Texts
 pub mod Configuration
 pub mod Given
-pub mod Inputs

@@ -120,7 +120,7 @@ fn add_fault(line: &mut Bytes, before: &[u8], fault: &[u8]) -> Result<(), NoMemo
 }
 
 /// The line of a fault in the name of a stanza.
-pub(crate) fn stanza_line(
+fn stanza_line(
     alloc: Global,
     file: SettingsFile,
     stanza: &[u8],
@@ -135,7 +135,7 @@ pub(crate) fn stanza_line(
 }
 
 /// The line of a fault in the value of a key.
-pub(crate) fn value_line(
+fn value_line(
     alloc: Global,
     file: SettingsFile,
     stanza: &[u8],

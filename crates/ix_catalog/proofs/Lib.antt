@@ -16,5 +16,3 @@ pub mod Finding
 pub mod LeadingAll
 pub mod LeadingShelves
 pub mod Failing
-pub mod DeskLemmas
-pub mod ToldLemmas

@@ -9,5 +9,3 @@ pub mod Changes
 pub mod Measures
 pub mod Carried
 pub mod Places
-pub mod Desks
-pub mod Told

@@ -49,7 +49,6 @@ fn close(limits: &Limits, bucket: Bucket) -> Bucket
     ensures value { result ≡ closed limits.now bucket }
     ensures bytes { result.bytes ≡ bucket.bytes }
     ensures count { result.count ≡ bucket.count }
-    ensures number { result.id ≡ bucket.id }
 {
     if u128::from(limits.max_data_mb) * 1_048_576 <= u128::from(bucket.bytes) {
         rolled(bucket)
@@ -104,13 +103,12 @@ fn add(growth: &Growth, bucket: Bucket) -> Bucket
 }
 
 /// The bucket with one more event; `Full` where its bytes or events would come to 2^63.
-pub fn grow(limits: &Limits, growth: &Growth, bucket: Bucket) -> Result<Bucket, DealFault>
+fn grow(limits: &Limits, growth: &Growth, bucket: Bucket) -> Result<Bucket, DealFault>
     requires numbers { KeepsBucket bucket }
     requires small { growth.now.size < 2 ^ 32 }
     ensures done { IfOk result (λ more. more ≡ grown limits.now growth.now bucket) }
     ensures kept { IfOk result KeepsBucket }
     ensures full { IsErrOf result DealFault.Full → KeepsBucket (grown limits.now growth.now bucket) → ⊥ }
-    ensures number { IfOk result (λ more. more.id ≡ bucket.id) }
 {
     let more = add(growth, bucket);
     if more.bytes >= LIMIT || more.count >= LIMIT {

@@ -2,26 +2,16 @@
 //! it carries the turn out.
 
 ghost use Rattle.std.specs.Prelude.{◌≡◌, IfOk};
-ghost use Rattle.std.specs.BTreeMap.{get};
-ghost use Rattle.std.specs.Ordering.{nat_cmp};
 ghost use Rattle.ix_catalog.specs.Buckets as buckets;
 ghost use Rattle.ix_catalog.specs.Carried as carrying;
 ghost use Rattle.ix_catalog.specs.Shelves as shelves;
-ghost use Rattle.ix_catalog.specs.Told.{TellsRules, TellsIds};
 ghost use Rattle.ix_catalog.specs.Turning as defs;
 
 use ix_base::{Area, Bytes, File, NoMemory};
 use ix_items::{Bucket, Entry, Rule, State};
 use ix_life::{IndexView, Moves, housekeep};
 use std::alloc::Global;
-use std::collections::{BTreeMap, BTreeSet};
 use std::marker::Model;
-
-/// Rules by the numbers of buckets.
-type Rules = BTreeMap<u64, Rule>;
-
-/// Numbers of buckets.
-type Numbers = BTreeSet<u64>;
 
 /// The moves of a turn in one index, with what carrying them out needs.
 pub struct Housekeeping {
@@ -31,11 +21,6 @@ pub struct Housekeeping {
     /// In microseconds since 1970-01-01T00:00:00Z.
     moment: i64,
     moves: Moves,
-    /// The rules by which buckets freeze, by their numbers.
-    rules: Rules,
-    /// The numbers of those that move to cold, and of those that roll.
-    cooled: Numbers,
-    warmed: Numbers,
 }
 
 /// It is written out, so that each place where one is let go is a call of it, which is proved once.
@@ -46,22 +31,16 @@ impl Drop for Housekeeping {
             archive: _,
             moment: _,
             moves: _,
-            rules: _,
-            cooled: _,
-            warmed: _,
         } = self;
     }
 }
 
 impl Model for Housekeeping {
     ghost use Rattle.ix_catalog.specs.Buckets.{Turn};
-    ghost use Rattle.ix_catalog.specs.Told.{TellsRules, TellsIds};
 
     ghost Value = { Turn };
 
     ghost view = { λ t. record { index = t.index; archive = t.archive; moment = t.moment; moves = t.moves } };
-
-    ghost invariant = { λ t. TellsRules t.rules t.moves.frozen × TellsIds t.cooled t.moves.cooled × TellsIds t.warmed t.moves.warmed };
 }
 
 /// Whether the bucket is under the rules of housekeeping. A thawed one is not.
@@ -74,41 +53,22 @@ pub fn is_live(bucket: &Bucket) -> bool
     }
 }
 
-/// The rules beside numbers, by the numbers; the first one counts.
-fn rules_of(alloc: Global, frozen: &[(u64, Rule)]) -> Result<Rules, NoMemory>
-    ensures { IfOk result (λ rules. TellsRules rules frozen.now) }
+fn is_among(ids: &[u64], id: u64) -> bool
+    ensures { result ≡ buckets.is_among ids.now id }
 {
-    let mut rules = BTreeMap::new(alloc);
-    let mut k = frozen.len();
-    while k > 0 {
-        k -= 1;
-        let (id, rule) = frozen[k];
-        rules.insert(id, rule)?;
-    }
-    Ok(rules)
+    ids.contains(&id)
 }
 
-/// The rule beside a number.
-fn rule_of(rules: &Rules, id: u64) -> Option<Rule>
-    ensures { result ≡ get nat_cmp rules.now id }
+/// The rule beside a number in the list.
+fn rule_of(frozen: &[(u64, Rule)], id: u64) -> Option<Rule>
+    ensures { result ≡ buckets.rule_of frozen.now id }
 {
-    match rules.get(&id) {
-        Some(rule) => Some(*rule),
-        None => None,
+    for i in 0..frozen.len() {
+        if frozen[i].0 == id {
+            return Some(frozen[i].1);
+        }
     }
-}
-
-/// The numbers of a list, so that one is found among them.
-fn numbers_of(alloc: Global, ids: &[u64]) -> Result<Numbers, NoMemory>
-    ensures { IfOk result (λ numbers. TellsIds numbers ids.now) }
-{
-    let mut numbers = BTreeSet::new(alloc);
-    let mut k = ids.len();
-    while k > 0 {
-        k -= 1;
-        numbers.insert(ids[k])?;
-    }
-    Ok(numbers)
+    None
 }
 
 /// The bucket once it has rolled to warm.
@@ -140,18 +100,11 @@ impl Housekeeping {
     pub fn of(alloc: Global, moment: i64, view: &IndexView) -> Result<Self, NoMemory>
         ensures { IfOk result (λ turn. turn ≡ defs.turn_of moment view.now) }
     {
-        let moves = housekeep(alloc, &view.buckets, &view.limits, moment)?;
-        let rules = rules_of(alloc, moves.frozen.as_slice())?;
-        let cooled = numbers_of(alloc, moves.cooled.as_slice())?;
-        let warmed = numbers_of(alloc, moves.warmed.as_slice())?;
         Ok(Housekeeping {
             index: view.name.copy()?,
             archive: view.limits.archive,
             moment,
-            moves,
-            rules,
-            cooled,
-            warmed,
+            moves: housekeep(alloc, &view.buckets, &view.limits, moment)?,
         })
     }
 
@@ -174,7 +127,7 @@ impl Housekeeping {
         ensures { result ≡ defs.freezes_by self.now bucket.now }
     {
         if is_live(bucket) {
-            rule_of(&self.rules, bucket.id)
+            rule_of(self.moves.frozen.as_slice(), bucket.id)
         } else {
             None
         }
@@ -184,14 +137,14 @@ impl Housekeeping {
     pub fn cools(&self, bucket: &Bucket) -> bool
         ensures { result ≡ defs.cools self.now bucket.now }
     {
-        is_live(bucket) && self.cooled.contains(&bucket.id)
+        is_live(bucket) && is_among(self.moves.cooled.as_slice(), bucket.id)
     }
 
     /// Whether the bucket rolls to warm, where it neither freezes nor moves to cold.
     pub fn warms(&self, bucket: &Bucket) -> bool
         ensures { result ≡ carrying.warms self.now bucket.now }
     {
-        is_live(bucket) && self.warmed.contains(&bucket.id)
+        is_live(bucket) && is_among(self.moves.warmed.as_slice(), bucket.id)
     }
 
     /// The entry of a bucket that freezes by a rule; an archive has the file of this number.

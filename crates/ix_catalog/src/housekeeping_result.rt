@@ -1,11 +1,8 @@
 //! Turns of housekeeping. The store calls `turn_all` for a Tick.
 
-ghost use Rattle.std.specs.Prelude.{◌≡◌, ◌<◌, ◌^◌, ◌++◌, ◌∷◌, [], List, IfOk, OnOk, option_to_list};
-ghost use Rattle.std.specs.BTreeMap.{get};
-ghost use Rattle.std.specs.Ordering.{nat_cmp};
+ghost use Rattle.std.specs.Prelude.{◌≡◌, ◌<◌, ◌^◌, ◌++◌, ◌∷◌, [], IfOk, OnOk, option_to_list};
 ghost use Rattle.ix_catalog.specs.Shelves.{with_buckets};
 ghost use Rattle.ix_catalog.specs.Carried as carrying;
-ghost use Rattle.ix_catalog.specs.Told.{TellsNumbered};
 ghost use Rattle.ix_catalog.specs.Turning as defs;
 
 use crate::housekeeping::{Housekeeping, cooled, is_live, rolled};
@@ -15,7 +12,6 @@ use ix_commit::{CopyTarget, FileCopy};
 use ix_items::{Bucket, FileList, Rule};
 use ix_life::{BucketList, EntryList, IndexView, IndexViewList};
 use std::alloc::Global;
-use std::collections::BTreeMap;
 
 /// What a turn of housekeeping leaves.
 #[derive(Drop)]
@@ -43,42 +39,17 @@ struct Remains {
     numbered: Vec<Numbered>,
 }
 
-/// Buckets that are under the rules of housekeeping, by their numbers.
-type ByNumber = BTreeMap<u64, Numbered>;
-
-/// Notes a bucket that stands before those that are noted.
-fn note(by_number: &mut ByNumber, one: Numbered) -> Result<(), NoMemory>
-    ensures { OnOk result ((rest : List defs.Numbered) → TellsNumbered by_number.old rest → TellsNumbered by_number.new (one ∷ rest)) }
-{
-    let (bucket, _) = one;
-    if !is_live(&bucket) {
-        return Ok(());
-    }
-    by_number.insert(bucket.id, one)?;
-    Ok(())
-}
-
-/// The buckets by their numbers; the first one of a number counts.
-fn by_number(alloc: Global, numbered: &[Numbered]) -> Result<ByNumber, NoMemory>
-    ensures { IfOk result (λ told. TellsNumbered told numbered.now) }
-{
-    let mut told = BTreeMap::new(alloc);
-    let mut k = numbered.len();
-    while k > 0 {
-        k -= 1;
-        note(&mut told, numbered[k])?;
-    }
-    Ok(told)
-}
-
 /// The bucket of this number that is under the rules of housekeeping.
-fn numbered_id(told: &ByNumber, id: u64) -> Option<Numbered>
-    ensures { result ≡ get nat_cmp told.now id }
+fn numbered_id(numbered: &[Numbered], id: u64) -> Option<Numbered>
+    ensures { result ≡ defs.numbered_id id numbered.now }
 {
-    match told.get(&id) {
-        Some(one) => Some(*one),
-        None => None,
+    for i in 0..numbered.len() {
+        let (bucket, _) = numbered[i];
+        if is_live(&bucket) && bucket.id == id {
+            return Some(numbered[i]);
+        }
     }
+    None
 }
 
 /// Adds a bucket, where there is one.
@@ -212,30 +183,24 @@ impl HousekeepingResult {
         turn: &Housekeeping,
         id: u64,
         rule: Rule,
-        told: &ByNumber,
+        numbered: &[Numbered],
     ) -> Result<(), NoMemory>
-        ensures { OnOk result (self.new ≡ carrying.with_entries (defs.entry_by turn.now rule (get nat_cmp told.now id)) self.old) }
+        ensures { OnOk result (self.new ≡ carrying.with_entries (defs.entry_by turn.now rule (defs.numbered_id id numbered.now)) self.old) }
     {
-        if let Some((bucket, file)) = numbered_id(told, id) {
+        if let Some((bucket, file)) = numbered_id(numbered, id) {
             self.entries.push(turn.entry(file, rule, &bucket)?)?;
         }
         Ok(())
     }
 
     /// Adds the entries of the buckets that freeze.
-    fn add_entries(
-        &mut self,
-        alloc: Global,
-        turn: &Housekeeping,
-        numbered: &[Numbered],
-    ) -> Result<(), NoMemory>
+    fn add_entries(&mut self, turn: &Housekeeping, numbered: &[Numbered]) -> Result<(), NoMemory>
         ensures { OnOk result (self.new ≡ carrying.with_entries (carrying.entries_of turn.now numbered.now turn.now.moves.frozen) self.old) }
     {
         let frozen = turn.frozen();
-        let told = by_number(alloc, numbered)?;
         for i in 0..frozen.len() {
             let (id, rule) = frozen[i];
-            self.add_entry(turn, id, rule, &told)?;
+            self.add_entry(turn, id, rule, numbered)?;
         }
         Ok(())
     }
@@ -248,7 +213,7 @@ impl HousekeepingResult {
     {
         let turn = Housekeeping::of(alloc, moment, view)?;
         let left = self.carry_out_all(alloc, &turn, view.buckets.as_slice())?;
-        self.add_entries(alloc, &turn, &left.numbered)?;
+        self.add_entries(&turn, &left.numbered)?;
         add_view(view, left.buckets, &mut self.indexes)
     }
 }

@@ -5,7 +5,6 @@
 
 mod buckets;
 mod changes;
-mod desk;
 mod housekeeping;
 mod housekeeping_result;
 mod index_table;

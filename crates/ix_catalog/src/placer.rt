@@ -7,15 +7,13 @@ ghost use Rattle.std.specs.List.{All};
 ghost use Rattle.ix_life.specs.declared.views.IndexView.{IndexView};
 ghost use Rattle.ix_catalog.specs.Buckets.{named, size};
 ghost use Rattle.ix_catalog.specs.Dealing as defs;
-ghost use Rattle.ix_catalog.specs.Desks.{AreDesks, LiesAt, LiesOn, MayLieOn};
 ghost use Rattle.ix_catalog.specs.Filling.{growth_of, fed, opened, file_behind, one_more, put_there};
 ghost use Rattle.ix_catalog.specs.Lists.{find};
 ghost use Rattle.ix_catalog.specs.Numbers.{KeepsIndex, KeepsNumbers, IsBalanced, HasRecord, HasRecordIn};
 ghost use Rattle.ix_catalog.specs.Shelves.{view_name};
 ghost use Rattle.ix_catalog.specs.declared.placer.DealFault.TheVariants as faults;
 
-use crate::buckets::{Growth, LIMIT, begin, by_id, grow, grow_id, roll_some};
-use crate::desk::Desk;
+use crate::buckets::{Growth, LIMIT, begin, by_id, grow_id, roll_some};
 use crate::index_table::{IndexTable, place_of};
 use crate::measures::next_number;
 use crate::pieces::{add_record, spot_of};
@@ -76,47 +74,6 @@ struct Placement<'a> {
     file: u64,
     /// How many events the store has placed with it.
     used: u64,
-}
-
-/// The desks of the indexes, none for one to which no event has come, or in which a bucket was made
-/// or rolled since.
-type Desks = Vec<Option<Desk>>;
-
-/// What placing an event in an index leaves.
-#[derive(Drop)]
-struct Dealt {
-    /// Whether a bucket was made for it.
-    fresh: bool,
-    desk: Option<Desk>,
-}
-
-/// No desk for any of these indexes.
-fn no_desks(alloc: Global, indexes: &[IndexView]) -> Result<Desks, OutOfMemory>
-    ensures { IfOk result (λ desks. AreDesks desks.items indexes.now) }
-{
-    let mut desks = Vec::new(alloc);
-    for i in 0..indexes.len() {
-        desks.push(None)?;
-    }
-    Ok(desks)
-}
-
-/// Takes the desk of the index at a place, or makes it where there is none.
-fn take_desk(
-    alloc: Global,
-    desks: &mut Desks,
-    at: usize,
-    indexes: &[IndexView],
-) -> Result<Option<Desk>, OutOfMemory>
-    requires within { at < length indexes.now }
-    requires desks { AreDesks desks.old.items indexes.now }
-    ensures lies { IfOk result (λ desk. (v : IndexView) → slice_get indexes.now at ≡ Some v → MayLieOn desk v.buckets) }
-    ensures desks { AreDesks desks.new.items indexes.now }
-{
-    match mem::replace(&mut desks[at], None) {
-        Some(desk) => Ok(Some(desk)),
-        None => Desk::of(alloc, indexes[at].buckets.as_slice()),
-    }
 }
 
 /// Counts an event that went to the null queue.
@@ -284,110 +241,8 @@ impl Placer<'_> {
         Ok(())
     }
 
-    /// Puts an event into the bucket at a place of a desk, and answers the desk behind it.
-    fn put_found(
-        &self,
-        k: usize,
-        placement: &Placement<'_>,
-        view: &mut IndexView,
-        desk: Desk,
-        pieces: &mut Sequence<Append>,
-    ) -> Result<Option<Desk>, DealFault>
-        requires small { size placement.now.event.now < 2 ^ 32 }
-        requires numbers { KeepsIndex view.old }
-        requires lies { LiesOn desk view.old.buckets }
-        requires within { k < length desk.taking }
-        ensures view { (id : ℕ) → LiesAt desk k id → OnOk result (view.new ≡ fed self.now.moment id placement.now.event.now
-            placement.now.used view.old) }
-        ensures pieces { (id : ℕ) → LiesAt desk k id → OnOk result (pieces.new ≡ defs.joined
-            (defs.behind placement.now.event.now (defs.found (Some id) view.old.buckets) placement.now.file) pieces.old) }
-        ensures kept { OnOk result (KeepsIndex view.new) }
-        ensures lies { IfOk result (λ desk. MayLieOn desk view.new.buckets) }
-        ensures full { IsErrOf result DealFault.Full → (id : ℕ) → LiesAt desk k id → KeepsIndex
-            (fed self.now.moment id placement.now.event.now placement.now.used view.old) → ⊥ }
-    {
-        let bucket = desk.at(k);
-        let spot = spot_of(Some(bucket), placement.file);
-        let size = add_record(self.alloc, spot, placement.event, pieces)?;
-        let growth = self.growth(placement, size);
-        let more = grow(&view.limits, &growth, bucket)?;
-        Ok(desk.put(&mut view.buckets, k, more))
-    }
-
-    /// Puts an event into the bucket of this number, which lies on a desk.
-    fn put_on(
-        &self,
-        id: u64,
-        placement: &Placement<'_>,
-        view: &mut IndexView,
-        desk: Desk,
-        pieces: &mut Sequence<Append>,
-    ) -> Result<Option<Desk>, DealFault>
-        requires small { size placement.now.event.now < 2 ^ 32 }
-        requires numbers { KeepsIndex view.old }
-        requires lies { LiesOn desk view.old.buckets }
-        ensures view { OnOk result (view.new ≡ fed self.now.moment id placement.now.event.now placement.now.used view.old) }
-        ensures pieces { OnOk result (pieces.new ≡ defs.joined
-            (defs.behind placement.now.event.now (defs.found (Some id) view.old.buckets) placement.now.file) pieces.old) }
-        ensures kept { OnOk result (KeepsIndex view.new) }
-        ensures lies { IfOk result (λ desk. MayLieOn desk view.new.buckets) }
-        ensures full { IsErrOf result DealFault.Full → KeepsIndex
-            (fed self.now.moment id placement.now.event.now placement.now.used view.old) → ⊥ }
-    {
-        match desk.find(id) {
-            Some(k) => self.put_found(k, placement, view, desk, pieces),
-            None => {
-                self.put_into(id, placement, view, pieces)?;
-                Ok(None)
-            }
-        }
-    }
-
-    /// Places an event in an index by the buckets on a desk. Whether a bucket is made for it, and
-    /// the desk behind it: none where one was made.
-    fn put_by(
-        &self,
-        placement: &Placement<'_>,
-        view: &mut IndexView,
-        desk: Desk,
-        pieces: &mut Sequence<Append>,
-    ) -> Result<Dealt, DealFault>
-        requires small { size placement.now.event.now < 2 ^ 32 }
-        requires numbers { KeepsIndex view.old }
-        requires file { placement.now.file < 2 ^ 63 }
-        requires lies { LiesOn desk view.old.buckets }
-        ensures view { OnOk result (view.new ≡ defs.filled self.now.ledger.now self.now.moment placement.now.file placement.now.used
-            placement.now.event.now view.old) }
-        ensures pieces { OnOk result (pieces.new ≡ defs.joined
-            (defs.piece view.old.limits placement.now.file placement.now.event.now view.old.buckets) pieces.old) }
-        ensures fresh { IfOk result (λ dealt. dealt.fresh ≡ defs.is_fresh view.old.limits placement.now.event.now view.old.buckets) }
-        ensures kept { OnOk result (KeepsIndex view.new) }
-        ensures file { OnOk result (file_behind placement.now.file placement.now.event.now view.old < 2 ^ 63) }
-        ensures lies { IfOk result (λ dealt. MayLieOn dealt.desk view.new.buckets) }
-        ensures full { IsErrOf result DealFault.Full →
-            KeepsIndex (defs.filled self.now.ledger.now self.now.moment placement.now.file placement.now.used placement.now.event.now
-            view.old)
-            → file_behind placement.now.file placement.now.event.now view.old < 2 ^ 63 → ⊥ }
-    {
-        let event = placement.event;
-        let target = place(desk.taking(), &view.limits, event.time, event.arrival);
-        match target.into {
-            Some(id) => {
-                let desk = self.put_on(id, placement, view, desk, pieces)?;
-                Ok(Dealt { fresh: false, desk })
-            }
-            None => {
-                self.put_new(target, placement, view, pieces)?;
-                Ok(Dealt {
-                    fresh: true,
-                    desk: None,
-                })
-            }
-        }
-    }
-
-    /// The same, by all buckets of the index. Whether a bucket is made for it.
-    fn put_walking(
+    /// Places an event in an index. Whether a bucket is made for it.
+    fn put_in(
         &self,
         placement: &Placement<'_>,
         view: &mut IndexView,
@@ -421,61 +276,19 @@ impl Placer<'_> {
             }
         }
     }
-
-    /// Places an event in an index, by a desk where there is one.
-    fn put_in(
-        &self,
-        placement: &Placement<'_>,
-        view: &mut IndexView,
-        desk: Option<Desk>,
-        pieces: &mut Sequence<Append>,
-    ) -> Result<Dealt, DealFault>
-        requires small { size placement.now.event.now < 2 ^ 32 }
-        requires numbers { KeepsIndex view.old }
-        requires file { placement.now.file < 2 ^ 63 }
-        requires lies { MayLieOn desk view.old.buckets }
-        ensures view { OnOk result (view.new ≡ defs.filled self.now.ledger.now self.now.moment placement.now.file placement.now.used
-            placement.now.event.now view.old) }
-        ensures pieces { OnOk result (pieces.new ≡ defs.joined
-            (defs.piece view.old.limits placement.now.file placement.now.event.now view.old.buckets) pieces.old) }
-        ensures fresh { IfOk result (λ dealt. dealt.fresh ≡ defs.is_fresh view.old.limits placement.now.event.now view.old.buckets) }
-        ensures kept { OnOk result (KeepsIndex view.new) }
-        ensures file { OnOk result (file_behind placement.now.file placement.now.event.now view.old < 2 ^ 63) }
-        ensures lies { IfOk result (λ dealt. MayLieOn dealt.desk view.new.buckets) }
-        ensures full { IsErrOf result DealFault.Full →
-            KeepsIndex (defs.filled self.now.ledger.now self.now.moment placement.now.file placement.now.used placement.now.event.now
-            view.old)
-            → file_behind placement.now.file placement.now.event.now view.old < 2 ^ 63 → ⊥ }
-    {
-        match desk {
-            Some(desk) => self.put_by(placement, view, desk, pieces),
-            None => {
-                let fresh = self.put_walking(placement, view, pieces)?;
-                Ok(Dealt { fresh, desk: None })
-            }
-        }
-    }
 }
 
 impl Placer<'_> {
     /// Places an event in the index at a place.
-    fn put_at(
-        &self,
-        event: &Event,
-        at: usize,
-        work: &mut Work,
-        desks: &mut Desks,
-    ) -> Result<(), DealFault>
+    fn put_at(&self, event: &Event, at: usize, work: &mut Work) -> Result<(), DealFault>
         requires small { size event.now < 2 ^ 32 }
         requires numbers { KeepsNumbers work.old.shelves }
         requires balanced { IsBalanced work.old.shelves }
         requires within { at < length work.old.shelves.indexes }
-        requires desks { AreDesks desks.old.items work.old.shelves.indexes }
         ensures done { OnOk result ((v : IndexView) → slice_get work.old.shelves.indexes at ≡ Some v →
             work.new ≡ put_there self.now.ledger.now self.now.moment event.now at v work.old) }
         ensures kept { OnOk result (KeepsNumbers work.new.shelves) }
         ensures balanced { OnOk result (IsBalanced work.new.shelves) }
-        ensures desks { OnOk result (AreDesks desks.new.items work.new.shelves.indexes) }
         ensures full { IsErrOf result DealFault.Full → (v : IndexView) → slice_get work.old.shelves.indexes at ≡ Some v →
             KeepsNumbers (put_there self.now.ledger.now self.now.moment event.now at v work.old).shelves → ⊥ }
     {
@@ -489,54 +302,47 @@ impl Placer<'_> {
         };
         let taken = mem::replace(&mut work.shelves.indexes, Sequence::new(self.alloc));
         let mut indexes = taken.into_vec();
-        let desk = take_desk(self.alloc, desks, at, &indexes)?;
-        let dealt = self.put_in(&placement, &mut indexes[at], desk, &mut work.pieces)?;
-        let Dealt { fresh, desk } = dealt;
+        let fresh = self.put_in(&placement, &mut indexes[at], &mut work.pieces)?;
         work.shelves.indexes = Sequence::from_vec(indexes);
         count_placed(&mut work.shelves, fresh);
-        desks[at] = desk;
         Ok(())
     }
 
     /// Places an event in the index that it names.
-    fn put(&self, event: &Event, work: &mut Work, desks: &mut Desks) -> Result<(), DealFault>
+    fn put(&self, event: &Event, work: &mut Work) -> Result<(), DealFault>
         requires small { size event.now < 2 ^ 32 }
         requires numbers { KeepsNumbers work.old.shelves }
         requires balanced { IsBalanced work.old.shelves }
-        requires desks { AreDesks desks.old.items work.old.shelves.indexes }
         ensures done { OnOk result (work.new ≡ defs.put_in self.now.ledger.now self.now.moment event.now
             (find view_name event.now.index work.old.shelves.indexes) work.old) }
         ensures kept { OnOk result (KeepsNumbers work.new.shelves) }
         ensures balanced { OnOk result (IsBalanced work.new.shelves) }
-        ensures desks { OnOk result (AreDesks desks.new.items work.new.shelves.indexes) }
         ensures full { IsErrOf result DealFault.Full →
             KeepsNumbers (defs.put_in self.now.ledger.now self.now.moment event.now
             (find view_name event.now.index work.old.shelves.indexes) work.old).shelves → ⊥ }
     {
         match place_of(work.shelves.indexes.as_slice(), event.index.as_slice()) {
-            Some(at) => self.put_at(event, at, work, desks),
+            Some(at) => self.put_at(event, at, work),
             None => count_dropped(&mut work.shelves),
         }
     }
 
     /// Places an event in the index that it goes to, or drops it.
-    fn deal_event(&self, event: Event, work: &mut Work, desks: &mut Desks) -> Result<(), DealFault>
+    fn deal_event(&self, event: Event, work: &mut Work) -> Result<(), DealFault>
         requires small { HasRecordIn event (defs.home self.now.set.now event.index) }
         requires numbers { KeepsNumbers work.old.shelves }
         requires balanced { IsBalanced work.old.shelves }
-        requires desks { AreDesks desks.old.items work.old.shelves.indexes }
         ensures done { OnOk result (work.new ≡ defs.deal_to self.now.ledger.now self.now.moment event
             (defs.home self.now.set.now event.index) work.old) }
         ensures kept { OnOk result (KeepsNumbers work.new.shelves) }
         ensures balanced { OnOk result (IsBalanced work.new.shelves) }
-        ensures desks { OnOk result (AreDesks desks.new.items work.new.shelves.indexes) }
         ensures full { IsErrOf result DealFault.Full →
             KeepsNumbers (defs.deal_to self.now.ledger.now self.now.moment event (defs.home self.now.set.now event.index)
             work.old).shelves → ⊥ }
     {
         match self.send(event)? {
             Some(event) => {
-                let done = self.put(&event, work, desks);
+                let done = self.put(&event, work);
                 drop(event);
                 done
             }
@@ -545,20 +351,18 @@ impl Placer<'_> {
     }
 
     /// Deals with what an event comes to.
-    fn deal(&self, outcome: Routed, work: &mut Work, desks: &mut Desks) -> Result<(), DealFault>
+    fn deal(&self, outcome: Routed, work: &mut Work) -> Result<(), DealFault>
         requires small { HasRecord self.now.set.now outcome }
         requires numbers { KeepsNumbers work.old.shelves }
         requires balanced { IsBalanced work.old.shelves }
-        requires desks { AreDesks desks.old.items work.old.shelves.indexes }
         ensures done { OnOk result (work.new ≡ defs.deal self.now.set.now self.now.ledger.now self.now.moment work.old outcome) }
         ensures kept { OnOk result (KeepsNumbers work.new.shelves) }
         ensures balanced { OnOk result (IsBalanced work.new.shelves) }
-        ensures desks { OnOk result (AreDesks desks.new.items work.new.shelves.indexes) }
         ensures full { IsErrOf result DealFault.Full →
             KeepsNumbers (defs.deal self.now.set.now self.now.ledger.now self.now.moment work.old outcome).shelves → ⊥ }
     {
         match outcome {
-            Routed::To(event) => self.deal_event(event, work, desks),
+            Routed::To(event) => self.deal_event(event, work),
             Routed::Null => count_nulled(&mut work.shelves),
         }
     }
@@ -580,9 +384,8 @@ impl Placer<'_> {
         ensures full { IsErrOf result DealFault.Full →
             KeepsNumbers (defs.deal_all self.now.set.now self.now.ledger.now self.now.moment work.old outcomes).shelves → ⊥ }
     {
-        let mut desks = no_desks(self.alloc, work.shelves.indexes.as_slice())?;
         for outcome in outcomes.into_vec() {
-            self.deal(outcome, work, &mut desks)?;
+            self.deal(outcome, work)?;
         }
         Ok(())
     }

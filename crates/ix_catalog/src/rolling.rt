@@ -16,7 +16,7 @@ use ix_items::{Bucket, State};
 use ix_life::{BucketList, IndexViewList};
 
 /// Whether the bucket takes events.
-pub fn is_open(bucket: &Bucket) -> bool
+fn is_open(bucket: &Bucket) -> bool
     ensures { result ≡ placing.is_open bucket.now }
 {
     match bucket.state {

@@ -11,4 +11,3 @@ pub mod Resting
 pub mod Shorter
 pub mod Reading
 pub mod Failing
-pub mod Pending

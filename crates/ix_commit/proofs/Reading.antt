@@ -350,7 +350,7 @@ module _ (fits : NamedItems → Type 0) where
       (subst (λ (n : ℕ). Replays (Taken fits (current n)) leads.bodies empty book) same leads.replayed)
 
 -- the next run
-pub begun_items : (fresh : Bool) (run : ℕ) (s : Snapshot) → (begun fresh run s).book ≡ replay (first_items fresh run) s.book
+begun_items : (fresh : Bool) (run : ℕ) (s : Snapshot) → (begun fresh run s).book ≡ replay (first_items fresh run) s.book
 begun_items true run s = refl
 begun_items false run s = refl
 

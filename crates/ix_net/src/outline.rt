@@ -121,9 +121,6 @@ impl Outline {
     /// These bytes come next.
     pub(crate) fn add(&mut self, bytes: &[u8]) {
         for byte in bytes {
-            if self.is_decided() {
-                return;
-            }
             self.part = match *byte {
                 b'\n' => after_feed(self.part),
                 b'\r' => after_return(self.part),

@@ -24,7 +24,7 @@ rest_listed : (item : Item) (rest : List Item) → AreListed (item ∷ rest) →
 rest_listed item rest listed = record { once = listed.once.1; left = listed.left.1 }
 
 -- the settings that are gathered are those that stand
-pub kept_gathered : (said : List Item) → AreListed said → (all_taken said nothing).kept ≡ kept_in (replay said empty)
+kept_gathered : (said : List Item) → AreListed said → (all_taken said nothing).kept ≡ kept_in (replay said empty)
 kept_gathered [] listed = refl
 kept_gathered (items.Settings kept ∷ rest) listed = sym (ap kept_of (first_stands (items.Settings kept) rest listed))
 kept_gathered (items.Run run ∷ rest) listed = kept_gathered rest (rest_listed (items.Run run) rest listed)

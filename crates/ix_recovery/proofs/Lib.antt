@@ -40,5 +40,4 @@ pub mod Sized
 pub mod Parted
 pub mod Ledgers
 pub mod Blamed
-mod Good
 mod Failing

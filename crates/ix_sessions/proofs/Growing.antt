@@ -21,8 +21,7 @@ use Rattle.ix_serve.specs.Serving.{HoldsFrom, IsOpen, still_open}
 use Rattle.ix_serve.specs.declared.served.Served.{Served}
 use Rattle.ix_serve.specs.declared.served.ServeFault.{ServeFault}
 use Rattle.ix_serve.specs.declared.served.ServeFault.TheVariants as fault
-use Rattle.ix_serve.specs.Kinds.{Kind}
-use Rattle.ix_sessions.specs.Feeding.{Start, Turn, IsSafe, AreSafe, Has, history_after, disk_after, known}
+use Rattle.ix_sessions.specs.Feeding.{Kind, Start, Turn, IsSafe, AreSafe, Has, history_after, disk_after, known}
 
 -- ---- prefixes
 

@@ -30,7 +30,7 @@ use Rattle.ix_store.proofs.Lawful.{held_stands}
 use Rattle.ix_serve.specs.Answer.{Says, is_whole}
 use Rattle.ix_serve.specs.Entries.{entry}
 use Rattle.ix_serve.specs.Prefixes.{StandsIn}
-use Rattle.ix_serve.specs.Serving.{IsClean, IsOpen, IsTold, Serves, outcome}
+use Rattle.ix_serve.specs.Serving.{IsClean, IsOpen, IsTold, Serves}
 use Rattle.ix_serve.specs.declared.served.Served.{Served}
 use Rattle.ix_serve.specs.declared.served.ServeFault.{ServeFault}
 use Rattle.ix_serve.specs.declared.served.ServeFault.TheVariants as fault
@@ -38,8 +38,7 @@ use Rattle.ix_serve.proofs.Standing.{of_all}
 use Rattle.ix_sessions.specs.Connections.{Comes, Visit, Listened, listened, HasHeard, turns_of, backs_of, held_by, IsVisit, AreVisits}
 use Rattle.ix_sessions.specs.Connections.{EndsAt, EndsIn, IsUndamagedEnd, Taken, HandedBack, Attends, Visits, Hears, Listens, break_of}
 use Rattle.ix_sessions.specs.Connections.{is_open_end, hearing}
-use Rattle.ix_serve.specs.Kinds.{Kind}
-use Rattle.ix_sessions.specs.Feeding.{Start, start, Turn, AreSafe, AreTold, Has, first_entry, history_after, disk_after, known}
+use Rattle.ix_sessions.specs.Feeding.{Kind, Start, start, Turn, AreSafe, AreTold, Has, first_entry, history_after, disk_after, known}
 use Rattle.ix_sessions.specs.Feeding.{reply_text}
 use Rattle.ix_sessions.specs.declared.serve.Heard.{Heard}
 use Rattle.ix_sessions.specs.declared.serve.Heard.TheVariants as heard
@@ -102,7 +101,7 @@ pub attends : {D : Type 0} (g : Ghosts D) {M : Type 0} (kind : Kind M) (s : Star
     Begins begun left given faults → LinkStep begun ended → Told (TakesFirst left) from.waiting to.waiting →
     Told (Adds (handed_back ended given' faults')) from.handed to.handed →
     Told (Answered moment) ahead ahead' →
-    (serves : Serves g kind (first_entry s moment) (outcome came (IsClean faults faults' begun ended) given given') left left' store
+    (serves : Serves g kind.fits kind.holds (first_entry s moment) (IsClean faults faults' begun ended) came left left' given given' store
     s.disk new) →
     (came ≡ Err fault.Link → Rose faults faults') → AllByRecursion kind.takes (s.history ++ serves.answers.answer.more) →
     Attends g kind s came (hearing from ahead) (hearing to ahead') store new

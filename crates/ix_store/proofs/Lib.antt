@@ -10,4 +10,3 @@ pub mod Lawful
 pub mod Exported
 pub mod Shortened
 pub mod Said
-pub mod Recalling

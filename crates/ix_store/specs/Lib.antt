@@ -7,5 +7,3 @@ pub mod Telling
 pub mod Making
 pub mod Exporting
 pub mod Holding
-pub mod Placing
-pub mod Remembering

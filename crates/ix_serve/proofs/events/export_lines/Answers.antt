@@ -36,7 +36,6 @@ returns-in-Ok g c = record {
   closed = tt;
   placed = tt;
   run = c.export.ensures.run;
-  memory = c.export.ensures.memory;
   same = c.export.ensures.same;
   over = c.export.ensures.over;
   later = c.export.ensures.later;
@@ -60,7 +59,6 @@ returns-in-Err-Output g c = record {
   closed = tt;
   placed = tt;
   run = c.export.ensures.run;
-  memory = c.export.ensures.memory;
   same = c.export.ensures.same;
   over = c.export.ensures.over;
   later = c.export.ensures.later;
@@ -80,7 +78,6 @@ returns-in-Err-UnknownIndex g c = record {
   closed = tt;
   placed = tt;
   run = c.export.ensures.run;
-  memory = c.export.ensures.memory;
   same = c.export.ensures.same;
   over = c.export.ensures.over;
   later = c.export.ensures.later;
@@ -97,16 +94,14 @@ returns g c = record {
       choose h base image chooser taken hold (sym c.in-Err-Damaged.ensures.same ∙ seen);
   measured = c.export.ensures.measured;
   closed = by_export c.export.new.self _ _ c.export.ensures.closes (ap closes (c.in-Err-Damaged.is ∙ ap Err c.in-Err-Damaged.field-0-is));
-  placed = λ file at is image seen. placed_as (g.M.StoreMemory.shown c.args.store.now.memory)
-      (g.M.StoreMemory.shown c.export.new.self.memory) image c.in-Err-Damaged.file file c.in-Err-Damaged.at at
-      (ap g.M.StoreMemory.shown c.export.ensures.memory) is
+  placed = λ file at is image seen. placed_as (g.M.StoreMemory.shown c.args.store.now.memory) image c.in-Err-Damaged.file file
+      c.in-Err-Damaged.at at is
       (inr (
         c.args.index.now,
         c.in-Err-Damaged.ensures.bad c.in-Err-Damaged.file c.in-Err-Damaged.at
             (ap (λ (f : ExportFault). Err f) c.in-Err-Damaged.field-0-is) image (sym c.in-Err-Damaged.ensures.same ∙ seen),
       ));
   run = c.export.ensures.run;
-  memory = c.export.ensures.memory;
   same = c.export.ensures.same;
   over = c.export.ensures.over;
   later = c.export.ensures.later;
@@ -123,7 +118,6 @@ returns-in-Err-NoMemory g c = record {
   closed = tt;
   placed = tt;
   run = c.export.ensures.run;
-  memory = c.export.ensures.memory;
   same = c.export.ensures.same;
   over = c.export.ensures.over;
   later = c.export.ensures.later;
@@ -142,7 +136,6 @@ returns-in-Err-Closed g c = record {
   closed = tt;
   placed = tt;
   run = c.export.ensures.run;
-  memory = c.export.ensures.memory;
   same = c.export.ensures.same;
   over = c.export.ensures.over;
   later = c.export.ensures.later;
@@ -159,7 +152,6 @@ returns-in-Err-Disk g c = record {
   closed = by_export c.export.new.self _ _ c.export.ensures.closes (ap closes (c.in-Err-Disk.is ∙ ap Err c.in-Err-Disk.field-0-is));
   placed = λ file at is. absurd (disk_or_damaged file at is);
   run = c.export.ensures.run;
-  memory = c.export.ensures.memory;
   same = c.export.ensures.same;
   over = c.export.ensures.over;
   later = c.export.ensures.later;

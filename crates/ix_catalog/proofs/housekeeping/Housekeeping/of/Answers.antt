@@ -5,4 +5,4 @@ use Rattle.ix_catalog.proofs.housekeeping.Housekeeping.of.Goals as goal
 
 pub returns : goal.returns
 returns c = turn_is c.args.view.now _ c.args.moment _ _ c.in_ok-copy.ensures (to_z-of_z w64 c.args.moment c.ranges.moment)
-    c.in_ok-moves.ensures
+    c.in_ok-housekeep.ensures

@@ -1,9 +1,7 @@
 use Rattle.std.proofs.Common.{◌∙◌, ℕ, List, Option, ap, sym, subst}
 use Rattle.std.proofs.lemmas.Result.{on_ok_weaker, IfOk-from_err}
 use Rattle.ix_catalog.specs.Dealing.{home, deal_to}
-use Rattle.ix_catalog.specs.Desks.{AreDesks}
 use Rattle.ix_catalog.specs.Numbers.{KeepsNumbers}
-use Rattle.ix_catalog.specs.declared.index_table.IndexTable.{IndexTable}
 use Rattle.ix_catalog.specs.declared.placer.Work.{Work}
 use Rattle.ix_catalog.proofs.Dealt.{goes_to, goes_nowhere, deal_sent, with_pieces}
 use Rattle.ix_catalog.proofs.Failing.{memory_no_full}
@@ -14,7 +12,6 @@ returns-in_err-event c = record {
   done = IfOk-from_err _ _ c.from_residual.ensures.0;
   kept = IfOk-from_err _ _ c.from_residual.ensures.0;
   balanced = IfOk-from_err _ _ c.from_residual.ensures.0;
-  desks = IfOk-from_err _ _ c.from_residual.ensures.0;
   full = memory_no_full c.from_residual.result c.from_residual.ensures.1;
 }
 
@@ -28,7 +25,6 @@ returns-in-Some c =
       done = on_ok_weaker c.put-done.result (λ h. h ∙ is) c.put-done.ensures.done;
       kept = c.put-done.ensures.kept;
       balanced = c.put-done.ensures.balanced;
-      desks = c.put-done.ensures.desks;
       full = λ full keeps. c.put-done.ensures.full full (subst (λ (w : Work). KeepsNumbers w.shelves) (sym is) keeps);
     }
 
@@ -44,9 +40,6 @@ returns-in-None c =
           c.count_dropped.ensures.done;
       kept = c.count_dropped.ensures.kept;
       balanced = c.count_dropped.ensures.balanced;
-      desks = on_ok_weaker c.count_dropped.result
-          (λ h. subst (λ (s : IndexTable). AreDesks c.args.desks.now.items s.indexes) (sym h) c.requires.desks)
-          c.count_dropped.ensures.done;
       full = λ full keeps. c.count_dropped.ensures.full full
           (subst (λ (o : Option (List ℕ)). KeepsNumbers (deal_to d.ledger.now d.moment event o w).shelves) none keeps);
     }

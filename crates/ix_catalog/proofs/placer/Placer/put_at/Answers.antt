@@ -16,11 +16,11 @@ returns-clause-done c = λ v there.
     ∙ ap (λ (xs : List IndexView). set xs c.args.at c.put_in.new.view) whole in
     ap (with_pieces c.put_in.new.pieces) c.count_placed.ensures
     ∙ put_there_is c.args.self.now.ledger.now c.args.self.now.moment c.args.event.now c.args.at v w c.from_vec.result x c.put_in.new.view
-    c.in_ok-dealt.dealt.fresh c.put_in.new.pieces
-    c.requires.within read there all c.in_ok-dealt.ensures.view c.in_ok-dealt.ensures.fresh c.in_ok-dealt.ensures.pieces
+    c.in_ok-fresh.fresh c.put_in.new.pieces
+    c.requires.within read there all c.in_ok-fresh.ensures.view c.in_ok-fresh.ensures.fresh c.in_ok-fresh.ensures.pieces
 
-pub returns-in_err-dealt-clause-full : goal.returns-in_err-dealt-clause-full
-returns-in_err-dealt-clause-full c = λ is v there keeps.
+pub returns-in_err-fresh-clause-full : goal.returns-in_err-fresh-clause-full
+returns-in_err-fresh-clause-full c = λ is v there keeps.
     let was : IsErrOf c.put_in.result faults.Full = search rules in
     let w = c.args.work.now in
     let x = c.index_mut.result.now in
