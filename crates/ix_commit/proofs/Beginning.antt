@@ -275,7 +275,7 @@ module _ {D : Type 0} (g : Ghosts D) (fits : NamedItems → Type 0) where
       kept_is : as_read ≡ one.kept
       kept_is = λ i. record { book = book_of image left one.kept one.keeps i; contents = one.kept.contents }
 
-      stands : StandsFor as_read (family one.which)
+      pub stands : StandsFor as_read (family one.which)
       stands = subst (λ (s : Snapshot). StandsFor s (family one.which)) (sym kept_is) one.stands
 
       same_contents : (other : Image) (there : g.may_leave mid other) → (keeps_mid other there).kept.contents ≡ one.kept.contents
@@ -303,7 +303,7 @@ module _ {D : Type 0} (g : Ghosts D) (fits : NamedItems → Type 0) where
       pub held_one : Held g fits committer mid as_read as_read
       held_one = read_held committer mid as_read read holds_one apart_one free_one
 
-      like_one : (run : ℕ) → IsLike (begun (not (has_settings book)) run as_read) (family one.which)
+      pub like_one : (run : ℕ) → IsLike (begun (not (has_settings book)) run as_read) (family one.which)
       like_one run = begun_like run as_read (family one.which) stands (is_family.settled one.which one.least one.most)
 
       later_one : least ≤ run_in book

@@ -11,6 +11,7 @@ use Rattle.ix_disk.specs.declared.disk.Disk.{Ghosts}
 use Rattle.ix_disk.proofs.Runs.{joined, nowhere}
 use Rattle.ix_manifest.specs.declared.fault.CheckpointFault.{CheckpointFault}
 use Rattle.ix_manifest.specs.declared.fault.CheckpointFault.TheVariants as short
+use Rattle.ix_commit.specs.Mounting.{as_mount_too}
 use Rattle.ix_commit.specs.declared.fault.CommitFault.{CommitFault}
 use Rattle.ix_commit.specs.declared.fault.CommitFault.TheVariants as faults
 use Rattle.ix_commit.specs.declared.mounting.MountFault.{MountFault}
@@ -93,6 +94,20 @@ pub same_mount : {T X : Type 0} (inner : Result T MountFault) (outer : Result X 
     outer ≡ Err named → inner ≡ Err named
 same_mount inner (Ok x) own named was failed is = absurd failed
 same_mount inner (Err e) own named was failed is = cc
+
+-- and what a mount fails for behind a commit is what that failed for
+pub commit_disk : {T X : Type 0} (inner : Result T CommitFault) (outer : Result X MountFault) (own : CommitFault) → inner ≡ Err own →
+    IsErrAnd outer (λ e. e ≡ as_mount_too own) → IsErrOf outer mounts.Disk → IsErrOf inner faults.Disk
+commit_disk inner (Ok x) own was failed is = absurd failed
+commit_disk inner (Err e) faults.Disk was failed is = was
+commit_disk inner (Err e) (faults.Damaged file at) was failed is = absurd cc
+
+pub commit_lost : {T X : Type 0} (inner : Result T CommitFault) (outer : Result X MountFault) (own : CommitFault) (file : File) (at : ℕ) →
+    inner ≡ Err own → IsErrAnd outer (λ e. e ≡ as_mount_too own) → outer ≡ Err (mounts.Damaged file at) →
+    inner ≡ Err (faults.Damaged file at)
+commit_lost inner (Ok x) own file at was failed is = absurd failed
+commit_lost inner (Err e) faults.Disk file at was failed is = absurd cc
+commit_lost inner (Err e) (faults.Damaged f a) file at was failed is = cc
 
 -- a call that was not made leaves all other files
 pub apart_none : {D : Type 0} (g : Ghosts D) (disk : D) (file : File) → ImagesStep g disk disk (Apart file)

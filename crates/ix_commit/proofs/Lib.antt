@@ -11,3 +11,4 @@ pub mod Resting
 pub mod Shorter
 pub mod Reading
 pub mod Failing
+pub mod Pending

@@ -255,7 +255,7 @@ gone_begun g log files mid next told each gone image is = go (g.seen mid) refl
 -- ---- what the logs lead to
 
 module _ (fits : NamedItems → Type 0) where
-  pub read_leads : {D : Type 0} (g : Ghosts D) (committer : Committer) (mid : D) (book : NamedItems) → IsRead g fits committer mid book →
+  unfoldable pub read_leads : {D : Type 0} (g : Ghosts D) (committer : Committer) (mid : D) (book : NamedItems) → IsRead g fits committer mid book →
       (image : Image) → g.may_leave mid image → LeadsTo fits book image
   read_leads g committer mid book read image left = record {
     checkpoints = read.checkpoints;
@@ -350,7 +350,7 @@ module _ (fits : NamedItems → Type 0) where
       (subst (λ (n : ℕ). Replays (Taken fits (current n)) leads.bodies empty book) same leads.replayed)
 
 -- the next run
-begun_items : (fresh : Bool) (run : ℕ) (s : Snapshot) → (begun fresh run s).book ≡ replay (first_items fresh run) s.book
+pub begun_items : (fresh : Bool) (run : ℕ) (s : Snapshot) → (begun fresh run s).book ≡ replay (first_items fresh run) s.book
 begun_items true run s = refl
 begun_items false run s = refl
 

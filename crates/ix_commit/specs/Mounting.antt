@@ -1,21 +1,27 @@
 -- What a mount finds, and the run that it begins.
-use Rattle.std.specs.Prelude.{◌≡◌, ◌≢◌, ◌≤◌, ◌⊎◌, ◌+◌, ℕ, true, false, List, [], Result, Err}
+use Rattle.std.specs.Prelude.{◌≡◌, ◌≢◌, ◌≤◌, ◌<◌, ◌⊎◌, ◌+◌, ◌-◌, ◌^◌, ℕ, true, false, List, [], Result, Err, not}
+use Rattle.std.specs.List.{AllByRecursion}
 use Rattle.ix_base.specs.declared.files.File.{File}
+use Rattle.ix_items.specs.Spelling.{HasSpelling}
 use Rattle.ix_items.specs.declared.items.Item.TheVariants as items
 use Rattle.ix_disk.specs.Image.{Image, bytes_in}
 use Rattle.ix_disk.specs.declared.disk.Disk.{Ghosts}
 use Rattle.ix_log.specs.Log.{HasBodies, IsAtEnd, IsAsRead, file_of}
-use Rattle.ix_manifest.specs.Book.{Name, NamedItems, empty, run_in, has_settings, Replays}
+use Rattle.ix_manifest.specs.Book.{Name, NamedItems, empty, run_in, removals_in, has_settings, Replays}
 use Rattle.ix_manifest.specs.Replaying.{IsBadGate, first_length}
 use Rattle.ix_manifest.specs.Root.{Taken, roots, current, log_file, IsBadRoot}
+use Rattle.ix_manifest.specs.Slots.{items_of}
 use Rattle.ix_manifest.specs.declared.manifest_state.ReplayFault.{ReplayFault}
 use Rattle.ix_manifest.specs.declared.manifest_state.ReplayFault.TheVariants as faults
-use Rattle.ix_commit.specs.Snapshot.{Snapshot, DecodesTo, Held, AreNoLogs, IsLike, with_item, log_of}
+use Rattle.ix_commit.specs.Reads.{first_items, next_run}
+use Rattle.ix_commit.specs.Snapshot.{Snapshot, DecodesTo, Held, Stages, AreNoLogs, IsLike, with_item, begun, log_of}
+use Rattle.ix_commit.specs.Undo.{HasSameLogs}
 use Rattle.ix_commit.specs.declared.fault.CommitFault.{CommitFault}
 use Rattle.ix_commit.specs.declared.fault.CommitFault.TheVariants as commits
 use Rattle.ix_commit.specs.declared.committer.Committer.{Committer}
 use Rattle.ix_commit.specs.declared.mounting.MountFault.{MountFault}
 use Rattle.ix_commit.specs.declared.mounting.MountFault.TheVariants as mounts
+use Rattle.ix_commit.specs.declared.mounting.PendingMount.{PendingMount}
 
 -- What is kept stands for a snapshot: it is like it, or no body was written yet and it will be once
 -- a new store's settings stand in it.
@@ -64,6 +70,34 @@ pub record IsRead {D : Type 0} (g : Ghosts D) (fits : NamedItems →
   pub no_parts : committer.parts ≡ []
   pub no_copies : committer.copies ≡ []
   pub no_slots : committer.slots ≡ []
+
+-- The body that begins the run behind a book is staged, and with it the book is this one, which the
+-- state above takes.
+pub record BeginsRun (fits : NamedItems → Type 0) (committer : Committer) (book now : NamedItems) : Type 0 where
+  pub room : run_in book < 2 ^ 63 - 1
+  pub is : now ≡ next_run book
+  pub taken : fits now
+  pub items : items_of committer.slots ≡ first_items (not (has_settings book)) (run_in book + 1)
+  pub proper : AllByRecursion HasSpelling (items_of committer.slots)
+  pub staged : (s : Snapshot) → s.book ≡ book → Stages committer s (begun (not (has_settings book)) (run_in book + 1) s)
+
+-- The run of a book is the last one, or the state above does not take the book with the next one.
+abbrev pub HasNoNext : (NamedItems → Type 0) → NamedItems → NamedItems → Type 0
+HasNoNext fits book now = ((2 ^ 63 - 1 ≤ run_in book) × (now ≡ book)) ⊎ ((now ≡ next_run book) × (fits now → ⊥))
+
+-- A mount has read the logs, and they lead to a book. It has staged what begins the next run, or
+-- there is no room for that. Nothing of it is written: with it the book is this one.
+pub record IsPending {D : Type 0} (g : Ghosts D) (fits : NamedItems →
+    Type 0) (pending : PendingMount) (disk : D) (now : NamedItems) : Type 0 where
+  pub book : NamedItems
+  pub as_read : Committer
+  pub read : IsRead g fits as_read disk book
+  pub logs : HasSameLogs as_read pending.committer
+  pub no_parts : pending.committer.parts ≡ []
+  pub no_copies : pending.committer.copies ≡ []
+  pub removals : pending.removals ≡ removals_in book
+  pub room : pending.has_room ≡ true → BeginsRun fits pending.committer book now
+  pub none : pending.has_room ≡ false → HasNoNext fits book now
 
 -- The committer holds what stands for the snapshot that the disk's own reading keeps, with the next
 -- run.

@@ -25,6 +25,6 @@ pub use laws::{
     bad_logs_lead_nowhere, begun_has_run, empty_disk_keeps, forgets, leads_to_one_book,
     same_stages, wants_for_a_long_log,
 };
-pub use mounting::{MountFault, mount};
+pub use mounting::{MountFault, PendingMount, finish_mount, mount, prepare_mount};
 pub use staged_append::StagedAppend;
 pub use write_batch::{Append, WriteBatch};

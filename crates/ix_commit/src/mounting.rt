@@ -1,7 +1,7 @@
 //! Mounting: the logs are read, the state is replayed, and the next run begins.
 
-ghost use Rattle.std.specs.Prelude.{◌≡◌, ◌≢◌, ◌≤◌, ◌<◌, ◌+◌, ◌-◌, ◌^◌, ◌++◌, ◌∷◌, ◌⊎◌, ℕ, List, [], length, Some, Err, OnOk, OnErr, IfOk};
-ghost use Rattle.std.specs.Prelude.{IsErrOf, true, false, not};
+ghost use Rattle.std.specs.Prelude.{◌≡◌, ◌≤◌, ◌<◌, ◌+◌, ◌-◌, ◌^◌, ◌++◌, ◌∷◌, ◌⊎◌, ℕ, [], length, Some, Ok, Err, OnOk, OnErr, IfOk};
+ghost use Rattle.std.specs.Prelude.{IsErrOf, true, false};
 ghost use Rattle.ix_base.specs.Faults.{Rose};
 ghost use Rattle.ix_base.specs.Told.{Told};
 ghost use Rattle.ix_base.specs.declared.files.File.{File};
@@ -15,13 +15,13 @@ ghost use Rattle.ix_manifest.specs.Root.{Taken, roots, log_file, IsBadRoot};
 ghost use Rattle.ix_manifest.specs.Replaying.{IsReplayed, IsBadGate};
 ghost use Rattle.ix_manifest.specs.Slots.{items_of};
 ghost use Rattle.ix_commit.specs.Contents.{Anyhow};
-ghost use Rattle.ix_commit.specs.Snapshot.{Snapshot, KeepsEither, Held, LogsAtEnd, NothingStaged, KnowsLogLength, Stages, log_of};
+ghost use Rattle.ix_commit.specs.Snapshot.{Snapshot, LogsAtEnd, NothingStaged, KnowsLogLength, Stages, log_of};
 ghost use Rattle.ix_commit.specs.Snapshot.{with_item, begun};
-ghost use Rattle.ix_commit.specs.Growing.{EndsWith, HasGrown};
-ghost use Rattle.ix_commit.specs.Reads.{OrGone, ReadsNone, IsBegunFrom, HasNoRun, first_items};
+ghost use Rattle.ix_commit.specs.Growing.{HasGrown};
+ghost use Rattle.ix_commit.specs.Reads.{ReadsNone, IsBegunFrom, HasNoRun, first_items};
 ghost use Rattle.ix_commit.specs.Undo.{HasSameLogs};
 ghost use Rattle.ix_commit.specs.Mounting.{IsRead, IsFamily, AllKeep, KeepsOneOf, IsMountedAt, IsBadMount, IsBadLog, as_mount};
-ghost use Rattle.ix_commit.specs.Mounting.{as_mount_too};
+ghost use Rattle.ix_commit.specs.Mounting.{as_mount_too, BeginsRun, HasNoNext, IsPending};
 
 use crate::committer::{Committer, StageFault};
 use crate::committing::commit;
@@ -29,7 +29,7 @@ use crate::fault::CommitFault;
 use crate::removing::remove_all;
 use ix_base::{File, NoMemory as OutOfMemory, Sequence};
 use ix_disk::Disk;
-use ix_items::Item;
+use ix_items::{FileList, Item};
 use ix_log::Log;
 use ix_manifest::{ManifestState, ReplayFault, log_file, read_root, replay_log};
 use std::alloc::Global;
@@ -50,6 +50,26 @@ pub enum MountFault {
     /// There was no room in memory.
     #[error("there was no room in memory")]
     NoMemory,
+}
+
+/// A mount of which the logs are read, and nothing is written yet. What begins the next run is
+/// staged, where there is room for it.
+#[derive(Drop)]
+pub struct PendingMount {
+    pub(crate) committer: Committer,
+    /// The files that the last removals name.
+    pub(crate) removals: FileList,
+    /// Whether the next run has a number, and the state above takes what begins it.
+    pub(crate) has_room: bool,
+}
+
+impl PendingMount {
+    /// The file of the current log.
+    pub fn current(&self) -> File
+        ensures { result ≡ log_file self.now.committer.number }
+    {
+        self.committer.current()
+    }
 }
 
 /// What a fault of the log in this file is.
@@ -224,50 +244,128 @@ fn enter_run<B: ManifestState>(
     Ok(())
 }
 
-/// Begins a run: writes its number in a body of its own.
-fn begin<D: Disk, B: ManifestState>(
+/// Stages what begins the next run, where that has a number: whether it has one, and the state above
+/// takes it then.
+fn stage_run<B: ManifestState>(
     alloc: Global,
     committer: &mut Committer,
+    state: &mut B,
+) -> Result<bool, MountFault>
+    requires { NothingStaged committer.old }
+    ensures begins { result ≡ Ok true → BeginsRun B.fits committer.new (B.stands state.old) (B.stands state.new) }
+    ensures none { result ≡ Ok false → HasNoNext B.fits (B.stands state.old) (B.stands state.new) }
+    ensures logs { HasSameLogs committer.old committer.new }
+    ensures parts { committer.new.parts ≡ committer.old.parts }
+    ensures copies { committer.new.copies ≡ committer.old.copies }
+    ensures memory { OnErr result (result ≡ Err MountFault.NoMemory) }
+{
+    let run = state.run();
+    if run >= 9_223_372_036_854_775_807 {
+        return Ok(false);
+    }
+    let fresh = !state.has_settings();
+    enter_run(alloc, committer, state, fresh, run + 1)?;
+    match state.judge() {
+        Ok(fits) => Ok(fits),
+        Err(_) => Err(MountFault::NoMemory),
+    }
+}
+
+/// A list of these files.
+fn list_of(alloc: Global, files: &[File]) -> Result<FileList, OutOfMemory>
+    ensures { IfOk result (λ list. list ≡ files.now) }
+{
+    let items = files.to_vec(alloc)?;
+    Ok(Sequence::from_vec(items))
+}
+
+/// Reads the logs of a disk into the state, and stages what begins the next run. Nothing is written
+/// and nothing is removed: what comes of the items of the state can be judged before `finish_mount`
+/// goes on. The state is that of no items at the start.
+pub fn prepare_mount<D: Disk, B: ManifestState>(
+    alloc: Global,
     disk: &mut D,
     state: &mut B,
-    run: u64,
-) -> Result<(), MountFault>
-    requires over { LogsAtEnd D.Disk committer.old disk.old }
-    requires range { run < 2 ^ 63 }
-    ensures images { (s : Snapshot) → s.book ≡ B.stands state.old → Held D.Disk B.fits committer.old disk.old s s →
-        Always D.Disk disk.old disk.new (KeepsEither B.fits s (begun (not (has_settings s.book)) run s)) }
-    ensures comes { ImagesStep D.Disk disk.old disk.new Anyhow }
-    ensures done { (s : Snapshot) → s.book ≡ B.stands state.old → Held D.Disk B.fits committer.old disk.old s s →
-        OnOk result (Held D.Disk B.fits committer.new disk.new (begun (not (has_settings s.book)) run s)
-        (begun (not (has_settings s.book)) run s)) }
-    ensures over { OnOk result (LogsAtEnd D.Disk committer.new disk.new) }
-    ensures idle { OnOk result (NothingStaged committer.new) }
-    ensures measured { OnOk result (KnowsLogLength D.Disk committer.new disk.new) }
-    ensures grown { (bodies : List (List ℕ)) → NothingStaged committer.old → IsAtEnd D.Disk committer.old.log disk.old bodies →
-        OnOk result (EndsWith D.Disk committer.new.log disk.new bodies (first_items (not (has_settings (B.stands state.old))) run)) }
-    ensures file { log_of committer.new ≡ log_of committer.old }
-    ensures told { Told Anyhow (D.Disk.seen disk.old) (D.Disk.seen disk.new) }
-    ensures seen { committer.old.parts ≡ [] → committer.old.copies ≡ [] → (other : File) → other ≢ log_of committer.old →
-        Told (OrGone other) (D.Disk.seen disk.old) (D.Disk.seen disk.new) }
-    ensures entered { IsErrOf result MountFault.Full → (s : Snapshot) → B.stands state.old ≡ s.book →
-        B.stands state.new ≡ (begun (not (has_settings s.book)) run s).book }
-    ensures made { (s : Snapshot) → B.stands state.old ≡ s.book →
-        OnOk result (B.stands state.new ≡ (begun (not (has_settings s.book)) run s).book) }
-    ensures damaged { committer.old.parts ≡ [] → committer.old.copies ≡ [] → (file : File) (at : ℕ) → IsBadMount result file at → ⊥ }
-    ensures taken { OnOk result (B.fits (B.stands state.new)) }
-    ensures full { IsErrOf result MountFault.Full → B.fits (B.stands state.new) → ⊥ }
+) -> Result<PendingMount, MountFault>
+    requires { B.stands state.old ≡ empty }
+    ensures pending { IfOk result (λ pending. IsPending D.Disk B.fits pending disk.new (B.stands state.new)) }
+    // What going on asks for.
+    ensures over { IfOk result (λ pending. LogsAtEnd D.Disk pending.committer disk.new) }
+    // It names the gate of the first bad body of the root log or the current one, as the disk
+    // reads.
+    ensures damaged { (named : File) (at : ℕ) → IsBadMount result named at → (image : Image) → D.Disk.seen disk.old ≡ Some image →
+        IsBadLog B.fits named at image }
+    ensures not_full { IsErrOf result MountFault.Full → ⊥ }
+    // The disk is left as it was.
+    ensures same { D.Disk.seen disk.new ≡ D.Disk.seen disk.old }
+    ensures images { ImagesStep D.Disk disk.old disk.new Stays }
     ensures later { D.Disk.faults disk.old ≤ D.Disk.faults disk.new }
     ensures cause { IsErrOf result MountFault.Disk → Rose (D.Disk.faults disk.old) (D.Disk.faults disk.new) }
 {
-    let fresh = !state.has_settings();
-    enter_run(alloc, committer, state, fresh, run)?;
-    match state.judge() {
-        Ok(true) => {}
-        Ok(false) => return Err(MountFault::Full),
-        Err(_) => return Err(MountFault::NoMemory),
+    let mut committer = read(alloc, disk, state)?;
+    let Ok(removals) = list_of(alloc, state.removals()) else {
+        return Err(MountFault::NoMemory);
+    };
+    let has_room = stage_run(alloc, &mut committer, state)?;
+    Ok(PendingMount {
+        committer,
+        removals,
+        has_room,
+    })
+}
+
+/// Goes on with a mount: removes again the files that the last removals name, and writes the body
+/// that begins the next run. It is full where there is no room for that.
+pub fn finish_mount<D: Disk, B: ManifestState>(
+    pending: PendingMount,
+    disk: &mut D,
+) -> Result<Committer, MountFault>
+    requires { LogsAtEnd D.Disk pending.committer disk.old }
+    // Where every image at the start keeps one of a family of snapshots, every image since does.
+    ensures images { (now : NamedItems) → IsPending D.Disk B.fits pending disk.old now →
+        (family : ℕ → Snapshot) (run from to : ℕ) → IsFamily family from to → AllKeep D.Disk disk.old B.fits run family from to →
+        Always D.Disk disk.old disk.new (KeepsOneOf B.fits run family from to) }
+    // At Ok disk and committer hold the one that the disk's own reading keeps, with the next run.
+    ensures mounted { (now : NamedItems) → IsPending D.Disk B.fits pending disk.old now → IfOk result (λ committer.
+        (family : ℕ → Snapshot) (run from to : ℕ) → IsFamily family from to → AllKeep D.Disk disk.old B.fits run family from to →
+        (image : Image) → D.Disk.seen disk.old ≡ Some image → IsMountedAt D.Disk B.fits committer disk.new now family from to image) }
+    // What a commit asks for.
+    ensures over { IfOk result (λ committer. LogsAtEnd D.Disk committer disk.new) }
+    ensures idle { IfOk result (λ committer. NothingStaged committer) }
+    // And the committer knows how long the log is.
+    ensures measured { (now : NamedItems) → IsPending D.Disk B.fits pending disk.old now →
+        IfOk result (λ committer. KnowsLogLength D.Disk committer disk.new) }
+    // Behind the bodies that were read, the current log has the one that begins the run, and no
+    // other.
+    ensures grown { (now : NamedItems) → IsPending D.Disk B.fits pending disk.old now → IfOk result (λ committer.
+        (first second : Image) → D.Disk.seen disk.old ≡ Some first → D.Disk.seen disk.new ≡ Some second →
+        HasGrown B.fits committer.number first second now) }
+    // Then the files that the last removals name are gone.
+    ensures removed { (now : NamedItems) → IsPending D.Disk B.fits pending disk.old now →
+        IfOk result (λ committer. ReadsNone D.Disk disk.new (log_of committer) (removals_in now)) }
+    // A disk that tells what it reads goes on telling.
+    ensures told { Told Anyhow (D.Disk.seen disk.old) (D.Disk.seen disk.new) }
+    // It is full exactly where there is no room, and finds no damage.
+    ensures full { IsErrOf result MountFault.Full → pending.has_room ≡ false }
+    ensures begun { OnOk result (pending.has_room ≡ true) }
+    ensures undamaged { (now : NamedItems) → IsPending D.Disk B.fits pending disk.old now →
+        (named : File) (at : ℕ) → IsBadMount result named at → ⊥ }
+    ensures later { D.Disk.faults disk.old ≤ D.Disk.faults disk.new }
+    ensures cause { IsErrOf result MountFault.Disk → Rose (D.Disk.faults disk.old) (D.Disk.faults disk.new) }
+{
+    let PendingMount {
+        mut committer,
+        removals,
+        has_room,
+    } = pending;
+    if remove_all(disk, removals.as_slice(), log_file(committer.number)).is_err() {
+        return Err(MountFault::Disk);
     }
-    commit::<D, B>(committer, disk)?;
-    Ok(())
+    if !has_room {
+        return Err(MountFault::Full);
+    }
+    commit::<D, B>(&mut committer, disk)?;
+    Ok(committer)
 }
 
 /// Mounts a store: replays its current log into the state, removes again the files that its last
@@ -318,14 +416,6 @@ pub fn mount<D: Disk, B: ManifestState>(
     ensures later { D.Disk.faults disk.old ≤ D.Disk.faults disk.new }
     ensures cause { IsErrOf result MountFault.Disk → Rose (D.Disk.faults disk.old) (D.Disk.faults disk.new) }
 {
-    let mut committer = read(alloc, disk, state)?;
-    if remove_all(disk, state.removals(), log_file(committer.number)).is_err() {
-        return Err(MountFault::Disk);
-    }
-    let run = state.run();
-    if run >= 9_223_372_036_854_775_807 {
-        return Err(MountFault::Full);
-    }
-    begin(alloc, &mut committer, disk, state, run + 1)?;
-    Ok(committer)
+    let pending = prepare_mount(alloc, disk, state)?;
+    finish_mount::<D, B>(pending, disk)
 }

@@ -1,6 +1,6 @@
 -- What is gathered of a list stands in its book: so does an item of which no state comes.
-use Rattle.std.proofs.Common.{◌≡◌, ℕ, List, [], ◌∷◌, ◌++◌, Option, Some, None, refl, sym, ap, ◌∙◌, subst, inl, inr}
-use Rattle.std.specs.List.{AllByRecursion, Any}
+use Rattle.std.proofs.Common.{◌≡◌, List, [], ◌∷◌, Option, Some, None, refl, sym, ap, ◌∙◌, subst, inl, inr}
+use Rattle.std.specs.List.{AllByRecursion}
 use Rattle.std.proofs.lemmas.List.Elements.{All-from_recursion}
 use Rattle.std.proofs.lemmas.List.Sorted.{All-permutation}
 use Rattle.ix_items.specs.declared.items.Item.{Item}
@@ -12,10 +12,9 @@ use Rattle.ix_replay.specs.Lists.{AreListed}
 use Rattle.ix_replay.proofs.OneList.{first_stands}
 use Rattle.ix_store.specs.Finding.{settings_name, channel_name, kept_of, kept_in, name_in, IsBadIn}
 use Rattle.ix_store.specs.declared.faulty_item.FaultyItem.{FaultyItem}
-use Rattle.ix_store.specs.declared.faulty_item.FaultyItem.TheVariants as subjects
 use Rattle.ix_recovery.specs.Among.{IsAmong}
 use Rattle.ix_recovery.specs.Gathered.{nothing, all_taken}
-use Rattle.ix_recovery.specs.Recalled.{IsBadChannel, IsNoState, HaveNoValues, CannotGoOn, GivesNone}
+use Rattle.ix_recovery.specs.Recalled.{IsNoState, GivesNone}
 use Rattle.ix_recovery.specs.declared.gathering.Carried.{Carried}
 use Rattle.ix_recovery.proofs.Booked.{stands}
 use Rattle.ix_recovery.proofs.Members.{all_append}
@@ -24,7 +23,7 @@ rest_listed : (item : Item) (rest : List Item) → AreListed (item ∷ rest) →
 rest_listed item rest listed = record { once = listed.once.1; left = listed.left.1 }
 
 -- the settings that are gathered are those that stand
-kept_gathered : (said : List Item) → AreListed said → (all_taken said nothing).kept ≡ kept_in (replay said empty)
+pub kept_gathered : (said : List Item) → AreListed said → (all_taken said nothing).kept ≡ kept_in (replay said empty)
 kept_gathered [] listed = refl
 kept_gathered (items.Settings kept ∷ rest) listed = sym (ap kept_of (first_stands (items.Settings kept) rest listed))
 kept_gathered (items.Run run ∷ rest) listed = kept_gathered rest (rest_listed (items.Run run) rest listed)

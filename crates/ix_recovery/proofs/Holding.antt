@@ -38,6 +38,7 @@ use Rattle.ix_parse.proofs.SameLemmas.{carry}
 use Rattle.ix_props.specs.Same.{AreSame}
 use Rattle.ix_props.specs.Settings.{AreSettings, AreUsable}
 use Rattle.ix_props.specs.declared.settings.Settings.{Settings}
+use Rattle.ix_manifest.specs.Book.{empty, replay}
 use Rattle.ix_replay.specs.Fits.{fits}
 use Rattle.ix_replay.specs.Lists.{AreListed, Lists}
 use Rattle.ix_replay.proofs.OneList.{one_book}
@@ -50,7 +51,7 @@ use Rattle.ix_state.specs.declared.state.OpenChannel.{OpenChannel}
 use Rattle.ix_store.specs.Written.{over}
 use Rattle.ix_store.specs.declared.faulty_item.FaultyItem.{FaultyItem}
 use Rattle.ix_recovery.specs.Listed.{left_items, removal_item, all_items}
-use Rattle.ix_recovery.proofs.ListFitting.{as_removals, fits_within}
+use Rattle.ix_recovery.proofs.ListFitting.{removals_listed, fits_within}
 use Rattle.ix_recovery.proofs.Listing.{states_are_listed}
 use Rattle.ix_recovery.specs.declared.gathering.Carried.{Carried}
 use Rattle.ix_recovery.specs.declared.gathering.GatheredItems.{GatheredItems}
@@ -73,7 +74,7 @@ log_gathered : (choose : Chooser) (history : List TimedCommand) (said : List Ite
 log_gathered choose history said listed log =
     let book = (snapshot_of choose history).book in
     let lists : Lists said (over log.run log.removed book) = record { stands = sym log.is; listed = listed } in
-    let o = as_removals log.run log.removed book (subst fits log.is log.fits_it) in
+    let o = removals_listed said log.run log.removed book lists in
     let canon = all_items log.run o.0 (left_items choose history) in
     gathered (state_after choose history) canon said (all_said choose history log.run o.0)
     (one_book (over log.run (removal_item o.0) book) canon said (states_are_listed choose history log.run o.0)
@@ -236,9 +237,9 @@ shelves_seen choose history g held is r set given =
 -- ---- all of it
 
 pub holds : (choose : Chooser) (history : List TimedCommand) (said : List Item) (held : StoreState) → AreListed said →
-    IsLog choose history said →
+    IsLog choose history said → fits (replay said empty) →
     IsRecalled (all_taken said nothing) held → Holds choose history held
-holds choose history said held listed log r =
+holds choose history said held listed log fit r =
     let m = state_after choose history in
     let g = all_taken said nothing in
     let is = log_gathered choose history said listed log in
@@ -267,7 +268,7 @@ holds choose history said held listed log r =
         last_is = r.last ∙ is.last;
         tick_is = r.tick ∙ is.tick;
       };
-      bounds = fits_within choose history log.run log.removed (subst fits log.is log.fits_it);
+      bounds = fits_within choose history log.run log.removed (subst fits log.is fit);
     }
 
 -- there are settings in force, or none

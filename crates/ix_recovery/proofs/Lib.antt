@@ -40,4 +40,5 @@ pub mod Sized
 pub mod Parted
 pub mod Ledgers
 pub mod Blamed
+mod Good
 mod Failing

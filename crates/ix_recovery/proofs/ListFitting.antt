@@ -21,6 +21,7 @@ use Rattle.ix_model.proofs.Stepping.{sound_after}
 use Rattle.ix_replay.specs.Amounts.{bytes_in, events_in, channels_in, size_in}
 use Rattle.ix_replay.specs.Bounds.{IsWithin}
 use Rattle.ix_replay.specs.Fits.{fits}
+use Rattle.ix_replay.specs.Lists.{Lists}
 use Rattle.ix_replay.proofs.OneList.{all_keep}
 use Rattle.ix_model.specs.Books.{life_item, number_item}
 use Rattle.ix_model.specs.Snap.{snapshot_of}
@@ -54,13 +55,17 @@ removals_only (items.NextFile number) e = absurd (other_kind 11 [] 0 (λ q. omeg
 removals_only (items.Removals list) e = (list, refl)
 removals_only (items.NextId index id) e = absurd (other_kind 13 index 0 (λ q. omega (arith, q)) e)
 
-pub as_removals : (run : ℕ) (removed : Option Item) (book : NamedItems) → fits (over run removed book) → (o : Option (List File))
-    × (removed ≡ removal_item o)
-as_removals run None book fit = (None, refl)
-as_removals run (Some x) book fit =
-    let at = is_in fit.0 (over run (Some x) book) fit.1 (named 12 [] 0) x refl in
+pub removals_listed : (said : List Item) (run : ℕ) (removed : Option Item) (book : NamedItems) → Lists said (over run removed book) →
+    (o : Option (List File)) × (removed ≡ removal_item o)
+removals_listed said run None book lists = (None, refl)
+removals_listed said run (Some x) book lists =
+    let at = is_in said (over run (Some x) book) lists (named 12 [] 0) x refl in
     let only = removals_only x at.1 in
     (Some only.0, ap Some only.1)
+
+pub as_removals : (run : ℕ) (removed : Option Item) (book : NamedItems) → fits (over run removed book) → (o : Option (List File))
+    × (removed ≡ removal_item o)
+as_removals run removed book fit = removals_listed fit.0 run removed book fit.1
 
 -- ---- times
 

@@ -26,7 +26,6 @@ use Rattle.ix_parse.specs.Standing.{StandsFor}
 use Rattle.ix_props.specs.Settings.{AreSettings, AreUsable}
 use Rattle.ix_props.specs.declared.props.PropsEntry.{PropsEntry}
 use Rattle.ix_props.specs.declared.settings.Settings.{Settings}
-use Rattle.ix_replay.specs.Fits.{fits}
 use Rattle.ix_catalog.specs.Lists.{stands_before, AreAscending}
 use Rattle.ix_bounds.specs.Names.{HasName}
 use Rattle.ix_bounds.specs.Shelving.{AreSettings as HasLimits}
@@ -57,14 +56,16 @@ pub record AreSorted {X : Type 0} (name_of : X → List ℕ) (given sorted : Lis
 
 -- ---- channels
 
--- The channel goes on by the settings that are chosen for it: it stands for each stream of which
--- this is carried.
+-- The channel, which names its index, goes on by the settings that are chosen for it, by which its
+-- bytes are a carry: it stands for each stream of which this is carried.
 pub record IsResumed (props : List PropsEntry) (carried : Carried) (held : OpenChannel) : Type 0 where
   pub name : held.name ≡ carried.name
   pub meta : held.meta ≡ carried.meta
+  pub indexed : carried.meta.index ≡ None → ⊥
   pub settings : Settings
   pub chosen : AreSettings props carried.meta settings
   pub usable : AreUsable settings
+  pub read : (said : Carry) × IsCarryOf (rules_of settings) carried.carry said
   pub stands : (stream : List Dated) → IsCarryOf (rules_of settings) carried.carry (carry_of settings stream) →
       StandsFor settings carried.meta stream held.channel
 
@@ -177,11 +178,10 @@ GivesNone force other = ⊥
 
 -- ---- histories
 
--- The items are what the log of the history's store has, and they keep the bounds.
+-- The items are what the log of the history's store has.
 pub record IsLog (choose : Chooser) (history : List TimedCommand) (items : List Item) : Type 0 where
   pub chooser : IsChooser choose
   pub given : AreGiven history
-  pub fits_it : fits (replay items empty)
   pub run : ℕ
   pub removed : Option Item
   pub is : replay items empty ≡ over run removed (snapshot_of choose history).book

@@ -1,6 +1,6 @@
 //! The state of a store from the items of its log. A mount calls `recall` once the log is read.
 
-ghost use Rattle.std.specs.Prelude.{◌≡◌, ℕ, List, reverse, Option, Err, IfOk};
+ghost use Rattle.std.specs.Prelude.{◌≡◌, ℕ, List, reverse, Option, Err, IfOk, OnOk};
 ghost use Rattle.std.specs.List.{filter_map, list_any};
 ghost use Rattle.ix_manifest.specs.Book.{empty, replay};
 ghost use Rattle.ix_items.specs.declared.items.Item.{Item as Logged};
@@ -28,7 +28,7 @@ use ix_base::{NoMemory, Sequence};
 use ix_items::Item;
 use ix_life::{EntryList, View};
 use ix_replay::ItemList;
-use ix_state::{StoreState, config_of, ranked};
+use ix_state::{StoreState, choosers_exist, config_of, ranked};
 use std::alloc::Global;
 
 /// The state that the items of a log lead to.
@@ -129,12 +129,15 @@ pub fn recall(alloc: Global, book: ItemList) -> Result<Recovered, RecoveryFault>
     ensures ledger { IfOk result (λ recalled. recalled.held.view.ledger ≡ ranked (filter_map entry_in book)) }
     // Of the item that stands for the subject no state comes,
     ensures bad { (subject : FaultyItem) → result ≡ Err (RecoveryFault.Bad subject) → IsBadIn GivesNone subject (replay book empty) }
+    // there is no such item where a state has come,
+    ensures good { OnOk result ((subject : FaultyItem) → IsBadIn GivesNone subject (replay book empty) → ⊥) }
     // and no history is written so.
     ensures sound { (subject : FaultyItem) → result ≡ Err (RecoveryFault.Bad subject) →
         (choose : Chooser) (history : List TimedCommand) (run : ℕ) (removed : Option Logged) →
-        IsChooser choose → AreGiven history → fits (replay book empty) →
+        IsChooser choose → AreGiven history →
         replay book empty ≡ over run removed (snapshot_of choose history).book → ⊥ }
 {
+    choosers_exist();
     let items = book.into_items();
     let fresh = !say_moments(items.as_slice());
     let gathered = gather(alloc, items)?;

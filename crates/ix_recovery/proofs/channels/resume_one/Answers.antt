@@ -36,9 +36,14 @@ returns-in_ok-copy-in-Ok-clause-opened c =
     record {
       name = search rules;
       meta = search rules;
+      indexed = λ none. search rules;
       settings = settings;
       chosen = c.in_ok-settings.ensures.chosen;
       usable = c.in_ok-settings.ensures.usable;
+      read = (
+        c.in-Ok.ensures.read.0,
+        subst (λ (bytes : List ℕ). IsCarryOf (rules_of settings) bytes c.in-Ok.ensures.read.0) c.as_slice.ensures c.in-Ok.ensures.read.1,
+      );
       stands = λ stream carries.
           subst (λ (meta : ChannelMeta). StandsFor settings meta stream c.in-Ok.channel) c.in_ok-stated.ensures
           (c.in-Ok.ensures.stands stream

@@ -1,8 +1,7 @@
-use Rattle.std.proofs.Common.{◌≡◌, Bool, List, subst, sym, ap, ◌∙◌}
+use Rattle.std.proofs.Common.{◌≡◌, subst, sym, ap, ◌∙◌}
 use Rattle.ix_recovery.proofs.Failing.{memory_no_bad}
 use Rattle.std.specs.Prelude.{not, reverse, Result, Err}
 use Rattle.std.specs.List.{list_any}
-use Rattle.ix_items.specs.declared.items.Item.{Item}
 use Rattle.ix_model.specs.Ranked.{ranked}
 use Rattle.ix_replay.specs.Lists.{AreListed}
 use Rattle.ix_recovery.specs.declared.gathering.GatheredItems.{GatheredItems}
@@ -11,6 +10,7 @@ use Rattle.ix_recovery.specs.Gathered.{nothing, all_taken}
 use Rattle.ix_recovery.specs.Recalled.{IsRecalled, IsNoState}
 use Rattle.ix_recovery.proofs.Blamed.{bad_stands}
 use Rattle.ix_recovery.proofs.Firsts.{first_is, turned}
+use Rattle.ix_recovery.proofs.Good.{none_bad}
 use Rattle.ix_recovery.proofs.Holding.{holds, not_refused}
 use Rattle.ix_recovery.proofs.recovered.recall.Goals as goal
 
@@ -23,8 +23,17 @@ returns-in-Ok-clause-done c = λ choose history run removed chooser given fit is
     let listed : AreListed c.args.book = subst AreListed same c.into_items-items.ensures.lists.listed in
     let gathered = c.in_ok-gathered.ensures ∙ ap (λ l. all_taken l nothing) same in
     holds choose history c.args.book c.in-Ok.held listed
-    (record { chooser = chooser; given = given; fits_it = fit; run = run; removed = removed; is = is })
+    (record { chooser = chooser; given = given; run = run; removed = removed; is = is }) fit
     (subst (λ (g : GatheredItems). IsRecalled g c.in-Ok.held) gathered c.in-Ok.ensures.recalled)
+
+pub returns-in-Ok-clause-good : goal.returns-in-Ok-clause-good
+returns-in-Ok-clause-good c = λ subject bad.
+    let same = c.into_items-items.ensures.same in
+    let listed : AreListed c.args.book = subst AreListed same c.into_items-items.ensures.lists.listed in
+    let gathered = c.in_ok-gathered.ensures ∙ ap (λ l. all_taken l nothing) same in
+    let exist = c.choosers_exist.ensures in
+    none_bad exist.0 exist.1 c.args.book c.in-Ok.held listed
+    (subst (λ (g : GatheredItems). IsRecalled g c.in-Ok.held) gathered c.in-Ok.ensures.recalled) subject bad
 
 pub returns-in-Ok-clause-fresh : goal.returns-in-Ok-clause-fresh
 returns-in-Ok-clause-fresh c = λ choose history run removed is.
@@ -49,12 +58,12 @@ returns-in-Err-clause-bad c = λ subject is.
     (c.in-Err.ensures.bad subject (ap (λ f. Err f) (same_fault is))))
 
 pub returns-in-Err-clause-sound : goal.returns-in-Err-clause-sound
-returns-in-Err-clause-sound c = λ subject err choose history run removed chooser given fit is.
+returns-in-Err-clause-sound c = λ subject err choose history run removed chooser given is.
     let same = c.into_items-items.ensures.same in
     let listed : AreListed c.args.book = subst AreListed same c.into_items-items.ensures.lists.listed in
     let gathered = c.in_ok-gathered.ensures ∙ ap (λ l. all_taken l nothing) same in
     not_refused choose history c.args.book subject listed
-    (record { chooser = chooser; given = given; fits_it = fit; run = run; removed = removed; is = is })
+    (record { chooser = chooser; given = given; run = run; removed = removed; is = is })
     (subst (IsNoState subject) gathered (c.in-Err.ensures.bad subject (ap (λ f. Err f) (same_fault err))))
 
 pub returns-in_err-gathered-clause-bad : goal.returns-in_err-gathered-clause-bad

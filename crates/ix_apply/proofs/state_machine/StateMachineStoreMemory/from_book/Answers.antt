@@ -25,3 +25,6 @@ pub returns-in-Err-Bad-clause-sound : goal.returns-in-Err-Bad-clause-sound
 returns-in-Err-Bad-clause-sound c = λ subject is.
     c.in-Err-Bad.ensures.sound subject (ap (λ (e : RecoveryFault). Err e) (c.in-Err-Bad.field-0-is
     ∙ ap (λ (s : FaultyItem). faults.Bad s) (same_subject c.in-Err-Bad.subject subject is)))
+
+pub returns-in-Ok-clause-good : goal.returns-in-Ok-clause-good
+returns-in-Ok-clause-good c = c.in-Ok.ensures.good
