@@ -2,22 +2,25 @@
 
 ghost use Rattle.std.specs.Prelude.{◌≤◌, length};
 
+use std::alloc::Global;
+
 /// How many bytes are read at once, so that a head and a small body are one read.
 const ROOM: usize = 8192;
 
 /// Bytes of a peer that nobody has taken yet.
 #[derive(Drop)]
 pub(crate) struct Ahead {
-    bytes: [u8; ROOM],
+    /// They are made once, and stay where they are: only the two ends are moved.
+    bytes: Vec<u8>,
     from: usize,
     to: usize,
 }
 
 impl Ahead {
-    /// No bytes.
-    pub(crate) fn new() -> Self {
+    /// No bytes. Where there is no room in memory, none is ever read ahead.
+    pub(crate) fn new(alloc: Global) -> Self {
         Ahead {
-            bytes: [0u8; ROOM],
+            bytes: vec![in alloc; 0u8; ROOM].unwrap_or(Vec::new(alloc)),
             from: 0,
             to: 0,
         }
@@ -29,15 +32,15 @@ impl Ahead {
     }
 
     /// Whether a read of so many bytes is worth no detour.
-    pub(crate) fn is_large(count: usize) -> bool {
-        count >= ROOM
+    pub(crate) fn is_large(&self, count: usize) -> bool {
+        count >= self.bytes.len()
     }
 
     /// Takes the first ones, as many as there is room for, and answers how many.
     pub(crate) fn take(&mut self, buf: &mut [u8]) -> usize
         ensures { result ≤ length buf.old }
     {
-        let to = self.to.min(ROOM);
+        let to = self.to.min(self.bytes.len());
         let from = self.from.min(to);
         let n = (to - from).min(buf.len());
         buf[..n].copy_from_slice(&self.bytes[from..from + n]);
@@ -47,19 +50,19 @@ impl Ahead {
 
     /// Whether there is no room behind the bytes.
     pub(crate) fn is_full(&self) -> bool {
-        self.to >= ROOM
+        self.to >= self.bytes.len()
     }
 
     /// The room behind the bytes, where more are read to.
     pub(crate) fn rest(&mut self) -> &mut [u8] {
-        let to = self.to.min(ROOM);
+        let to = self.to.min(self.bytes.len());
         &mut self.bytes[to..]
     }
 
     /// So many bytes were read behind the others. They are lent.
     pub(crate) fn add(&mut self, count: usize) -> &[u8] {
-        let from = self.to.min(ROOM);
-        let to = from + count.min(ROOM - from);
+        let from = self.to.min(self.bytes.len());
+        let to = from + count.min(self.bytes.len() - from);
         self.to = to;
         &self.bytes[from..to]
     }
@@ -68,7 +71,7 @@ impl Ahead {
     pub(crate) fn room(&mut self) -> &mut [u8] {
         self.from = 0;
         self.to = 0;
-        &mut self.bytes
+        self.bytes.as_mut_slice()
     }
 
     /// So many bytes were read there.

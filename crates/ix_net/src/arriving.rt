@@ -4,19 +4,11 @@
 
 use crate::ahead::Ahead;
 use crate::outline::Outline;
-use crate::patience::{Patience, tick};
+use crate::paced::Paced;
+use crate::patience::Patience;
+use std::alloc::Global;
 use std::io::{ErrorKind, Read};
 use std::net::OpenStream;
-use std::time::Duration;
-
-/// For so many milliseconds a new connection is listened to at once, and so long is the rest
-/// between two looks at those that wait.
-const LOOK: u64 = 5;
-
-/// The rest between two looks.
-pub(crate) fn look() -> Duration {
-    Duration::from_millis(LOOK)
-}
 
 /// What has come of a head.
 #[derive(Clone, Copy, Debug, PartialEq, Eq)]
@@ -42,7 +34,7 @@ impl Arrival {
 
 /// A connection, and what was read ahead of it.
 pub(crate) struct Arriving<S: Drop> {
-    stream: S,
+    stream: Paced<S>,
     ahead: Ahead,
     outline: Outline,
 }
@@ -60,35 +52,43 @@ impl<S: Drop> Drop for Arriving<S> {
 
 impl<S: Drop> Arriving<S> {
     /// Nothing was read of it yet.
-    pub(crate) fn new(stream: S) -> Self {
+    pub(crate) fn new(alloc: Global, stream: Paced<S>) -> Self {
         Arriving {
             stream,
-            ahead: Ahead::new(),
+            ahead: Ahead::new(alloc),
             outline: Outline::new(),
         }
     }
 
-    /// The connection, and the bytes that were read ahead.
-    pub(crate) fn into_parts(self) -> (S, Ahead) {
+    /// The connection, the bytes that were read ahead, and what its head has told.
+    pub(crate) fn into_parts(self) -> (Paced<S>, Ahead, Outline) {
         let Arriving {
             stream,
             ahead,
-            outline: _,
+            outline,
         } = self;
-        (stream, ahead)
+        (stream, ahead, outline)
     }
 }
 
 impl<S: OpenStream + Read + Drop> Arriving<S> {
-    /// Has each read of it wait, or none. It tells whether that could be done.
-    pub(crate) fn set_waits(&self, waits: bool) -> bool {
-        self.stream.set_nonblocking(!waits).is_ok()
+    /// Has no read of it wait. It tells whether that could be done.
+    pub(crate) fn wait_never(&mut self) -> bool {
+        self.stream.wait_never()
+    }
+
+    /// Has each read of it wait for a tick. It tells whether that could be done.
+    pub(crate) fn wait_ticks(&mut self) -> bool {
+        self.stream.wait_ticks()
     }
 
     /// Reads on ahead.
     pub(crate) fn read_ahead(&mut self) -> Arrival {
+        if self.ahead.is_full() {
+            return Arrival::Come;
+        }
         let room = self.ahead.rest();
-        match self.stream.read(room) {
+        match self.stream.stream().read(room) {
             Ok(0) => Arrival::Come,
             Ok(count) => self.read_so_many(count),
             Err(fault) => match fault.kind() {
@@ -109,18 +109,5 @@ impl<S: OpenStream + Read + Drop> Arriving<S> {
         } else {
             Arrival::Partly
         }
-    }
-
-    /// The first read of a new connection, which is waited for during a look. Where it cannot be
-    /// waited so shortly, the head is taken to have come.
-    pub(crate) fn greet(&mut self) -> Arrival {
-        if self.stream.set_read_timeout(Some(look())).is_err() {
-            return Arrival::Come;
-        }
-        let arrival = self.read_ahead();
-        if self.stream.set_read_timeout(Some(tick())).is_err() {
-            return Arrival::Come;
-        }
-        arrival
     }
 }

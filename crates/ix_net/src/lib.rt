@@ -5,11 +5,13 @@
 
 mod ahead;
 mod arriving;
+mod extent;
 mod link;
 mod listener;
 mod mem_link;
 mod mem_listener;
 mod outline;
+mod paced;
 mod pair;
 mod patience;
 mod queue;

@@ -1,7 +1,10 @@
 //! What of a head can be told before it is read: whether it has come whole, or can be none. A
 //! connection whose peer may have to be waited for keeps one. Which heads are good is judged where
 //! they are read; this follows the same lines, so that a bad one is handed out as soon as that sees
-//! it too. One thing it does not see: that the bytes above 127 of a target are no UTF-8.
+//! it too. One thing it does not see: that the bytes above 127 of a target are no UTF-8. Of a head
+//! that has come whole it tells how many bytes the request has.
+
+use crate::extent::Extent;
 
 /// The part of a head that its last byte belongs to.
 #[derive(Clone, Copy, Debug, PartialEq, Eq)]
@@ -26,15 +29,19 @@ enum Part {
     Value,
     /// A carriage return behind it, or behind a version.
     Return,
-    /// The head can be judged, whatever comes next: its last line has come, or it has a byte that no
-    /// head has there.
-    Decided,
+    /// Its last line has come.
+    Whole,
+    /// It has a byte that no head has there.
+    Broken,
 }
 
 /// A head, as far as it has come.
 #[derive(Clone, Copy, Debug)]
 pub(crate) struct Outline {
     part: Part,
+    /// So many bytes of it have come.
+    count: u64,
+    extent: Extent,
 }
 
 /// What stands before the last digit of a version.
@@ -64,7 +71,8 @@ fn after_feed(part: Part) -> Part {
         Part::Blank | Part::BlankReturn => Part::Blank,
         Part::Value | Part::Return => Part::LineStart,
         Part::Version(count) if count > VERSION.len() => Part::LineStart,
-        _ => Part::Decided,
+        Part::LineStart | Part::LineReturn => Part::Whole,
+        _ => Part::Broken,
     }
 }
 
@@ -75,7 +83,7 @@ fn after_return(part: Part) -> Part {
         Part::LineStart => Part::LineReturn,
         Part::Value => Part::Return,
         Part::Version(count) if count > VERSION.len() => Part::Return,
-        _ => Part::Decided,
+        _ => Part::Broken,
     }
 }
 
@@ -88,7 +96,7 @@ fn after_version(count: usize, byte: u8) -> Part {
     if fits {
         Part::Version(count.saturating_add(1))
     } else {
-        Part::Decided
+        Part::Broken
     }
 }
 
@@ -103,29 +111,59 @@ fn after_other(part: Part, byte: u8) -> Part {
         Part::LineStart | Part::Name if is_token(byte) => Part::Name,
         Part::Name if byte == b':' => Part::Value,
         Part::Value if is_value(byte) => Part::Value,
-        _ => Part::Decided,
+        _ => Part::Broken,
     }
 }
 
 impl Outline {
     /// Nothing has come.
     pub(crate) fn new() -> Self {
-        Outline { part: Part::Blank }
+        Outline {
+            part: Part::Blank,
+            count: 0,
+            extent: Extent::new(),
+        }
     }
 
     /// Whether the head can be judged, whatever comes next.
     pub(crate) fn is_decided(&self) -> bool {
-        self.part == Part::Decided
+        self.part == Part::Whole || self.part == Part::Broken
     }
 
-    /// These bytes come next.
+    /// How many bytes the request has, its head and its body, where the whole head has come and
+    /// tells it.
+    pub(crate) fn request_length(&self) -> Option<u64> {
+        if self.part != Part::Whole {
+            return None;
+        }
+        self.extent.length()?.checked_add(self.count)
+    }
+
+    /// This byte comes next, and belongs to that part.
+    fn go_on(&mut self, part: Part, byte: u8) {
+        match (self.part, part) {
+            (_, Part::Name) => self.extent.add_name(byte),
+            (Part::Name, Part::Value) => self.extent.end_name(),
+            (Part::Value, Part::Value) => self.extent.add_value(byte),
+            (Part::Value, _) => self.extent.end_value(),
+            _ => {}
+        }
+        self.part = part;
+        self.count = self.count.saturating_add(1);
+    }
+
+    /// These bytes come next. Those behind the head are passed over.
     pub(crate) fn add(&mut self, bytes: &[u8]) {
         for byte in bytes {
-            self.part = match *byte {
+            if self.is_decided() {
+                return;
+            }
+            let part = match *byte {
                 b'\n' => after_feed(self.part),
                 b'\r' => after_return(self.part),
                 byte => after_other(self.part, byte),
             };
+            self.go_on(part, *byte);
         }
     }
 }

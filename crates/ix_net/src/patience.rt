@@ -16,6 +16,10 @@ const LEAST_TAKEN: u64 = 1024;
 /// another one.
 const TICK: u64 = 500;
 
+/// For so many milliseconds a new connection is listened to at once, and so long is the rest
+/// between two looks at those that wait.
+const LOOK: u64 = 5;
+
 /// How many milliseconds a peer is listened to that has its reply, so that it can take it before
 /// the connection ends.
 const LINGER: u64 = 2_000;
@@ -26,6 +30,11 @@ const LINGER_BYTES: u64 = 16_777_216;
 /// The longest single wait.
 pub(crate) fn tick() -> Duration {
     Duration::from_millis(TICK)
+}
+
+/// The wait for a new connection, and the rest between two looks.
+pub(crate) fn look() -> Duration {
+    Duration::from_millis(LOOK)
 }
 
 /// How long a peer was waited for, and what it sent and took.

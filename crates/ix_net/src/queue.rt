@@ -54,10 +54,10 @@ impl<S: OpenStream + Read + Drop> Queue<S> {
     /// Has a connection wait. One that cannot be had wait is handed back.
     pub(crate) fn push<C: Clock>(
         &mut self,
-        arriving: Arriving<S>,
+        mut arriving: Arriving<S>,
         clock: &C,
     ) -> Option<Arriving<S>> {
-        if self.waiting.reserve(1).is_err() || !arriving.set_waits(false) {
+        if self.waiting.reserve(1).is_err() || !arriving.wait_never() {
             return Some(arriving);
         }
         let since = Instant::now(clock).ok();

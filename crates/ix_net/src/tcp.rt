@@ -4,15 +4,16 @@ ghost use Rattle.std.specs.Prelude.{◌≡◌, ◌≤◌, ◌+◌, ◌-◌, ℕ,
 ghost use Rattle.ix_base.specs.Faults.{Rose};
 ghost use Rattle.ix_net.specs.Listeners.{Handed, Begins};
 
-use crate::arriving::{Arriving, look};
+use crate::arriving::Arriving;
 use crate::link::Link;
 use crate::listener::Listener;
-use crate::patience::{Patience, tick};
+use crate::paced::Paced;
+use crate::patience::{Patience, look};
 use crate::queue::Queue;
 use crate::tcp_link::TcpLink;
 use ix_base::Failed;
 use std::alloc::Global;
-use std::io::{self, ErrorKind};
+use std::io::{self, ErrorKind, Read};
 use std::net::{Ipv4Addr, Net, OpenListener, OpenStream, SocketAddr, TcpListener};
 use std::time::{Clock, Duration};
 
@@ -59,23 +60,18 @@ fn refused_by(fault: &io::Error) -> Refused {
     }
 }
 
-/// Has each wait on a connection end soon, and each reply sent at once. A connection without these
-/// could hold up all others.
-fn is_set_up<S: OpenStream>(stream: &S) -> bool {
-    let _ = stream.set_nodelay(true);
-    stream.set_read_timeout(Some(tick())).is_ok() && stream.set_write_timeout(Some(tick())).is_ok()
-}
-
 /// The next connection that stands, where nobody waits: it is waited for.
-fn next_stream<L: OpenListener<Stream: OpenStream>, C: Clock>(
+fn next_stream<L: OpenListener<Stream: OpenStream + Read>, C: Clock>(
     listener: &L,
     clock: &C,
-) -> Option<L::Stream> {
+) -> Option<Paced<L::Stream>> {
     let mut waits = 0;
     for _ in 0..MOST_LOST {
         match listener.accept() {
-            Ok((stream, _)) if is_set_up(&stream) => return Some(stream),
-            Ok(_) => {}
+            Ok((stream, _)) => match Paced::new(stream) {
+                Some(paced) => return Some(paced),
+                None => {}
+            },
             Err(fault) => match refused_by(&fault) {
                 Refused::Lost => {}
                 Refused::Crowded if waits < MOST_WAITS => {
@@ -90,12 +86,11 @@ fn next_stream<L: OpenListener<Stream: OpenStream>, C: Clock>(
 }
 
 /// A further connection, where others wait: it is not waited for.
-fn further_stream<L: OpenListener<Stream: OpenStream>>(
+fn further_stream<L: OpenListener<Stream: OpenStream + Read>>(
     listener: &L,
-) -> Result<Option<L::Stream>, Failed> {
+) -> Result<Option<Paced<L::Stream>>, Failed> {
     match listener.accept() {
-        Ok((stream, _)) if is_set_up(&stream) => Ok(Some(stream)),
-        Ok(_) => Ok(None),
+        Ok((stream, _)) => Ok(Paced::new(stream)),
         Err(fault) => match refused_by(&fault) {
             Refused::Failed => Err(Failed),
             _ => Ok(None),
@@ -111,6 +106,7 @@ fn further_stream<L: OpenListener<Stream: OpenStream>>(
 /// fails as soon as more is read of it than has come.
 #[derive(Drop)]
 pub struct TcpListen<R: Net + Clock + Clone + Drop> {
+    alloc: Global,
     rt: R,
     listener: Option<R::Listener>,
     /// Whether the listener waits for the next connection.
@@ -127,6 +123,7 @@ impl<R: Net + Clock + Clone + Drop> TcpListen<R> {
         ensures { ⟦<TcpListen<R> as Listener>⟧.faults result ≡ 0 }
     {
         TcpListen {
+            alloc,
             rt,
             listener: None,
             waits: true,
@@ -175,7 +172,7 @@ impl<R: Net + Clock + Clone + Drop> TcpListen<R> {
     }
 
     /// A new connection: the next one where nobody waits, else one that is there.
-    fn new_stream(&mut self) -> Result<Option<R::Stream>, Failed>
+    fn new_stream(&mut self) -> Result<Option<Paced<R::Stream>>, Failed>
         ensures out { self.new.out ≡ self.old.out }
         ensures faults { self.new.faults ≡ self.old.faults }
     {
@@ -205,8 +202,8 @@ impl<R: Net + Clock + Clone + Drop> TcpListen<R> {
             self.rt.sleep(look());
             return Ok(None);
         };
-        let mut arriving = Arriving::new(stream);
-        if let Some(patience) = arriving.greet().patience() {
+        let mut arriving = Arriving::new(self.alloc, stream);
+        if let Some(patience) = arriving.read_ahead().patience() {
             return Ok(Some((arriving, patience)));
         }
         match self.queue.push(arriving, &self.rt) {
@@ -222,10 +219,12 @@ impl<R: Net + Clock + Clone + Drop> TcpListen<R> {
     {
         for _ in 0..u64::MAX {
             match self.queue.take(&self.rt) {
-                Some((arriving, patience)) if arriving.set_waits(true) => {
-                    return Some((arriving, patience));
+                Some((mut arriving, patience)) => {
+                    if arriving.wait_ticks() {
+                        return Some((arriving, patience));
+                    }
                 }
-                _ => {}
+                None => {}
             }
             match self.greet() {
                 Ok(Some(next)) => return Some(next),
@@ -245,8 +244,7 @@ impl<R: Net + Clock + Clone + Drop> TcpListen<R> {
     {
         let clock = self.rt.clone().ok()?;
         let (arriving, patience) = self.next_peer()?;
-        let (stream, ahead) = arriving.into_parts();
-        Some(TcpLink::new(stream, ahead, clock, patience))
+        Some(TcpLink::new(arriving, clock, patience))
     }
 }
 
