@@ -86,6 +86,22 @@ removals_at run files removed book name =
     (λ u. chosen (is_same removals_name name) (Some (items.Removals files)) (over run removed book name) u
     ∙ over_other run removed book name t u ∙ sym (over_other run (Some (items.Removals files)) book name t u)))
 
+run_at : (run next : ℕ) (removed : Option Item) (book : NamedItems) (name : Name) →
+    after_item (items.Run next) (over run removed book) name ≡ over next removed book name
+run_at run next removed book name =
+    by_test (is_same run_name name)
+    (λ t. subst (λ (n : Name). after_item (items.Run next) (over run removed book) n ≡ over next removed book n)
+    (same_name run_name name t) refl)
+    (λ t. let rest = if is_same removals_name name then removed else book name in
+    chosen (is_same run_name name) (Some (items.Run next)) (over run removed book name) t
+    ∙ chosen (is_same run_name name) (Some (items.Run run)) rest t
+    ∙ sym (chosen (is_same run_name name) (Some (items.Run next)) rest t))
+
+-- a further run is begun
+pub run_over : (run next : ℕ) (removed : Option Item) (book : NamedItems) →
+    after_item (items.Run next) (over run removed book) ≡ over next removed book
+run_over run next removed book = λ i name. run_at run next removed book name i
+
 -- ---- snapshots
 
 -- a draft leads on from what a run has written

@@ -1,7 +1,7 @@
 -- A store that is committed, and one that is mounted.
 use Rattle.std.proofs.Common.{◌≡◌, ◌≢◌, ◌≤◌, ◌<◌, ◌^◌, ℕ, zero, suc, Bool, true, false, List, [], ◌∷◌, length, take, drop, refl, sym, ap}
 use Rattle.std.proofs.Common.{◌∙◌, subst, arith, inl, inr}
-use Rattle.std.specs.Prelude.{Option, Some, None, Result, Err, ◌⊎◌, ◌==◌, if◌then◌else◌, nat_lt}
+use Rattle.std.specs.Prelude.{Option, Some, None, Result, Err, ◌⊎◌, ◌==◌, ◌+◌, if◌then◌else◌, nat_lt, not}
 use Rattle.std.specs.List.{AllByRecursion}
 use Rattle.std.proofs.lemmas.Bool.Decides.{nat_tests}
 use Rattle.ix_base.specs.declared.files.File.{File}
@@ -10,17 +10,20 @@ use Rattle.ix_disk.specs.declared.disk.Disk.{Ghosts}
 use Rattle.ix_items.specs.declared.items.Item.{Item}
 use Rattle.ix_items.specs.declared.items.Item.TheVariants as items
 use Rattle.ix_manifest.specs.Book.{Name, NamedItems, NoneUnder, named, name_of, is_same, run_of, run_in, removals_in, replay, empty}
-use Rattle.ix_manifest.specs.Book.{Replays}
+use Rattle.ix_manifest.specs.Book.{Replays, has_settings}
 use Rattle.ix_manifest.specs.Root.{Taken}
 use Rattle.ix_manifest.specs.Slots.{items_of}
 use Rattle.ix_manifest.specs.declared.staged_item.StagedItem.{StagedItem}
 use Rattle.ix_manifest.proofs.InPlace.{none_under}
 use Rattle.ix_manifest.proofs.Renaming.{same_name}
-use Rattle.ix_commit.specs.Mounting.{IsFamily, IsMountedAt}
+use Rattle.ix_commit.specs.Mounting.{IsFamily, AllKeep, IsMountedAt, IsPending}
+use Rattle.ix_commit.specs.Reads.{first_items, next_run}
 use Rattle.ix_commit.specs.Snapshot.{Snapshot, KeepsEither, Held, NothingStaged, IsLike, log_of}
 use Rattle.ix_commit.specs.declared.committer.Committer.{Committer}
 use Rattle.ix_commit.specs.declared.mounting.MountFault.{MountFault as KeptFault}
 use Rattle.ix_commit.specs.declared.mounting.MountFault.TheVariants as kept
+use Rattle.ix_commit.specs.declared.mounting.PendingMount.{PendingMount}
+use Rattle.ix_commit.proofs.Pending.{either, pending_now, pending_like}
 use Rattle.ix_model.specs.Done.{AreLetGo}
 use Rattle.ix_model.specs.Given.{Chooser}
 use Rattle.ix_model.specs.Step.{state_after}
@@ -207,34 +210,34 @@ not_kind : (a b : ℕ) → (a == b) ≡ false → a ≢ b
 not_kind a b t = λ e. grind (arith, nat_tests)
 
 -- a snapshot that a log leads to, in a run
-module _ (fits : NamedItems → Type 0) (choose : Chooser) (h : List TimedCommand) (bodies : List (List ℕ)) (now : Snapshot) (run : ℕ)
-    (replayed : Replays fits bodies empty now.book) (like : IsLike now (snapshot_of choose h)) (is : run_in now.book ≡ run) (some : 1 ≤ run)
-  where
-    abbrev removed : Option Item
-    removed = now.book (named 12 [] 0)
+module _ (choose : Chooser) (h : List TimedCommand) (now : Snapshot) (run : ℕ)
+    (bare : (name : Name) → ((item : Item) → is_same (name_of item) name ≡ false) → now.book name ≡ None)
+    (like : IsLike now (snapshot_of choose h)) (is : run_in now.book ≡ run) (some : 1 ≤ run) where
+  abbrev removed : Option Item
+  removed = now.book (named 12 [] 0)
 
-    other_same : (name : Name) → is_same (named 2 [] 0) name ≡ false → is_same (named 12 [] 0) name ≡ false →
-        now.book name ≡ (snapshot_of choose h).book name
-    other_same name t u = by_test (name.kind == 2)
-        (λ a. let kind = is_kind name.kind 2 a in none_stands fits name (λ x. beside_run x name kind t) bodies empty now.book refl replayed
-        ∙ sym (left_none choose h name 2 (run_none choose h) kind))
-        (λ a. by_test (name.kind == 12)
-        (λ b. let kind = is_kind name.kind 12 b in none_stands fits name (λ x. beside_removals x name kind u) bodies empty now.book refl
-        replayed ∙ sym (left_none choose h name 12 (removals_none choose h) kind))
-        (λ b. like.books name (not_kind name.kind 2 a) (not_kind name.kind 12 b)))
+  other_same : (name : Name) → is_same (named 2 [] 0) name ≡ false → is_same (named 12 [] 0) name ≡ false →
+      now.book name ≡ (snapshot_of choose h).book name
+  other_same name t u = by_test (name.kind == 2)
+      (λ a. let kind = is_kind name.kind 2 a in bare name (λ x. beside_run x name kind t)
+      ∙ sym (left_none choose h name 2 (run_none choose h) kind))
+      (λ a. by_test (name.kind == 12)
+      (λ b. let kind = is_kind name.kind 12 b in bare name (λ x. beside_removals x name kind u)
+      ∙ sym (left_none choose h name 12 (removals_none choose h) kind))
+      (λ b. like.books name (not_kind name.kind 2 a) (not_kind name.kind 12 b)))
 
-    at_name : (name : Name) → now.book name ≡ over run removed (snapshot_of choose h).book name
-    at_name name = by_test (is_same (named 2 [] 0) name)
-        (λ t. subst (λ (n : Name). now.book n ≡ over run removed (snapshot_of choose h).book n) (same_name (named 2 [] 0) name t)
-        (some_run (now.book (named 2 [] 0)) run is some))
-        (λ t. by_test (is_same (named 12 [] 0) name)
-        (λ u. subst (λ (n : Name). now.book n ≡ over run removed (snapshot_of choose h).book n) (same_name (named 12 [] 0) name u) refl)
-        (λ u. other_same name t u ∙ sym (chosen (is_same (named 2 [] 0) name) (Some (items.Run run))
-        (if is_same (named 12 [] 0) name then removed else (snapshot_of choose h).book name) t
-        ∙ chosen (is_same (named 12 [] 0) name) removed ((snapshot_of choose h).book name) u)))
+  at_name : (name : Name) → now.book name ≡ over run removed (snapshot_of choose h).book name
+  at_name name = by_test (is_same (named 2 [] 0) name)
+      (λ t. subst (λ (n : Name). now.book n ≡ over run removed (snapshot_of choose h).book n) (same_name (named 2 [] 0) name t)
+      (some_run (now.book (named 2 [] 0)) run is some))
+      (λ t. by_test (is_same (named 12 [] 0) name)
+      (λ u. subst (λ (n : Name). now.book n ≡ over run removed (snapshot_of choose h).book n) (same_name (named 12 [] 0) name u) refl)
+      (λ u. other_same name t u ∙ sym (chosen (is_same (named 2 [] 0) name) (Some (items.Run run))
+      (if is_same (named 12 [] 0) name then removed else (snapshot_of choose h).book name) t
+      ∙ chosen (is_same (named 12 [] 0) name) removed ((snapshot_of choose h).book name) u)))
 
-    pub written_is : IsOf run now (snapshot_of choose h)
-    written_is = record { removed = removed; book = λ i name. at_name name i; contents = like.contents }
+  pub written_is : IsOf run now (snapshot_of choose h)
+  written_is = record { removed = removed; book = λ i name. at_name name i; contents = like.contents }
 
 -- ---- a mount
 
@@ -306,7 +309,8 @@ module _ {D : Type 0} (g : Ghosts D) (fits : NamedItems →
       at.held.committed.replayed
 
   pub found_is : IsOf run at.now (snapshot_of choose (take at.which h))
-  found_is = written_is (Taken fits (log_of committer)) choose (take at.which h) at.held.committed.bodies at.now run replayed at.like
+  found_is = written_is choose (take at.which h) at.now run
+      (λ name each. none_stands (Taken fits (log_of committer)) name each at.held.committed.bodies empty at.now.book refl replayed) at.like
       (sym (ap run_in at.made)) begun_too
 
   pub found_fits : fits book
@@ -316,15 +320,38 @@ module _ {D : Type 0} (g : Ghosts D) (fits : NamedItems →
       by (inl e) = absurd (let none = ap run_in e in omega (arith, begun, none))
       by (inr taken) = subst fits (sym at.made) taken.fit
 
-  pub found_book : book ≡ over run found_is.removed (snapshot_of choose (take at.which h)).book
-  found_book = at.made ∙ found_is.book
+-- what is there before a mount goes on: a state comes of it
+pub pending_unsound : {D : Type 0} (g : Ghosts D) (fits : NamedItems →
+    Type 0) (pending : PendingMount) (disk : D) (now : NamedItems) (is : IsPending g fits pending disk now) (choose : Chooser)
+    (h : List TimedCommand) (run k : ℕ) (keeps : AllKeep g disk fits run (snapshot_of_prefix choose h) k (length h)) (image : Image) →
+    g.may_leave disk image → (is_chooser : Chooser → Type 0) (takes : TimedCommand → Type 0) → is_chooser choose → AllByRecursion takes h →
+    ((choose : Chooser) (history : List TimedCommand) (run : ℕ) (removed : Option Item) → is_chooser choose →
+    AllByRecursion takes history → now ≡ over run removed (snapshot_of choose history).book → ⊥) → ⊥
+pending_unsound g fits pending disk now is choose h run k keeps image left is_chooser takes chooser given none =
+    let room = either pending.has_room in
+    let n = (keeps image left).which in
+    let found = pending_like g fits pending disk now is (snapshot_of_prefix choose h) run k (length h) (family_from choose h k) keeps image
+    left room in
+    let s : Snapshot = found.0 in
+    let same : s.book ≡ now = found.1 in
+    let written = written_is choose (take n h) s (run_in now)
+    (λ name each. ap (λ (b : NamedItems). b name) same ∙ bare_now name each (pending_now g fits pending disk now is room))
+    found.2 (ap run_in same) found.3 in
+    none choose (take n h) (run_in now) written.removed chooser (all_taken takes n h given) (sym same ∙ written.book)
+  where
+    bare_now : (name : Name) → ((item : Item) → is_same (name_of item) name ≡ false) → (now ≡ next_run is.book) ⊎ (now ≡ is.book) →
+        now name ≡ None
+    bare_now name each which = by which
+      where
+        bare : is.book name ≡ None
+        bare = none_stands (Taken fits (log_of is.as_read)) name each is.read.bodies empty is.book refl is.read.replayed
 
-  -- a state that cannot be taken from the book
-  pub none_unsound : (is_chooser : Chooser → Type 0) (takes : TimedCommand → Type 0) → is_chooser choose → AllByRecursion takes h →
-      ((choose : Chooser) (history : List TimedCommand) (run : ℕ) (removed : Option Item) → is_chooser choose →
-      AllByRecursion takes history → fits book → book ≡ over run removed (snapshot_of choose history).book → ⊥) → ⊥
-  none_unsound is_chooser takes chooser given none = none choose (take at.which h) run found_is.removed chooser
-      (all_taken takes at.which h given) found_fits found_book
+        begins : List Item
+        begins = first_items (not (has_settings is.book)) (run_in is.book + 1)
+
+        by : (now ≡ next_run is.book) ⊎ (now ≡ is.book) → now name ≡ None
+        by (inl next) = ap (λ (b : NamedItems). b name) next ∙ none_under begins name is.book (none_of name each begins) ∙ bare
+        by (inr old) = ap (λ (b : NamedItems). b name) old ∙ bare
 
 pub holds_mounted : {D : Type 0} (g : Ghosts D) {M : Type 0} (fits : NamedItems → Type 0) (holds : Chooser → List TimedCommand → M →
     Type 0) (is_chooser : Chooser → Type 0) (takes : TimedCommand →

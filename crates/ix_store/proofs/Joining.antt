@@ -30,7 +30,7 @@ use Rattle.ix_model.specs.Snap.{snapshot_of, snapshot_of_prefix}
 use Rattle.ix_store.specs.Counting.{number_of, weight_of, is_turn, numbers, weights, has_turn, capped}
 use Rattle.ix_store.specs.Written.{over, IsOf, AreDone}
 use Rattle.ix_store.specs.Making.{IsMade, LeadsThrough, with_last, with_order, with_tick}
-use Rattle.ix_store.specs.Holding.{AreCounted, IsReady, RepresentsStaged, IsAccepted, IsUnchanged, HasSameRun}
+use Rattle.ix_store.specs.Holding.{AreCounted, IsReady, RepresentsStaged, IsAccepted, IsUnchanged, HasSameRun, holding}
 use Rattle.ix_store.specs.declared.group.CommitGroup.{CommitGroup}
 use Rattle.ix_store.specs.declared.memory.Made.{Made}
 use Rattle.ix_store.specs.declared.store.Store.{Store}
@@ -266,7 +266,8 @@ module _ {M N : Type 0} (fits : NamedItems → Type 0) (holds : Chooser → List
       final.group ≡ took.group → final.closed ≡ took.closed →
       final.drawn ≡ (if draws_it then capped (took.drawn + 1) else took.drawn) →
       answer.run ≡ final.run → answer.number ≡ (if draws_it then Some took.drawn else None) → answer.moved ≡ made.moved →
-      RepresentsStaged fits holds choose h base k before old → IsAccepted fits holds choose h base k order before final old answer
+      RepresentsStaged fits holds choose h base k before old → IsAccepted fits holds (holding choose h base k) order before final
+      old answer
   accepted is same memory stage done weight turned waiting heavy draw turn memory_is committer_is run_is committed_is group_is closed_is
       drawn_is answer_run number moved st =
       record {

@@ -10,3 +10,4 @@ pub mod Lawful
 pub mod Exported
 pub mod Shortened
 pub mod Said
+pub mod Recalling

@@ -1,5 +1,5 @@
 -- The body that says an item of which no state comes is found.
-use Rattle.std.proofs.Common.{◌≡◌, ◌⊎◌, ◌+◌, ◌<◌, ℕ, Bool, true, false, List, [], ◌∷◌, ◌++◌, length, drop, Option, Some, None}
+use Rattle.std.proofs.Common.{◌≡◌, ◌⊎◌, ◌+◌, ◌<◌, ℕ, Bool, true, false, List, [], ◌∷◌, ◌++◌, length, Option, Some, None}
 use Rattle.std.proofs.Common.{if◌then◌else◌, refl, sym, ap, ◌∙◌, subst, arith, inl, inr, append_assoc, length-append}
 use Rattle.std.specs.Prelude.{◌||◌, not, Result, Err}
 use Rattle.std.specs.List.{AllByRecursion, list_any}
@@ -13,16 +13,16 @@ use Rattle.ix_log.specs.Log.{HasBodies, blocks}
 use Rattle.ix_manifest.specs.Book.{Name, NamedItems, name_of, is_same, is_there, left_by, after_item, empty, replay, run_in, has_settings}
 use Rattle.ix_manifest.specs.Book.{AreItems, IsBody, Replays}
 use Rattle.ix_manifest.specs.Plain.{AnyBook}
-use Rattle.ix_manifest.specs.Root.{Taken, current, log_file}
-use Rattle.ix_manifest.proofs.Applying.{replays_push}
+use Rattle.ix_manifest.specs.Root.{Taken, current}
 use Rattle.ix_manifest.proofs.PutItems.{item_some}
 use Rattle.ix_manifest.proofs.Renaming.{replay_at, chosen_other}
 use Rattle.ix_base.specs.Told.{Told}
 use Rattle.ix_base.specs.declared.files.File.{File}
-use Rattle.ix_commit.specs.Growing.{HasGrown}
-use Rattle.ix_commit.specs.Reads.{first_items, next_run}
-use Rattle.ix_store.specs.Finding.{name_in, is_under, settings_name, kept_in, kept_of, Says, IsLast, IsFound, IsLastSaid, IsBadIn}
-use Rattle.ix_store.specs.Finding.{HasBadItem}
+use Rattle.ix_commit.specs.Reads.{LeadsTo, first_items, next_run}
+use Rattle.ix_commit.proofs.Reading.{leads_one, bad_nowhere}
+use Rattle.ix_model.proofs.Named.{by_test}
+use Rattle.ix_store.specs.Finding.{name_in, is_under, settings_name, kept_in, kept_of, Says, IsFound, IsLastSaid, IsBadIn}
+use Rattle.ix_store.specs.Finding.{HasBadItem, IsBadStore}
 use Rattle.ix_store.specs.declared.fault.MountFault.{MountFault}
 use Rattle.ix_store.specs.declared.faulty_item.FaultyItem.{FaultyItem}
 use Rattle.ix_store.specs.declared.faulty_item.FaultyItem.TheVariants as subjects
@@ -172,64 +172,40 @@ last_said name item at bodies book replays stands (inr last) =
       none = last.none;
     }
 
--- ---- the body that a mount has put behind them
+-- what a body said last stands in the book
+said_stands : (name : Name) (item : Item) (at : ℕ) (bodies : List (List ℕ)) (book : NamedItems) → Replays AnyBook bodies empty book →
+    IsLastSaid name item at bodies → book name ≡ Some item
+said_stands name item at bodies book replays last =
+    let here = behind last.before (last.body ∷ last.after) empty book
+    (subst (λ (l : List (List ℕ)). Replays AnyBook l empty book) last.split replays) in
+    let mid = here.0 in
+    let is = here.1 in
+    let own = is.0 in
+    let same : last.items ≡ own = one_body last.items own last.is.are.proper is.1.are.proper (sym last.is.are.spelled ∙ is.1.are.spelled) in
+    let some : list_any (is_under name) last.items ≡ true = by_test (list_any (is_under name) last.items) (λ t. t)
+    (λ t. absurd (no_item item (sym (replay_none last.items name empty t) ∙ last.said))) in
+    bodies_none last.after name (replay own mid) book is.3 last.none
+    ∙ ap (λ (l : List Item). replay l mid name) (sym same)
+    ∙ replay_some last.items name mid empty some ∙ last.said
 
-cut : (bodies : List (List ℕ)) (last : List ℕ) (before : List (List ℕ)) (body : List ℕ) (after : List (List ℕ)) → bodies ++ last
-    ∷ [] ≡ before ++ body ∷ after
-    → (body ≡ last) ⊎ ((front : List (List ℕ)) × (after ≡ front ++ last ∷ []) × (bodies ≡ before ++ body ∷ front))
-cut [] last [] body after is = inl cc
-cut [] last (first ∷ before) body after is = absurd (omega (arith, ap length is, length-append before (body ∷ after)))
-cut (x ∷ bodies) last [] body after is =
-    let rest : after ≡ bodies ++ last ∷ [] = cc in
-    let all : x ∷ bodies ≡ body ∷ bodies = cc in
-    inr (bodies, rest, all)
-cut (x ∷ bodies) last (y ∷ before) body after is = go (cut bodies last before body after rest)
-  where
-    rest : bodies ++ last ∷ [] ≡ before ++ body ∷ after
-    rest = cc
+-- ---- the book with the next run
 
-    same : x ≡ y
-    same = cc
+-- what stands there for a subject stood before, or it says no more than that nothing is set
+under_first : (fresh : Bool) (run : ℕ) (book : NamedItems) (subject : FaultyItem) (item : Item) →
+    replay (first_items fresh run) book (name_in subject) ≡ Some item → (book (name_in subject) ≡ Some item) ⊎ (item ≡ items.Settings [])
+under_first true run book subjects.Settings item is = inr cc
+under_first false run book subjects.Settings item is = inl is
+under_first true run book (subjects.Channel name) item is = inl is
+under_first false run book (subjects.Channel name) item is = inl is
 
-    go : (body ≡ last) ⊎ ((front : List (List ℕ)) × (after ≡ front ++ last ∷ []) × (bodies ≡ before ++ body ∷ front))
-        → (body ≡ last) ⊎ ((front : List (List ℕ)) × (after ≡ front ++ last ∷ []) × (x ∷ bodies ≡ y ∷ before ++ body ∷ front))
-    go (inl it) = inl it
-    go (inr more) = inr (more.0, more.1, λ i. same i ∷ more.2 i)
-
-all_front : {X : Type 0} (P : X → Type 0) (front : List X) (last : X) → AllByRecursion P (front ++ last ∷ []) → AllByRecursion P front
-all_front P [] last all = tt
-all_front P (x ∷ front) last all = (all.0, all_front P front last all.1)
-
-cut_last : (name : Name) (item : Item) (at : ℕ) (bodies : List (List ℕ)) (body : List ℕ) (own : List Item) →
-    IsLastSaid name item at (bodies ++ body ∷ []) → IsBody own body
-    → (replay own empty name ≡ Some item → ⊥) → IsLastSaid name item at bodies
-cut_last name item at bodies body own said is other = go (cut bodies body said.before said.body said.after said.split)
-  where
-    go : (said.body ≡ body) ⊎ ((front : List (List ℕ)) × (said.after ≡ front ++ body ∷ []) × (bodies ≡ said.before ++ said.body ∷ front)) →
-        IsLastSaid name item at bodies
-    go (inl same) =
-        let same_items : own ≡ said.items = one_body own said.items is.are.proper said.is.are.proper (sym is.are.spelled ∙ sym same
-        ∙ said.is.are.spelled) in
-        absurd (other (ap (λ (l : List Item). replay l empty name) same_items ∙ said.said))
-    go (inr more) = record {
-      before = said.before;
-      body = said.body;
-      after = more.0;
-      split = more.2;
-      place = said.place;
-      items = said.items;
-      is = said.is;
-      said = said.said;
-      none = all_front (Says false name) more.0 body (subst (AllByRecursion (Says false name)) more.1 said.none);
-    }
-
--- it says no more than that nothing is set
-begins_none : (subject : FaultyItem) (fresh : Bool) (run : ℕ) (item : Item) →
-    replay (first_items fresh run) empty (name_in subject) ≡ Some item → item ≡ items.Settings []
-begins_none subjects.Settings true run item is = cc
-begins_none subjects.Settings false run item is = absurd cc
-begins_none (subjects.Channel name) true run item is = absurd cc
-begins_none (subjects.Channel name) false run item is = absurd cc
+-- and what stood before stands there
+over_first : (fresh : Bool) (run : ℕ) (book : NamedItems) (subject : FaultyItem) (item : Item) → fresh ≡ not (has_settings book) →
+    book (name_in subject) ≡ Some item → replay (first_items fresh run) book (name_in subject) ≡ Some item
+over_first true run book subjects.Settings item new is =
+    let none : true ≡ false = new ∙ ap (λ (o : Option Item). not (is_there o)) is in absurd cc
+over_first false run book subjects.Settings item new is = is
+over_first true run book (subjects.Channel name) item new is = is
+over_first false run book (subjects.Channel name) item new is = is
 
 kept_next : (book : NamedItems) → kept_in (next_run book) ≡ kept_in book
 kept_next book = go (book settings_name) refl
@@ -238,35 +214,68 @@ kept_next book = go (book settings_name) refl
     go None is = ap (λ (t : Bool). kept_in (replay (first_items (not t) (run_in book + 1)) book)) (ap is_there is) ∙ sym (ap kept_of is)
     go (Some item) is = ap (λ (t : Bool). kept_in (replay (first_items (not t) (run_in book + 1)) book)) (ap is_there is)
 
--- the gate is that of a body of the log as it was read
+-- the book is the one that was read, with the next run or without
+abbrev IsNow : NamedItems → NamedItems → Type 0
+IsNow book now = (now ≡ next_run book) ⊎ (now ≡ book)
+
+kept_now : (book now : NamedItems) → IsNow book now → kept_in now ≡ kept_in book
+kept_now book now (inl next) = ap kept_in next ∙ kept_next book
+kept_now book now (inr same) = ap kept_in same
+
+stood : (gives_none : List Kept → Item → Type 0) → ((force : List Kept) → gives_none force (items.Settings []) → ⊥) →
+    (book now : NamedItems) → IsNow book now → (subject : FaultyItem) (bad : IsBadIn gives_none subject now) →
+    book (name_in subject) ≡ Some bad.0
+stood gives_none good book now (inl next) subject bad = by (under_first (not (has_settings book)) (run_in book + 1) book subject bad.0
+    (sym (ap (λ (b : NamedItems). b (name_in subject)) next) ∙ bad.1))
+  where
+    by : (book (name_in subject) ≡ Some bad.0) ⊎ (bad.0 ≡ items.Settings []) → book (name_in subject) ≡ Some bad.0
+    by (inl is) = is
+    by (inr none) = absurd (good (kept_in now) (subst (gives_none (kept_in now)) none bad.2))
+stood gives_none good book now (inr same) subject bad = sym (ap (λ (b : NamedItems). b (name_in subject)) same) ∙ bad.1
+
+stands_now : (book now : NamedItems) → IsNow book now → (subject : FaultyItem) (item : Item) → book (name_in subject) ≡ Some item →
+    now (name_in subject) ≡ Some item
+stands_now book now (inl next) subject item is = ap (λ (b : NamedItems). b (name_in subject)) next
+    ∙ over_first (not (has_settings book)) (run_in book + 1) book subject item refl is
+stands_now book now (inr same) subject item is = ap (λ (b : NamedItems). b (name_in subject)) same ∙ is
+
+-- the gate is that of the body that was found
 pub bad_item : (fits : NamedItems → Type 0) (gives_none : List Kept → Item → Type 0) →
-    ((force : List Kept) → gives_none force (items.Settings []) → ⊥) → (number : ℕ) (first second : Image) (book : NamedItems)
-    → HasGrown fits number first second book → (subject : FaultyItem) → IsBadIn gives_none subject book → (file : File) (at : ℕ)
-    → ((bodies : List (List ℕ)) (b : NamedItems) (item : Item) → HasBodies bodies (bytes_in second (log_file number)) →
-    Replays AnyBook bodies empty b → b (name_in subject) ≡ Some item
-    → (file ≡ log_file number) × IsLastSaid (name_in subject) item at bodies)
-    → HasBadItem fits gives_none file at first
-bad_item fits gives_none good number first second book grown subject bad file at found =
-    let before = grown.before in
-    let bodies = grown.leads.bodies in
-    let begins = first_items (not (has_settings before)) (run_in before + 1) in
-    let is : log_file number ≡ current grown.leads.checkpoints = ap log_file grown.counted in
-    let replays = replays_push AnyBook bodies grown.body begins empty before
-    (any_replays (Taken fits (current grown.leads.checkpoints)) bodies empty before grown.leads.replayed) grown.begins tt in
-    let has = subst (λ (f : File). HasBodies (bodies ++ grown.body ∷ []) (bytes_in second f)) (sym is) grown.grown in
-    let there = found (bodies ++ grown.body ∷ []) (next_run before) bad.0 has replays
-    (sym (ap (λ (b : NamedItems). b (name_in subject)) grown.is) ∙ bad.1) in
+    ((force : List Kept) → gives_none force (items.Settings []) → ⊥) → (image : Image) (book now : NamedItems) (leads : LeadsTo fits book
+    image) → IsNow book now → (subject : FaultyItem) → IsBadIn gives_none subject now → (log : File) → log ≡ current leads.checkpoints →
+    (file : File) (at : ℕ)
+    → ((bodies : List (List ℕ)) (b : NamedItems) (item : Item) → HasBodies bodies (bytes_in image log) →
+    Replays AnyBook bodies empty b → b (name_in subject) ≡ Some item → (file ≡ log) × IsLastSaid (name_in subject) item at bodies)
+    → HasBadItem fits gives_none file at image
+bad_item fits gives_none good image book now leads is subject bad log log_is file at found =
+    let has = subst (λ (f : File). HasBodies leads.bodies (bytes_in image f)) (sym log_is) leads.in_log in
+    let there = found leads.bodies book bad.0 has (any_replays (Taken fits (current leads.checkpoints)) leads.bodies empty book leads.replayed)
+    (stood gives_none good book now is subject bad) in
     record {
-      book = before;
-      leads = grown.leads;
-      file_is = there.0 ∙ is;
+      book = book;
+      leads = leads;
+      file_is = there.0 ∙ log_is;
       subject = subject;
       item = bad.0;
-      said = cut_last (name_in subject) bad.0 at bodies grown.body begins there.1 grown.begins
-          (λ e. good (kept_in book) (subst (gives_none (kept_in book))
-          (begins_none subject (not (has_settings before)) (run_in before + 1) bad.0 e) bad.2));
-      none = subst (λ (kept : List Kept). gives_none kept bad.0) (ap kept_in grown.is ∙ kept_next before) bad.2;
+      said = there.1;
+      none = subst (λ (kept : List Kept). gives_none kept bad.0) (kept_now book now is) bad.2;
     }
+
+-- a store of which a state comes is not bad
+pub no_bad_store : (fits : NamedItems → Type 0) (gives_none : List Kept → Item → Type 0) (image : Image) (book now : NamedItems) →
+    LeadsTo fits book image → IsNow book now → ((subject : FaultyItem) → IsBadIn gives_none subject now → ⊥) → (named : File) (at : ℕ) →
+    IsBadStore fits gives_none named at image → ⊥
+no_bad_store fits gives_none image book now leads is good named at (inl log) = bad_nowhere fits named at image book log leads
+no_bad_store fits gives_none image book now leads is good named at (inr bad) =
+    let theirs = bad.leads in
+    let same : bad.book ≡ book = leads_one fits image bad.book book theirs leads in
+    let stands = said_stands (name_in bad.subject) bad.item at theirs.bodies bad.book
+    (any_replays (Taken fits (current theirs.checkpoints)) theirs.bodies empty bad.book theirs.replayed) bad.said in
+    good bad.subject (
+      bad.item,
+      stands_now book now is bad.subject bad.item (sym (ap (λ (b : NamedItems). b (name_in bad.subject)) same) ∙ stands),
+      subst (λ (kept : List Kept). gives_none kept bad.item) (ap kept_in same ∙ sym (kept_now book now is)) bad.none,
+    )
 
 pub same_fault : {T : Type 0} (a b : MountFault) → ◌≡◌ {A = Result T MountFault} (Err a) (Err b) → a ≡ b
 same_fault a b is = cc

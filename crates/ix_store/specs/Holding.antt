@@ -82,13 +82,24 @@ pub record IsAnswer (run drawn : ℕ) (choose : Chooser) (history : List TimedCo
     pub moved_are : answer.moved ≡ moved (state_after choose history) order.command
         (effective (state_after choose history).last order.moment)
 
--- An accepted command: the store holds the longer history, with as much of it committed as before.
-pub record IsAccepted {M : Type 0} (fits : NamedItems → Type 0) (holds : Chooser → List TimedCommand → M →
-    Type 0) (choose : Chooser) (history : List TimedCommand) (base k : ℕ) (order : TimedCommand) (before store : Store M) (old : Snapshot)
-    (answer : Accepted) : Type 0 where
-  pub allowed : IsAllowed choose false before.drawn (state_after choose history) order
-  pub answers : IsAnswer before.run before.drawn choose history order answer
-  pub staged : RepresentsStaged fits holds choose (with_order choose history order) base k store old
+-- What a store holds: a history, of which the first `base` commands were there when the store was
+-- mounted, and the first `kept` are committed.
+pub record Holding : Type 0 where
+  pub choose : Chooser
+  pub history : List TimedCommand
+  pub base : ℕ
+  pub kept : ℕ
+
+abbrev pub holding : Chooser → List TimedCommand → ℕ → ℕ → Holding
+holding choose history base kept = record { choose = choose; history = history; base = base; kept = kept }
+
+-- A command that was accepted behind that: the store holds the longer history, with as much of it
+-- committed as before.
+pub record IsAccepted {M : Type 0} (fits : NamedItems → Type 0) (holds : Chooser → List TimedCommand → M → Type 0) (was : Holding)
+    (order : TimedCommand) (before store : Store M) (old : Snapshot) (answer : Accepted) : Type 0 where
+  pub allowed : IsAllowed was.choose false before.drawn (state_after was.choose was.history) order
+  pub answers : IsAnswer before.run before.drawn was.choose was.history order answer
+  pub staged : RepresentsStaged fits holds was.choose (with_order was.choose was.history order) was.base was.kept store old
 
 -- The two hold the same, and have the same staged.
 pub record IsUnchanged {M : Type 0} (before store : Store M) : Type 0 where

@@ -7,3 +7,5 @@ pub mod Telling
 pub mod Making
 pub mod Exporting
 pub mod Holding
+pub mod Placing
+pub mod Remembering

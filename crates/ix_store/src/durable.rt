@@ -5,8 +5,8 @@ ghost use Rattle.std.specs.List.{AllByRecursion};
 ghost use Rattle.ix_base.specs.Faults.{Rose};
 ghost use Rattle.ix_base.specs.Told.{Told};
 ghost use Rattle.ix_base.specs.declared.files.File.{File};
-ghost use Rattle.ix_disk.specs.Image.{Image, bytes_in};
-ghost use Rattle.ix_disk.specs.Moments.{Always};
+ghost use Rattle.ix_disk.specs.Image.{Image, bytes_in, Stays};
+ghost use Rattle.ix_disk.specs.Moments.{ImagesStep, Always};
 ghost use Rattle.ix_commit.specs.Committing.{IsShort};
 ghost use Rattle.ix_commit.specs.Contents.{Anyhow};
 ghost use Rattle.ix_manifest.specs.Book.{empty, removals_in, replay};
@@ -17,6 +17,7 @@ ghost use Rattle.ix_model.specs.Given.{Chooser};
 ghost use Rattle.ix_model.specs.Step.{state_after};
 ghost use Rattle.ix_model.specs.declared.commands.TimedCommand.{TimedCommand};
 ghost use Rattle.ix_store.specs.Finding.{IsBadStore};
+ghost use Rattle.ix_store.specs.Remembering.{SaysHistory};
 ghost use Rattle.ix_store.specs.Written.{AreGone, IsNextRun, RecoversTo, RecoversToPrefix};
 
 use crate::fault::{MountFault, fault_of};
@@ -24,7 +25,7 @@ use crate::finding::blame;
 use crate::group::CommitGroup;
 use crate::memory::{BookFault, StoreMemory};
 use crate::store::Store;
-use ix_commit::{CommitFault, commit, mount};
+use ix_commit::{CommitFault, commit, finish_mount, prepare_mount};
 use ix_disk::Disk;
 use ix_manifest::ManifestState;
 use std::alloc::Global;
@@ -85,7 +86,8 @@ impl<M: StoreMemory + Drop> Store<M> {
     }
 
     /// Mounts the store that a disk keeps, or begins a new one on an empty disk, and begins the
-    /// next run.
+    /// next run. It reads the log, loads the settings and goes on with the open channels; then it
+    /// removes again the files that the last removals name, and then it writes the next run.
     pub fn mount<D: Disk>(alloc: Global, disk: &mut D) -> Result<Store<M>, MountFault>
         // Where every image at the start stands for a prefix with at least k commands, and for this
         // run or a later one, every image since does.
@@ -108,6 +110,11 @@ impl<M: StoreMemory + Drop> Store<M> {
         // stands for.
         ensures number { IfOk result (λ store. (image : Image) → D.Disk.seen disk.old ≡ Some image →
             IsNextRun M.Book.fits store.run image) }
+        // Where the logs say what a history leaves, memory holds that, whatever the files of buckets
+        // hold.
+        ensures recalled { IfOk result (λ store. (choose : Chooser) (history : List TimedCommand) (image : Image) →
+            M.is_chooser choose → AllByRecursion M.takes history → D.Disk.seen disk.old ≡ Some image →
+            SaysHistory M.Book.fits choose history image → M.holds choose history store.memory) }
         // What a commit and a checkpoint ask for.
         ensures over { IfOk result (λ store. LogsAtEnd D.Disk store.committer disk.new) }
         ensures idle { IfOk result (λ store. NothingStaged store.committer) }
@@ -126,21 +133,34 @@ impl<M: StoreMemory + Drop> Store<M> {
             M.is_chooser choose → AllByRecursion M.takes history →
             ((image : Image) → D.Disk.may_leave disk.old image → RecoversToPrefix M.Book.fits run choose history k image) →
             (image : Image) → D.Disk.seen disk.old ≡ Some image → ⊥ }
+        // A store that is damaged is left as it was.
+        ensures left { (named : File) (at : ℕ) → result ≡ Err (MountFault.Damaged named at) →
+            (D.Disk.seen disk.new ≡ D.Disk.seen disk.old) × ImagesStep D.Disk disk.old disk.new Stays }
         // Full comes exactly where no further run has a number, or there is no room for it, as the
         // disk reads, unless another fault or want of memory comes first.
         ensures full { IsErrOf result MountFault.Full → (image : Image) → D.Disk.seen disk.old ≡ Some image → HasNoRun M.Book.fits image }
         ensures begun { OnOk result ((image : Image) → D.Disk.seen disk.old ≡ Some image → HasNoRun M.Book.fits image → ⊥) }
+        // Damage comes before it: a store that is full has none.
+        ensures sound { IsErrOf result MountFault.Full → (image : Image) → D.Disk.seen disk.old ≡ Some image → (named : File) (at : ℕ) →
+            IsBadStore M.Book.fits M.gives_none named at image → ⊥ }
         ensures later { D.Disk.faults disk.old ≤ D.Disk.faults disk.new }
         ensures cause { IsErrOf result MountFault.Disk → Rose (D.Disk.faults disk.old) (D.Disk.faults disk.new) }
     {
         let mut book = M::blank(alloc);
-        let committer = match mount(alloc, disk, &mut book) {
-            Ok(committer) => committer,
+        let pending = match prepare_mount(alloc, disk, &mut book) {
+            Ok(pending) => pending,
             Err(fault) => return Err(fault_of(fault)),
         };
         let run = book.run();
-        match M::from_book(alloc, book) {
-            Ok(memory) => Ok(Store {
+        let memory = match M::from_book(alloc, book) {
+            Ok(memory) => memory,
+            Err(BookFault::Bad { subject }) => {
+                return Err(blame(alloc, disk, pending.current(), &subject));
+            }
+            Err(BookFault::NoMemory) => return Err(MountFault::NoMemory),
+        };
+        match finish_mount::<D, M::Book>(pending, disk) {
+            Ok(committer) => Ok(Store {
                 alloc,
                 memory,
                 committer,
@@ -150,13 +170,7 @@ impl<M: StoreMemory + Drop> Store<M> {
                 group: CommitGroup::none(alloc),
                 closed: false,
             }),
-            Err(BookFault::Bad { subject }) => Err(blame(
-                alloc,
-                disk,
-                committer.current(),
-                &subject,
-            )),
-            Err(BookFault::NoMemory) => Err(MountFault::NoMemory),
+            Err(fault) => Err(fault_of(fault)),
         }
     }
 }

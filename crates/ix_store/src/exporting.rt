@@ -166,6 +166,7 @@ impl<M: StoreMemory + Drop> Store<M> {
         // After a fault of the disk, or damage, the store is closed; else it is as it was.
         ensures closes { is_closed self.new ≡ (is_closed self.old || closes result) }
         ensures unchanged { closes result ≡ false → IsUnchanged self.old self.new }
+        ensures memory { self.new.memory ≡ self.old.memory }
         ensures logs { HasSameLogs self.old.committer self.new.committer }
         ensures held { closes result ≡ false → (choose : Chooser) (history : List TimedCommand) (base k : ℕ) →
             Represents D.Disk M.Book.fits M.holds choose history base k self.old disk.old →

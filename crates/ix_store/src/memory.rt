@@ -1,7 +1,7 @@
 //! The state in memory, as a store takes it: the store is generic over it, and the crate of the
 //! state implements it.
 
-ghost use Rattle.std.specs.Prelude.{◌≡◌, ℕ, ℤ, List, [], Err, IfOk, IfErr, Option, is_some, false};
+ghost use Rattle.std.specs.Prelude.{◌≡◌, ℕ, ℤ, List, [], Err, IfOk, IfErr, OnOk, Option, is_some, false};
 ghost use Rattle.std.specs.List.{AllByRecursion};
 ghost use Rattle.std.specs.Option.{option_copied};
 ghost use Rattle.ix_items.specs.declared.items.Item.{Item};
@@ -156,10 +156,12 @@ pub trait StoreMemory: Sized {
             holds choose history memory) }
         // Of the item that stands there for the subject no state comes,
         ensures bad { (subject : FaultyItem) → result ≡ Err (BookFault.Bad subject) → IsBadIn gives_none subject (Self.Book.stands book) }
+        // there is no such item where a state has come,
+        ensures good { OnOk result ((subject : FaultyItem) → IsBadIn gives_none subject (Self.Book.stands book) → ⊥) }
         // and no history is written so.
         ensures sound { (subject : FaultyItem) → result ≡ Err (BookFault.Bad subject) →
             (choose : Chooser) (history : List TimedCommand) (run : ℕ) (removed : Option Item) →
-            is_chooser choose → AllByRecursion takes history → Self.Book.fits (Self.Book.stands book) →
+            is_chooser choose → AllByRecursion takes history →
             Self.Book.stands book ≡ over run removed (snapshot_of choose history).book → ⊥ };
 
     /// Settings that set nothing are no cause that no state comes.

@@ -147,6 +147,7 @@ impl<M: Listing + Drop> Store<M> {
         ensures measured_still { IsErrOf result CheckpointFault.NoMemory → KnowsLogLength D.Disk self.old.committer disk.old →
             KnowsLogLength D.Disk self.new.committer disk.new }
         ensures run { self.new.run ≡ self.old.run }
+        ensures kept { self.new.memory ≡ self.old.memory }
         ensures closed { IsErrOf result CheckpointFault.Disk → self.new.committer.closed ≡ true }
         // A disk that tells what it reads goes on telling.
         ensures told { Told Anyhow (D.Disk.seen disk.old) (D.Disk.seen disk.new) }

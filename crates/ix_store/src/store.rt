@@ -20,6 +20,7 @@ ghost use Rattle.ix_model.specs.Step.{state_after};
 ghost use Rattle.ix_model.specs.declared.commands.TimedCommand.{TimedCommand};
 ghost use Rattle.ix_store.specs.Counting.{is_turn, capped};
 ghost use Rattle.ix_store.specs.Making.{AreProper, IsProper, LeadsThrough, with_last};
+ghost use Rattle.ix_store.specs.Remembering.{Remembers};
 
 use crate::group::CommitGroup;
 use crate::memory::{Made, StoreMemory};
@@ -145,7 +146,7 @@ fn stage_last(
 }
 
 impl<M: StoreMemory + Drop> Store<M> {
-    ghost use Rattle.ix_store.specs.Holding.{RepresentsStaged, IsAccepted, IsUnchanged, HasSameRun, is_closed};
+    ghost use Rattle.ix_store.specs.Holding.{RepresentsStaged, IsAccepted, IsUnchanged, HasSameRun, holding, is_closed};
 
     /// Stages what was worked out, and takes it, or does nothing.
     fn take(&mut self, made: Made<M::NextState>, turned: bool) -> Result<(), NoMemory>
@@ -246,8 +247,8 @@ impl<M: StoreMemory + Drop> Store<M> {
         ensures accepted { IfOk result (λ answer. (choose : Chooser) (history : List TimedCommand) (base k : ℕ) (old : Snapshot) →
             M.is_chooser choose → AllByRecursion M.takes history →
             RepresentsStaged M.Book.fits M.holds choose history base k self.old old →
-            IsAccepted M.Book.fits M.holds choose history base k (record { command = command; moment = moment }) self.old self.new old
-            answer) }
+            IsAccepted M.Book.fits M.holds (holding choose history base k) (record { command = command; moment = moment }) self.old self.new
+            old answer) }
         // A refusal has its cause,
         ensures refused { IfErr result (λ refusal. (choose : Chooser) (history : List TimedCommand) (base k : ℕ) (old : Snapshot) →
             M.is_chooser choose → AllByRecursion M.takes history →
@@ -261,6 +262,9 @@ impl<M: StoreMemory + Drop> Store<M> {
         ensures logs { HasSameLogs self.old.committer self.new.committer }
         ensures bytes { self.new.committer.bytes ≡ self.old.committer.bytes }
         ensures run { self.new.run ≡ self.old.run }
+        // Memory goes on holding what it held, with the command behind it where that is accepted,
+        // whatever stands on the disk.
+        ensures remembers { Remembers M.is_chooser M.takes M.holds self.old.memory self.new.memory }
     {
         if self.is_closed() {
             drop(command);
