@@ -27,15 +27,16 @@ use Rattle.ix_commit.proofs.Beginning.{over_same}
 use Rattle.ix_run.proofs.Rested.{idle_same, measured_same}
 use Rattle.ix_run.specs.Resting.{CheckpointReady}
 use Rattle.ix_run.specs.Giving.{HasKeptAll, IsKept}
-use Rattle.ix_run.specs.Running.{AlwaysRecoverable, HasAdvanced, IsNotGiven}
+use Rattle.ix_run.specs.Running.{AlwaysRecoverable, HasAdvanced, IsNotGiven, outset}
 use Rattle.ix_run.specs.declared.giving.GiveFault.{GiveFault}
 use Rattle.ix_run.specs.declared.giving.GiveFault.TheVariants.{Refused, Commit}
 use Rattle.indexd_run.specs.declared.stop.Stop.{Stop}
-use Rattle.indexd_run.specs.Ends.{IsLeft, HasLasted, Ends, Only, AtMost, outset}
+use Rattle.indexd_run.specs.Ends.{IsLeft, HasLasted, Ends, Only, AtMost}
 use Rattle.indexd_run.specs.Opened.{configuring, IsUnset}
 use Rattle.indexd_run.specs.declared.stop.Stop.TheVariants as stops
 use Rattle.indexd_run.specs.Stops.{of_mount, of_refusal, of_commit, of_give, of_run, of_checkpoint, loses, is_output, is_input, Caused}
 use Rattle.indexd_run.specs.Shortened.{is_short_at}
+use Rattle.indexd_run.proofs.Leaving.{left_all}
 
 -- ---- what a run comes to
 
@@ -54,68 +55,65 @@ none_more (o ∷ h) = ap (λ (l : List TimedCommand). o ∷ l) (none_more h)
 module _ {D : Type 0} (g : Ghosts D) {M : Type 0} (fits : NamedItems → Type 0) (run : ℕ) (holds : Chooser → List TimedCommand → M →
     Type 0) (choose : Chooser) (h : List TimedCommand) (base : ℕ) (order : TimedCommand) (store : Store M) (first last : D) where
   -- nothing was given
-  none_left : HasAdvanced g fits run holds choose h [] base (length h) store first last →
-      IsLeft g fits holds (outset choose h base run first) (AtMost order) store last
-  none_left gone = record {
-    orders = [];
-    allowed = inl refl;
-    all = record {
-      allowed = tt;
-      same_run = gone.same_run;
-      hold = subst (λ (n : ℕ). Represents g fits holds choose h base n store last) same hold;
-      stood = subst (λ (some : List TimedCommand). AlwaysRecoverable g fits run choose some (length h) first last) (none_more h) gone.stood;
-    };
-  } where
-    hold : Represents g fits holds choose h base gone.count store last
-    hold = subst (λ (some : List TimedCommand). Represents g fits holds choose some base gone.count store last) (none_more h) gone.hold
+  none_left : HasAdvanced g fits holds (outset choose h base (length h) run first) [] store last →
+      IsLeft g fits holds (outset choose h base (length h) run first) (AtMost order) store last
+  none_left gone = left_all g fits holds (outset choose h base (length h) run first) (AtMost order) [] store last (inl refl)
+      (record {
+        allowed = tt;
+        same_run = gone.same_run;
+        hold = subst (λ (n : ℕ). Represents g fits holds choose h base n store last) same hold;
+        stood = subst (λ (some : List TimedCommand). AlwaysRecoverable g fits run choose some (length h) first last) (none_more h)
+            gone.stood;
+      }) where
+        hold : Represents g fits holds choose h base gone.count store last
+        hold = subst (λ (some : List TimedCommand). Represents g fits holds choose some base gone.count store last) (none_more h) gone.hold
 
-    same : gone.count ≡ length h
-    same = omega (arith, gone.kept, hold.staged.within)
+        same : gone.count ≡ length h
+        same = omega (arith, gone.kept, hold.staged.within)
 
-  none_lasted : HasAdvanced g fits run holds choose h [] base (length h) store first last →
-      HasLasted g fits (outset choose h base run first) (AtMost order) last
+  none_lasted : HasAdvanced g fits holds (outset choose h base (length h) run first) [] store last →
+      HasLasted g fits (outset choose h base (length h) run first) (AtMost order) last
   none_lasted gone = record {
     orders = [];
     allowed = inl refl;
     stood = subst (λ (some : List TimedCommand). AlwaysRecoverable g fits run choose some (length h) first last) (none_more h) gone.stood;
   }
 
-  by_loss : (lost : Bool) → HasAdvanced g fits run holds choose h [] base (length h) store first last →
-      Ends lost g fits holds (outset choose h base run first) (AtMost order) store last
+  by_loss : (lost : Bool) → HasAdvanced g fits holds (outset choose h base (length h) run first) [] store last →
+      Ends lost g fits holds (outset choose h base (length h) run first) (AtMost order) store last
   by_loss true gone = none_lasted gone
   by_loss false gone = none_left gone
 
   one_lasted : (fault : CommitFault) → AlwaysRecoverable g fits run choose (h ++ adds (state_after choose h) order) (length h) first last →
-      Ends (loses (of_commit fault)) g fits holds (outset choose h base run first) (AtMost order) store last
+      Ends (loses (of_commit fault)) g fits holds (outset choose h base (length h) run first) (AtMost order) store last
   one_lasted commits.Disk stood = record { orders = order ∷ []; allowed = inr refl; stood = stood }
   one_lasted (commits.Damaged file at) stood = record { orders = order ∷ []; allowed = inr refl; stood = stood }
 
   by_fault : (old : Store M) (fault : GiveFault) → old.run ≡ run →
-      IsNotGiven g fits holds choose h base (length h) order old fault store first last →
-      Ends (loses (of_give fault)) g fits holds (outset choose h base run first) (AtMost order) store last
+      IsNotGiven g fits holds (outset choose h base (length h) old.run first) order old.drawn fault store last →
+      Ends (loses (of_give fault)) g fits holds (outset choose h base (length h) run first) (AtMost order) store last
   by_fault old (Refused refusal) same not = by_loss (loses (of_refusal refusal))
-      (subst (λ (r : ℕ). HasAdvanced g fits r holds choose h [] base (length h) store first last) same not.1)
+      (subst (λ (r : ℕ). HasAdvanced g fits holds (outset choose h base (length h) r first) [] store last) same not.1)
   by_fault old (Commit fault) same stood = one_lasted fault
       (subst (λ (r : ℕ). AlwaysRecoverable g fits r choose (h ++ adds (state_after choose h) order) (length h) first last) same stood)
 
   pub stopped : (old : Store M) (fault : GiveFault) (stop : Stop) → old.run ≡ run → stop ≡ of_give fault →
-      IsNotGiven g fits holds choose h base (length h) order old fault store first last →
-      Ends (loses stop) g fits holds (outset choose h base run first) (AtMost order) store last
-  stopped old fault stop same is not = subst (λ (s : Stop). Ends (loses s) g fits holds (outset choose h base run first)
+      IsNotGiven g fits holds (outset choose h base (length h) old.run first) order old.drawn fault store last →
+      Ends (loses stop) g fits holds (outset choose h base (length h) run first) (AtMost order) store last
+  stopped old fault stop same is not = subst (λ (s : Stop). Ends (loses s) g fits holds (outset choose h base (length h) run first)
       (AtMost order) store last)
       (sym is) (by_fault old fault same not)
 
   pub left_by : (old : Store M) (answer : Accepted) → old.run ≡ run →
-      IsKept g fits holds choose h base (length h) order old answer store first last →
-      IsLeft g fits holds (outset choose h base run first) (Only order) store last
-  left_by old answer same kept = record {
-    orders = order ∷ [];
-    allowed = refl;
-    all = subst (λ (r : ℕ). HasKeptAll g fits r holds choose h (order ∷ []) base (length h) store first last) same kept.all;
-  }
+      IsKept g fits holds (outset choose h base (length h) old.run first) order old.drawn answer store last →
+      IsLeft g fits holds (outset choose h base (length h) run first) (Only order) store last
+  left_by old answer same kept =
+      left_all g fits holds (outset choose h base (length h) run first) (Only order) (order ∷ []) store last refl
+      (subst (λ (r : ℕ). HasKeptAll g fits holds (outset choose h base (length h) r first) (order ∷ []) store last) same kept.all)
 
   pub caused : (old : Store M) (fault : GiveFault) (stop : Stop) → stop ≡ of_give fault →
-      IsNotGiven g fits holds choose h base (length h) order old fault store first last → Caused choose old.drawn h order stop
+      IsNotGiven g fits holds (outset choose h base (length h) old.run first) order old.drawn fault store last → Caused choose old.drawn h
+      order stop
   caused old (Refused refusal) stop is not = inl (refusal, is, not.0)
   caused old (Commit fault) stop is stood = inr (fault, is)
 

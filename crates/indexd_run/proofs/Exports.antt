@@ -8,7 +8,7 @@ use Rattle.ix_manifest.specs.Book.{NamedItems}
 use Rattle.ix_model.specs.Given.{Chooser}
 use Rattle.ix_model.specs.declared.commands.TimedCommand.{TimedCommand}
 use Rattle.ix_run.proofs.Gone.{stood_here}
-use Rattle.ix_run.specs.Running.{AlwaysRecoverable}
+use Rattle.ix_run.specs.Running.{AlwaysRecoverable, outset}
 use Rattle.ix_store.specs.Faults.{is_of_disk}
 use Rattle.ix_model.specs.Step.{state_after}
 use Rattle.ix_store.specs.Exporting.{is_seen}
@@ -17,7 +17,8 @@ use Rattle.ix_store.specs.Written.{RecoversToPrefix}
 use Rattle.ix_store.specs.declared.fault.ExportFault.{ExportFault}
 use Rattle.ix_store.specs.declared.fault.ExportFault.TheVariants as exports
 use Rattle.ix_store.specs.declared.store.Store.{Store}
-use Rattle.indexd_run.specs.Ends.{IsLeft, Ends, outset}
+use Rattle.indexd_run.specs.Ends.{IsLeft, Ends}
+use Rattle.indexd_run.proofs.Leaving.{left_all}
 use Rattle.indexd_run.specs.Stops.{loses, of_export}
 use Rattle.indexd_run.specs.Tasks.{IsUnexported}
 use Rattle.indexd_run.specs.declared.stop.Stop.{Stop}
@@ -38,16 +39,14 @@ module _ {D : Type 0} (g : Ghosts D) {M : Type 0} (fits : NamedItems → Type 0)
 
   pub left_as_was : store.run ≡ old.run → Represents g fits holds choose h base (length h) old first → ImagesStep g first last Stays →
       Represents g fits holds choose h base (length h) store last →
-      IsLeft g fits holds (outset choose h base old.run first) (λ (orders : List TimedCommand). orders ≡ []) store last
-  left_as_was same hold goes now = record {
-    orders = [];
-    allowed = refl;
-    all = record { allowed = tt; same_run = same; hold = now; stood = stayed hold goes };
-  }
+      IsLeft g fits holds (outset choose h base (length h) old.run first) (λ (orders : List TimedCommand). orders ≡ []) store last
+  left_as_was same hold goes now =
+      left_all g fits holds (outset choose h base (length h) old.run first) (λ (orders : List TimedCommand). orders ≡ []) [] store last refl
+      (record { allowed = tt; same_run = same; hold = now; stood = stayed hold goes })
 
   pub not_exported : (fault : ExportFault) → store.run ≡ old.run → Represents g fits holds choose h base (length h) old first →
       ImagesStep g first last Stays → (is_of_disk fault ≡ false → Represents g fits holds choose h base (length h) store last) →
-      Ends (loses (of_export fault)) g fits holds (outset choose h base old.run first)
+      Ends (loses (of_export fault)) g fits holds (outset choose h base (length h) old.run first)
       (λ (orders : List TimedCommand). orders ≡ []) store last
   not_exported exports.Closed same hold goes now = left_as_was same hold goes (now refl)
   not_exported exports.UnknownIndex same hold goes now = left_as_was same hold goes (now refl)
@@ -59,9 +58,11 @@ module _ {D : Type 0} (g : Ghosts D) {M : Type 0} (fits : NamedItems → Type 0)
   pub stopped_as : (stop : Stop) (fault : ExportFault) → store.run ≡ old.run → stop ≡ of_export fault →
       Represents g fits holds choose h base (length h) old first → ImagesStep g first last Stays →
       (is_of_disk fault ≡ false → Represents g fits holds choose h base (length h) store last) →
-      Ends (loses stop) g fits holds (outset choose h base old.run first) (λ (orders : List TimedCommand). orders ≡ []) store last
+      Ends (loses stop) g fits holds (outset choose h base (length h) old.run first) (λ (orders : List TimedCommand). orders ≡ []) store
+      last
   stopped_as stop fault same is hold goes now = subst (λ (s : Stop).
-      Ends (loses s) g fits holds (outset choose h base old.run first) (λ (orders : List TimedCommand). orders ≡ []) store last) (sym is)
+      Ends (loses s) g fits holds (outset choose h base (length h) old.run first) (λ (orders : List TimedCommand). orders ≡ []) store last)
+      (sym is)
       (not_exported fault same hold goes now)
 
   -- an index is missed exactly where it is not seen, and a store that holds a history is not closed

@@ -20,10 +20,12 @@ use Rattle.ix_run.specs.declared.giving.GiveFault.{GiveFault}
 use Rattle.ix_run.specs.declared.giving.GiveFault.TheVariants.{Refused, Commit}
 use Rattle.ix_run.specs.declared.input.RunFault.{RunFault}
 use Rattle.ix_run.specs.declared.input.RunFault.TheVariants as runs
+use Rattle.ix_run.specs.Running.{outset}
 use Rattle.ix_store.specs.Counting.{numbers}
 use Rattle.ix_store.specs.declared.store.Store.{Store}
 use Rattle.indexd_run.proofs.Begun.{next_in_turn}
-use Rattle.indexd_run.specs.Ends.{IsLeft, Ends, outset}
+use Rattle.indexd_run.specs.Ends.{IsLeft, Ends}
+use Rattle.indexd_run.proofs.Leaving.{left_all}
 use Rattle.indexd_run.specs.Previews.{Misses, IsRead, HasTaken, IsWhy, Fed}
 use Rattle.indexd_run.specs.declared.stop.Stop.{Stop}
 use Rattle.indexd_run.specs.declared.stop.Stop.TheVariants as stops
@@ -105,8 +107,9 @@ so choose base h given rest origin moment refusals.NoMemory why sound = tt
 
 module _ {D : Type 0} (g : Ghosts D) {M : Type 0} (fits : NamedItems → Type 0) (run : ℕ) (holds : Chooser → List TimedCommand → M →
     Type 0) (choose : Chooser) (h : List TimedCommand) (base : ℕ) (store : Store M) (first last : D) where
-  by_loss : (lost : Bool) (may : List TimedCommand → Type 0) → IsLeft g fits holds (outset choose h base run first) may store last →
-      Ends lost g fits holds (outset choose h base run first) may store last
+  by_loss : (lost : Bool) (may : List TimedCommand → Type 0) → IsLeft g fits holds (outset choose h base (length h) run first) may store
+      last →
+      Ends lost g fits holds (outset choose h base (length h) run first) may store last
   by_loss true may left = record { orders = left.orders; allowed = left.allowed; stood = left.all.stood }
   by_loss false may left = left
 
@@ -115,25 +118,25 @@ module _ {D : Type 0} (g : Ghosts D) {M : Type 0} (fits : NamedItems → Type 0)
     open_is = is_begun (state_after choose h) tilde
 
     abbrev Given : Result Unit RunFault → List (List ℕ) → Type 0
-    Given result pieces = Stores g fits run holds choose h base (length h) store first last result (filling open_is origin moment pieces)
+    Given result pieces = Stores g fits holds (outset choose h base (length h) run first) store last result
+        (filling open_is origin moment pieces)
         (end_order moment ∷ [])
 
     pub feeds : (pieces : List (List ℕ)) (failed failed' : ℕ) → AllByRecursion IsBlock pieces → Told (Took (joined pieces)) left left' →
         runs_read (Ok tt) (length (joined pieces)) left' failed failed' → Misses choose h origin false → Given (Ok tt) pieces →
-        IsLeft g fits holds (outset choose h base run first) (Fed choose base h origin moment (Ok tt) left left') store last
-    feeds pieces failed failed' sizes took read found given = record {
-      orders = storing open_is origin moment pieces;
-      allowed = record {
-        pieces = pieces;
-        sizes = sizes;
-        took = took;
-        read = read;
-        rest = [];
-        whole = none_behind (storing open_is origin moment pieces);
-        end = (refl, found, given.allowed);
-      };
-      all = given;
-    }
+        IsLeft g fits holds (outset choose h base (length h) run first) (Fed choose base h origin moment (Ok tt) left left') store last
+    feeds pieces failed failed' sizes took read found given =
+        left_all g fits holds (outset choose h base (length h) run first) (Fed choose base h origin moment (Ok tt) left left')
+        (storing open_is origin moment pieces) store last
+        (record {
+          pieces = pieces;
+          sizes = sizes;
+          took = took;
+          read = read;
+          rest = [];
+          whole = none_behind (storing open_is origin moment pieces);
+          end = (refl, found, given.allowed);
+        }) given
 
     module _ (pieces : List (List ℕ)) (failed failed' : ℕ) (sizes : AllByRecursion IsBlock pieces)
         (took : Told (Took (joined pieces)) left left') where
@@ -151,17 +154,16 @@ module _ {D : Type 0} (g : Ghosts D) {M : Type 0} (fits : NamedItems → Type 0)
       }
 
       unfed : (fault : RunFault) → runs_read (Err fault) (length (joined pieces)) left' failed failed' → Given (Err fault) pieces →
-          Ends (loses (of_run fault)) g fits holds (outset choose h base run first)
+          Ends (loses (of_run fault)) g fits holds (outset choose h base (length h) run first)
           (Fed choose base h origin moment (Err (of_run fault)) left left') store last
       unfed (runs.Given (Refused refusal)) read given =
-          by_loss (loses (of_refusal refusal)) (Fed choose base h origin moment (Err (of_refusal refusal)) left left') (record {
-            orders = given.given;
-            allowed = front (runs.Given (Refused refusal)) given.given given.rest read given.parts
-                (so choose base h given.given given.rest origin moment refusal given.halts.0
-                (next_in_turn choose (numbers (drop base (given_all choose h given.given))) h given.given given.rest origin moment pieces
-                refusal given.parts given.halts.0));
-            all = given.halts.1;
-          })
+          by_loss (loses (of_refusal refusal)) (Fed choose base h origin moment (Err (of_refusal refusal)) left left')
+          (left_all g fits holds (outset choose h base (length h) run first)
+          (Fed choose base h origin moment (Err (of_refusal refusal)) left left') given.given store last
+          (front (runs.Given (Refused refusal)) given.given given.rest read given.parts
+          (so choose base h given.given given.rest origin moment refusal given.halts.0
+          (next_in_turn choose (numbers (drop base (given_all choose h given.given))) h given.given given.rest origin moment pieces
+          refusal given.parts given.halts.0))) given.halts.1)
       unfed (runs.Given (Commit commits.Disk)) read given =
           record {
             orders = given.given;
@@ -175,32 +177,32 @@ module _ {D : Type 0} (g : Ghosts D) {M : Type 0} (fits : NamedItems → Type 0)
                 given.parts tt;
             stood = given.halts;
           }
-      unfed runs.Input read given = record {
-        orders = filling open_is origin moment pieces;
-        allowed = front runs.Input (filling open_is origin moment pieces) (end_order moment ∷ []) read refl refl;
-        all = given;
-      }
-      unfed runs.Endless read given = record {
-        orders = filling open_is origin moment pieces;
-        allowed = front runs.Endless (filling open_is origin moment pieces) (end_order moment ∷ []) read refl refl;
-        all = given;
-      }
+      unfed runs.Input read given =
+          left_all g fits holds (outset choose h base (length h) run first)
+          (Fed choose base h origin moment (Err (of_run runs.Input)) left left') (filling open_is origin moment pieces) store last
+          (front runs.Input (filling open_is origin moment pieces) (end_order moment ∷ []) read refl refl) given
+      unfed runs.Endless read given =
+          left_all g fits holds (outset choose h base (length h) run first)
+          (Fed choose base h origin moment (Err (of_run runs.Endless)) left left') (filling open_is origin moment pieces) store last
+          (front runs.Endless (filling open_is origin moment pieces) (end_order moment ∷ []) read refl refl) given
 
       pub unfed_as : (fault : RunFault) (stop : Stop) → stop ≡ of_run fault →
           runs_read (Err fault) (length (joined pieces)) left' failed failed' → Given (Err fault) pieces →
-          Ends (loses stop) g fits holds (outset choose h base run first) (Fed choose base h origin moment (Err stop) left left') store last
+          Ends (loses stop) g fits holds (outset choose h base (length h) run first)
+          (Fed choose base h origin moment (Err stop) left left') store last
       unfed_as fault stop is read given = subst (λ (s : Stop).
-          Ends (loses s) g fits holds (outset choose h base run first) (Fed choose base h origin moment (Err s) left left') store last)
+          Ends (loses s) g fits holds (outset choose h base (length h) run first) (Fed choose base h origin moment (Err s) left left')
+          store last)
           (sym is)
           (unfed fault read given)
 
   -- an input is not stopped by what stands on the disk
   pub fed_sound : (origin : ChannelMeta) (moment : ℤ) (result : Result Unit Stop) (left left' : Option (List ℕ)) →
-      result ≡ Err stops.Inconsistent → Ends (loses_in result) g fits holds (outset choose h base run first)
+      result ≡ Err stops.Inconsistent → Ends (loses_in result) g fits holds (outset choose h base (length h) run first)
       (Fed choose base h origin moment result left left') store last → ⊥
   fed_sound origin moment result left left' is ends =
-      let was : IsLeft g fits holds (outset choose h base run first)
+      let was : IsLeft g fits holds (outset choose h base (length h) run first)
       (Fed choose base h origin moment (Err stops.Inconsistent) left left') store last =
-      subst (λ (r : Result Unit Stop). Ends (loses_in r) g fits holds (outset choose h base run first)
+      subst (λ (r : Result Unit Stop). Ends (loses_in r) g fits holds (outset choose h base (length h) run first)
       (Fed choose base h origin moment r left left') store last) is ends in
       was.allowed.end

@@ -22,14 +22,14 @@ use Rattle.ix_model.specs.declared.commands.TimedCommand.{TimedCommand}
 use Rattle.ix_run.proofs.Given.{more_of, given_more, fewer}
 use Rattle.ix_run.proofs.Gone.{longer, stood_here}
 use Rattle.ix_run.specs.Giving.{given_all}
-use Rattle.ix_run.specs.Running.{AlwaysRecoverable}
+use Rattle.ix_run.specs.Running.{AlwaysRecoverable, StandsFrom, outset}
 use Rattle.ix_store.proofs.Counted.{take_more, take_taken}
 use Rattle.ix_store.proofs.Joining.{more_taken}
 use Rattle.ix_store.specs.Holding.{Represents, RepresentsStaged, IsMounted}
 use Rattle.ix_store.specs.Written.{RecoversToPrefix}
 use Rattle.ix_store.specs.declared.store.Store.{Store}
 use Rattle.indexd_run.specs.Asked.{Asks}
-use Rattle.indexd_run.specs.Ends.{IsLeft, Ends, Only, AtMost, same_kept, outset}
+use Rattle.indexd_run.specs.Ends.{IsLeft, Ends, Only, AtMost, same_kept}
 use Rattle.indexd_run.specs.Previews.{Fed, HasFed}
 use Rattle.indexd_run.specs.Shortened.{HasRunsLeft}
 use Rattle.indexd_run.specs.Stops.{loses, loses_in, is_output}
@@ -79,13 +79,6 @@ shut_sound stop g takes fits past run unsound (inr was) =
 
 module _ {D : Type 0} (g : Ghosts D) {M : Type 0} (fits : NamedItems → Type 0) (holds : Chooser → List TimedCommand → M →
     Type 0) where
-  -- where all is committed every image has all
-  all_stand : (choose : Chooser) (now : List TimedCommand) (base run : ℕ) (store : Store M) (disk : D) → store.run ≡ run →
-      Represents g fits holds choose now base (length now) store disk →
-      (image : Image) → g.may_leave disk image → RecoversToPrefix fits run choose now (length now) image
-  all_stand choose now base run store disk same hold image left =
-      (stood_here g fits run holds choose now base (length now) (length now) store disk same (omega arith) hold).now image left
-
   module _ (past : Past) (config : Config) where
     abbrev choose : Chooser
     choose = past.choose
@@ -194,12 +187,24 @@ module _ {D : Type 0} (g : Ghosts D) {M : Type 0} (fits : NamedItems → Type 0)
           (omega (arith, taken count h most)) stood;
     }
 
+    -- where the disk failed, what was mounted is in every image
+    since_mount : (new_run count : ℕ) (orders : List TimedCommand) (first mid last : D) → past.run < new_run → count ≤ length h →
+        ((image : Image) → g.may_leave mid image → RecoversToPrefix fits new_run choose (take count h) count image) →
+        Always g first mid (StandsFor fits past) →
+        AlwaysRecoverable g fits new_run choose (given_all choose (take count h) orders) (length (take count h)) mid last →
+        StandsFrom g fits new_run choose (given_all choose (take count h) orders) count mid last
+    unfolding over_mount
+    since_mount new_run count orders first mid last later most at before stood =
+        let passes = over_mount new_run count orders first mid last later most at before stood in
+        record { at_first = passes.at_mount; since = passes.from_on }
+
     pub opened_by : (image : Image) (mounted store : Store M) (first mid last : D) (ahead ahead' : Option Moments) →
         g.seen first ≡ Some image → store.run ≡ mounted.run → (is : IsMounted g fits holds choose h past.least image mounted mid) →
         Always g first mid (StandsFor fits past) → past.run < mounted.run →
         HasRunsLeft g fits first → is_configured choose (take is.count h) config ≡ false → (moment : ℤ) →
         Told (Answered moment) ahead ahead' →
-        IsLeft g fits holds (outset choose (take is.count h) is.count mounted.run mid) (Only (configuring config moment)) store last →
+        IsLeft g fits holds (outset choose (take is.count h) is.count (length (take is.count h)) mounted.run mid)
+        (Only (configuring config moment)) store last →
         HasOpened g fits holds past (course config ahead ahead' first last) store
     opened_by image mounted store first mid last ahead ahead' seen same_run is before later runs other moment told left = record {
       count = is.count;
@@ -237,7 +242,7 @@ module _ {D : Type 0} (g : Ghosts D) {M : Type 0} (fits : NamedItems → Type 0)
 
       shut_by : (takes : TimedCommand → Type 0) → ((orders : List TimedCommand) → AtMost (configuring config moment) orders →
           AllByRecursion takes (given_all choose (take is.count h) orders)) →
-          (lost : Bool) → Ends lost g fits holds (outset choose (take is.count h) is.count mounted.run mid)
+          (lost : Bool) → Ends lost g fits holds (outset choose (take is.count h) is.count (length (take is.count h)) mounted.run mid)
           (AtMost (configuring config moment)) store last → HasRun lost g takes fits past
           (WhenShut choose config stop ahead ahead') first last
       shut_by takes given true ends = record {
@@ -253,8 +258,9 @@ module _ {D : Type 0} (g : Ghosts D) {M : Type 0} (fits : NamedItems → Type 0)
         given = given ends.orders ends.allowed;
         passes = over_mount mounted.run is.count ends.orders first mid last later is.most (all_mounted image mounted mid is) before
             ends.stood;
-        exit = λ image left. (fewer g fits mounted.run holds choose (given_all choose (take is.count h) ends.orders)
-            (length (take is.count h)) is.count mid last (omega (arith, taken is.count h is.most)) ends.stood).now image left;
+        committed = mid;
+        lasts = since_mount mounted.run is.count ends.orders first mid last later is.most (all_mounted image mounted mid is) before
+            ends.stood;
       }
       shut_by takes given false ends = record {
         count = is.count;
@@ -269,14 +275,14 @@ module _ {D : Type 0} (g : Ghosts D) {M : Type 0} (fits : NamedItems → Type 0)
         given = given ends.orders ends.allowed;
         passes = over_mount mounted.run is.count ends.orders first mid last later is.most (all_mounted image mounted mid is) before
             ends.all.stood;
-        exit = all_stand choose (given_all choose (take is.count h) ends.orders) is.count mounted.run store last ends.all.same_run
-            ends.all.hold;
+        committed = ends.committed;
+        lasts = ends.lasts;
       }
 
       pub stopped_by : (takes : TimedCommand → Type 0) →
           ((orders : List TimedCommand) → AtMost (configuring config moment) orders →
           AllByRecursion takes (given_all choose (take is.count h) orders)) →
-          Ends (loses stop) g fits holds (outset choose (take is.count h) is.count mounted.run mid)
+          Ends (loses stop) g fits holds (outset choose (take is.count h) is.count (length (take is.count h)) mounted.run mid)
           (AtMost (configuring config moment)) store last →
           HasShut stop g takes fits past (course config ahead ahead' first last)
       stopped_by takes given ends = inr (shut_by takes given (loses stop) ends)
@@ -333,9 +339,10 @@ module _ {D : Type 0} (g : Ghosts D) {M : Type 0} (fits : NamedItems → Type 0)
       AndGiven takes may orders = may orders × AllByRecursion takes (given_all choose begun orders)
 
       pub run_by : (takes : TimedCommand → Type 0) (store : Store M) (may : Doing) (lost : Bool) →
-          Ends lost g fits holds (outset choose begun opened.count mounted.run mid)
+          Ends lost g fits holds (outset choose begun opened.count (length begun) mounted.run mid)
           (AndGiven takes (λ orders. may (giving opened.count ahead' begun orders))) store last →
           HasRun lost g takes fits past (WhenOpen choose config ahead may) first last
+      unfolding over_opened
       run_by takes store may true ends = record {
         count = opened.count;
         least = opened.least;
@@ -348,7 +355,11 @@ module _ {D : Type 0} (g : Ghosts D) {M : Type 0} (fits : NamedItems → Type 0)
         allowed = when_open may ends.orders ends.allowed.0;
         given = ends.allowed.1;
         passes = over_opened ends.orders ends.stood;
-        exit = λ image left. (since ends.orders ends.stood).now image left;
+        committed = opened.passes.mounted;
+        lasts = record {
+          at_first = (over_opened ends.orders ends.stood).at_mount;
+          since = (over_opened ends.orders ends.stood).from_on;
+        };
       }
       run_by takes store may false ends = record {
         count = opened.count;
@@ -362,7 +373,8 @@ module _ {D : Type 0} (g : Ghosts D) {M : Type 0} (fits : NamedItems → Type 0)
         allowed = when_open may ends.orders ends.allowed.0;
         given = ends.allowed.1;
         passes = over_opened ends.orders ends.all.stood;
-        exit = all_stand choose (given_all choose begun ends.orders) opened.count mounted.run store last ends.all.same_run ends.all.hold;
+        committed = ends.committed;
+        lasts = ends.lasts;
       }
 
       -- ---- a task
@@ -371,7 +383,7 @@ module _ {D : Type 0} (g : Ghosts D) {M : Type 0} (fits : NamedItems → Type 0)
           (out out' : Option (List ℕ)) where
         pub done_when : (result : Result Unit Stop) (done : Unit) → result ≡ Ok done → IsFine choose begun task moment →
             HasPrinted HasWritten g choose begun task moment last out out' →
-            Ends (loses_in result) g fits holds (outset choose begun opened.count mounted.run mid)
+            Ends (loses_in result) g fits holds (outset choose begun opened.count (length begun) mounted.run mid)
             (Gave result (orders_in task moment)) store last →
             (takes : TimedCommand → Type 0) → ((orders : List TimedCommand) (moment : ℤ) → orders ≡ orders_in task moment →
             AllByRecursion takes (given_all choose begun orders)) →
@@ -384,12 +396,13 @@ module _ {D : Type 0} (g : Ghosts D) {M : Type 0} (fits : NamedItems → Type 0)
               record { moment = moment; orders_are = are; asked = asked; fine = fine; printed = printed },
               given orders moment are,
             ))
-            (subst (λ (r : Result Unit Stop). Ends (loses_in r) g fits holds (outset choose begun opened.count mounted.run mid)
+            (subst (λ (r : Result Unit Stop). Ends (loses_in r) g fits holds
+            (outset choose begun opened.count (length begun) mounted.run mid)
             (Gave r (orders_in task moment)) store last) is ends))
 
         pub halted_when : (result : Result Unit Stop) (stop : Stop) → result ≡ Err stop → IsWhy choose begun task moment stop →
             (says task stop ≡ true → HasPrinted HasBegun g choose begun task moment last out out') →
-            Ends (loses_in result) g fits holds (outset choose begun opened.count mounted.run mid)
+            Ends (loses_in result) g fits holds (outset choose begun opened.count (length begun) mounted.run mid)
             (Gave result (orders_in task moment)) store last →
             (takes : TimedCommand → Type 0) → ((orders : List TimedCommand) (moment : ℤ) →
             GaveAll (is_output stop) (orders_in task moment) orders → AllByRecursion takes (given_all choose begun orders)) →
@@ -404,7 +417,8 @@ module _ {D : Type 0} (g : Ghosts D) {M : Type 0} (fits : NamedItems → Type 0)
               record { moment = moment; orders_are = are; asked = asked; why = why; printed = printed },
               given orders moment are,
             ))
-            (subst (λ (r : Result Unit Stop). Ends (loses_in r) g fits holds (outset choose begun opened.count mounted.run mid)
+            (subst (λ (r : Result Unit Stop). Ends (loses_in r) g fits holds
+            (outset choose begun opened.count (length begun) mounted.run mid)
             (Gave r (orders_in task moment)) store last) is ends))
 
       -- ---- an input
@@ -412,7 +426,7 @@ module _ {D : Type 0} (g : Ghosts D) {M : Type 0} (fits : NamedItems → Type 0)
       module _ (store : Store M) (origin : ChannelMeta) (moment : ℤ) (ahead'' : Option Moments)
           (told : Told (Answered moment) ahead' ahead'') (left left' : Option (List ℕ)) where
         abbrev fed_of : (TimedCommand → Type 0) → Result Unit Stop → Type 0
-        fed_of takes result = Ends (loses_in result) g fits holds (outset choose begun opened.count mounted.run mid)
+        fed_of takes result = Ends (loses_in result) g fits holds (outset choose begun opened.count (length begun) mounted.run mid)
             (AndGiven takes (Fed choose opened.count begun origin moment result left left')) store last
 
         pub fed_when : (takes : TimedCommand → Type 0) (result : Result Unit Stop) → fed_of takes result →

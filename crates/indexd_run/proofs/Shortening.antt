@@ -21,7 +21,7 @@ use Rattle.ix_run.proofs.Given.{more_of, given_more}
 use Rattle.ix_run.proofs.Gone.{stood_on}
 use Rattle.ix_run.specs.Giving.{given_all, HasKeptAll}
 use Rattle.ix_run.specs.Resting.{ReadsShort, is_failed}
-use Rattle.ix_run.specs.Running.{AlwaysRecoverable}
+use Rattle.ix_run.specs.Running.{AlwaysRecoverable, outset}
 use Rattle.ix_run.specs.Storing.{IsBlock, begin_order, block_order, end_order, input_limit, is_run_cut}
 use Rattle.ix_run.specs.declared.giving.GiveFault.TheVariants.{Refused, Commit}
 use Rattle.ix_run.specs.declared.input.RunFault.{RunFault}
@@ -33,7 +33,7 @@ use Rattle.ix_run.proofs.Gone.{stands_from}
 use Rattle.ix_store.specs.Holding.{Represents}
 use Rattle.ix_store.specs.Written.{RecoversTo, RecoversToPrefix}
 use Rattle.ix_store.specs.declared.store.Store.{Store}
-use Rattle.indexd_run.specs.Ends.{IsLeft, Ends, AtMost, outset}
+use Rattle.indexd_run.specs.Ends.{IsLeft, Ends, AtMost}
 use Rattle.indexd_run.specs.Previews.{IsRead, HasTaken, IsWhy, Fed}
 use Rattle.indexd_run.specs.Shortened.{is_short_at, is_short, EndsShort, IsOfCheckpoint}
 use Rattle.indexd_run.specs.Stops.{of_checkpoint, of_run, loses, is_output}
@@ -120,8 +120,22 @@ module _ {D : Type 0} (g : Ghosts D) {M : Type 0} (fits : NamedItems → Type 0)
   IsHeld = (now : List TimedCommand) → AllByRecursion takes now → Represents g fits holds choose now base (length now) before mid →
       Represents g fits holds choose now base (length now) store last
 
+  -- every image behind a checkpoint has all
+  kept_since : HasImages → (orders : List TimedCommand) → AllByRecursion takes (given_all choose h orders) →
+      HasKeptAll g fits holds (outset choose h base (length h) run first) orders before mid →
+      AlwaysRecoverable g fits run choose (given_all choose h orders) (length (given_all choose h orders)) mid last
+  kept_since images orders all kept = always_weaker g mid last _ _ (λ image stands. from image stands)
+      (images (given_all choose h orders) all kept.hold)
+    where
+      from : (image : Image) → RecoversTo fits before.run choose (given_all choose h orders) image →
+          RecoversToPrefix fits run choose (given_all choose h orders) (length (given_all choose h orders)) image
+      from image stands = stands_from fits run before.run choose (given_all choose h orders) (length (given_all choose h orders))
+          (length (given_all choose h orders)) image (omega (arith, kept.same_run)) (omega arith) (omega arith)
+          (subst (λ (some : List TimedCommand). RecoversTo fits before.run choose some image) (sym (take_whole (given_all choose h orders)))
+          stands)
+
   kept_stood : HasImages → (orders : List TimedCommand) → AllByRecursion takes (given_all choose h orders) →
-      HasKeptAll g fits run holds choose h orders base (length h) before first mid →
+      HasKeptAll g fits holds (outset choose h base (length h) run first) orders before mid →
       AlwaysRecoverable g fits run choose (given_all choose h orders) (length h) first last
   kept_stood images orders all kept =
       always_on g first mid last (RecoversToPrefix fits run choose (given_all choose h orders) (length h)) kept.stood
@@ -144,8 +158,8 @@ module _ {D : Type 0} (g : Ghosts D) {M : Type 0} (fits : NamedItems → Type 0)
   pub ends_short : store.run ≡ before.run → HasImages → (lost : Bool) (may must : List TimedCommand → Type 0) →
       ((orders : List TimedCommand) → may orders → must orders) →
       ((orders : List TimedCommand) → may orders → AllByRecursion takes (given_all choose h orders)) →
-      (lost ≡ false → IsHeld) → IsLeft g fits holds (outset choose h base run first) may before mid →
-      Ends lost g fits holds (outset choose h base run first) must store last
+      (lost ≡ false → IsHeld) → IsLeft g fits holds (outset choose h base (length h) run first) may before mid →
+      Ends lost g fits holds (outset choose h base (length h) run first) must store last
   ends_short same images true may must so all held left =
       record {
         orders = left.orders;
@@ -160,6 +174,13 @@ module _ {D : Type 0} (g : Ghosts D) {M : Type 0} (fits : NamedItems → Type 0)
       same_run = same ∙ left.all.same_run;
       hold = held refl (given_all choose h left.orders) (all left.orders left.allowed) left.all.hold;
       stood = kept_stood images left.orders (all left.orders left.allowed) left.all;
+    };
+    committed = left.committed;
+    lasts = record {
+      at_first = left.lasts.at_first;
+      since = always_on g left.committed mid last
+          (RecoversToPrefix fits run choose (given_all choose h left.orders) (length (given_all choose h left.orders)))
+          left.lasts.since (kept_since images left.orders (all left.orders left.allowed) left.all);
     };
   }
 
@@ -178,16 +199,16 @@ module _ {D : Type 0} (g : Ghosts D) {M : Type 0} (fits : NamedItems → Type 0)
       ((orders : List TimedCommand) → may orders → AllByRecursion takes (given_all choose h orders)) →
       store.run ≡ before.run → (loses stop ≡ true → (other ≡ stop) × ((store ≡ before) × (last ≡ mid))) → (loses stop ≡ false → HasImages) →
       (loses stop ≡ false → loses other ≡ false → IsHeld) →
-      Ends (loses stop) g fits holds (outset choose h base run first) may before mid →
-      Ends (loses other) g fits holds (outset choose h base run first) must store last
+      Ends (loses stop) g fits holds (outset choose h base (length h) run first) may before mid →
+      Ends (loses other) g fits holds (outset choose h base (length h) run first) must store last
   stopped_short stop other may must so all same_run closed images held ends = by (loses stop) refl ends
     where
-      by : (lost : Bool) → loses stop ≡ lost → Ends lost g fits holds (outset choose h base run first) may before mid →
-          Ends (loses other) g fits holds (outset choose h base run first) must store last
+      by : (lost : Bool) → loses stop ≡ lost → Ends lost g fits holds (outset choose h base (length h) run first) may before mid →
+          Ends (loses other) g fits holds (outset choose h base (length h) run first) must store last
       by true is ends =
           let same = closed is in
           let lost : true ≡ loses other = sym (ap loses same.0 ∙ is) in
-          subst (λ (b : Bool). Ends b g fits holds (outset choose h base run first) must store last) lost
+          subst (λ (b : Bool). Ends b g fits holds (outset choose h base (length h) run first) must store last) lost
           (record {
             orders = ends.orders;
             allowed = so ends.orders ends.allowed;
@@ -200,8 +221,8 @@ module _ {D : Type 0} (g : Ghosts D) {M : Type 0} (fits : NamedItems → Type 0)
 pub ends_behind : {D : Type 0} (g : Ghosts D) {M : Type 0} (fits : NamedItems → Type 0) (run : ℕ) (holds : Chooser → List TimedCommand → M →
     Type 0) (choose : Chooser) (h : List TimedCommand) (base : ℕ) (store : Store M) (first mid last : D) (lost : Bool) →
     AlwaysRecoverable g fits run choose h (length h) first mid →
-    Ends lost g fits holds (outset choose h base run mid) (λ orders. orders ≡ []) store last →
-    Ends lost g fits holds (outset choose h base run first) (λ orders. orders ≡ []) store last
+    Ends lost g fits holds (outset choose h base (length h) run mid) (λ orders. orders ≡ []) store last →
+    Ends lost g fits holds (outset choose h base (length h) run first) (λ orders. orders ≡ []) store last
 ends_behind g fits run holds choose h base store first mid last true stood ends = record {
   orders = ends.orders;
   allowed = ends.allowed;
@@ -220,6 +241,8 @@ ends_behind g fits run holds choose h base store first mid last false stood ends
         (subst (λ (os : List TimedCommand). AlwaysRecoverable g fits run choose (given_all choose h os) (length h) first mid)
         (sym ends.allowed) stood) ends.all.stood;
   };
+  committed = ends.committed;
+  lasts = ends.lasts;
 }
 
 -- ---- settings

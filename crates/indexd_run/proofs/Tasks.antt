@@ -13,10 +13,12 @@ use Rattle.ix_model.specs.Step.{state_after}
 use Rattle.ix_model.specs.declared.commands.TimedCommand.{TimedCommand}
 use Rattle.ix_run.proofs.Gone.{stood_here}
 use Rattle.ix_run.specs.Giving.{AreAllowed}
+use Rattle.ix_run.specs.Running.{outset}
 use Rattle.ix_store.specs.Counting.{numbers}
 use Rattle.ix_store.specs.Holding.{Represents}
 use Rattle.ix_store.specs.declared.store.Store.{Store}
-use Rattle.indexd_run.specs.Ends.{IsLeft, Ends, AtMost, outset}
+use Rattle.indexd_run.specs.Ends.{IsLeft, Ends, AtMost}
+use Rattle.indexd_run.proofs.Leaving.{left_all}
 use Rattle.indexd_run.specs.Stops.{loses, loses_in, is_output, is_input}
 use Rattle.indexd_run.specs.Tasks.{GaveAll, Gave, Writing, HasSaid, HasPrinted, is_export, says, IsUnnamed, IsUnsaid}
 use Rattle.indexd_run.specs.declared.task.Task.{Task}
@@ -127,26 +129,33 @@ output_of result stop is output = is ∙ ap stopped_at (output_is stop output)
 module _ {D : Type 0} (g : Ghosts D) {M : Type 0} (fits : NamedItems → Type 0) (run : ℕ) (holds : Chooser → List TimedCommand → M →
     Type 0) (choose : Chooser) (h : List TimedCommand) (base : ℕ) (store : Store M) (first last : D) where
   pub left_weaker : (may must : List TimedCommand → Type 0) → ((orders : List TimedCommand) → may orders → must orders) →
-      IsLeft g fits holds (outset choose h base run first) may store last →
-      IsLeft g fits holds (outset choose h base run first) must store last
-  left_weaker may must so left = record { orders = left.orders; allowed = so left.orders left.allowed; all = left.all }
+      IsLeft g fits holds (outset choose h base (length h) run first) may store last →
+      IsLeft g fits holds (outset choose h base (length h) run first) must store last
+  left_weaker may must so left = record {
+    orders = left.orders;
+    allowed = so left.orders left.allowed;
+    all = left.all;
+    committed = left.committed;
+    lasts = left.lasts;
+  }
 
   pub ends_weaker : (lost : Bool) (may must : List TimedCommand → Type 0) → ((orders : List TimedCommand) → may orders → must orders) →
-      Ends lost g fits holds (outset choose h base run first) may store last →
-      Ends lost g fits holds (outset choose h base run first) must store last
+      Ends lost g fits holds (outset choose h base (length h) run first) may store last →
+      Ends lost g fits holds (outset choose h base (length h) run first) must store last
   ends_weaker true may must so ends = record { orders = ends.orders; allowed = so ends.orders ends.allowed; stood = ends.stood }
   ends_weaker false may must so ends = left_weaker may must so ends
 
   pub ends_safe : (lost : Bool) (may : List TimedCommand → Type 0) → lost ≡ false →
-      IsLeft g fits holds (outset choose h base run first) may store last →
-      Ends lost g fits holds (outset choose h base run first) may store last
-  ends_safe lost may safe left = subst (λ (b : Bool). Ends b g fits holds (outset choose h base run first) may store last) (sym safe) left
+      IsLeft g fits holds (outset choose h base (length h) run first) may store last →
+      Ends lost g fits holds (outset choose h base (length h) run first) may store last
+  ends_safe lost may safe left = subst (λ (b : Bool). Ends b g fits holds (outset choose h base (length h) run first) may store last)
+      (sym safe) left
 
   -- what was given stays given when its text is written, or is not
   pub said : (count : ℕ) (result : Result Unit Stop) (all : List TimedCommand) (task : Task) (view : View) →
       IfErr result (λ stop. IsUnsaid task view stop) →
-      IsLeft g fits holds (outset choose h base run first) (Gave {T = ℕ} (Ok count) all) store last →
-      Ends (loses_in result) g fits holds (outset choose h base run first) (Gave result all) store last
+      IsLeft g fits holds (outset choose h base (length h) run first) (Gave {T = ℕ} (Ok count) all) store last →
+      Ends (loses_in result) g fits holds (outset choose h base (length h) run first) (Gave result all) store last
   said count (Ok done) all task view safe left = left_weaker (Gave {T = ℕ} (Ok count) all) (Gave {T = Unit} (Ok done) all) (λ orders is. is)
       left
   said count (Err stop) all task view unsaid left =
@@ -158,14 +167,12 @@ module _ {D : Type 0} (g : Ghosts D) {M : Type 0} (fits : NamedItems → Type 0)
 pub none_given : {D : Type 0} (g : Ghosts D) {M : Type 0} (fits : NamedItems → Type 0) (holds : Chooser → List TimedCommand → M →
     Type 0) (choose : Chooser) (h : List TimedCommand) (base : ℕ) (store : Store M) (disk : D) (may : List TimedCommand → Type 0) →
     may [] → Represents g fits holds choose h base (length h) store disk →
-    IsLeft g fits holds (outset choose h base store.run disk) may store disk
-none_given g fits holds choose h base store disk may so hold = record {
-  orders = [];
-  allowed = so;
-  all = record {
-    allowed = tt;
-    same_run = refl;
-    hold = hold;
-    stood = stood_here g fits store.run holds choose h base (length h) (length h) store disk refl (omega arith) hold;
-  };
-}
+    IsLeft g fits holds (outset choose h base (length h) store.run disk) may store disk
+none_given g fits holds choose h base store disk may so hold =
+    left_all g fits holds (outset choose h base (length h) store.run disk) may [] store disk so
+    (record {
+      allowed = tt;
+      same_run = refl;
+      hold = hold;
+      stood = stood_here g fits store.run holds choose h base (length h) (length h) store disk refl (omega arith) hold;
+    })

@@ -7,35 +7,26 @@ use Rattle.ix_model.specs.Given.{Chooser}
 use Rattle.ix_model.specs.declared.commands.TimedCommand.{TimedCommand}
 use Rattle.ix_store.specs.declared.store.Store.{Store}
 use Rattle.ix_run.specs.Giving.{given_all, HasKeptAll}
-use Rattle.ix_run.specs.Running.{AlwaysRecoverable}
+use Rattle.ix_run.specs.Running.{AlwaysRecoverable, StandsFrom, Outset}
 
--- What commands begin with over a store of which all is committed: the history that store and disk
--- hold, of which the first `base` commands were there when the store was mounted; the number of the
--- run; and the disk.
-pub record Outset (D : Type 0) : Type 0 where
-  pub choose : Chooser
-  pub history : List TimedCommand
-  pub base : ℕ
-  pub run : ℕ
-  pub disk : D
-
-abbrev pub outset : {D : Type 0} → Chooser → List TimedCommand → ℕ → ℕ → D → Outset D
-outset choose history base run disk = record { choose = choose; history = history; base = base; run = run; disk = disk }
-
--- Commands such as these were accepted behind the history in this run, and all are committed; every
--- image since has all of the history.
+-- Commands such as these were accepted behind a history in this run, and all are committed; every
+-- image since has all that was committed before, and from the disk behind the last commit on every
+-- image has all.
 pub record IsLeft {D : Type 0} (d : Ghosts D) {M : Type 0} (fits : NamedItems → Type 0) (holds : Chooser → List TimedCommand → M → Type 0)
     (s : Outset D) (may : List TimedCommand → Type 0) (store : Store M) (disk : D) : Type 0 where
   pub orders : List TimedCommand
   pub allowed : may orders
-  pub all : HasKeptAll d fits s.run holds s.choose s.history orders s.base (length s.history) store s.disk disk
+  pub all : HasKeptAll d fits holds s orders store disk
+  pub committed : D
+  pub lasts : StandsFrom d fits s.run s.choose (given_all s.choose s.history orders) (length (given_all s.choose s.history orders))
+      committed disk
 
 -- The same where it is not known what of them is committed.
 pub record HasLasted {D : Type 0} (d : Ghosts D) (fits : NamedItems → Type 0) (s : Outset D) (may : List TimedCommand → Type 0) (disk : D) :
     Type 0 where
   pub orders : List TimedCommand
   pub allowed : may orders
-  pub stood : AlwaysRecoverable d fits s.run s.choose (given_all s.choose s.history orders) (length s.history) s.disk disk
+  pub stood : AlwaysRecoverable d fits s.run s.choose (given_all s.choose s.history orders) s.kept s.disk disk
 
 -- by whether what was accepted may be lost
 abbrev pub Ends : Bool → {D : Type 0} → Ghosts D → {M : Type 0} → (NamedItems → Type 0) → (Chooser → List TimedCommand → M → Type 0) →

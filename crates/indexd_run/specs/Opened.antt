@@ -14,6 +14,7 @@ use Rattle.ix_model.specs.declared.commands.Command.TheVariants.{Configure}
 use Rattle.ix_model.specs.declared.commands.Config.{Config}
 use Rattle.ix_model.specs.declared.commands.TimedCommand.{TimedCommand}
 use Rattle.ix_run.specs.Giving.{given_all}
+use Rattle.ix_run.specs.Running.{StandsFrom}
 use Rattle.ix_store.specs.Holding.{Represents}
 use Rattle.ix_store.specs.Written.{IsNextRun, RecoversToPrefix}
 use Rattle.ix_store.specs.declared.fault.MountFault.{MountFault}
@@ -157,18 +158,21 @@ pub record HasOpened {D : Type 0} (d : Ghosts D) {M : Type 0} (fits : NamedItems
   pub configures : Configures (is_configured past.choose (take count past.history) run.config) run.config configured
   pub asked : Asks configured run.ahead run.ahead'
   pub runs_left : HasRunsLeft d fits run.before
-  pub hold : Represents d fits holds past.choose (mounted_with past count configured) count (length (mounted_with past count configured)) store run.disk
+  pub hold : Represents d fits holds past.choose (mounted_with past count configured) count
+      (length (mounted_with past count configured)) store run.disk
   pub number : IsNewRun d fits store.run run.before
   pub passes : Passes d fits past (mounted_with past count configured) store.run count run.before run.disk
 
--- how many of all commands every image at the exit has: all, or where the disk failed those that
--- were mounted
+-- how many of all commands every image has behind the last commit: all, or where the disk failed
+-- those that were mounted
 abbrev pub lasting : Bool → ℕ → ℕ → ℕ
 lasting true mounted all = mounted
 lasting false mounted all = all
 
 -- A run has mounted the first `count` commands of the history, put settings in force, and given
--- orders. It has a new number, and so has every image from the mount on, or a later one.
+-- orders. It has a new number, and so has every image from the mount on, or a later one. From the
+-- disk behind the last commit on every image has all commands; or where the disk failed, from the
+-- mount on those that were mounted.
 pub record HasRun (lost : Bool) {D : Type 0} (d : Ghosts D) (takes : TimedCommand → Type 0) (fits : NamedItems → Type 0) (past : Past)
     (may : List TimedCommand → List TimedCommand → List TimedCommand → Type 0) (before disk : D) : Type 0 where
   pub count : ℕ
@@ -183,9 +187,9 @@ pub record HasRun (lost : Bool) {D : Type 0} (d : Ghosts D) (takes : TimedComman
   pub allowed : may (take count past.history) configured orders
   pub given : AllByRecursion takes (given_all past.choose (mounted_with past count configured) orders)
   pub passes : Passes d fits past (given_all past.choose (mounted_with past count configured) orders) new_run count before disk
-  pub exit : (image : Image) → d.may_leave disk image →
-      RecoversToPrefix fits new_run past.choose (given_all past.choose (mounted_with past count configured) orders)
-      (lasting lost count (length (given_all past.choose (mounted_with past count configured) orders))) image
+  pub committed : D
+  pub lasts : StandsFrom d fits new_run past.choose (given_all past.choose (mounted_with past count configured) orders)
+      (lasting lost count (length (given_all past.choose (mounted_with past count configured) orders))) committed disk
 
 -- Nothing was mounted: the clock was not asked, and every image stands for what was there, and for
 -- no earlier run. A store is full then where, as the disk reads, no further run is left; with one

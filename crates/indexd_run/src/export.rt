@@ -11,10 +11,11 @@ ghost use Rattle.ix_model.specs.Given.{Chooser};
 ghost use Rattle.ix_model.specs.Step.{state_after};
 ghost use Rattle.ix_model.specs.declared.commands.TimedCommand.{TimedCommand};
 ghost use Rattle.ix_run.specs.Resting.{CheckpointReady, ReadsShort};
+ghost use Rattle.ix_run.specs.Running.{outset};
 ghost use Rattle.ix_store.specs.Exporting.{is_seen};
 ghost use Rattle.ix_store.specs.Holding.{Represents};
 ghost use Rattle.indexd_run.specs.Blamed.{ReadsBad};
-ghost use Rattle.indexd_run.specs.Ends.{Ends, outset};
+ghost use Rattle.indexd_run.specs.Ends.{Ends};
 ghost use Rattle.indexd_run.specs.Shortened.{is_short};
 ghost use Rattle.indexd_run.specs.Stops.{loses_in, is_input};
 ghost use Rattle.indexd_run.specs.Tasks.{HasExported, IsUnexported};
@@ -36,7 +37,7 @@ fn write_lines<M: StoreMemory + Drop, D: Disk, W: Sink>(
 ) -> Result<(), Stop>
     ensures ends { (choose : Chooser) (history : List TimedCommand) (base : ℕ) →
         Represents D.Disk M.Book.fits M.holds choose history base (length history) store.old disk.old →
-        Ends (loses_in result) D.Disk M.Book.fits M.holds (outset choose history base store.old.run disk.old)
+        Ends (loses_in result) D.Disk M.Book.fits M.holds (outset choose history base (length history) store.old.run disk.old)
         (λ orders. orders ≡ []) store.new disk.new }
     // An index is exported where it is seen, and missed exactly where it is not.
     ensures fine { OnOk result ((choose : Chooser) (history : List TimedCommand) (base : ℕ) →
@@ -84,7 +85,7 @@ pub(crate) fn export<M: Listing + Drop, D: Disk, W: Sink>(
     requires { CheckpointReady D.Disk store.old.committer disk.old }
     ensures ends { (choose : Chooser) (history : List TimedCommand) (base : ℕ) → M.is_chooser choose → AllByRecursion M.takes history →
         Represents D.Disk M.Book.fits M.holds choose history base (length history) store.old disk.old →
-        Ends (loses_in result) D.Disk M.Book.fits M.holds (outset choose history base store.old.run disk.old)
+        Ends (loses_in result) D.Disk M.Book.fits M.holds (outset choose history base (length history) store.old.run disk.old)
         (λ orders. orders ≡ []) store.new disk.new }
     // An index is exported where it is seen, and missed exactly where it is not.
     ensures fine { OnOk result ((choose : Chooser) (history : List TimedCommand) (base : ℕ) → M.is_chooser choose →

@@ -1,6 +1,6 @@
 //! How a run ends that has mounted a store: behind its last commit the log is made short where it
 //! is long, whatever the run stops for, and before its text is written. `opening`, `run`, `export`
-//! and `preview` call it.
+//! and `preview` call it, and so does every run over a store that another crate makes.
 
 ghost use Rattle.std.specs.Prelude.{◌≡◌, ◌≤◌, ◌⊎◌, ℕ, List, length, true, false, OnOk, IfErr, IsErrOf};
 ghost use Rattle.std.specs.List.{AllByRecursion};
@@ -23,7 +23,7 @@ use ix_store::{Listing, Store};
 
 /// Makes the log of a store short where it is long. All is committed before, and all is held still,
 /// unless the disk fails.
-pub(crate) fn make_short<M: Listing + Drop, D: Disk>(
+pub fn make_short<M: Listing + Drop, D: Disk>(
     store: &mut Store<M>,
     disk: &mut D,
 ) -> Result<(), Stop>

@@ -13,10 +13,10 @@ mod stop;
 mod task;
 mod texts;
 
-pub use finish::stop_run;
+pub use finish::{make_short, stop_run};
 pub use opening::open;
 pub use preview::run_preview;
 pub use run::run_task;
 pub use single::run_last;
-pub use stop::Stop;
+pub use stop::{Stop, of_give};
 pub use task::Task;

@@ -12,9 +12,10 @@ ghost use Rattle.ix_model.specs.Given.{Chooser};
 ghost use Rattle.ix_model.specs.declared.commands.TimedCommand.{TimedCommand};
 ghost use Rattle.ix_run.specs.Storing.{begin_order, block_order, end_order, IsBlock};
 ghost use Rattle.ix_run.specs.Resting.{CheckpointReady, ReadsShort};
+ghost use Rattle.ix_run.specs.Running.{outset};
 ghost use Rattle.ix_store.specs.Holding.{Represents};
 ghost use Rattle.indexd_run.specs.Blamed.{Blames, ReadsBad};
-ghost use Rattle.indexd_run.specs.Ends.{Ends, outset};
+ghost use Rattle.indexd_run.specs.Ends.{Ends};
 ghost use Rattle.indexd_run.specs.Opened.{Begins, configuring, WhenOpen, HasRun, HasStopped, Past, course};
 ghost use Rattle.indexd_run.specs.Previews as defs;
 ghost use Rattle.indexd_run.specs.Previews.{HasTaken, Fed, HasFed};
@@ -58,7 +59,7 @@ fn store_all<M: Listing + Drop, D: Disk, S: Source>(
     ensures rest { loses_in result ≡ false → CheckpointReady D.Disk store.new.committer disk.new }
     ensures ends { (choose : Chooser) (history : List TimedCommand) (base : ℕ) → M.is_chooser choose → AllByRecursion M.takes history →
         Represents D.Disk M.Book.fits M.holds choose history base (length history) store.old disk.old →
-        Ends (loses_in result) D.Disk M.Book.fits M.holds (outset choose history base store.old.run disk.old)
+        Ends (loses_in result) D.Disk M.Book.fits M.holds (outset choose history base (length history) store.old.run disk.old)
         (Fed choose base history arrival.origin arrival.moment result (S.left input.old) (S.left input.new)) store.new disk.new }
     ensures read { HasTaken result (S.left input.old) (S.left input.new) }
     ensures quiet { IfErr result (λ stop. is_output stop ≡ false) }
@@ -96,7 +97,7 @@ fn store_preview<M: Listing + Drop, D: Disk, S: Source>(
     requires adds { (bytes : List ℕ) → IsBlock bytes → M.takes (block_order arrival.moment bytes) }
     ensures ends { (choose : Chooser) (history : List TimedCommand) (base : ℕ) → M.is_chooser choose → AllByRecursion M.takes history →
         Represents D.Disk M.Book.fits M.holds choose history base (length history) store.old disk.old →
-        Ends (loses_in result) D.Disk M.Book.fits M.holds (outset choose history base store.old.run disk.old)
+        Ends (loses_in result) D.Disk M.Book.fits M.holds (outset choose history base (length history) store.old.run disk.old)
         (Fed choose base history arrival.origin arrival.moment result (S.left input.old) (S.left input.new)) store.new disk.new }
     ensures read { HasTaken result (S.left input.old) (S.left input.new) }
     ensures quiet { IfErr result (λ stop. is_output stop ≡ false) }
@@ -144,7 +145,8 @@ pub fn run_preview<M: Listing + Drop, D: Disk, C: Clock, S: Source>(
     ensures stopped { IfErr result (λ stop. (past : Past) → M.is_chooser past.choose → AllByRecursion M.takes past.history →
         Begins D.Disk M.Book.fits past disk.old → (image : Image) → D.Disk.seen disk.old ≡ Some image →
         HasStopped stop D.Disk M.takes M.Book.fits past (course config (C.ahead clock.old) (C.ahead clock.new) disk.old disk.new)
-        (S.left input.new ≡ S.left input.old) (HasFed past.choose origin result (C.ahead clock.new) (S.left input.old) (S.left input.new))) }
+        (S.left input.new ≡ S.left input.old)
+        (HasFed past.choose origin result (C.ahead clock.new) (S.left input.old) (S.left input.new))) }
     // What is on the disk is not damaged where it keeps what was committed and tells what it reads,
     ensures undamaged { (file : File) (at : ℕ) → result ≡ Err (Stop.Damaged file at) → (past : Past) → M.is_chooser past.choose →
         AllByRecursion M.takes past.history → Begins D.Disk M.Book.fits past disk.old → (image : Image) →

@@ -12,10 +12,11 @@ ghost use Rattle.ix_model.specs.Given.{Chooser};
 ghost use Rattle.ix_model.specs.Step.{state_after};
 ghost use Rattle.ix_model.specs.declared.commands.TimedCommand.{TimedCommand};
 ghost use Rattle.ix_run.specs.Resting.{CheckpointReady, ReadsShort};
+ghost use Rattle.ix_run.specs.Running.{outset};
 ghost use Rattle.ix_store.specs.Holding.{Represents};
 ghost use Rattle.indexd_run.specs.Asked.{Asks};
 ghost use Rattle.indexd_run.specs.Blamed.{Blames, ReadsBad};
-ghost use Rattle.indexd_run.specs.Ends.{Ends, outset};
+ghost use Rattle.indexd_run.specs.Ends.{Ends};
 ghost use Rattle.indexd_run.specs.Opened.{Begins, configuring, WhenOpen, HasRun, HasStopped, Past, course};
 ghost use Rattle.indexd_run.specs.Shortened.{is_short, EndsShort};
 ghost use Rattle.indexd_run.specs.Stops.{loses_in, is_output, is_input};
@@ -59,7 +60,7 @@ fn give_command<M: Listing + Drop, D: Disk>(
     ensures rest { loses_in result ≡ false → CheckpointReady D.Disk store.new.committer disk.new }
     ensures ends { (choose : Chooser) (history : List TimedCommand) (base : ℕ) → M.is_chooser choose → AllByRecursion M.takes history →
         Represents D.Disk M.Book.fits M.holds choose history base (length history) store.old disk.old →
-        Ends (loses_in result) D.Disk M.Book.fits M.holds (outset choose history base store.old.run disk.old)
+        Ends (loses_in result) D.Disk M.Book.fits M.holds (outset choose history base (length history) store.old.run disk.old)
         (Gave result (orders_in task.entry moment)) store.new disk.new }
     ensures moved { IfOk result (λ count. (choose : Chooser) (history : List TimedCommand) (base : ℕ) → M.is_chooser choose →
         AllByRecursion M.takes history →
@@ -108,7 +109,7 @@ fn give_task<M: Listing + Drop, D: Disk>(
     requires takes { AllByRecursion M.takes (orders_in task moment) }
     ensures ends { (choose : Chooser) (history : List TimedCommand) (base : ℕ) → M.is_chooser choose → AllByRecursion M.takes history →
         Represents D.Disk M.Book.fits M.holds choose history base (length history) store.old disk.old →
-        Ends (loses_in result) D.Disk M.Book.fits M.holds (outset choose history base store.old.run disk.old)
+        Ends (loses_in result) D.Disk M.Book.fits M.holds (outset choose history base (length history) store.old.run disk.old)
         (Gave result (orders_in task.entry moment)) store.new disk.new }
     ensures moved { IfOk result (λ count. (choose : Chooser) (history : List TimedCommand) (base : ℕ) → M.is_chooser choose →
         AllByRecursion M.takes history →
@@ -157,7 +158,7 @@ fn give_and_say<M: Listing + Drop, D: Disk, W: Sink>(
     requires takes { AllByRecursion M.takes (orders_in task moment) }
     ensures ends { (choose : Chooser) (history : List TimedCommand) (base : ℕ) → M.is_chooser choose → AllByRecursion M.takes history →
         Represents D.Disk M.Book.fits M.holds choose history base (length history) store.old disk.old →
-        Ends (loses_in result) D.Disk M.Book.fits M.holds (outset choose history base store.old.run disk.old)
+        Ends (loses_in result) D.Disk M.Book.fits M.holds (outset choose history base (length history) store.old.run disk.old)
         (Gave result (orders_in task.entry moment)) store.new disk.new }
     ensures printed { OnOk result ((choose : Chooser) (history : List TimedCommand) (base : ℕ) → M.is_chooser choose →
         AllByRecursion M.takes history →
@@ -208,7 +209,7 @@ fn carry_out<M: Listing + Drop, D: Disk, W: Sink>(
     requires takes { AllByRecursion M.takes (orders_in task moment) }
     ensures ends { (choose : Chooser) (history : List TimedCommand) (base : ℕ) → M.is_chooser choose → AllByRecursion M.takes history →
         Represents D.Disk M.Book.fits M.holds choose history base (length history) store.old disk.old →
-        Ends (loses_in result) D.Disk M.Book.fits M.holds (outset choose history base store.old.run disk.old)
+        Ends (loses_in result) D.Disk M.Book.fits M.holds (outset choose history base (length history) store.old.run disk.old)
         (Gave result (orders_in task.entry moment)) store.new disk.new }
     ensures printed { OnOk result ((choose : Chooser) (history : List TimedCommand) (base : ℕ) → M.is_chooser choose →
         AllByRecursion M.takes history →

@@ -11,9 +11,10 @@ ghost use Rattle.ix_commit.specs.Snapshot.{LogsAtEnd};
 ghost use Rattle.ix_model.specs.Given.{Chooser};
 ghost use Rattle.ix_model.specs.declared.commands.TimedCommand.{TimedCommand};
 ghost use Rattle.ix_run.specs.Resting.{CheckpointReady};
+ghost use Rattle.ix_run.specs.Running.{outset};
 ghost use Rattle.ix_store.specs.Holding.{Represents, IsAnswer};
 ghost use Rattle.indexd_run.specs.Blamed.{ReadsBad};
-ghost use Rattle.indexd_run.specs.Ends.{IsLeft, Ends, Only, AtMost, outset};
+ghost use Rattle.indexd_run.specs.Ends.{IsLeft, Ends, Only, AtMost};
 ghost use Rattle.indexd_run.specs.Stops.{loses, loses_in, is_output, is_input, Caused};
 
 use crate::stop::{Stop, of_give};
@@ -34,7 +35,7 @@ pub fn run_last<M: Listing + Drop, D: Disk>(
     // The command is behind the others, and all are committed.
     ensures left { OnOk result ((choose : Chooser) (history : List TimedCommand) (base : ℕ) → M.is_chooser choose →
         AllByRecursion M.takes history → Represents D.Disk M.Book.fits M.holds choose history base (length history) store.old disk.old →
-        IsLeft D.Disk M.Book.fits M.holds (outset choose history base store.old.run disk.old)
+        IsLeft D.Disk M.Book.fits M.holds (outset choose history base (length history) store.old.run disk.old)
         (Only (record { command = command; moment = moment })) store.new disk.new) }
     ensures answers { IfOk result (λ answer. (choose : Chooser) (history : List TimedCommand) (base : ℕ) → M.is_chooser choose →
         AllByRecursion M.takes history →
@@ -44,7 +45,7 @@ pub fn run_last<M: Listing + Drop, D: Disk>(
     // no case is anything of before lost.
     ensures stopped { IfErr result (λ stop. (choose : Chooser) (history : List TimedCommand) (base : ℕ) → M.is_chooser choose →
         AllByRecursion M.takes history → Represents D.Disk M.Book.fits M.holds choose history base (length history) store.old disk.old →
-        Ends (loses stop) D.Disk M.Book.fits M.holds (outset choose history base store.old.run disk.old)
+        Ends (loses stop) D.Disk M.Book.fits M.holds (outset choose history base (length history) store.old.run disk.old)
         (AtMost (record { command = command; moment = moment })) store.new disk.new) }
     // It has a cause.
     ensures caused { IfErr result (λ stop. (choose : Chooser) (history : List TimedCommand) (base : ℕ) → M.is_chooser choose →

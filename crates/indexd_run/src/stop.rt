@@ -117,7 +117,8 @@ pub fn of_checkpoint(fault: CheckpointFault) -> Stop
     }
 }
 
-/// Why a command was not given.
+/// Why a run stops whose command was not given: as for what the store refused it for, or as for what
+/// the disk failed at.
 pub fn of_give(fault: GiveFault) -> Stop
     ensures { result ≡ defs.of_give fault }
 {

@@ -1,7 +1,7 @@
 -- A checkpoint behind requests changes nothing of what was answered: every image since stands for
 -- all that was accepted.
-use Rattle.std.proofs.Common.{◌≡◌, ◌≤◌, ◌∙◌, ℕ, true, false, List, [], ◌∷◌, length, refl, sym, ap, subst, arith, inl, inr, Option, Result}
-use Rattle.std.proofs.Common.{Ok, Err, length-append}
+use Rattle.std.proofs.Common.{◌≡◌, ◌≤◌, ◌∙◌, ℕ, true, false, List, length, refl, sym, ap, subst, arith, inl, inr, Option, Result}
+use Rattle.std.proofs.Common.{Ok, Err}
 use Rattle.std.specs.Prelude.{OnOk}
 use Rattle.std.specs.List.{AllByRecursion}
 use Rattle.std.proofs.lemmas.Bool.{false≢true}
@@ -19,7 +19,8 @@ use Rattle.ix_sessions.proofs.Turning.{safe_turns}
 use Rattle.ix_sessions.proofs.Visiting.{safe_visits}
 use Rattle.ix_sessions.specs.Connections as connections
 use Rattle.ix_sessions.specs.Connections.{Listened, Listens, turns_of, hearing}
-use Rattle.ix_sessions.specs.Feeding.{AreSafe, Has, Kind, Start, coming, Turn, Runs, disk_after, history_after, known, is_open_end, talk}
+use Rattle.ix_serve.specs.Kinds.{Kind}
+use Rattle.ix_sessions.specs.Feeding.{AreSafe, Has, Start, coming, Turn, Runs, disk_after, history_after, known, is_open_end, talk}
 use Rattle.ix_sessions.specs.declared.feed.Fed.{Fed}
 use Rattle.ix_sessions.specs.declared.feed.Fed.TheVariants as fed
 use Rattle.ix_sessions.specs.declared.serve.Heard.{Heard}

@@ -15,7 +15,6 @@ use Rattle.ix_model.specs.Given.{Chooser}
 use Rattle.ix_model.specs.declared.commands.Config.{Config}
 use Rattle.ix_model.specs.declared.commands.TimedCommand.{TimedCommand}
 use Rattle.ix_run.proofs.Gone.{longer, stands_from}
-use Rattle.ix_run.specs.Giving.{given_all}
 use Rattle.ix_store.specs.Written.{RecoversToPrefix}
 use Rattle.ix_store.specs.declared.fault.MountFault.TheVariants as mounts
 use Rattle.ix_store.specs.declared.store.Store.{Store}

@@ -15,6 +15,7 @@ ghost use Rattle.ix_run.specs.Resting.{CheckpointReady, ReadsShort};
 ghost use Rattle.ix_serve.specs.Serving.{IsClean, IsTold};
 ghost use Rattle.ix_serve.specs.Taking.{TakesAsks};
 ghost use Rattle.ix_store.specs.Holding.{Represents};
+ghost use Rattle.ix_store.specs.Placing as places;
 ghost use Rattle.indexd_run.specs.Blamed.{HasMounted, Blames, ReadsBad};
 ghost use Rattle.indexd_run.specs.Opened.{Begins, configuring, HasShut, Past, course};
 ghost use Rattle.indexd_run.specs.Shortened.{StopsShort};
@@ -58,7 +59,8 @@ fn feed_open<M: Listing + Drop, D: Disk, C: Clock, K: Link>(
         (choose : Chooser) (history : List TimedCommand) (base : ℕ) → M.is_chooser choose →
         AllByRecursion M.takes history → Represents D.Disk M.Book.fits M.holds choose history base (length history) store.old disk.old →
         (image : Image) → D.Disk.seen disk.old ≡ Some image → ⊥ }
-    ensures placed { (file : File) (at : ℕ) → result ≡ Fed.Broken (CommitFault.Damaged file at) → ReadsBad D.Disk disk.new file at }
+    ensures placed { (file : File) (at : ℕ) → result ≡ Fed.Broken (CommitFault.Damaged file at) →
+        places.ReadsBad D.Disk (M.shown store.new.memory) disk.new file at }
     ensures short { ends.is_short result ≡ true → ReadsShort D.Disk disk.new }
     ensures goes { LinkStep (K.standing link.old) (K.standing link.new) }
     ensures told { IsTold D.Disk disk.old → IsTold D.Disk disk.new }

@@ -24,7 +24,7 @@ use Rattle.ix_run.specs.declared.giving.GiveFault.{GiveFault}
 use Rattle.ix_run.specs.declared.giving.GiveFault.TheVariants as faults
 use Rattle.ix_run.proofs.Faults.{refused_uncut}
 use Rattle.ix_run.proofs.Stored.{gives_on, given_none, halted_none, all_taken}
-use Rattle.ix_pass.specs.Giving.{Went, Tried, order_at}
+use Rattle.ix_pass.specs.Giving.{Went, Tried, order_at, kind, change}
 use Rattle.ix_watch.specs.Passes.{Asks}
 use Rattle.ix_watch.specs.Watching.{command_of}
 
@@ -37,7 +37,7 @@ module _ {D : Type 0} (d : Ghosts D) {M : Type 0} (is_chooser : Chooser → Type
     (ticks : (moment : ℤ) → takes (record { command = Tick; moment = moment })) where
   -- nothing was given
   pub went_none : (store : Store M) (disk : D) → LogsAtEnd d store.committer disk →
-      Went d is_chooser takes fits holds (Ok tt) [] store disk store disk
+      Went d (kind is_chooser takes fits holds) (Ok tt) [] (change store disk store disk)
   went_none store disk over = record {
     taken = tt;
     given = λ choose h base k chooser taken hold. given_none d fits store.run holds choose h base k store disk refl hold;
@@ -55,7 +55,7 @@ module _ {D : Type 0} (d : Ghosts D) {M : Type 0} (is_chooser : Chooser → Type
 
   -- for want of memory one was not given
   pub went_short : (store : Store M) (disk : D) (order : TimedCommand) → takes order → LogsAtEnd d store.committer disk →
-      Went d is_chooser takes fits holds (Err (faults.Refused refusals.NoMemory)) (order ∷ []) store disk store disk
+      Went d (kind is_chooser takes fits holds) (Err (faults.Refused refusals.NoMemory)) (order ∷ []) (change store disk store disk)
   went_short store disk order own over = record {
     taken = (own, tt);
     given = λ choose h base k chooser taken hold. halted_none d fits store.run holds choose h base k store disk order [] refl hold;
@@ -70,8 +70,9 @@ module _ {D : Type 0} (d : Ghosts D) {M : Type 0} (is_chooser : Chooser → Type
 
   -- others were given behind them
   pub went_on : (result : Result Unit GiveFault) (a b : List TimedCommand) (s0 s1 s2 : Store M) (d0 d1 d2 : D) →
-      Went d is_chooser takes fits holds (Ok tt) a s0 d0 s1 d1 → Went d is_chooser takes fits holds result b s1 d1 s2 d2 →
-      Went d is_chooser takes fits holds result (a ++ b) s0 d0 s2 d2
+      Went d (kind is_chooser takes fits holds) (Ok tt) a (change s0 d0 s1 d1) → Went d (kind is_chooser takes fits holds) result b
+      (change s1 d1 s2 d2) →
+      Went d (kind is_chooser takes fits holds) result (a ++ b) (change s0 d0 s2 d2)
   went_on result a b s0 s1 s2 d0 d1 d2 one two = record {
     taken = all_more takes a b one.taken two.taken;
     given = λ choose h base k chooser taken hold.
@@ -93,9 +94,9 @@ module _ {D : Type 0} (d : Ghosts D) {M : Type 0} (is_chooser : Chooser → Type
   -- the same of commands that are tried
   pub tried_on : (all : Bool) (result : Result Unit GiveFault) (a b : List Command) (x y z : Option Moments) (s0 s1 s2 : Store M)
       (d0 d1 d2 : D) →
-      Tried true a x y (λ orders. Went d is_chooser takes fits holds (Ok tt) orders s0 d0 s1 d1) →
-      Tried all b y z (λ orders. Went d is_chooser takes fits holds result orders s1 d1 s2 d2) →
-      Tried all (a ++ b) x z (λ orders. Went d is_chooser takes fits holds result orders s0 d0 s2 d2)
+      Tried true a x y (λ orders. Went d (kind is_chooser takes fits holds) (Ok tt) orders (change s0 d0 s1 d1)) →
+      Tried all b y z (λ orders. Went d (kind is_chooser takes fits holds) result orders (change s1 d1 s2 d2)) →
+      Tried all (a ++ b) x z (λ orders. Went d (kind is_chooser takes fits holds) result orders (change s0 d0 s2 d2))
   tried_on all result a b x y z s0 s1 s2 d0 d1 d2 one two = record {
     orders = one.orders ++ two.orders;
     rest = two.rest;

@@ -16,7 +16,7 @@ use Rattle.ix_model.specs.declared.commands.TimedCommand.{TimedCommand}
 use Rattle.ix_store.specs.Holding.{Represents}
 use Rattle.ix_store.specs.declared.store.Store.{Store}
 use Rattle.ix_run.specs.Giving.{given_all}
-use Rattle.ix_run.specs.Running.{AlwaysRecoverable}
+use Rattle.ix_run.specs.Running.{AlwaysRecoverable, outset}
 use Rattle.ix_run.specs.declared.giving.GiveFault.{GiveFault}
 use Rattle.ix_run.specs.declared.giving.GiveFault.TheVariants as faults
 use Rattle.ix_watch.specs.Watching.{IsWatched}
@@ -28,6 +28,7 @@ use Rattle.ix_pass.specs.Passing.{VisitsAll, IsPass, Keeps}
 use Rattle.ix_pass.specs.Visiting.{is_whole}
 use Rattle.ix_pass.specs.declared.fault.PassFault.{PassFault}
 use Rattle.ix_pass.proofs.Joining.{given_is, visits_less}
+use Rattle.ix_pass.specs.Giving.{kind, change}
 
 -- what of the commands that were tried is in a history for which every image stands
 record Gave {D : Type 0} (d : Ghosts D) (fits : NamedItems →
@@ -38,8 +39,9 @@ record Gave {D : Type 0} (d : Ghosts D) (fits : NamedItems →
   pub stood : AlwaysRecoverable d fits run choose (given_all choose h given) k before disk
 
 module _ {D : Type 0} (d : Ghosts D) {M : Type 0} (fits : NamedItems → Type 0) (holds : Chooser → List TimedCommand → M → Type 0) where
-  gave : (run : ℕ) (choose : Chooser) (h : List TimedCommand) (base k : ℕ) (store : Store M) (before disk : D) (result : Result Unit GiveFault)
-      (orders : List TimedCommand) → Keeps d fits run holds choose h base k store before disk result orders →
+  gave : (run : ℕ) (choose : Chooser) (h : List TimedCommand) (base k : ℕ) (store : Store M) (before disk : D)
+      (result : Result Unit GiveFault)
+      (orders : List TimedCommand) → Keeps d fits holds (outset choose h base k run before) store disk result orders →
       Gave d fits run choose h k before disk orders
   gave run choose h base k store before disk (Ok done) orders keeps =
       record { given = orders; rest = []; parts = sym (append-nil orders); stood = keeps.stood }
@@ -53,7 +55,8 @@ module _ {D : Type 0} (d : Ghosts D) {M : Type 0} (fits : NamedItems → Type 0)
       (ahead ahead' : Option Moments) (was bytes path : List ℕ)
       (result : Result (List ℕ) PassFault) (old new : Store M) (before disk : D) →
       is_chooser choose → AllByRecursion takes history → Represents d fits holds choose history base k old before →
-      VisitsAll result watched ahead ahead' (IsPass d is_chooser takes fits holds (Some files) close result old before new disk) →
+      VisitsAll result watched ahead ahead' (IsPass d (kind is_chooser takes fits holds) (Some files) close result
+      (change old before new disk)) →
       IsWatched was path history → IsFrontOf was bytes → bytes_at files path ≡ Some bytes →
       HasGoneOn d fits old.run choose bytes path k before disk
   passes_go_on is_chooser takes choose history base k files watched close ahead ahead' was bytes path result old new before disk chooser

@@ -16,10 +16,11 @@ use Rattle.ix_run.specs.Running.{AlwaysRecoverable}
 use Rattle.ix_watch.specs.Watching.{IsWatched, HasRead}
 use Rattle.ix_pass.specs.Passing.{VisitsAll, IsPass}
 use Rattle.ix_pass.specs.declared.fault.PassFault.{PassFault}
+use Rattle.ix_pass.specs.Giving.{kind, change}
 
 -- Every image since stands for a prefix of a history that goes on with the file, with all that was
--- committed before, and for this run or a later one; and each prefix of it has read the first bytes of the file, each once and in
--- order, as many as is kept that were read.
+-- committed before, and for this run or a later one; and each prefix of it has read the first bytes
+-- of the file, each once and in order, as many as is kept that were read.
 pub record HasGoneOn {D : Type 0} (d : Ghosts D) (fits : NamedItems →
     Type 0) (run : ℕ) (choose : Chooser) (file path : List ℕ) (k : ℕ) (before disk : D) : Type 0 where
   pub now : List TimedCommand
@@ -37,6 +38,7 @@ PassesGoOn {D} d {M} is_chooser takes fits holds =
     (ahead ahead' : Option Moments) (was bytes path : List ℕ)
     (result : Result (List ℕ) PassFault) (old new : Store M) (before disk : D) →
     is_chooser choose → AllByRecursion takes history → Represents d fits holds choose history base k old before →
-    VisitsAll result watched ahead ahead' (IsPass d is_chooser takes fits holds (Some files) close result old before new disk) →
+    VisitsAll result watched ahead ahead' (IsPass d (kind is_chooser takes fits holds) (Some files) close result
+    (change old before new disk)) →
     IsWatched was path history → IsFrontOf was bytes → bytes_at files path ≡ Some bytes →
     HasGoneOn d fits old.run choose bytes path k before disk

@@ -12,14 +12,14 @@ use Rattle.ix_model.specs.declared.commands.TimedCommand.{TimedCommand}
 use Rattle.ix_store.specs.Holding.{Represents}
 use Rattle.ix_store.specs.declared.store.Store.{Store}
 use Rattle.ix_run.specs.Giving.{given_all, HasKeptAll}
-use Rattle.ix_run.specs.Running.{AlwaysRecoverable}
+use Rattle.ix_run.specs.Running.{AlwaysRecoverable, Outset, outset}
 use Rattle.ix_run.specs.Storing.{HasHalted}
 use Rattle.ix_run.specs.declared.giving.GiveFault.{GiveFault}
 use Rattle.ix_watch.specs.Passes.{Visit, file_of, lines, Asks, AreVisited}
 use Rattle.ix_watch.specs.Visits.{added}
 use Rattle.ix_watch.specs.Watching.{channel_of}
 use Rattle.ix_pass.specs.Filling.{gave_of}
-use Rattle.ix_pass.specs.Giving.{Went, order_at}
+use Rattle.ix_pass.specs.Giving.{Went, order_at, Kind, Change}
 use Rattle.ix_pass.specs.Visiting.{is_whole}
 use Rattle.ix_pass.specs.declared.fault.PassFault.{PassFault}
 
@@ -46,13 +46,12 @@ pub record VisitsAll {T E : Type 0} (result : Result T E) (files : List Watched)
 
 -- What was done with them: the commands were given, or the first of them; behind each history that
 -- was held before these are the visits; and the text is their lines.
-pub record HasVisited {D : Type 0} (d : Ghosts D) {M : Type 0} (is_chooser : Chooser → Type 0) (takes : TimedCommand →
-    Type 0) (fits : NamedItems → Type 0) (holds : Chooser → List TimedCommand → M → Type 0)
-    (files : Option (List TreeFile)) (close : Bool) (result : Result (List ℕ) PassFault) (before : Store M) (disk : D) (store : Store M)
-    (disk' : D) (visits : List Visit) (orders : List TimedCommand) : Type 0 where
-  pub went : Went d is_chooser takes fits holds (gave_of result) orders before disk store disk'
-  pub are : (choose : Chooser) (history : List TimedCommand) (base k : ℕ) → is_chooser choose → AllByRecursion takes history →
-      Represents d fits holds choose history base k before disk → AreVisited choose files close (is_whole result) history visits orders
+pub record HasVisited {D : Type 0} (d : Ghosts D) {M : Type 0} (kind : Kind M) (files : Option (List TreeFile)) (close : Bool)
+    (result : Result (List ℕ) PassFault) (held : Change M D) (visits : List Visit) (orders : List TimedCommand) : Type 0 where
+  pub went : Went d kind (gave_of result) orders held
+  pub are : (choose : Chooser) (history : List TimedCommand) (base k : ℕ) → kind.is_chooser choose → AllByRecursion kind.takes history →
+      Represents d kind.fits kind.holds choose history base k held.store held.disk →
+      AreVisited choose files close (is_whole result) history visits orders
   pub text : IfOk result (λ text. text ≡ lines visits)
 
 -- ---- a pass
@@ -60,23 +59,21 @@ pub record HasVisited {D : Type 0} (d : Ghosts D) {M : Type 0} (is_chooser : Cho
 -- Of the commands that were tried all are given, or those before one that the store refused for its
 -- cause, and what is given is committed; or the disk failed at a commit, and every image since
 -- stood for a prefix.
-abbrev pub Keeps : {D : Type 0} → Ghosts D → {M : Type 0} → (NamedItems → Type 0) → ℕ → (Chooser → List TimedCommand → M → Type 0) →
-    Chooser → List TimedCommand → ℕ → ℕ → Store M → D → D → Result Unit GiveFault → List TimedCommand → Type 0
-Keeps d fits run holds choose history base k store before disk (Ok done) orders =
-    HasKeptAll d fits run holds choose history orders base k store before disk
-Keeps d fits run holds choose history base k store before disk (Err fault) orders =
-    HasHalted choose history base (λ given. HasKeptAll d fits run holds choose history given base k store before disk)
-    (λ given. AlwaysRecoverable d fits run choose (given_all choose history given) k before disk) fault orders
+abbrev pub Keeps : {D : Type 0} → Ghosts D → {M : Type 0} → (NamedItems → Type 0) → (Chooser → List TimedCommand → M → Type 0) →
+    Outset D → Store M → D → Result Unit GiveFault → List TimedCommand → Type 0
+Keeps d fits holds s store disk (Ok done) orders = HasKeptAll d fits holds s orders store disk
+Keeps d fits holds s store disk (Err fault) orders =
+    HasHalted s.choose s.history s.base (λ given. HasKeptAll d fits holds s given store disk)
+    (λ given. AlwaysRecoverable d fits s.run s.choose (given_all s.choose s.history given) s.kept s.disk disk) fault orders
 
 -- What a pass has done: the files were visited so, and what was given is kept.
-pub record IsPass {D : Type 0} (d : Ghosts D) {M : Type 0} (is_chooser : Chooser → Type 0) (takes : TimedCommand →
-    Type 0) (fits : NamedItems → Type 0) (holds : Chooser → List TimedCommand → M → Type 0)
-    (files : Option (List TreeFile)) (close : Bool) (result : Result (List ℕ) PassFault) (before : Store M) (disk : D) (store : Store M)
-    (disk' : D) (visits : List Visit) (orders : List TimedCommand) : Type 0 where
-  pub taken : AllByRecursion takes orders
-  pub are : (choose : Chooser) (history : List TimedCommand) (base k : ℕ) → is_chooser choose → AllByRecursion takes history →
-      Represents d fits holds choose history base k before disk → AreVisited choose files close (is_whole result) history visits orders
-  pub kept : (choose : Chooser) (history : List TimedCommand) (base k : ℕ) → is_chooser choose → AllByRecursion takes history →
-      Represents d fits holds choose history base k before disk →
-      Keeps d fits before.run holds choose history base k store disk disk' (gave_of result) orders
+pub record IsPass {D : Type 0} (d : Ghosts D) {M : Type 0} (kind : Kind M) (files : Option (List TreeFile)) (close : Bool)
+    (result : Result (List ℕ) PassFault) (held : Change M D) (visits : List Visit) (orders : List TimedCommand) : Type 0 where
+  pub taken : AllByRecursion kind.takes orders
+  pub are : (choose : Chooser) (history : List TimedCommand) (base k : ℕ) → kind.is_chooser choose → AllByRecursion kind.takes history →
+      Represents d kind.fits kind.holds choose history base k held.store held.disk →
+      AreVisited choose files close (is_whole result) history visits orders
+  pub kept : (choose : Chooser) (history : List TimedCommand) (base k : ℕ) → kind.is_chooser choose → AllByRecursion kind.takes history →
+      Represents d kind.fits kind.holds choose history base k held.store held.disk →
+      Keeps d kind.fits kind.holds (outset choose history base k held.store.run held.disk) held.store' held.disk' (gave_of result) orders
   pub text : IfOk result (λ text. text ≡ lines visits)

@@ -30,17 +30,31 @@ abbrev pub opens : Bool → Watched → Bool → List Command
 opens false file is_open = begins file is_open
 opens true file is_open = begins_anew file is_open
 
+-- How a file is read on in: the file, and what was seen of it; the place from which on; whether its
+-- channel is open, whether it is begun anew, and whether it is ended behind what is read.
+pub record ReadingOn : Type 0 where
+  pub file : Watched
+  pub seen : Seen
+  pub from : ℕ
+  pub is_open : Bool
+  pub again : Bool
+  pub close : Bool
+
+abbrev pub reading_on : Watched → Seen → ℕ → Bool → Bool → Bool → ReadingOn
+reading_on file seen from is_open again close =
+    record { file = file; seen = seen; from = from; is_open = is_open; again = again; close = close }
+
 -- The channel was opened, blocks were read and given, and it was ended where that was asked for;
 -- all of it where nothing failed.
-pub record ReadsOn (result : Result ℕ PassFault) (files : Option (List TreeFile)) (file : Watched) (head : List ℕ) (from size : ℕ)
-    (is_open again close : Bool)
-    (ahead ahead' : Option Moments) (went : List TimedCommand → Type 0) : Type 0 where
+pub record ReadsOn (result : Result ℕ PassFault) (files : Option (List TreeFile)) (on : ReadingOn) (ahead ahead' : Option Moments)
+    (went : List TimedCommand → Type 0) : Type 0 where
   pub blocks : List (List ℕ)
   pub sizes : AreBlocks blocks
-  pub within : from + length (joined blocks) ≤ size
-  pub reached : IfOk result (λ to. to ≡ from + length (joined blocks))
-  pub read : IfSome files (λ all. IfSome (bytes_at all file.path) (ReadsTo result from size (joined blocks)))
-  pub tried : Tried (is_whole result) (opens again file is_open ++ (adds file.path head from blocks ++ ends file close)) ahead ahead' went
+  pub within : on.from + length (joined blocks) ≤ on.seen.size
+  pub reached : IfOk result (λ to. to ≡ on.from + length (joined blocks))
+  pub read : IfSome files (λ all. IfSome (bytes_at all on.file.path) (ReadsTo result on.from on.seen.size (joined blocks)))
+  pub tried : Tried (is_whole result)
+      (opens on.again on.file on.is_open ++ (adds on.file.path on.seen.head on.from blocks ++ ends on.file on.close)) ahead ahead' went
 
 -- ---- a step
 
@@ -63,16 +77,26 @@ StepReads false Again size read bytes = IsFrontOf read (drop 0 bytes)
 abbrev pub found_with : Seen → List (List ℕ) → Found
 found_with seen blocks = record { seen = seen; blocks = blocks }
 
+-- A file that was looked at: what was seen of it, whether its channel is open, and whether it is to
+-- be ended behind what is read.
+pub record LookedAt : Type 0 where
+  pub file : Watched
+  pub seen : Seen
+  pub is_open : Bool
+  pub close : Bool
+
+abbrev pub looked_at : Watched → Seen → Bool → Bool → LookedAt
+looked_at file seen is_open close = record { file = file; seen = seen; is_open = is_open; close = close }
+
 -- A step was taken.
-pub record Steps (result : Result Visited PassFault) (files : Option (List TreeFile)) (file : Watched) (seen : Seen) (step : Step)
-    (is_open close : Bool)
+pub record Steps (result : Result Visited PassFault) (files : Option (List TreeFile)) (on : LookedAt) (step : Step)
     (ahead ahead' : Option Moments) (went : List TimedCommand → Type 0) : Type 0 where
   pub blocks : List (List ℕ)
   pub sizes : AreBlocks blocks
-  pub within : end_by step (found_with seen blocks) ≤ seen.size
-  pub came : IfOk result (λ visited. visited ≡ visited_by step (found_with seen blocks))
-  pub read : IfSome files (λ all. IfSome (bytes_at all file.path) (StepReads (is_whole result) step seen.size (joined blocks)))
-  pub tried : Tried (is_whole result) (visit_by step file (found_with seen blocks) is_open close) ahead ahead' went
+  pub within : end_by step (found_with on.seen blocks) ≤ on.seen.size
+  pub came : IfOk result (λ visited. visited ≡ visited_by step (found_with on.seen blocks))
+  pub read : IfSome files (λ all. IfSome (bytes_at all on.file.path) (StepReads (is_whole result) step on.seen.size (joined blocks)))
+  pub tried : Tried (is_whole result) (visit_by step on.file (found_with on.seen blocks) on.is_open on.close) ahead ahead' went
 
 -- ---- a visit
 

@@ -16,6 +16,7 @@ ghost use Rattle.ix_run.specs.Storing.{is_cut};
 ghost use Rattle.ix_store.specs.Holding.{Represents};
 ghost use Rattle.ix_pass.specs.Filling.{gave_of};
 ghost use Rattle.ix_pass.specs.Passing.{HasVisited, IsPass, MayVisit, VisitsAll};
+ghost use Rattle.ix_pass.specs.Giving.{kind, change};
 
 use crate::fault::PassFault;
 use crate::passing::Turn;
@@ -53,8 +54,8 @@ fn visit_files<M: Listing + Drop, D: Disk, C: Clock, T: Tree>(
     requires over { LogsAtEnd D.Disk store.old.committer disk.old }
     requires takes { AllByRecursion (MayVisit M.takes) round.files.now }
     ensures visited { VisitsAll result round.entry.files.now (C.ahead clock.old) (C.ahead clock.new)
-        (HasVisited D.Disk M.is_chooser M.takes M.Book.fits M.holds (T.files tree.old) round.entry.close result store.old disk.old store.new
-        disk.new) }
+        (HasVisited D.Disk (kind M.is_chooser M.takes M.Book.fits M.holds) (T.files tree.old) round.entry.close result
+        (change store.old disk.old store.new disk.new)) }
     ensures failed { IsErrOf result PassFault.Input → Rose (T.faults tree.old) (T.faults tree.new) }
     ensures same { T.files tree.new ≡ T.files tree.old }
     ensures later { T.faults tree.old ≤ T.faults tree.new }
@@ -98,8 +99,8 @@ pub fn pass<M: Listing + Drop, D: Disk, C: Clock, T: Tree>(
     // The files were visited, all of them where nothing failed; of the commands that were tried all
     // are given, and committed, but at a fault.
     ensures passed { VisitsAll result round.entry.files.now (C.ahead clock.old) (C.ahead clock.new)
-        (IsPass D.Disk M.is_chooser M.takes M.Book.fits M.holds (T.files tree.old) round.entry.close result store.old disk.old store.new
-        disk.new) }
+        (IsPass D.Disk (kind M.is_chooser M.takes M.Book.fits M.holds) (T.files tree.old) round.entry.close result
+        (change store.old disk.old store.new disk.new)) }
     ensures over { is_cut (gave_of result) ≡ false → LogsAtEnd D.Disk store.new.committer disk.new }
     // What `shorten` asks for.
     ensures rest { is_cut (gave_of result) ≡ false → KnowsLogLength D.Disk store.old.committer disk.old →

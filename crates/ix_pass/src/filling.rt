@@ -6,7 +6,7 @@ ghost use Rattle.ix_commit.specs.Snapshot.{LogsAtEnd};
 ghost use Rattle.ix_model.specs.declared.commands.Command.TheVariants.{Block};
 ghost use Rattle.ix_model.specs.declared.commands.TimedCommand.{TimedCommand};
 ghost use Rattle.ix_pass.specs.Filling.{gave_of, Fills};
-ghost use Rattle.ix_pass.specs.Giving.{Tried, Went, order_at};
+ghost use Rattle.ix_pass.specs.Giving.{Tried, Went, order_at, kind, change};
 ghost use Rattle.ix_watch.specs.Visits.{added, spot_at};
 ghost use Rattle.ix_watch.specs.Watching.{channel_of};
 
@@ -71,7 +71,8 @@ impl Watch<'_> {
         requires fits { at + length bytes.now < 2 ^ 64 }
         requires takes { (moment : ℤ) → M.takes (order_at (added self.path.now self.head.now at bytes.now) moment) }
         ensures { Tried true (added self.entry.path.now self.entry.head.now at bytes.now ∷ []) (C.ahead clock.old) (C.ahead clock.new)
-            (λ orders. Went D.Disk M.is_chooser M.takes M.Book.fits M.holds result orders store.old disk.old store.new disk.new) }
+            (λ orders. Went D.Disk (kind M.is_chooser M.takes M.Book.fits M.holds) result orders
+            (change store.old disk.old store.new disk.new)) }
     {
         let made = self.block(bytes, at + bytes.len() as u64);
         let moment = clock.now();
@@ -96,7 +97,8 @@ impl Watch<'_> {
             M.takes (order_at (added self.path.now self.head.now at bytes) moment) }
         ensures fills { Fills result (T.files tree.old) self.entry.path.now self.entry.head.now from self.entry.size (C.ahead clock.old)
             (C.ahead clock.new)
-            (λ orders. Went D.Disk M.is_chooser M.takes M.Book.fits M.holds (gave_of result) orders store.old disk.old store.new disk.new) }
+            (λ orders. Went D.Disk (kind M.is_chooser M.takes M.Book.fits M.holds) (gave_of result) orders
+            (change store.old disk.old store.new disk.new)) }
         ensures failed { IsErrOf result PassFault.Input → Rose (T.faults tree.old) (T.faults tree.new) }
         ensures same { T.files tree.new ≡ T.files tree.old }
         ensures later { T.faults tree.old ≤ T.faults tree.new }

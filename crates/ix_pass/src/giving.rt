@@ -3,7 +3,7 @@
 ghost use Rattle.std.specs.Prelude.{◌≡◌, [], ◌∷◌, ◌++◌, IfOk, Some};
 ghost use Rattle.ix_commit.specs.Snapshot.{LogsAtEnd};
 ghost use Rattle.ix_model.specs.declared.commands.Command.{Command as Given};
-ghost use Rattle.ix_pass.specs.Giving.{Went, order_at};
+ghost use Rattle.ix_pass.specs.Giving.{Went, order_at, kind, change};
 
 use ix_base::NoMemory;
 use ix_disk::Disk;
@@ -20,8 +20,8 @@ fn give_one<M: Listing + Drop, D: Disk>(
 ) -> Result<(), GiveFault>
     requires over { LogsAtEnd D.Disk store.old.committer disk.old }
     requires takes { M.takes (order_at command moment) }
-    ensures { Went D.Disk M.is_chooser M.takes M.Book.fits M.holds result (order_at command moment
-        ∷ []) store.old disk.old store.new disk.new }
+    ensures { Went D.Disk (kind M.is_chooser M.takes M.Book.fits M.holds) result (order_at command moment ∷ [])
+        (change store.old disk.old store.new disk.new) }
 {
     match give(store, disk, command, moment) {
         Ok(_) => Ok(()),
@@ -40,7 +40,8 @@ pub(crate) fn give_made<M: Listing + Drop, D: Disk>(
     requires over { LogsAtEnd D.Disk store.old.committer disk.old }
     requires takes { IfOk made (λ command. M.takes (order_at command moment)) }
     ensures { (command : Given) → IfOk made (λ is. is ≡ command) → M.takes (order_at command moment) →
-        Went D.Disk M.is_chooser M.takes M.Book.fits M.holds result (order_at command moment ∷ []) store.old disk.old store.new disk.new }
+        Went D.Disk (kind M.is_chooser M.takes M.Book.fits M.holds) result (order_at command moment ∷ [])
+        (change store.old disk.old store.new disk.new) }
 {
     match made {
         Ok(command) => give_one(store, disk, command, moment),

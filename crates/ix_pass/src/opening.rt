@@ -5,7 +5,7 @@ ghost use Rattle.ix_commit.specs.Snapshot.{LogsAtEnd};
 ghost use Rattle.ix_model.specs.declared.commands.Command.TheVariants.{Begin, End};
 ghost use Rattle.ix_watch.specs.Visits.{begins, begins_anew, ends};
 ghost use Rattle.ix_watch.specs.Watching.{channel_of};
-ghost use Rattle.ix_pass.specs.Giving.{Tried, Went, order_at};
+ghost use Rattle.ix_pass.specs.Giving.{Tried, Went, order_at, kind, change};
 ghost use Rattle.ix_pass.specs.Visiting.{is_whole, opens};
 
 use crate::giving::give_made;
@@ -54,7 +54,8 @@ fn begin<M: Listing + Drop, D: Disk, C: Clock>(
     requires over { LogsAtEnd D.Disk store.old.committer disk.old }
     requires takes { (moment : ℤ) → M.takes (order_at (Begin (channel_of file.now.path) file.now.meta) moment) }
     ensures { Tried true (Begin (channel_of file.now.path) file.now.meta ∷ []) (C.ahead clock.old) (C.ahead clock.new)
-        (λ orders. Went D.Disk M.is_chooser M.takes M.Book.fits M.holds result orders store.old disk.old store.new disk.new) }
+        (λ orders. Went D.Disk (kind M.is_chooser M.takes M.Book.fits M.holds) result orders
+        (change store.old disk.old store.new disk.new)) }
 {
     let made = begin_made(alloc, file);
     let moment = clock.now();
@@ -72,7 +73,8 @@ fn end<M: Listing + Drop, D: Disk, C: Clock>(
     requires over { LogsAtEnd D.Disk store.old.committer disk.old }
     requires takes { (moment : ℤ) → M.takes (order_at (End (channel_of file.now.path)) moment) }
     ensures { Tried true (End (channel_of file.now.path) ∷ []) (C.ahead clock.old) (C.ahead clock.new)
-        (λ orders. Went D.Disk M.is_chooser M.takes M.Book.fits M.holds result orders store.old disk.old store.new disk.new) }
+        (λ orders. Went D.Disk (kind M.is_chooser M.takes M.Book.fits M.holds) result orders
+        (change store.old disk.old store.new disk.new)) }
 {
     let made = end_made(alloc, file);
     let moment = clock.now();
@@ -91,7 +93,8 @@ pub(crate) fn end_if<M: Listing + Drop, D: Disk, C: Clock>(
     requires over { LogsAtEnd D.Disk store.old.committer disk.old }
     requires takes { (moment : ℤ) → M.takes (order_at (End (channel_of file.now.path)) moment) }
     ensures { Tried true (ends file.now close) (C.ahead clock.old) (C.ahead clock.new)
-        (λ orders. Went D.Disk M.is_chooser M.takes M.Book.fits M.holds result orders store.old disk.old store.new disk.new) }
+        (λ orders. Went D.Disk (kind M.is_chooser M.takes M.Book.fits M.holds) result orders
+        (change store.old disk.old store.new disk.new)) }
 {
     if close {
         end(alloc, store, disk, clock, file)
@@ -112,7 +115,8 @@ fn begin_if<M: Listing + Drop, D: Disk, C: Clock>(
     requires over { LogsAtEnd D.Disk store.old.committer disk.old }
     requires takes { (moment : ℤ) → M.takes (order_at (Begin (channel_of file.now.path) file.now.meta) moment) }
     ensures { Tried true (begins file.now is_open) (C.ahead clock.old) (C.ahead clock.new)
-        (λ orders. Went D.Disk M.is_chooser M.takes M.Book.fits M.holds result orders store.old disk.old store.new disk.new) }
+        (λ orders. Went D.Disk (kind M.is_chooser M.takes M.Book.fits M.holds) result orders
+        (change store.old disk.old store.new disk.new)) }
 {
     if is_open {
         Ok(())
@@ -134,7 +138,8 @@ fn begin_anew<M: Listing + Drop, D: Disk, C: Clock>(
     requires begins { (moment : ℤ) → M.takes (order_at (Begin (channel_of file.now.path) file.now.meta) moment) }
     requires ends { (moment : ℤ) → M.takes (order_at (End (channel_of file.now.path)) moment) }
     ensures { Tried (is_whole result) (begins_anew file.now is_open) (C.ahead clock.old) (C.ahead clock.new)
-        (λ orders. Went D.Disk M.is_chooser M.takes M.Book.fits M.holds result orders store.old disk.old store.new disk.new) }
+        (λ orders. Went D.Disk (kind M.is_chooser M.takes M.Book.fits M.holds) result orders
+        (change store.old disk.old store.new disk.new)) }
 {
     if !is_open {
         return begin(alloc, store, disk, clock, file);
@@ -166,7 +171,8 @@ pub(crate) fn open<M: Listing + Drop, D: Disk, C: Clock>(
     requires begins { (moment : ℤ) → M.takes (order_at (Begin (channel_of file.now.path) file.now.meta) moment) }
     requires ends { (moment : ℤ) → M.takes (order_at (End (channel_of file.now.path)) moment) }
     ensures { Tried (is_whole result) (opens opening.again file.now opening.is_open) (C.ahead clock.old) (C.ahead clock.new)
-        (λ orders. Went D.Disk M.is_chooser M.takes M.Book.fits M.holds result orders store.old disk.old store.new disk.new) }
+        (λ orders. Went D.Disk (kind M.is_chooser M.takes M.Book.fits M.holds) result orders
+        (change store.old disk.old store.new disk.new)) }
 {
     if opening.again {
         begin_anew(alloc, store, disk, clock, file, opening.is_open)

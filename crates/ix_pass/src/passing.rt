@@ -6,6 +6,7 @@ ghost use Rattle.ix_base.specs.Faults.{Rose};
 ghost use Rattle.ix_commit.specs.Snapshot.{LogsAtEnd};
 ghost use Rattle.ix_watch.specs.Visits.{line};
 ghost use Rattle.ix_pass.specs.Passing.{HasVisited, MayVisit, VisitsAll};
+ghost use Rattle.ix_pass.specs.Giving.{kind, change};
 
 use crate::fault::PassFault;
 use crate::lines::push_line;
@@ -52,8 +53,8 @@ impl Turn {
         requires room { length room.old ≡ 1048576 }
         requires takes { AllByRecursion (MayVisit M.takes) files.now }
         ensures visited { VisitsAll result files.now (C.ahead clock.old) (C.ahead clock.new)
-            (HasVisited D.Disk M.is_chooser M.takes M.Book.fits M.holds (T.files tree.old) self.close result store.old disk.old store.new
-            disk.new) }
+            (HasVisited D.Disk (kind M.is_chooser M.takes M.Book.fits M.holds) (T.files tree.old) self.close result
+            (change store.old disk.old store.new disk.new)) }
         ensures failed { IsErrOf result PassFault.Input → Rose (T.faults tree.old) (T.faults tree.new) }
         ensures same { T.files tree.new ≡ T.files tree.old }
         ensures later { T.faults tree.old ≤ T.faults tree.new }

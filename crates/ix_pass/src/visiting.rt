@@ -18,9 +18,9 @@ ghost use Rattle.ix_run.specs.declared.giving.GiveFault.{GiveFault as Refused};
 ghost use Rattle.ix_watch.specs.Visits.{added, seen_of};
 ghost use Rattle.ix_watch.specs.Watching.{channel_of, kept_of};
 ghost use Rattle.ix_pass.specs.Filling.{gave_of, Fills};
-ghost use Rattle.ix_pass.specs.Giving.{Went, order_at};
+ghost use Rattle.ix_pass.specs.Giving.{Went, order_at, kind, change};
 ghost use Rattle.ix_pass.specs.Passing.{MayVisit};
-ghost use Rattle.ix_pass.specs.Visiting.{IsWithin, ReadsOn, Steps, Visits};
+ghost use Rattle.ix_pass.specs.Visiting.{IsWithin, ReadsOn, Steps, Visits, looked_at, reading_on};
 
 use crate::fault::PassFault;
 use crate::filling::Watch;
@@ -62,7 +62,8 @@ impl Reading<'_> {
             M.takes (order_at (added self.file.now.path self.seen.now.head at bytes) moment) }
         ensures fills { Fills result (T.files tree.old) self.entry.file.now.path self.entry.seen.now.head self.entry.from
             self.entry.seen.now.size (C.ahead clock.old) (C.ahead clock.new)
-            (λ orders. Went D.Disk M.is_chooser M.takes M.Book.fits M.holds (gave_of result) orders store.old disk.old store.new disk.new) }
+            (λ orders. Went D.Disk (kind M.is_chooser M.takes M.Book.fits M.holds) (gave_of result) orders
+            (change store.old disk.old store.new disk.new)) }
         ensures failed { IsErrOf result PassFault.Input → Rose (T.faults tree.old) (T.faults tree.new) }
         ensures same { T.files tree.new ≡ T.files tree.old }
         ensures later { T.faults tree.old ≤ T.faults tree.new }
@@ -92,10 +93,11 @@ impl Reading<'_> {
         requires from { self.from ≤ self.seen.now.size }
         requires short { length self.seen.now.head ≤ 256 }
         requires takes { MayVisit M.takes self.file.now }
-        ensures reads { ReadsOn result (T.files tree.old) self.entry.file.now self.entry.seen.now.head self.entry.from
-            self.entry.seen.now.size
-            self.entry.opening.is_open self.entry.opening.again self.entry.close (C.ahead clock.old) (C.ahead clock.new)
-            (λ orders. Went D.Disk M.is_chooser M.takes M.Book.fits M.holds (gave_of result) orders store.old disk.old store.new disk.new) }
+        ensures reads { ReadsOn result (T.files tree.old)
+            (reading_on self.entry.file.now self.entry.seen.now self.entry.from self.entry.opening.is_open self.entry.opening.again
+            self.entry.close) (C.ahead clock.old) (C.ahead clock.new)
+            (λ orders. Went D.Disk (kind M.is_chooser M.takes M.Book.fits M.holds) (gave_of result) orders
+            (change store.old disk.old store.new disk.new)) }
         ensures failed { IsErrOf result PassFault.Input → Rose (T.faults tree.old) (T.faults tree.new) }
         ensures same { T.files tree.new ≡ T.files tree.old }
         ensures later { T.faults tree.old ≤ T.faults tree.new }
@@ -142,9 +144,11 @@ impl Looked<'_> {
         requires within { IsWithin step self.seen.now.size }
         requires short { length self.seen.now.head ≤ 256 }
         requires takes { MayVisit M.takes self.file.now }
-        ensures steps { Steps result (T.files tree.old) self.entry.file.now self.entry.seen.now step self.entry.is_open self.entry.close
-            (C.ahead clock.old) (C.ahead clock.new)
-            (λ orders. Went D.Disk M.is_chooser M.takes M.Book.fits M.holds (gave_of result) orders store.old disk.old store.new disk.new) }
+        ensures steps { Steps result (T.files tree.old)
+            (looked_at self.entry.file.now self.entry.seen.now self.entry.is_open self.entry.close) step (C.ahead clock.old)
+            (C.ahead clock.new)
+            (λ orders. Went D.Disk (kind M.is_chooser M.takes M.Book.fits M.holds) (gave_of result) orders
+            (change store.old disk.old store.new disk.new)) }
         ensures failed { IsErrOf result PassFault.Input → Rose (T.faults tree.old) (T.faults tree.new) }
         ensures same { T.files tree.new ≡ T.files tree.old }
         ensures later { T.faults tree.old ≤ T.faults tree.new }
@@ -241,7 +245,8 @@ impl Visitor<'_> {
             Represents D.Disk M.Book.fits M.holds choose history base k store.old disk.old →
             (kept ≡ kept_of (state_after choose history) self.entry.file.now.path)
             × (is_open ≡ is_begun (state_after choose history) (channel_of self.entry.file.now.path)))
-            (λ orders. Went D.Disk M.is_chooser M.takes M.Book.fits M.holds (gave_of result) orders store.old disk.old store.new disk.new) }
+            (λ orders. Went D.Disk (kind M.is_chooser M.takes M.Book.fits M.holds) (gave_of result) orders
+            (change store.old disk.old store.new disk.new)) }
         ensures failed { IsErrOf result PassFault.Input → Rose (T.faults tree.old) (T.faults tree.new) }
         ensures same { T.files tree.new ≡ T.files tree.old }
         ensures later { T.faults tree.old ≤ T.faults tree.new }

@@ -9,7 +9,7 @@ use Rattle.ix_model.specs.Given.{Chooser}
 use Rattle.ix_model.specs.declared.commands.TimedCommand.{TimedCommand}
 use Rattle.ix_store.specs.declared.store.Store.{Store}
 use Rattle.ix_run.specs.Giving.{given_all, HasGivenAll}
-use Rattle.ix_run.specs.Running.{AlwaysRecoverable}
+use Rattle.ix_run.specs.Running.{AlwaysRecoverable, outset}
 use Rattle.ix_run.specs.Storing.{block_order, joined, Gives, Feeds}
 use Rattle.ix_run.specs.declared.giving.GiveFault.{GiveFault}
 use Rattle.ix_run.specs.declared.input.RunFault.TheVariants as stops
@@ -43,37 +43,39 @@ module _ {D : Type 0} (g : Ghosts D) {M : Type 0} (fits : NamedItems → Type 0)
   -- a block more
   pub given_block : (h : List TimedCommand) (base k : ℕ) (mid_store store : Store M) (first mid last : D) (moment : ℤ)
       (blocks : List (List ℕ)) (bytes : List ℕ) (result : Result Unit GiveFault) →
-      (one : HasGivenAll g fits run holds choose h (map (block_order moment) blocks) base k mid_store first mid) →
-      Gives g fits mid_store.run holds choose (given_all choose h (map (block_order moment) blocks)) base one.count store mid last result
+      (one : HasGivenAll g fits holds (outset choose h base k run first) (map (block_order moment) blocks) mid_store mid) →
+      Gives g fits holds (outset choose (given_all choose h (map (block_order moment) blocks)) base one.count mid_store.run mid) store last
+      result
       (block_order moment bytes ∷ []) →
-      Gives g fits run holds choose h base k store first last result (map (block_order moment) (blocks ++ bytes ∷ []))
+      Gives g fits holds (outset choose h base k run first) store last result (map (block_order moment) (blocks ++ bytes ∷ []))
   given_block h base k mid_store store first mid last moment blocks bytes result one gives =
-      subst (λ (some : List TimedCommand). Gives g fits run holds choose h base k store first last result some)
+      subst (λ (some : List TimedCommand). Gives g fits holds (outset choose h base k run first) store last result some)
       (sym (map-append (block_order moment) blocks (bytes ∷ [])))
       (gives_on g fits run holds choose h (map (block_order moment) blocks) (block_order moment bytes
       ∷ []) base k mid_store store first mid last one result gives)
 
   -- the last was not given
   pub feeds_halt : (h filled : List TimedCommand) (base k : ℕ) (store : Store M) (first last : D) (fault : GiveFault) →
-      Gives g fits run holds choose h base k store first last (Err fault) filled →
-      Feeds g fits run holds choose h base k store first last (Err (stops.Given fault)) filled []
+      Gives g fits holds (outset choose h base k run first) store last (Err fault) filled →
+      Feeds g fits holds (outset choose h base k run first) store last (Err (stops.Given fault)) filled []
   feeds_halt h filled base k store first last fault gives =
       halted_more g fits run holds choose h base (λ (given : List TimedCommand).
-      HasGivenAll g fits run holds choose h given base k store first last)
+      HasGivenAll g fits holds (outset choose h base k run first) given store last)
       (λ (given : List TimedCommand). AlwaysRecoverable g fits run choose (given_all choose h given) k first last) fault filled [] gives
 
   -- all were
   pub feeds_all : (h filled : List TimedCommand) (base k : ℕ) (store : Store M) (first last : D) →
-      HasGivenAll g fits run holds choose h filled base k store first last →
-      Feeds g fits run holds choose h base k store first last (Ok tt) filled []
+      HasGivenAll g fits holds (outset choose h base k run first) filled store last →
+      Feeds g fits holds (outset choose h base k run first) store last (Ok tt) filled []
   feeds_all h filled base k store first last all = subst
-      (λ (some : List TimedCommand). HasGivenAll g fits run holds choose h some base k store first last) (sym (append-nil filled)) all
+      (λ (some : List TimedCommand). HasGivenAll g fits holds (outset choose h base k run first) some store last) (sym (append-nil filled))
+      all
 
   -- behind those that open the channel
   pub filled_on : (h a filled : List TimedCommand) (base k : ℕ) (mid_store store : Store M) (first mid last : D) →
-      (one : HasGivenAll g fits run holds choose h a base k mid_store first mid) →
-      HasGivenAll g fits mid_store.run holds choose (given_all choose h a) (filled ++ []) base one.count store mid last →
-      HasGivenAll g fits run holds choose h (a ++ filled) base k store first last
+      (one : HasGivenAll g fits holds (outset choose h base k run first) a mid_store mid) →
+      HasGivenAll g fits holds (outset choose (given_all choose h a) base one.count mid_store.run mid) (filled ++ []) store last →
+      HasGivenAll g fits holds (outset choose h base k run first) (a ++ filled) store last
   filled_on h a filled base k mid_store store first mid last one two =
       given_on g fits run holds choose h a filled base k mid_store store first mid last one
       (filled_all g fits mid_store.run holds choose (given_all choose h a) filled base one.count store mid last two)

@@ -13,10 +13,10 @@ use Rattle.ix_model.specs.declared.commands.TimedCommand.{TimedCommand}
 use Rattle.ix_store.specs.Holding.{Represents}
 use Rattle.ix_store.specs.Making.{with_order}
 use Rattle.ix_store.specs.declared.store.Store.{Store}
-use Rattle.ix_run.specs.Giving.{given_all, AreAllowed, IsKept}
+use Rattle.ix_run.specs.Giving.{given_all, AreAllowed, HasKeptAll, IsKept}
 use Rattle.ix_store.specs.Written.{RecoversToPrefix}
-use Rattle.ix_run.specs.Running.{AlwaysRecoverable, IsGiven}
-use Rattle.ix_run.proofs.Gone.{stood_longer, stood_on}
+use Rattle.ix_run.specs.Running.{AlwaysRecoverable, IsGiven, Outset, StandsFrom, outset}
+use Rattle.ix_run.proofs.Gone.{stood_longer, stood_on, stood_here}
 
 -- more commands behind others
 pub given_join : (choose : Chooser) (h a b : List TimedCommand) → given_all choose h (a ++ b) ≡ given_all choose (given_all choose h a) b
@@ -70,10 +70,20 @@ module _ {D : Type 0} (g : Ghosts D) {M : Type 0} (fits : NamedItems → Type 0)
       keeps = stands.keeps;
     }
 
+-- where all are committed every image has all
+pub kept_here : {D : Type 0} (g : Ghosts D) {M : Type 0} (fits : NamedItems → Type 0) (holds : Chooser → List TimedCommand → M → Type 0)
+    (s : Outset D) (orders : List TimedCommand) (store : Store M) (disk : D) → HasKeptAll g fits holds s orders store disk →
+    StandsFrom g fits s.run s.choose (given_all s.choose s.history orders) (length (given_all s.choose s.history orders)) disk disk
+kept_here g fits holds s orders store disk kept =
+    let now = given_all s.choose s.history orders in
+    let here = stood_here g fits s.run holds s.choose now s.base (length now) (length now) store disk kept.same_run (omega arith)
+    kept.hold in
+    record { at_first = here.now; since = here }
+
 module _ {D : Type 0} (g : Ghosts D) {M : Type 0} (fits : NamedItems → Type 0) (holds : Chooser → List TimedCommand → M →
     Type 0) (choose : Chooser) where
   pub stood_last : (h : List TimedCommand) (base k : ℕ) (order : TimedCommand) (before mid : Store M) (first half last : D)
-      (answer : Accepted) → (one : IsGiven g fits holds choose h base k order before answer mid first half) →
+      (answer : Accepted) → (one : IsGiven g fits holds (outset choose h base k before.run first) order before.drawn answer mid half) →
       AlwaysRecoverable g fits mid.run choose (with_order choose h order) one.gone.count half last →
       AlwaysRecoverable g fits before.run choose (with_order choose h order) k first last
   stood_last h base k order before mid first half last answer one stood =
@@ -85,10 +95,10 @@ module _ {D : Type 0} (g : Ghosts D) {M : Type 0} (fits : NamedItems → Type 0)
   -- a command, and then a commit of all
   pub kept_last : (h : List TimedCommand) (base k : ℕ) (order : TimedCommand) (before mid store : Store M) (first half last : D)
       (answer : Accepted) → Represents g fits holds choose h base k before first →
-      (one : IsGiven g fits holds choose h base k order before answer mid first half) →
+      (one : IsGiven g fits holds (outset choose h base k before.run first) order before.drawn answer mid half) →
       Represents g fits holds choose (with_order choose h order) base (length (with_order choose h order)) store last →
       store.run ≡ mid.run → AlwaysRecoverable g fits mid.run choose (with_order choose h order) one.gone.count half last →
-      IsKept g fits holds choose h base k order before answer store first last
+      IsKept g fits holds (outset choose h base k before.run first) order before.drawn answer store last
   kept_last h base k order before mid store first half last answer old one hold same stood = record {
     allowed = one.allowed;
     answers = one.answers;

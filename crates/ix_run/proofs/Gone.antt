@@ -13,14 +13,14 @@ use Rattle.ix_model.specs.Snap.{snapshot_of}
 use Rattle.ix_commit.specs.Undo.{HasSameLogs}
 use Rattle.ix_model.specs.declared.answers.Accepted.{Accepted}
 use Rattle.ix_store.specs.Counting.{is_due}
-use Rattle.ix_store.specs.Holding.{Represents, IsAccepted}
+use Rattle.ix_store.specs.Holding.{Represents, IsAccepted, holding}
 use Rattle.ix_store.specs.Making.{with_order}
 use Rattle.ix_store.specs.Written.{RecoversTo, RecoversToPrefix}
 use Rattle.ix_store.specs.declared.store.Store.{Store}
 use Rattle.ix_store.proofs.Counted.{take_more, take_whole}
 use Rattle.ix_store.proofs.Lawful as lawful
 use Rattle.ix_store.proofs.Lawful.{held_stands, held_then, stands_before}
-use Rattle.ix_run.specs.Running.{AlwaysRecoverable, HasAdvanced, HasSettled, IsGiven}
+use Rattle.ix_run.specs.Running.{AlwaysRecoverable, HasAdvanced, HasSettled, IsGiven, outset}
 
 pub none_more : (h : List TimedCommand) → h ++ [] ≡ h
 none_more [] = refl
@@ -78,7 +78,7 @@ module _ {D : Type 0} (g : Ghosts D) {M : Type 0} (fits : NamedItems → Type 0)
 
   -- nothing is done, and nothing changes
   pub gone_none : (h : List TimedCommand) (base k : ℕ) (store : Store M) (disk : D) → store.run ≡ run →
-      Represents g fits holds choose h base k store disk → HasAdvanced g fits run holds choose h [] base k store disk disk
+      Represents g fits holds choose h base k store disk → HasAdvanced g fits holds (outset choose h base k run disk) [] store disk
   gone_none h base k store disk is hold = record {
     count = k;
     kept = omega arith;
@@ -102,7 +102,7 @@ module _ {D : Type 0} (g : Ghosts D) {M : Type 0} (fits : NamedItems → Type 0)
   -- what is not committed is not due: it was not before, or nothing is left
   pub settled_none : (h : List TimedCommand) (base k : ℕ) (store : Store M) (disk : D) → store.run ≡ run →
       Represents g fits holds choose h base k store disk → is_due (drop k h) ≡ false →
-      HasSettled g fits run holds choose h [] base k store disk disk
+      HasSettled g fits holds (outset choose h base k run disk) [] store disk
   unfolding gone_none
   settled_none h base k store disk is hold rest = record {
     gone = gone_none h base k store disk is hold;
@@ -124,7 +124,7 @@ module _ {D : Type 0} (g : Ghosts D) {M : Type 0} (fits : NamedItems → Type 0)
       run ≤ two → k ≤ length h → Represents g fits holds choose h base (length h) store disk →
       Always g before mid (λ (image : Image). RecoversTo fits one choose (take k h) image ⊎ RecoversTo fits one choose h image) →
       Always g mid disk (RecoversTo fits two choose h) →
-      HasSettled g fits run holds choose h [] base k store before disk
+      HasSettled g fits holds (outset choose h base k run before) [] store disk
   settled_short h one two base k store before mid disk is first second within hold always short = record {
     gone = record {
       count = length h;
@@ -143,12 +143,12 @@ module _ {D : Type 0} (g : Ghosts D) {M : Type 0} (fits : NamedItems → Type 0)
   pub given : (h : List TimedCommand) (base k : ℕ) (order : TimedCommand) (before mid store : Store M) (first last : D)
       (answer : Accepted) → mid.run ≡ before.run → (hold : Represents g fits holds choose h base k before first) →
       HasSameLogs before.committer mid.committer →
-      IsAccepted fits holds choose h base k order before mid hold.old answer →
+      IsAccepted fits holds (holding choose h base k) order before mid hold.old answer →
       (Represents g fits holds choose (with_order choose h order) base k mid first →
-      HasSettled g fits mid.run holds choose (with_order choose h order) [] base k store first last) →
-      IsGiven g fits holds choose h base k order before answer store first last
+      HasSettled g fits holds (outset choose (with_order choose h order) base k mid.run first) [] store last) →
+      IsGiven g fits holds (outset choose h base k before.run first) order before.drawn answer store last
   given h base k order before mid store first last answer same hold logs is then =
-      let two = subst (λ (run : ℕ). HasSettled g fits run holds choose (with_order choose h order) [] base k store first last) same
+      let two = subst (λ (run : ℕ). HasSettled g fits holds (outset choose (with_order choose h order) base k run first) [] store last) same
       (then (held_then g fits holds choose h (with_order choose h order) base k before mid first hold logs is.staged)) in record {
         allowed = is.allowed;
         answers = is.answers;
@@ -168,7 +168,7 @@ module _ {D : Type 0} (g : Ghosts D) {M : Type 0} (fits : NamedItems → Type 0)
   pub given_stood : (h : List TimedCommand) (base k : ℕ) (order : TimedCommand) (before mid : Store M) (first last : D)
       (answer : Accepted) → mid.run ≡ before.run → (hold : Represents g fits holds choose h base k before first) →
       HasSameLogs before.committer mid.committer →
-      IsAccepted fits holds choose h base k order before mid hold.old answer →
+      IsAccepted fits holds (holding choose h base k) order before mid hold.old answer →
       (Represents g fits holds choose (with_order choose h order) base k mid first →
       AlwaysRecoverable g fits mid.run choose (with_order choose h order) k first last) →
       AlwaysRecoverable g fits before.run choose (with_order choose h order) k first last

@@ -23,7 +23,7 @@ use Rattle.ix_store.specs.Making.{with_order}
 use Rattle.ix_store.specs.declared.store.Store.{Store}
 use Rattle.ix_store.proofs.Joining.{more_taken}
 use Rattle.ix_run.specs.Giving.{given_all, HasGivenAll, HasKeptAll}
-use Rattle.ix_run.specs.Running.{AlwaysRecoverable, IsGiven, IsNotGiven}
+use Rattle.ix_run.specs.Running.{AlwaysRecoverable, IsGiven, IsNotGiven, outset}
 use Rattle.ix_run.specs.Storing.{begin_order, block_order, end_order, opening, filling, joined, IsBlock, IsRead, IsNextRefused, HaltsAt}
 use Rattle.ix_run.specs.Storing.{HasHalted, Gives, Feeds, Stores, is_run_cut}
 use Rattle.ix_run.specs.declared.giving.GiveFault.{GiveFault}
@@ -90,8 +90,9 @@ opening_taken takes origin moment ends begins false = (begins, tt)
 module _ {D : Type 0} (g : Ghosts D) {M : Type 0} (fits : NamedItems → Type 0) (holds : Chooser → List TimedCommand → M →
     Type 0) (choose : Chooser) where
   pub gave_one : (h : List TimedCommand) (base k : ℕ) (order : TimedCommand) (old store : Store M) (first last : D) (answer : Accepted) →
-      Represents g fits holds choose h base k old first → IsGiven g fits holds choose h base k order old answer store first last →
-      HasGivenAll g fits old.run holds choose h (order ∷ []) base k store first last
+      Represents g fits holds choose h base k old first → IsGiven g fits holds (outset choose h base k old.run first) order old.drawn
+      answer store last →
+      HasGivenAll g fits holds (outset choose h base k old.run first) (order ∷ []) store last
   gave_one h base k order old store first last answer hold is = record {
     count = is.gone.count;
     kept = is.gone.kept;
@@ -106,8 +107,8 @@ module _ {D : Type 0} (g : Ghosts D) {M : Type 0} (fits : NamedItems → Type 0)
 
   pub gave_none : (h : List TimedCommand) (base k : ℕ) (order : TimedCommand) (old store : Store M) (first last : D) (fault : GiveFault) →
       Represents g fits holds choose h base k old first →
-      IsNotGiven g fits holds choose h base k order old fault store first last →
-      Gives g fits old.run holds choose h base k store first last (Err fault) (order ∷ [])
+      IsNotGiven g fits holds (outset choose h base k old.run first) order old.drawn fault store last →
+      Gives g fits holds (outset choose h base k old.run first) store last (Err fault) (order ∷ [])
   gave_none h base k order old store first last (faults.Refused refusal) hold not = record {
     given = [];
     rest = order ∷ [];
@@ -133,7 +134,7 @@ module _ {D : Type 0} (g : Ghosts D) {M : Type 0} (fits : NamedItems → Type 0)
 module _ {D : Type 0} (g : Ghosts D) {M : Type 0} (fits : NamedItems → Type 0) (run : ℕ) (holds : Chooser → List TimedCommand → M →
     Type 0) (choose : Chooser) where
   pub given_none : (h : List TimedCommand) (base k : ℕ) (store : Store M) (disk : D) → store.run ≡ run →
-      Represents g fits holds choose h base k store disk → HasGivenAll g fits run holds choose h [] base k store disk disk
+      Represents g fits holds choose h base k store disk → HasGivenAll g fits holds (outset choose h base k run disk) [] store disk
   given_none h base k store disk is hold = record {
     count = k;
     kept = omega arith;
@@ -154,9 +155,9 @@ module _ {D : Type 0} (g : Ghosts D) {M : Type 0} (fits : NamedItems → Type 0)
       (fewer g fits run holds choose (given_all choose (given_all choose h a) b) n k mid last le two))
 
   pub given_on : (h a b : List TimedCommand) (base k : ℕ) (mid_store store : Store M) (first mid last : D) →
-      (one : HasGivenAll g fits run holds choose h a base k mid_store first mid) →
-      HasGivenAll g fits mid_store.run holds choose (given_all choose h a) b base one.count store mid last →
-      HasGivenAll g fits run holds choose h (a ++ b) base k store first last
+      (one : HasGivenAll g fits holds (outset choose h base k run first) a mid_store mid) →
+      HasGivenAll g fits holds (outset choose (given_all choose h a) base one.count mid_store.run mid) b store last →
+      HasGivenAll g fits holds (outset choose h base k run first) (a ++ b) store last
   given_on h a b base k mid_store store first mid last one two = record {
     count = two.count;
     kept = omega (arith, one.kept, two.kept);
@@ -170,12 +171,13 @@ module _ {D : Type 0} (g : Ghosts D) {M : Type 0} (fits : NamedItems → Type 0)
   }
 
   halts_on : (h a : List TimedCommand) (base k : ℕ) (mid_store store : Store M) (first mid last : D) →
-      (one : HasGivenAll g fits run holds choose h a base k mid_store first mid) → (fault : GiveFault) (given rest : List TimedCommand) →
+      (one : HasGivenAll g fits holds (outset choose h base k run first) a mid_store mid) → (fault : GiveFault)
+      (given rest : List TimedCommand) →
       HaltsAt choose (given_all choose h a) base (λ (given : List TimedCommand).
-      HasGivenAll g fits mid_store.run holds choose (given_all choose h a) given base one.count store mid last)
+      HasGivenAll g fits holds (outset choose (given_all choose h a) base one.count mid_store.run mid) given store last)
       (λ (given : List TimedCommand). AlwaysRecoverable g fits mid_store.run choose (given_all choose (given_all choose h a) given)
       one.count mid last) fault given rest →
-      HaltsAt choose h base (λ (given : List TimedCommand). HasGivenAll g fits run holds choose h given base k store first last)
+      HaltsAt choose h base (λ (given : List TimedCommand). HasGivenAll g fits holds (outset choose h base k run first) given store last)
       (λ (given : List TimedCommand). AlwaysRecoverable g fits run choose (given_all choose h given) k first last) fault (a
       ++ given) rest
   halts_on h a base k mid_store store first mid last one (faults.Refused refusal) given rest halts = (
@@ -189,9 +191,9 @@ module _ {D : Type 0} (g : Ghosts D) {M : Type 0} (fits : NamedItems → Type 0)
       one.same_run halts)
 
   pub gives_on : (h a b : List TimedCommand) (base k : ℕ) (mid_store store : Store M) (first mid last : D) →
-      (one : HasGivenAll g fits run holds choose h a base k mid_store first mid) → (result : Result Unit GiveFault) →
-      Gives g fits mid_store.run holds choose (given_all choose h a) base one.count store mid last result b →
-      Gives g fits run holds choose h base k store first last result (a ++ b)
+      (one : HasGivenAll g fits holds (outset choose h base k run first) a mid_store mid) → (result : Result Unit GiveFault) →
+      Gives g fits holds (outset choose (given_all choose h a) base one.count mid_store.run mid) store last result b →
+      Gives g fits holds (outset choose h base k run first) store last result (a ++ b)
   gives_on h a b base k mid_store store first mid last one (Ok done) two = given_on h a b base k mid_store store first mid last one two
   gives_on h a b base k mid_store store first mid last one (Err fault) two = record {
     given = a ++ two.given;
@@ -221,7 +223,7 @@ module _ {D : Type 0} (g : Ghosts D) {M : Type 0} (fits : NamedItems → Type 0)
   -- there was no room for the first
   pub halted_none : (h : List TimedCommand) (base k : ℕ) (store : Store M) (disk : D) (o : TimedCommand) (os : List TimedCommand) →
       store.run ≡ run → Represents g fits holds choose h base k store disk →
-      Gives g fits run holds choose h base k store disk disk (Err (faults.Refused refusals.NoMemory)) (o ∷ os)
+      Gives g fits holds (outset choose h base k run disk) store disk (Err (faults.Refused refusals.NoMemory)) (o ∷ os)
   halted_none h base k store disk o os is hold = record {
     given = [];
     rest = o ∷ os;
@@ -231,7 +233,7 @@ module _ {D : Type 0} (g : Ghosts D) {M : Type 0} (fits : NamedItems → Type 0)
 
   pub halted_first : (h : List TimedCommand) (base k : ℕ) (store : Store M) (disk : D) (is_open : Bool) (origin : ChannelMeta)
       (moment : ℤ) → store.run ≡ run → Represents g fits holds choose h base k store disk →
-      Feeds g fits run holds choose h base k store disk disk (Err (stops.Given (faults.Refused refusals.NoMemory)))
+      Feeds g fits holds (outset choose h base k run disk) store disk (Err (stops.Given (faults.Refused refusals.NoMemory)))
       (filling is_open origin moment []) (end_order moment ∷ [])
   halted_first h base k store disk true origin moment is hold =
       halted_none h base k store disk (end_order moment) (begin_order origin moment ∷ end_order moment ∷ []) is hold
@@ -242,43 +244,46 @@ module _ {D : Type 0} (g : Ghosts D) {M : Type 0} (fits : NamedItems → Type 0)
 
   pub began : (h : List TimedCommand) (base k : ℕ) (store : Store M) (first last : D) (result : Result Unit GiveFault) (is_open : Bool)
       (origin : ChannelMeta) (moment : ℤ) → is_open ≡ false →
-      Gives g fits run holds choose h base k store first last result (begin_order origin moment ∷ []) →
-      Gives g fits run holds choose h base k store first last result (opening is_open origin moment)
+      Gives g fits holds (outset choose h base k run first) store last result (begin_order origin moment ∷ []) →
+      Gives g fits holds (outset choose h base k run first) store last result (opening is_open origin moment)
   began h base k store first last result is_open origin moment is gives =
-      subst (λ (opens : Bool). Gives g fits run holds choose h base k store first last result (opening opens origin moment)) (sym is) gives
+      subst (λ (opens : Bool). Gives g fits holds (outset choose h base k run first) store last result (opening opens origin moment))
+      (sym is) gives
 
   pub begun_again : (h : List TimedCommand) (base k : ℕ) (mid_store store : Store M) (first mid last : D) (result : Result Unit GiveFault)
       (is_open : Bool) (origin : ChannelMeta) (moment : ℤ) → is_open ≡ true →
-      (one : HasGivenAll g fits run holds choose h (end_order moment ∷ []) base k mid_store first mid) →
-      Gives g fits mid_store.run holds choose (given_all choose h (end_order moment ∷ [])) base one.count store mid last result
+      (one : HasGivenAll g fits holds (outset choose h base k run first) (end_order moment ∷ []) mid_store mid) →
+      Gives g fits holds (outset choose (given_all choose h (end_order moment ∷ [])) base one.count mid_store.run mid) store last result
       (begin_order origin moment ∷ []) →
-      Gives g fits run holds choose h base k store first last result (opening is_open origin moment)
+      Gives g fits holds (outset choose h base k run first) store last result (opening is_open origin moment)
   begun_again h base k mid_store store first mid last result is_open origin moment is one gives =
-      subst (λ (opens : Bool). Gives g fits run holds choose h base k store first last result (opening opens origin moment)) (sym is)
+      subst (λ (opens : Bool). Gives g fits holds (outset choose h base k run first) store last result (opening opens origin moment))
+      (sym is)
       (gives_on h (end_order moment ∷ []) (begin_order origin moment ∷ []) base k mid_store store first mid last one result gives)
 
   pub not_ended : (h : List TimedCommand) (base k : ℕ) (store : Store M) (first last : D) (fault : GiveFault) (is_open : Bool)
       (origin : ChannelMeta) (moment : ℤ) → is_open ≡ true →
-      Gives g fits run holds choose h base k store first last (Err fault) (end_order moment ∷ []) →
-      Gives g fits run holds choose h base k store first last (Err fault) (opening is_open origin moment)
+      Gives g fits holds (outset choose h base k run first) store last (Err fault) (end_order moment ∷ []) →
+      Gives g fits holds (outset choose h base k run first) store last (Err fault) (opening is_open origin moment)
   not_ended h base k store first last fault is_open origin moment is gives =
-      subst (λ (opens : Bool). Gives g fits run holds choose h base k store first last (Err fault) (opening opens origin moment)) (sym is)
-      (halted_more h base (λ (given : List TimedCommand). HasGivenAll g fits run holds choose h given base k store first last)
+      subst (λ (opens : Bool). Gives g fits holds (outset choose h base k run first) store last (Err fault) (opening opens origin moment))
+      (sym is)
+      (halted_more h base (λ (given : List TimedCommand). HasGivenAll g fits holds (outset choose h base k run first) given store last)
       (λ (given : List TimedCommand). AlwaysRecoverable g fits run choose (given_all choose h given) k first last) fault
       (end_order moment ∷ []) (begin_order origin moment ∷ []) gives)
 
   -- ---- the parts of a run
 
   pub feeds_on : (h a filled ending : List TimedCommand) (base k : ℕ) (mid_store store : Store M) (first mid last : D) →
-      (one : HasGivenAll g fits run holds choose h a base k mid_store first mid) → (result : Result Unit RunFault) →
-      Feeds g fits mid_store.run holds choose (given_all choose h a) base one.count store mid last result filled ending →
-      Feeds g fits run holds choose h base k store first last result (a ++ filled) ending
+      (one : HasGivenAll g fits holds (outset choose h base k run first) a mid_store mid) → (result : Result Unit RunFault) →
+      Feeds g fits holds (outset choose (given_all choose h a) base one.count mid_store.run mid) store last result filled ending →
+      Feeds g fits holds (outset choose h base k run first) store last result (a ++ filled) ending
   feeds_on h a filled ending base k mid_store store first mid last one (Ok done) two =
-      subst (λ (some : List TimedCommand). HasGivenAll g fits run holds choose h some base k store first last)
+      subst (λ (some : List TimedCommand). HasGivenAll g fits holds (outset choose h base k run first) some store last)
       (sym (append_assoc a filled ending))
       (given_on h a (filled ++ ending) base k mid_store store first mid last one two)
   feeds_on h a filled ending base k mid_store store first mid last one (Err (stops.Given fault)) two =
-      subst (λ (some : List TimedCommand). Gives g fits run holds choose h base k store first last (Err fault) some)
+      subst (λ (some : List TimedCommand). Gives g fits holds (outset choose h base k run first) store last (Err fault) some)
       (sym (append_assoc a filled ending))
       (gives_on h a (filled ++ ending) base k mid_store store first mid last one (Err fault) two)
   feeds_on h a filled ending base k mid_store store first mid last one (Err stops.Input) two =
@@ -288,29 +293,30 @@ module _ {D : Type 0} (g : Ghosts D) {M : Type 0} (fits : NamedItems → Type 0)
 
   -- the input was not read to its end, so its channel is not ended
   pub feeds_more : (h filled ending : List TimedCommand) (base k : ℕ) (store : Store M) (first last : D) (fault : RunFault) →
-      Feeds g fits run holds choose h base k store first last (Err fault) filled [] →
-      Feeds g fits run holds choose h base k store first last (Err fault) filled ending
+      Feeds g fits holds (outset choose h base k run first) store last (Err fault) filled [] →
+      Feeds g fits holds (outset choose h base k run first) store last (Err fault) filled ending
   feeds_more h filled ending base k store first last (stops.Given fault) feeds =
-      halted_more h base (λ (given : List TimedCommand). HasGivenAll g fits run holds choose h given base k store first last)
+      halted_more h base (λ (given : List TimedCommand). HasGivenAll g fits holds (outset choose h base k run first) given store last)
       (λ (given : List TimedCommand). AlwaysRecoverable g fits run choose (given_all choose h given) k first last) fault filled ending
-      (subst (λ (some : List TimedCommand). Gives g fits run holds choose h base k store first last (Err fault) some) (append-nil filled)
+      (subst (λ (some : List TimedCommand). Gives g fits holds (outset choose h base k run first) store last (Err fault) some)
+      (append-nil filled)
       feeds)
   feeds_more h filled ending base k store first last stops.Input feeds = feeds
   feeds_more h filled ending base k store first last stops.Endless feeds = feeds
 
   pub filled_all : (h filled : List TimedCommand) (base k : ℕ) (store : Store M) (first last : D) →
-      HasGivenAll g fits run holds choose h (filled ++ []) base k store first last →
-      HasGivenAll g fits run holds choose h filled base k store first last
+      HasGivenAll g fits holds (outset choose h base k run first) (filled ++ []) store last →
+      HasGivenAll g fits holds (outset choose h base k run first) filled store last
   filled_all h filled base k store first last all = subst
-      (λ (some : List TimedCommand). HasGivenAll g fits run holds choose h some base k store first last) (append-nil filled) all
+      (λ (some : List TimedCommand). HasGivenAll g fits holds (outset choose h base k run first) some store last) (append-nil filled) all
 
   pub opened : (h a : List TimedCommand) (base k : ℕ) (store : Store M) (first last : D) (fault : GiveFault)
-      (filled ending : List TimedCommand) → Gives g fits run holds choose h base k store first last (Err fault) a →
-      Feeds g fits run holds choose h base k store first last (Err (stops.Given fault)) (a ++ filled) ending
+      (filled ending : List TimedCommand) → Gives g fits holds (outset choose h base k run first) store last (Err fault) a →
+      Feeds g fits holds (outset choose h base k run first) store last (Err (stops.Given fault)) (a ++ filled) ending
   opened h a base k store first last fault filled ending gives =
-      subst (λ (some : List TimedCommand). Gives g fits run holds choose h base k store first last (Err fault) some)
+      subst (λ (some : List TimedCommand). Gives g fits holds (outset choose h base k run first) store last (Err fault) some)
       (sym (append_assoc a filled ending))
-      (halted_more h base (λ (given : List TimedCommand). HasGivenAll g fits run holds choose h given base k store first last)
+      (halted_more h base (λ (given : List TimedCommand). HasGivenAll g fits holds (outset choose h base k run first) given store last)
       (λ (given : List TimedCommand). AlwaysRecoverable g fits run choose (given_all choose h given) k first last) fault a (filled
       ++ ending) gives)
 
@@ -319,7 +325,7 @@ module _ {D : Type 0} (g : Ghosts D) {M : Type 0} (fits : NamedItems → Type 0)
   module _ (h : List TimedCommand) (base k : ℕ) (mid_store store : Store M) (first mid last : D)
       (stood : (history : List TimedCommand) (base k : ℕ) → Represents g fits holds choose history base k mid_store mid →
       AlwaysRecoverable g fits mid_store.run choose history k mid last) where
-    stood_to : (os : List TimedCommand) → HasGivenAll g fits run holds choose h os base k mid_store first mid →
+    stood_to : (os : List TimedCommand) → HasGivenAll g fits holds (outset choose h base k run first) os mid_store mid →
         AlwaysRecoverable g fits run choose (given_all choose h os) k first last
     stood_to os one = stood_on g fits run holds choose (given_all choose h os) k first mid last one.stood
         (fewer g fits run holds choose (given_all choose h os) one.count k mid last one.kept
@@ -328,8 +334,8 @@ module _ {D : Type 0} (g : Ghosts D) {M : Type 0} (fits : NamedItems → Type 0)
 
     -- the disk fails
     pub failed : (result : Result Unit RunFault) (fault : CommitFault) (filled ending : List TimedCommand) → is_run_cut result ≡ false →
-        Feeds g fits run holds choose h base k mid_store first mid result filled ending →
-        Stores g fits run holds choose h base k store first last (Err (stops.Given (faults.Commit fault))) filled ending
+        Feeds g fits holds (outset choose h base k run first) mid_store mid result filled ending →
+        Stores g fits holds (outset choose h base k run first) store last (Err (stops.Given (faults.Commit fault))) filled ending
     failed (Ok done) fault filled ending uncut feeds = record {
       given = filled ++ ending;
       rest = [];
@@ -351,8 +357,8 @@ module _ {D : Type 0} (g : Ghosts D) {M : Type 0} (fits : NamedItems → Type 0)
     module _ (same : store.run ≡ mid_store.run) (done : (history : List TimedCommand) (base k : ℕ) →
         Represents g fits holds choose history base k mid_store mid →
         Represents g fits holds choose history base (length history) store last) where
-      kept_to : (os : List TimedCommand) → HasGivenAll g fits run holds choose h os base k mid_store first mid →
-          HasKeptAll g fits run holds choose h os base k store first last
+      kept_to : (os : List TimedCommand) → HasGivenAll g fits holds (outset choose h base k run first) os mid_store mid →
+          HasKeptAll g fits holds (outset choose h base k run first) os store last
       kept_to os one = record {
         allowed = one.allowed;
         same_run = same ∙ one.same_run;
@@ -361,8 +367,8 @@ module _ {D : Type 0} (g : Ghosts D) {M : Type 0} (fits : NamedItems → Type 0)
       }
 
       pub settled : (result : Result Unit RunFault) (filled ending : List TimedCommand) → is_run_cut result ≡ false →
-          Feeds g fits run holds choose h base k mid_store first mid result filled ending →
-          Stores g fits run holds choose h base k store first last result filled ending
+          Feeds g fits holds (outset choose h base k run first) mid_store mid result filled ending →
+          Stores g fits holds (outset choose h base k run first) store last result filled ending
       settled (Ok ended) filled ending uncut feeds = kept_to (filled ++ ending) feeds
       settled (Err (stops.Given (faults.Refused refusal))) filled ending uncut feeds = record {
         given = feeds.given;
@@ -377,8 +383,8 @@ module _ {D : Type 0} (g : Ghosts D) {M : Type 0} (fits : NamedItems → Type 0)
   -- it failed before
   pub cut : (h : List TimedCommand) (base k : ℕ) (store : Store M) (first last : D) (result : Result Unit RunFault)
       (filled ending : List TimedCommand) → is_run_cut result ≡ true →
-      Feeds g fits run holds choose h base k store first last result filled ending →
-      Stores g fits run holds choose h base k store first last result filled ending
+      Feeds g fits holds (outset choose h base k run first) store last result filled ending →
+      Stores g fits holds (outset choose h base k run first) store last result filled ending
   cut h base k store first last (Ok done) filled ending is feeds = absurd (cc)
   cut h base k store first last (Err (stops.Given (faults.Refused refusal))) filled ending is feeds = absurd (cc)
   cut h base k store first last (Err (stops.Given (faults.Commit fault))) filled ending is feeds =
@@ -390,7 +396,7 @@ module _ {D : Type 0} (g : Ghosts D) {M : Type 0} (fits : NamedItems → Type 0)
 
   pub fed_holds : (h : List TimedCommand) (base k : ℕ) (store : Store M) (first last : D) (result : Result Unit RunFault)
       (filled ending : List TimedCommand) → is_run_cut result ≡ false →
-      Feeds g fits run holds choose h base k store first last result filled ending →
+      Feeds g fits holds (outset choose h base k run first) store last result filled ending →
       (now : List TimedCommand) × (count : ℕ) × Represents g fits holds choose now base count store last
   fed_holds h base k store first last (Ok done) filled ending uncut feeds = (given_all choose h (filled ++ ending), feeds.count, feeds.hold)
   fed_holds h base k store first last (Err (stops.Given (faults.Refused refusal))) filled ending uncut feeds =

@@ -11,7 +11,7 @@ use Rattle.ix_store.specs.Counting.{numbers}
 use Rattle.ix_store.specs.Holding.{Represents, IsAnswer}
 use Rattle.ix_store.specs.Making.{with_order}
 use Rattle.ix_store.specs.declared.store.Store.{Store}
-use Rattle.ix_run.specs.Running.{AlwaysRecoverable}
+use Rattle.ix_run.specs.Running.{AlwaysRecoverable, Outset}
 
 -- the history with further commands, each with the Tick that it may bring
 abbrev pub given_all : Chooser → List TimedCommand → List TimedCommand → List TimedCommand
@@ -27,28 +27,28 @@ AreAllowed choose base history (order ∷ orders) =
 
 -- Store and disk hold the history with these commands, in this run; no fewer are committed than
 -- before; and every image since stood for a prefix.
-pub record HasGivenAll {D : Type 0} (d : Ghosts D) {M : Type 0} (fits : NamedItems → Type 0) (run : ℕ) (holds : Chooser →
-    List TimedCommand → M → Type 0) (choose : Chooser) (history orders : List TimedCommand) (base k : ℕ) (store : Store M)
-    (before disk : D) : Type 0 where
+pub record HasGivenAll {D : Type 0} (d : Ghosts D) {M : Type 0} (fits : NamedItems → Type 0) (holds : Chooser → List TimedCommand → M →
+    Type 0) (s : Outset D) (orders : List TimedCommand) (store : Store M) (disk : D) : Type 0 where
   pub count : ℕ
-  pub kept : k ≤ count
-  pub allowed : AreAllowed choose base history orders
-  pub same_run : store.run ≡ run
-  pub hold : Represents d fits holds choose (given_all choose history orders) base count store disk
-  pub stood : AlwaysRecoverable d fits run choose (given_all choose history orders) k before disk
+  pub kept : s.kept ≤ count
+  pub allowed : AreAllowed s.choose s.base s.history orders
+  pub same_run : store.run ≡ s.run
+  pub hold : Represents d fits holds s.choose (given_all s.choose s.history orders) s.base count store disk
+  pub stood : AlwaysRecoverable d fits s.run s.choose (given_all s.choose s.history orders) s.kept s.disk disk
 
 -- and all are committed
-pub record HasKeptAll {D : Type 0} (d : Ghosts D) {M : Type 0} (fits : NamedItems → Type 0) (run : ℕ) (holds : Chooser → List TimedCommand →
-    M → Type 0) (choose : Chooser) (history orders : List TimedCommand) (base k : ℕ) (store : Store M) (before disk : D) : Type 0 where
-  pub allowed : AreAllowed choose base history orders
-  pub same_run : store.run ≡ run
-  pub hold : Represents d fits holds choose (given_all choose history orders) base (length (given_all choose history orders)) store disk
-  pub stood : AlwaysRecoverable d fits run choose (given_all choose history orders) k before disk
+pub record HasKeptAll {D : Type 0} (d : Ghosts D) {M : Type 0} (fits : NamedItems → Type 0) (holds : Chooser → List TimedCommand → M →
+    Type 0) (s : Outset D) (orders : List TimedCommand) (store : Store M) (disk : D) : Type 0 where
+  pub allowed : AreAllowed s.choose s.base s.history orders
+  pub same_run : store.run ≡ s.run
+  pub hold : Represents d fits holds s.choose (given_all s.choose s.history orders) s.base (length (given_all s.choose s.history orders))
+      store disk
+  pub stood : AlwaysRecoverable d fits s.run s.choose (given_all s.choose s.history orders) s.kept s.disk disk
 
--- A command was given: it was allowed, this is its answer, and all is committed.
+-- A command was given, where so many had drawn a number in this run: it was allowed, this is its
+-- answer, and all is committed.
 pub record IsKept {D : Type 0} (d : Ghosts D) {M : Type 0} (fits : NamedItems → Type 0) (holds : Chooser → List TimedCommand → M →
-    Type 0) (choose : Chooser) (history : List TimedCommand) (base k : ℕ) (order : TimedCommand) (old : Store M) (answer : Accepted)
-    (store : Store M) (before disk : D) : Type 0 where
-  pub allowed : IsAllowed choose false old.drawn (state_after choose history) order
-  pub answers : IsAnswer old.run old.drawn choose history order answer
-  pub all : HasKeptAll d fits old.run holds choose history (order ∷ []) base k store before disk
+    Type 0) (s : Outset D) (order : TimedCommand) (drawn : ℕ) (answer : Accepted) (store : Store M) (disk : D) : Type 0 where
+  pub allowed : IsAllowed s.choose false drawn (state_after s.choose s.history) order
+  pub answers : IsAnswer s.run drawn s.choose s.history order answer
+  pub all : HasKeptAll d fits holds s (order ∷ []) store disk

@@ -17,7 +17,7 @@ use Rattle.ix_model.specs.declared.commands.TimedCommand.{TimedCommand}
 use Rattle.ix_store.specs.Counting.{numbers}
 use Rattle.ix_store.specs.declared.store.Store.{Store}
 use Rattle.ix_run.specs.Giving.{given_all, HasGivenAll, HasKeptAll}
-use Rattle.ix_run.specs.Running.{AlwaysRecoverable}
+use Rattle.ix_run.specs.Running.{AlwaysRecoverable, Outset}
 use Rattle.ix_run.specs.declared.giving.GiveFault.{GiveFault}
 use Rattle.ix_run.specs.declared.giving.GiveFault.TheVariants as faults
 use Rattle.ix_run.specs.declared.input.RunFault.{RunFault}
@@ -105,13 +105,12 @@ pub record HasHalted (choose : Chooser) (history : List TimedCommand) (base : �
   pub halts : HaltsAt choose history base keeps stood fault given rest
 
 -- all of them were given, or not all
-abbrev pub Gives : {D : Type 0} → Ghosts D → {M : Type 0} → (NamedItems → Type 0) → ℕ → (Chooser → List TimedCommand → M → Type 0) →
-    Chooser → List TimedCommand → ℕ → ℕ → Store M → D → D → Result Unit GiveFault → List TimedCommand → Type 0
-Gives d fits run holds choose history base k store before disk (Ok done) orders =
-    HasGivenAll d fits run holds choose history orders base k store before disk
-Gives d fits run holds choose history base k store before disk (Err fault) orders =
-    HasHalted choose history base (λ given. HasGivenAll d fits run holds choose history given base k store before disk)
-    (λ given. AlwaysRecoverable d fits run choose (given_all choose history given) k before disk) fault orders
+abbrev pub Gives : {D : Type 0} → Ghosts D → {M : Type 0} → (NamedItems → Type 0) → (Chooser → List TimedCommand → M → Type 0) →
+    Outset D → Store M → D → Result Unit GiveFault → List TimedCommand → Type 0
+Gives d fits holds s store disk (Ok done) orders = HasGivenAll d fits holds s orders store disk
+Gives d fits holds s store disk (Err fault) orders =
+    HasHalted s.choose s.history s.base (λ given. HasGivenAll d fits holds s given store disk)
+    (λ given. AlwaysRecoverable d fits s.run s.choose (given_all s.choose s.history given) s.kept s.disk disk) fault orders
 
 -- ---- a run that stores an input
 
@@ -124,21 +123,21 @@ Follows keeps halts (Err (stops.Given fault)) filled ending = halts fault (fille
 Follows keeps halts (Err stops.Input) filled ending = keeps filled
 Follows keeps halts (Err stops.Endless) filled ending = keeps filled
 
-abbrev pub Feeds : {D : Type 0} → Ghosts D → {M : Type 0} → (NamedItems → Type 0) → ℕ → (Chooser → List TimedCommand → M → Type 0) →
-    Chooser → List TimedCommand → ℕ → ℕ → Store M → D → D → Result Unit RunFault → List TimedCommand → List TimedCommand → Type 0
-Feeds d fits run holds choose history base k store before disk result filled ending =
-    Follows (λ given. HasGivenAll d fits run holds choose history given base k store before disk)
-    (HasHalted choose history base (λ given. HasGivenAll d fits run holds choose history given base k store before disk)
-    (λ given. AlwaysRecoverable d fits run choose (given_all choose history given) k before disk))
+abbrev pub Feeds : {D : Type 0} → Ghosts D → {M : Type 0} → (NamedItems → Type 0) → (Chooser → List TimedCommand → M → Type 0) →
+    Outset D → Store M → D → Result Unit RunFault → List TimedCommand → List TimedCommand → Type 0
+Feeds d fits holds s store disk result filled ending =
+    Follows (λ given. HasGivenAll d fits holds s given store disk)
+    (HasHalted s.choose s.history s.base (λ given. HasGivenAll d fits holds s given store disk)
+    (λ given. AlwaysRecoverable d fits s.run s.choose (given_all s.choose s.history given) s.kept s.disk disk))
     result filled ending
 
 -- and all that were given are committed, but where the disk failed
-abbrev pub Stores : {D : Type 0} → Ghosts D → {M : Type 0} → (NamedItems → Type 0) → ℕ → (Chooser → List TimedCommand → M → Type 0) →
-    Chooser → List TimedCommand → ℕ → ℕ → Store M → D → D → Result Unit RunFault → List TimedCommand → List TimedCommand → Type 0
-Stores d fits run holds choose history base k store before disk result filled ending =
-    Follows (λ given. HasKeptAll d fits run holds choose history given base k store before disk)
-    (HasHalted choose history base (λ given. HasKeptAll d fits run holds choose history given base k store before disk)
-    (λ given. AlwaysRecoverable d fits run choose (given_all choose history given) k before disk))
+abbrev pub Stores : {D : Type 0} → Ghosts D → {M : Type 0} → (NamedItems → Type 0) → (Chooser → List TimedCommand → M → Type 0) →
+    Outset D → Store M → D → Result Unit RunFault → List TimedCommand → List TimedCommand → Type 0
+Stores d fits holds s store disk result filled ending =
+    Follows (λ given. HasKeptAll d fits holds s given store disk)
+    (HasHalted s.choose s.history s.base (λ given. HasKeptAll d fits holds s given store disk)
+    (λ given. AlwaysRecoverable d fits s.run s.choose (given_all s.choose s.history given) s.kept s.disk disk))
     result filled ending
 
 -- ---- where the disk has failed, and the store is closed

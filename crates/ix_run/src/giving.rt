@@ -13,7 +13,7 @@ ghost use Rattle.ix_model.specs.declared.answers.Refusal.{Refusal as Refused};
 ghost use Rattle.ix_model.specs.declared.commands.TimedCommand.{TimedCommand};
 ghost use Rattle.ix_run.specs.Placed.{ReadsEnd};
 ghost use Rattle.ix_run.specs.Resting.{CheckpointReady};
-ghost use Rattle.ix_run.specs.Running.{AlwaysRecoverable, HasSettled, IsGiven, IsNotGiven};
+ghost use Rattle.ix_run.specs.Running.{AlwaysRecoverable, HasSettled, IsGiven, IsNotGiven, outset};
 ghost use Rattle.ix_store.specs.Holding.{Represents, IsUnchanged};
 
 use crate::shortening::shorten;
@@ -45,7 +45,7 @@ fn commit_due<M: Listing + Drop, D: Disk>(
     ensures gone { OnOk result ((choose : Chooser) (history : List TimedCommand) (base k : ℕ) → M.is_chooser choose →
         AllByRecursion M.takes history →
         Represents D.Disk M.Book.fits M.holds choose history base k store.old disk.old →
-        HasSettled D.Disk M.Book.fits store.old.run M.holds choose history [] base k store.new disk.old disk.new) }
+        HasSettled D.Disk M.Book.fits M.holds (outset choose history base k store.old.run disk.old) [] store.new disk.new) }
     ensures stood { (choose : Chooser) (history : List TimedCommand) (base k : ℕ) → M.is_chooser choose → AllByRecursion M.takes history →
         Represents D.Disk M.Book.fits M.holds choose history base k store.old disk.old →
         AlwaysRecoverable D.Disk M.Book.fits store.old.run choose history k disk.old disk.new }
@@ -92,15 +92,15 @@ pub fn give<M: Listing + Drop, D: Disk>(
     ensures given { IfOk result (λ answer. (choose : Chooser) (history : List TimedCommand) (base k : ℕ) → M.is_chooser choose →
         AllByRecursion M.takes history →
         Represents D.Disk M.Book.fits M.holds choose history base k store.old disk.old →
-        IsGiven D.Disk M.Book.fits M.holds choose history base k (record { command = command; moment = moment }) store.old answer store.new
-        disk.old disk.new) }
+        IsGiven D.Disk M.Book.fits M.holds (outset choose history base k store.old.run disk.old)
+        (record { command = command; moment = moment }) store.old.drawn answer store.new disk.new) }
     // A refused one has its cause, and leaves all as it was. Where the disk fails every image
     // stands for a prefix.
     ensures fault { IfErr result (λ fault. (choose : Chooser) (history : List TimedCommand) (base k : ℕ) → M.is_chooser choose →
         AllByRecursion M.takes history →
         Represents D.Disk M.Book.fits M.holds choose history base k store.old disk.old →
-        IsNotGiven D.Disk M.Book.fits M.holds choose history base k (record { command = command; moment = moment }) store.old fault
-        store.new disk.old disk.new) }
+        IsNotGiven D.Disk M.Book.fits M.holds (outset choose history base k store.old.run disk.old)
+        (record { command = command; moment = moment }) store.old.drawn fault store.new disk.new) }
     ensures over { OnOk result (LogsAtEnd D.Disk store.new.committer disk.new) }
     ensures still { IfErr result (λ fault. (refusal : Refused) → fault ≡ GiveFault.Refused refusal →
         LogsAtEnd D.Disk store.new.committer disk.new) }

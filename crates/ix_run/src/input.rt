@@ -17,6 +17,7 @@ ghost use Rattle.ix_run.specs.Placed.{ReadsEnd};
 ghost use Rattle.ix_run.specs.Resting.{CheckpointReady};
 ghost use Rattle.ix_run.specs.Storing.{tilde, begin_order, block_order, end_order, opening, filling, IsBlock, HasRead, Gives, Feeds};
 ghost use Rattle.ix_run.specs.Storing.{Stores, is_cut, is_run_cut};
+ghost use Rattle.ix_run.specs.Running.{outset};
 ghost use Rattle.ix_store.specs.Holding.{Represents};
 
 use crate::giving::{GiveFault, commit_all, give};
@@ -74,7 +75,7 @@ fn give_one<M: Listing + Drop, D: Disk>(
     requires takes { M.takes (record { command = command; moment = moment }) }
     ensures given { (choose : Chooser) (history : List TimedCommand) (base k : ℕ) → M.is_chooser choose → AllByRecursion M.takes history →
         Represents D.Disk M.Book.fits M.holds choose history base k store.old disk.old →
-        Gives D.Disk M.Book.fits store.old.run M.holds choose history base k store.new disk.old disk.new result
+        Gives D.Disk M.Book.fits M.holds (outset choose history base k store.old.run disk.old) store.new disk.new result
         (record { command = command; moment = moment } ∷ []) }
     ensures over { is_cut result ≡ false → LogsAtEnd D.Disk store.new.committer disk.new }
     ensures measured { is_cut result ≡ false → KnowsLogLength D.Disk store.old.committer disk.old →
@@ -131,8 +132,8 @@ impl Stream {
         ensures given { (choose : Chooser) (history : List TimedCommand) (base k : ℕ) → M.is_chooser choose →
             AllByRecursion M.takes history →
             Represents D.Disk M.Book.fits M.holds choose history base k store.old disk.old →
-            Gives D.Disk M.Book.fits store.old.run M.holds choose history base k store.new disk.old disk.new result (end_order self.moment
-            ∷ []) }
+            Gives D.Disk M.Book.fits M.holds (outset choose history base k store.old.run disk.old) store.new disk.new result
+            (end_order self.moment ∷ []) }
         ensures over { is_cut result ≡ false → LogsAtEnd D.Disk store.new.committer disk.new }
         ensures measured { is_cut result ≡ false → KnowsLogLength D.Disk store.old.committer disk.old →
             KnowsLogLength D.Disk store.new.committer disk.new }
@@ -166,7 +167,7 @@ impl Stream {
         ensures given { (choose : Chooser) (history : List TimedCommand) (base k : ℕ) → M.is_chooser choose →
             AllByRecursion M.takes history →
             Represents D.Disk M.Book.fits M.holds choose history base k store.old disk.old →
-            Gives D.Disk M.Book.fits store.old.run M.holds choose history base k store.new disk.old disk.new result
+            Gives D.Disk M.Book.fits M.holds (outset choose history base k store.old.run disk.old) store.new disk.new result
             (begin_order origin self.moment ∷ []) }
         ensures over { is_cut result ≡ false → LogsAtEnd D.Disk store.new.committer disk.new }
         ensures measured { is_cut result ≡ false → KnowsLogLength D.Disk store.old.committer disk.old →
@@ -202,7 +203,7 @@ impl Stream {
         ensures given { (choose : Chooser) (history : List TimedCommand) (base k : ℕ) → M.is_chooser choose →
             AllByRecursion M.takes history →
             Represents D.Disk M.Book.fits M.holds choose history base k store.old disk.old →
-            Gives D.Disk M.Book.fits store.old.run M.holds choose history base k store.new disk.old disk.new result
+            Gives D.Disk M.Book.fits M.holds (outset choose history base k store.old.run disk.old) store.new disk.new result
             (block_order self.moment bytes.now ∷ []) }
         ensures over { is_cut result ≡ false → LogsAtEnd D.Disk store.new.committer disk.new }
         ensures measured { is_cut result ≡ false → KnowsLogLength D.Disk store.old.committer disk.old →
@@ -252,7 +253,7 @@ impl Stream {
         ensures given { (choose : Chooser) (history : List TimedCommand) (base k : ℕ) → M.is_chooser choose →
             AllByRecursion M.takes history →
             Represents D.Disk M.Book.fits M.holds choose history base k store.old disk.old →
-            Gives D.Disk M.Book.fits store.old.run M.holds choose history base k store.new disk.old disk.new result
+            Gives D.Disk M.Book.fits M.holds (outset choose history base k store.old.run disk.old) store.new disk.new result
             (opening (is_begun (state_after choose history) tilde) origin self.moment) }
         ensures over { is_cut result ≡ false → LogsAtEnd D.Disk store.new.committer disk.new }
         ensures measured { is_cut result ≡ false → KnowsLogLength D.Disk store.old.committer disk.old →
@@ -292,7 +293,7 @@ impl Stream {
         ensures read { HasRead result (λ blocks. (choose : Chooser) (history : List TimedCommand) (base k : ℕ) → M.is_chooser choose →
             AllByRecursion M.takes history →
             Represents D.Disk M.Book.fits M.holds choose history base k store.old disk.old →
-            Feeds D.Disk M.Book.fits store.old.run M.holds choose history base k store.new disk.old disk.new result
+            Feeds D.Disk M.Book.fits M.holds (outset choose history base k store.old.run disk.old) store.new disk.new result
             (map (block_order self.moment) blocks) [])
             (S.left input.old) (S.left input.new) (S.faults input.old) (S.faults input.new) }
         ensures over { is_run_cut result ≡ false → LogsAtEnd D.Disk store.new.committer disk.new }
@@ -345,7 +346,7 @@ impl Stream {
         ensures read { HasRead result (λ blocks. (choose : Chooser) (history : List TimedCommand) (base k : ℕ) → M.is_chooser choose →
             AllByRecursion M.takes history →
             Represents D.Disk M.Book.fits M.holds choose history base k store.old disk.old →
-            Feeds D.Disk M.Book.fits store.old.run M.holds choose history base k store.new disk.old disk.new result
+            Feeds D.Disk M.Book.fits M.holds (outset choose history base k store.old.run disk.old) store.new disk.new result
             (filling (is_begun (state_after choose history) tilde) origin self.moment blocks) (end_order self.moment ∷ []))
             (S.left input.old) (S.left input.new) (S.faults input.old) (S.faults input.new) }
         ensures over { is_run_cut result ≡ false → LogsAtEnd D.Disk store.new.committer disk.new }
@@ -410,7 +411,7 @@ pub fn store_input<M: Listing + Drop, D: Disk, S: Source>(
     ensures stored { HasRead result (λ blocks. (choose : Chooser) (history : List TimedCommand) (base k : ℕ) → M.is_chooser choose →
         AllByRecursion M.takes history →
         Represents D.Disk M.Book.fits M.holds choose history base k store.old disk.old →
-        Stores D.Disk M.Book.fits store.old.run M.holds choose history base k store.new disk.old disk.new result
+        Stores D.Disk M.Book.fits M.holds (outset choose history base k store.old.run disk.old) store.new disk.new result
         (filling (is_begun (state_after choose history) tilde) arrival.origin arrival.moment blocks) (end_order arrival.moment ∷ []))
         (S.left input.old) (S.left input.new) (S.faults input.old) (S.faults input.new) }
     ensures over { is_run_cut result ≡ false → LogsAtEnd D.Disk store.new.committer disk.new }

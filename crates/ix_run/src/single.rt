@@ -15,7 +15,7 @@ ghost use Rattle.ix_model.specs.declared.commands.TimedCommand.{TimedCommand};
 ghost use Rattle.ix_run.specs.Giving.{IsKept};
 ghost use Rattle.ix_run.specs.Placed.{ReadsEnd};
 ghost use Rattle.ix_run.specs.Resting.{CheckpointReady};
-ghost use Rattle.ix_run.specs.Running.{IsNotGiven};
+ghost use Rattle.ix_run.specs.Running.{IsNotGiven, outset};
 ghost use Rattle.ix_store.specs.Holding.{Represents, IsUnchanged};
 
 use crate::giving::{GiveFault, commit_all, give};
@@ -37,13 +37,13 @@ pub fn give_last<M: Listing + Drop, D: Disk>(
     ensures kept { IfOk result (λ answer. (choose : Chooser) (history : List TimedCommand) (base k : ℕ) → M.is_chooser choose →
         AllByRecursion M.takes history →
         Represents D.Disk M.Book.fits M.holds choose history base k store.old disk.old →
-        IsKept D.Disk M.Book.fits M.holds choose history base k (record { command = command; moment = moment }) store.old answer store.new
-        disk.old disk.new) }
+        IsKept D.Disk M.Book.fits M.holds (outset choose history base k store.old.run disk.old)
+        (record { command = command; moment = moment }) store.old.drawn answer store.new disk.new) }
     ensures fault { IfErr result (λ fault. (choose : Chooser) (history : List TimedCommand) (base k : ℕ) → M.is_chooser choose →
         AllByRecursion M.takes history →
         Represents D.Disk M.Book.fits M.holds choose history base k store.old disk.old →
-        IsNotGiven D.Disk M.Book.fits M.holds choose history base k (record { command = command; moment = moment }) store.old fault
-        store.new disk.old disk.new) }
+        IsNotGiven D.Disk M.Book.fits M.holds (outset choose history base k store.old.run disk.old)
+        (record { command = command; moment = moment }) store.old.drawn fault store.new disk.new) }
     ensures over { OnOk result (LogsAtEnd D.Disk store.new.committer disk.new) }
     ensures run { store.new.run ≡ store.old.run }
     // What `shorten` asks for. A refused command leaves all as it was.

@@ -8,34 +8,33 @@ use Rattle.ix_base.specs.Faults.{Rose}
 use Rattle.ix_base.specs.declared.files.File.{File}
 use Rattle.ix_base.specs.Told.{Told, HasWritten, HasBegun}
 use Rattle.ix_base.proofs.ToldLemmas.{written_is_begun}
-use Rattle.ix_manifest.specs.Book.{NamedItems}
 use Rattle.ix_disk.proofs.Runs.{rose_later}
 use Rattle.ix_disk.specs.Moments.{Always}
 use Rattle.ix_disk.specs.declared.disk.Disk.{Ghosts}
 use Rattle.ix_http.specs.Asked.{Fits}
 use Rattle.ix_http.specs.Limits.{IsWithin}
-use Rattle.ix_http.specs.declared.kinds.Kind.{Kind}
+use Rattle.ix_http.specs.declared.kinds.Kind.{Kind as ReplyKind}
 use Rattle.ix_commit.specs.Undo.{HasSameLogs}
 use Rattle.ix_commit.specs.declared.fault.CommitFault.{CommitFault}
 use Rattle.ix_commit.specs.declared.fault.CommitFault.TheVariants as commits
 use Rattle.ix_net.specs.Links.{Standing}
 use Rattle.ix_model.specs.Bounds.{IsAllowed, IsRefused}
-use Rattle.ix_model.specs.Given.{Chooser}
 use Rattle.ix_model.specs.declared.answers.Accepted.{Accepted}
 use Rattle.ix_model.specs.declared.answers.Refusal.{Refusal}
 use Rattle.ix_model.specs.declared.commands.Command.{Command}
 use Rattle.ix_model.specs.declared.commands.TimedCommand.{TimedCommand}
 use Rattle.ix_store.specs.Counting.{is_due}
-use Rattle.ix_store.specs.Holding.{Represents, IsAccepted, IsUnchanged}
+use Rattle.ix_store.specs.Holding.{Represents, IsAccepted, IsUnchanged, holding}
 use Rattle.ix_store.specs.Making.{with_order}
 use Rattle.ix_store.specs.declared.store.Store.{Store}
 use Rattle.ix_store.proofs.Joining.{staged_same}
 use Rattle.ix_store.proofs.Lawful.{held_then}
 use Rattle.ix_serve.specs.Answer.{Answer, Found, Says, MayChange, is_whole, accepted, answer_of_fault}
 use Rattle.ix_serve.specs.Entries.{Entry, state, order}
+use Rattle.ix_serve.specs.Kinds.{Kind}
 use Rattle.ix_serve.specs.Prefixes.{StandsIn}
 use Rattle.ix_serve.specs.Replies.{Reply, reply, text_of, refused}
-use Rattle.ix_serve.specs.Serving.{Wrote, Gave, IsClean, IsOpen, IsUndamaged, IsTold, HoldsFrom, Answers, Serves, Comes}
+use Rattle.ix_serve.specs.Serving.{Wrote, Gave, IsClean, IsOpen, IsUndamaged, IsTold, HoldsFrom, Answers, Serves, Comes, outcome}
 use Rattle.ix_serve.specs.declared.served.Served.{Served}
 use Rattle.ix_serve.specs.declared.served.Served.TheVariants as served
 use Rattle.ix_serve.specs.declared.served.ServeFault.{ServeFault}
@@ -108,7 +107,7 @@ gave_cleaner None delimited clean clean' result given given' so is = is
 gave_cleaner (Some r) delimited clean clean' result given given' so is = wrote_cleaner r delimited clean clean' result given given' so is
 
 -- a reply by its status and its body
-pub gave_as : (status status' : ℕ) (kind : Kind) (body body' : List ℕ) (delimited : Bool) (clean : Type 0)
+pub gave_as : (status status' : ℕ) (kind : ReplyKind) (body body' : List ℕ) (delimited : Bool) (clean : Type 0)
     (result : Result Served ServeFault) (given given' : Option (List ℕ)) → status ≡ status' → body ≡ body' →
     Wrote (reply status kind body) delimited clean result given given' →
     Wrote (reply status' kind body') delimited clean result given given'
@@ -202,16 +201,15 @@ comes_settled link link' disk disk' came result first failed either later broken
 
 -- ---- answers
 
-module _ {D : Type 0} (g : Ghosts D) {M : Type 0} (fits : NamedItems → Type 0) (holds : Chooser → List TimedCommand → M →
-    Type 0) (e : Entry) where
+module _ {D : Type 0} (g : Ghosts D) {M : Type 0} (kind : Kind M) (e : Entry) where
   -- all is committed
   pub due_held : (commits : Bool) (h : List TimedCommand) (store : Store M) (disk : D) → e.kept ≤ length h →
-      Represents g fits holds e.choose h e.base (length h) store disk → HoldsFrom g fits holds e commits h store disk
+      Represents g kind.fits kind.holds e.choose h e.base (length h) store disk → HoldsFrom g kind.fits kind.holds e commits h store disk
   due_held commits h store disk within hold = record { count = length h; least = within; hold = hold; all = λ _. refl }
 
   -- nothing is to be committed
   pub undue_held : (commits : Bool) (h : List TimedCommand) (store : Store M) (disk : D) → commits ≡ false →
-      Represents g fits holds e.choose h e.base e.kept store disk → HoldsFrom g fits holds e commits h store disk
+      Represents g kind.fits kind.holds e.choose h e.base e.kept store disk → HoldsFrom g kind.fits kind.holds e commits h store disk
   undue_held commits h store disk undue hold = record {
     count = e.kept;
     least = omega arith;
@@ -223,16 +221,16 @@ module _ {D : Type 0} (g : Ghosts D) {M : Type 0} (fits : NamedItems → Type 0)
   pub queried : (may : Answer → Type 0) (delimited : Bool) (clean : Type 0) (result : Result Served ServeFault)
       (given given' : Option (List ℕ)) (store : Store M) (old new : D) (r : Option Reply) (commits : Bool) →
       (let a : Answer = record { reply = r; more = []; commits = commits } in may a) → Gave r delimited clean result given given' →
-      (IsOpen result → HoldsFrom g fits holds e commits e.history store new) →
-      Always g old new (StandsIn fits e.run e.choose e.history e.kept) → IsUndamaged g new result →
-      Answers g fits holds e may delimited clean result given given' store old new
+      (IsOpen result → HoldsFrom g kind.fits kind.holds e commits e.history store new) →
+      Always g old new (StandsIn kind.fits e.run e.choose e.history e.kept) → IsUndamaged g new result →
+      Answers g kind e may delimited (outcome result clean given given') store old new
   queried may delimited clean result given given' store old new r commits may_be gave held images undamaged = record {
     answer = record { reply = r; more = []; commits = commits };
     may_be = may_be;
     gave = gave;
-    held = λ stays. subst (λ (l : List TimedCommand). HoldsFrom g fits holds e commits l store new) (sym (append-nil e.history))
+    held = λ stays. subst (λ (l : List TimedCommand). HoldsFrom g kind.fits kind.holds e commits l store new) (sym (append-nil e.history))
         (held stays);
-    images = subst (λ (l : List TimedCommand). Always g old new (StandsIn fits e.run e.choose l e.kept)) (sym (append-nil e.history))
+    images = subst (λ (l : List TimedCommand). Always g old new (StandsIn kind.fits e.run e.choose l e.kept)) (sym (append-nil e.history))
         images;
     undamaged = undamaged;
   }
@@ -242,25 +240,26 @@ module _ {D : Type 0} (g : Ghosts D) {M : Type 0} (fits : NamedItems → Type 0)
       (given given' : Option (List ℕ)) (store : Store M) (disk : D) (r : Option Reply) →
       (let a : Answer = record { reply = r; more = []; commits = false } in may a) → Gave r delimited clean result given given' →
       IsOpen result →
-      store.run ≡ e.run → Represents g fits holds e.choose e.history e.base e.kept store disk →
-      Answers g fits holds e may delimited clean result given given' store disk disk
+      store.run ≡ e.run → Represents g kind.fits kind.holds e.choose e.history e.base e.kept store disk →
+      Answers g kind e may delimited (outcome result clean given given') store disk disk
   idle may delimited clean result given given' store disk r may_be gave stays run hold =
       queried may delimited clean result given given' store disk disk r false may_be gave
       (λ _. undue_held false e.history store disk refl hold)
-      (subst (λ (n : ℕ). Always g disk disk (StandsIn fits n e.choose e.history e.kept)) run
-      (standing g fits holds e.choose e.history e.base e.kept store disk hold))
+      (subst (λ (n : ℕ). Always g disk disk (StandsIn kind.fits n e.choose e.history e.kept)) run
+      (standing g kind.fits kind.holds e.choose e.history e.base e.kept store disk hold))
       (open_undamaged g disk result stays)
 
   -- a command was accepted
   pub changed : (command : Command) (good : Reply) (clean : Type 0) (result : Result Served ServeFault) (given given' : Option (List ℕ))
       (before mid store : Store M) (old new : D) (answer : Accepted) →
-      (hold : Represents g fits holds e.choose e.history e.base e.kept before old) →
-      IsAccepted fits holds e.choose e.history e.base e.kept (order e command) before mid hold.old answer →
+      (hold : Represents g kind.fits kind.holds e.choose e.history e.base e.kept before old) →
+      IsAccepted kind.fits kind.holds (holding e.choose e.history e.base e.kept) (order e command) before mid hold.old answer →
       Wrote good true clean result given given' → (IsOpen result →
-      HoldsFrom g fits holds e (is_due (drop e.kept (with_order e.choose e.history (order e command))))
+      HoldsFrom g kind.fits kind.holds e (is_due (drop e.kept (with_order e.choose e.history (order e command))))
       (with_order e.choose e.history (order e command)) store new) →
-      Always g old new (StandsIn fits e.run e.choose (with_order e.choose e.history (order e command)) e.kept) → IsUndamaged g new result →
-      Answers g fits holds e (MayChange e command good) true clean result given given' store old new
+      Always g old new (StandsIn kind.fits e.run e.choose (with_order e.choose e.history (order e command)) e.kept) → IsUndamaged g new
+      result →
+      Answers g kind e (MayChange e command good) true (outcome result clean given given') store old new
   changed command good clean result given given' before mid store old new answer hold is gave held images undamaged = record {
     answer = accepted e command good;
     may_be = inl (subst (λ (n : ℕ). IsAllowed e.choose false n (state e) (order e command)) hold.staged.counted.drawn_are is.allowed, refl);
@@ -272,26 +271,28 @@ module _ {D : Type 0} (g : Ghosts D) {M : Type 0} (fits : NamedItems → Type 0)
 
   -- store and disk hold it
   pub held_accepted : (command : Command) (before mid : Store M) (disk : D) (answer : Accepted)
-      (hold : Represents g fits holds e.choose e.history e.base e.kept before disk) → HasSameLogs before.committer mid.committer →
-      IsAccepted fits holds e.choose e.history e.base e.kept (order e command) before mid hold.old answer →
-      Represents g fits holds e.choose (with_order e.choose e.history (order e command)) e.base e.kept mid disk
+      (hold : Represents g kind.fits kind.holds e.choose e.history e.base e.kept before disk) → HasSameLogs before.committer mid.committer →
+      IsAccepted kind.fits kind.holds (holding e.choose e.history e.base e.kept) (order e command) before mid hold.old answer →
+      Represents g kind.fits kind.holds e.choose (with_order e.choose e.history (order e command)) e.base e.kept mid disk
   held_accepted command before mid disk answer hold logs is =
-      held_then g fits holds e.choose e.history (with_order e.choose e.history (order e command)) e.base e.kept before mid disk hold logs
+      held_then g kind.fits kind.holds e.choose e.history (with_order e.choose e.history (order e command)) e.base e.kept before mid disk
+      hold logs
       is.staged
 
   pub run_accepted : (command : Command) (before mid : Store M) (disk : D) (answer : Accepted)
-      (hold : Represents g fits holds e.choose e.history e.base e.kept before disk) →
-      IsAccepted fits holds e.choose e.history e.base e.kept (order e command) before mid hold.old answer → mid.run ≡ before.run
+      (hold : Represents g kind.fits kind.holds e.choose e.history e.base e.kept before disk) →
+      IsAccepted kind.fits kind.holds (holding e.choose e.history e.base e.kept) (order e command) before mid hold.old answer → mid.run ≡
+      before.run
   run_accepted command before mid disk answer hold is = same_run before.run mid.run hold.old _ _ hold.staged.old_is is.staged.old_is
 
   -- a command was refused
   pub refused_so : (command : Command) (good : Reply) (clean : Type 0) (result : Result Served ServeFault) (given given' : Option (List ℕ))
       (before store : Store M) (disk : D) (refusal : Refusal) →
-      before.run ≡ e.run → (hold : Represents g fits holds e.choose e.history e.base e.kept before disk) →
+      before.run ≡ e.run → (hold : Represents g kind.fits kind.holds e.choose e.history e.base e.kept before disk) →
       HasSameLogs before.committer store.committer → IsUnchanged before store →
       IsRefused e.choose false before.drawn (state e) (order e command) refusal → Wrote (refused refusal) true clean result given given' →
       IsOpen result →
-      Answers g fits holds e (MayChange e command good) true clean result given given' store disk disk
+      Answers g kind e (MayChange e command good) true (outcome result clean given given') store disk disk
   refused_so command good clean result given given' before store disk refusal run hold logs same is gave stays =
       idle (MayChange e command good) true clean result given given' store disk (Some (refused refusal))
       (inr (
@@ -300,14 +301,14 @@ module _ {D : Type 0} (g : Ghosts D) {M : Type 0} (fits : NamedItems → Type 0)
         refl,
       ))
       gave stays (same.run ∙ run)
-      (held_then g fits holds e.choose e.history e.history e.base e.kept before store disk hold logs
-      (staged_same fits holds e.choose e.history e.base e.kept before store hold.old same hold.staged))
+      (held_then g kind.fits kind.holds e.choose e.history e.history e.base e.kept before store disk hold logs
+      (staged_same kind.fits kind.holds e.choose e.history e.base e.kept before store hold.old same hold.staged))
 
   -- the same said otherwise
   pub answered : (may may' : Answer → Type 0) (delimited : Bool) (clean : Type 0) (result : Result Served ServeFault)
       (given given' : Option (List ℕ)) (store : Store M) (old new : D) →
-      ((a : Answer) → may a → may' a) → Answers g fits holds e may delimited clean result given given' store old new →
-      Answers g fits holds e may' delimited clean result given given' store old new
+      ((a : Answer) → may a → may' a) → Answers g kind e may delimited (outcome result clean given given') store old new →
+      Answers g kind e may' delimited (outcome result clean given given') store old new
   answered may may' delimited clean result given given' store old new so is = record {
     answer = is.answer;
     may_be = so is.answer is.may_be;
@@ -320,8 +321,8 @@ module _ {D : Type 0} (g : Ghosts D) {M : Type 0} (fits : NamedItems → Type 0)
   -- the same over a longer time
   pub cleaner : (may : Answer → Type 0) (delimited : Bool) (clean clean' : Type 0) (result : Result Served ServeFault)
       (given given' given'' : Option (List ℕ)) (store : Store M) (old new : D) →
-      (clean' → clean) → given ≡ given'' → Answers g fits holds e may delimited clean result given given' store old new →
-      Answers g fits holds e may delimited clean' result given'' given' store old new
+      (clean' → clean) → given ≡ given'' → Answers g kind e may delimited (outcome result clean given given') store old new →
+      Answers g kind e may delimited (outcome result clean' given'' given') store old new
   cleaner may delimited clean clean' result given given' given'' store old new so same is = record {
     answer = is.answer;
     may_be = is.may_be;
@@ -336,8 +337,8 @@ module _ {D : Type 0} (g : Ghosts D) {M : Type 0} (fits : NamedItems → Type 0)
   pub served_so : (clean : Type 0) (result : Result Served ServeFault) (left left' left'' given given' : Option (List ℕ)) (store : Store M)
       (old new : D) (actual read : Found) →
       actual ≡ read → left'' ≡ left' → Told (Fits actual) left left' → IfOk actual IsWithin →
-      Answers g fits holds e (Says e (IsTold g new) read result) (is_whole read) clean result given given' store old new →
-      Serves g fits holds e clean result left left'' given given' store old new
+      Answers g kind e (Says e (IsTold g new) read result) (is_whole read) (outcome result clean given given') store old new →
+      Serves g kind e (outcome result clean given given') left left'' store old new
   served_so clean result left left' left'' given given' store old new actual read is same took limits answers = record {
     read = read;
     took = subst (λ (l : Option (List ℕ)). Told (Fits read) left l) (sym same) (subst (λ (r : Found). Told (Fits r) left left') is took);

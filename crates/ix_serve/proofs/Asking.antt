@@ -3,17 +3,15 @@ use Rattle.std.proofs.Common.{◌≡◌, ◌<◌, ◌≤◌, ◌+◌, ◌||◌, 
 use Rattle.std.proofs.Common.{sym, ap, append_assoc, codes, Option, Some, Result}
 use Rattle.std.specs.List.{flat_map, list_any}
 use Rattle.std.proofs.lemmas.List.{drop_all, drop_more, append-nil}
-use Rattle.ix_manifest.specs.Book.{NamedItems}
 use Rattle.ix_disk.specs.declared.disk.Disk.{Ghosts}
 use Rattle.ix_http.specs.declared.kinds.Ask.TheVariants as asks
-use Rattle.ix_model.specs.Given.{Chooser}
-use Rattle.ix_model.specs.declared.commands.TimedCommand.{TimedCommand}
 use Rattle.ix_store.specs.Holding.{Represents}
 use Rattle.ix_store.specs.declared.store.Store.{Store}
 use Rattle.ix_serve.specs.Answer.{MayBe}
 use Rattle.ix_serve.specs.Bodies.{value_text, values_text}
 use Rattle.ix_serve.specs.Entries.{Entry}
-use Rattle.ix_serve.specs.Serving.{Answers, IsListed, IsOpen, IsTold}
+use Rattle.ix_serve.specs.Kinds.{Kind}
+use Rattle.ix_serve.specs.Serving.{Answers, IsListed, IsOpen, IsTold, outcome}
 use Rattle.ix_serve.specs.declared.served.Served.{Served}
 use Rattle.ix_serve.specs.declared.served.ServeFault.{ServeFault}
 use Rattle.ix_serve.proofs.Answering.{idle}
@@ -43,13 +41,13 @@ one_more body before next text value values is same =
     ∙ append_assoc body (before ++ value_text value) (values_behind (codes ",") values)
 
 -- a listing, as the answer to its ask
-pub listed_answers : {D : Type 0} (g : Ghosts D) {M : Type 0} (fits : NamedItems → Type 0) (holds : Chooser → List TimedCommand → M →
-    Type 0) (e : Entry) (clean : Type 0) (result : Result Served ServeFault)
-    (given given' : Option (List ℕ)) (store : Store M) (disk : D) → IsOpen result → store.run ≡ e.run →
-    Represents g fits holds e.choose e.history e.base e.kept store disk → IsListed e clean result given given' →
-    Answers g fits holds e (MayBe e (IsTold g disk) asks.Buckets result) true clean result given given' store disk disk
-listed_answers g fits holds e clean result given given' store disk stays run hold is =
-    idle g fits holds e (MayBe e (IsTold g disk) asks.Buckets result) true clean result given given' store disk (Some is.reply) is.may_be
+pub listed_answers : {D : Type 0} (g : Ghosts D) {M : Type 0} (kind : Kind M) (e : Entry) (clean : Type 0)
+    (result : Result Served ServeFault) (given given' : Option (List ℕ)) (store : Store M) (disk : D) → IsOpen result →
+    store.run ≡ e.run → Represents g kind.fits kind.holds e.choose e.history e.base e.kept store disk →
+    IsListed e clean result given given' →
+    Answers g kind e (MayBe e (IsTold g disk) asks.Buckets result) true (outcome result clean given given') store disk disk
+listed_answers g kind e clean result given given' store disk stays run hold is =
+    idle g kind e (MayBe e (IsTold g disk) asks.Buckets result) true clean result given given' store disk (Some is.reply) is.may_be
     is.gave stays run hold
 
 module _ (test : ℕ → Bool) (xs : List ℕ) (i d : ℕ) (inside : i < length xs) where

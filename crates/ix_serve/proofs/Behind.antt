@@ -25,9 +25,10 @@ use Rattle.ix_store.specs.Written.{RecoversTo}
 use Rattle.ix_store.specs.declared.store.Store.{Store}
 use Rattle.ix_serve.specs.Answer.{Answer, Found, Says, MayBe, answer_of_fault, is_whole}
 use Rattle.ix_serve.specs.Entries.{Entry}
+use Rattle.ix_serve.specs.Kinds.{Kind}
 use Rattle.ix_serve.specs.Prefixes.{StandsIn}
 use Rattle.ix_serve.specs.Replies.{Reply}
-use Rattle.ix_serve.specs.Serving.{Comes, Gave, IsOpen, IsShort, IsTold, IsUndamaged, Serves}
+use Rattle.ix_serve.specs.Serving.{Comes, Gave, IsOpen, IsShort, IsTold, IsUndamaged, Serves, outcome}
 use Rattle.ix_serve.specs.declared.served.Served.{Served}
 use Rattle.ix_serve.specs.declared.served.Served.TheVariants as served
 use Rattle.ix_serve.specs.declared.served.ServeFault.{ServeFault}
@@ -128,11 +129,10 @@ fewer fits run choose h least k le image is = record {
 disk_undamaged : {D : Type 0} (g : Ghosts D) (new : D) (error : ServeFault) → error ≡ fault.Disk → IsUndamaged g new (Err error)
 disk_undamaged g new error failed file at is image seen = cc
 
-module _ {D : Type 0} (g : Ghosts D) {M : Type 0} (fits : NamedItems → Type 0) (holds : Chooser → List TimedCommand → M →
-    Type 0) (e : Entry) (clean : Type 0) (came : Result Served ServeFault)
+module _ {D : Type 0} (g : Ghosts D) {M : Type 0} (kind : Kind M) (e : Entry) (clean : Type 0) (came : Result Served ServeFault)
     (status : ℕ) (whole unshortened : Bool) (left left' given given' : Option (List ℕ)) (mid store : Store M) (old between new : D)
     (step : Image → Image → Type 0)
-    (first : Serves g fits holds e clean came left left' given given' mid old between)
+    (first : Serves g kind e (outcome came clean given given') left left' mid old between)
     (is : came ≡ Ok (served.Reply status whole unshortened)) (told : Told step (g.seen between) (g.seen new)) where
   abbrev pub after : List TimedCommand
   after = e.history ++ first.answers.answer.more
@@ -144,12 +144,12 @@ module _ {D : Type 0} (g : Ghosts D) {M : Type 0} (fits : NamedItems → Type 0)
   pub serves_behind : (result : Result Served ServeFault) →
       (Gave first.answers.answer.reply (is_whole first.read) clean came given given' →
       Gave first.answers.answer.reply (is_whole first.read) clean result given given') →
-      (IsOpen result → (k : ℕ) → Represents g fits holds e.choose after e.base k mid between →
-      Represents g fits holds e.choose after e.base k store new) →
-      ((k : ℕ) → Represents g fits holds e.choose after e.base k mid between →
-      Always g between new (StandsIn fits e.run e.choose after k)) →
-      ((k : ℕ) → Represents g fits holds e.choose after e.base k mid between → IsUndamaged g new result) →
-      Serves g fits holds e clean result left left' given given' store old new
+      (IsOpen result → (k : ℕ) → Represents g kind.fits kind.holds e.choose after e.base k mid between →
+      Represents g kind.fits kind.holds e.choose after e.base k store new) →
+      ((k : ℕ) → Represents g kind.fits kind.holds e.choose after e.base k mid between →
+      Always g between new (StandsIn kind.fits e.run e.choose after k)) →
+      ((k : ℕ) → Represents g kind.fits kind.holds e.choose after e.base k mid between → IsUndamaged g new result) →
+      Serves g kind e (outcome result clean given given') left left' store old new
   serves_behind result gave held images undamaged =
       let was = first.answers.held stayed in
       record {
@@ -164,19 +164,20 @@ module _ {D : Type 0} (g : Ghosts D) {M : Type 0} (fits : NamedItems → Type 0)
               first.answers.may_be);
           gave = gave first.answers.gave;
           held = λ stays. record { count = was.count; least = was.least; hold = held stays was.count was.hold; all = was.all };
-          images = always_on g old between new (StandsIn fits e.run e.choose after e.kept) first.answers.images
-              (always_weaker g between new (StandsIn fits e.run e.choose after was.count) (StandsIn fits e.run e.choose after e.kept)
-              (fewer fits e.run e.choose after e.kept was.count was.least) (images was.count was.hold));
+          images = always_on g old between new (StandsIn kind.fits e.run e.choose after e.kept) first.answers.images
+              (always_weaker g between new (StandsIn kind.fits e.run e.choose after was.count)
+              (StandsIn kind.fits e.run e.choose after e.kept)
+              (fewer kind.fits e.run e.choose after e.kept was.count was.least) (images was.count was.hold));
           undamaged = undamaged was.count was.hold;
         };
       }
 
   -- the reply is what comes of it, with what is told of the checkpoint
-  pub serves_short : (now : Bool) → ((k : ℕ) → Represents g fits holds e.choose after e.base k mid between →
-      Represents g fits holds e.choose after e.base k store new) →
-      ((k : ℕ) → Represents g fits holds e.choose after e.base k mid between →
-      Always g between new (StandsIn fits e.run e.choose after k)) →
-      Serves g fits holds e clean (Ok (served.Reply status whole now)) left left' given given' store old new
+  pub serves_short : (now : Bool) → ((k : ℕ) → Represents g kind.fits kind.holds e.choose after e.base k mid between →
+      Represents g kind.fits kind.holds e.choose after e.base k store new) →
+      ((k : ℕ) → Represents g kind.fits kind.holds e.choose after e.base k mid between →
+      Always g between new (StandsIn kind.fits e.run e.choose after k)) →
+      Serves g kind e (outcome (Ok (served.Reply status whole now)) clean given given') left left' store old new
   serves_short now held images = serves_behind (Ok (served.Reply status whole now))
       (λ gave. gave_reply first.answers.answer.reply (is_whole first.read) clean status whole unshortened now given given'
       (subst (λ (r : Result Served ServeFault). Gave first.answers.answer.reply (is_whole first.read) clean r given given') is gave))
@@ -184,10 +185,10 @@ module _ {D : Type 0} (g : Ghosts D) {M : Type 0} (fits : NamedItems → Type 0)
 
   -- the disk has failed behind the reply
   pub serves_failed : (error : ServeFault) (cause : CommitFault) → error ≡ answer_of_fault cause →
-      ((k : ℕ) → Represents g fits holds e.choose after e.base k mid between → error ≡ fault.Disk) →
-      ((k : ℕ) → Represents g fits holds e.choose after e.base k mid between →
-      Always g between new (StandsIn fits e.run e.choose after k)) →
-      Serves g fits holds e clean (Err error) left left' given given' store old new
+      ((k : ℕ) → Represents g kind.fits kind.holds e.choose after e.base k mid between → error ≡ fault.Disk) →
+      ((k : ℕ) → Represents g kind.fits kind.holds e.choose after e.base k mid between →
+      Always g between new (StandsIn kind.fits e.run e.choose after k)) →
+      Serves g kind e (outcome (Err error) clean given given') left left' store old new
   serves_failed error cause same failed images = serves_behind (Err error)
       (λ gave. subst (λ (f : ServeFault). Gave first.answers.answer.reply (is_whole first.read) clean (Err f) given given') (sym same)
       (gave_fault first.answers.answer.reply (is_whole first.read) clean came cause given given' gave))

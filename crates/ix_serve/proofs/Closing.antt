@@ -14,10 +14,11 @@ use Rattle.ix_commit.specs.declared.fault.CommitFault.{CommitFault}
 use Rattle.ix_commit.specs.declared.fault.CommitFault.TheVariants as commits
 use Rattle.ix_life.specs.declared.views.View.{View}
 use Rattle.ix_store.specs.Holding.{is_closed}
+use Rattle.ix_store.specs.Placing.{IsBadPlace}
 use Rattle.ix_store.specs.declared.store.Store.{Store}
 use Rattle.ix_serve.specs.Answer.{Found, answer_of_fault}
 use Rattle.ix_serve.specs.Replies.{Reply}
-use Rattle.ix_serve.specs.Serving.{Wrote, Gave, ComesOf, HasStatus, IsBadPlace, IsOpen, IsPlaced, IsPlacedAtEnd, IsReplied, Reads, still_open}
+use Rattle.ix_serve.specs.Serving.{Gave, ComesOf, HasStatus, IsOpen, IsPlaced, IsPlacedAtEnd, IsReplied, Reads, still_open}
 use Rattle.ix_serve.specs.declared.served.Served.{Served}
 use Rattle.ix_serve.specs.declared.served.Served.TheVariants as served
 use Rattle.ix_serve.specs.declared.served.ServeFault.{ServeFault}
@@ -51,12 +52,14 @@ pub placed_at_end : {D : Type 0} (g : Ghosts D) (shown : View) (disk : D) (resul
     IsPlacedAtEnd g disk result → IsPlaced g shown disk result
 placed_at_end g shown disk result ends file at is image told = inl (ends file at is image told)
 
-pub placed_as : (shown : View) (image : Image) (f file : File) (a at : ℕ) → commits.Damaged f a ≡ commits.Damaged file at →
-    IsBadPlace shown image f a → IsBadPlace shown image file at
-placed_as shown image f file a at is bad =
+-- it is shown as before
+pub placed_as : (shown shown' : View) (image : Image) (f file : File) (a at : ℕ) → shown' ≡ shown →
+    commits.Damaged f a ≡ commits.Damaged file at → IsBadPlace shown image f a → IsBadPlace shown' image file at
+placed_as shown shown' image f file a at same is bad =
     let files : f ≡ file = cc in
     let places : a ≡ at = cc in
-    subst (λ (x : File). IsBadPlace shown image x at) files (subst (IsBadPlace shown image f) places bad)
+    subst (λ (seen : View). IsBadPlace seen image file at) (sym same)
+    (subst (λ (x : File). IsBadPlace shown image x at) files (subst (IsBadPlace shown image f) places bad))
 
 pub not_damaged : (file : File) (at : ℕ) → fault.Disk ≡ fault.Damaged file at → ⊥
 not_damaged file at is = cc

@@ -3,6 +3,7 @@ pub mod Bodies
 pub mod Entries
 pub mod Answer
 pub mod Prefixes
+pub mod Kinds
 pub mod Serving
 pub mod Exports
 pub mod Taking

@@ -18,11 +18,12 @@ use Rattle.ix_net.specs.Links.{Standing}
 use Rattle.ix_life.specs.declared.views.View.{View}
 use Rattle.ix_model.specs.Given.{Chooser}
 use Rattle.ix_model.specs.declared.commands.TimedCommand.{TimedCommand}
-use Rattle.ix_store.specs.Exporting.{HasBadBucket}
 use Rattle.ix_store.specs.Holding.{Represents}
+use Rattle.ix_store.specs.Placing.{ReadsBad}
 use Rattle.ix_store.specs.declared.store.Store.{Store}
 use Rattle.ix_serve.specs.Answer.{Answer, Found, Says, MayList, says, declined, is_whole}
 use Rattle.ix_serve.specs.Entries.{Entry, is_acked, is_pending}
+use Rattle.ix_serve.specs.Kinds.{Kind}
 use Rattle.ix_serve.specs.Prefixes.{StandsIn}
 use Rattle.ix_serve.specs.Replies.{Reply, acks, http_status, text_of}
 use Rattle.ix_serve.specs.declared.served.Served.{Served}
@@ -81,15 +82,9 @@ pub record HoldsFrom {D : Type 0} (d : Ghosts D) {M : Type 0} (fits : NamedItems
   pub hold : Represents d fits holds e.choose history e.base count store disk
   pub all : commits ≡ true → count ≡ length history
 
--- as the disk reads, the file ends at the place, or it is that of a bucket that is shown, of which
--- no record ends behind the place within the bytes that count
-abbrev pub IsBadPlace : View → Image → File → ℕ → Type 0
-IsBadPlace shown image file at = (at ≡ length (bytes_in image file)) ⊎ HasBadBucket shown image file at
-
--- damage is named as the disk reads
+-- damage is named as the disk reads, and as a state shows its buckets
 abbrev pub IsPlaced : {D : Type 0} → Ghosts D → View → D → Result Served ServeFault → Type 0
-IsPlaced d shown disk result = (file : File) (at : ℕ) → result ≡ Err (fault.Damaged file at) → (image : Image) →
-    d.seen disk ≡ Some image → IsBadPlace shown image file at
+IsPlaced d shown disk result = (file : File) (at : ℕ) → result ≡ Err (fault.Damaged file at) → ReadsBad d shown disk file at
 
 -- damage that a commit meets is named where the file ends
 abbrev pub IsPlacedAtEnd : {D : Type 0} → Ghosts D → D → Result Served ServeFault → Type 0
@@ -169,26 +164,35 @@ IsLongStill (Err cause) committer = Unit {0}
 abbrev pub IsUndamaged : {D : Type 0} → Ghosts D → D → Result Served ServeFault → Type 0
 IsUndamaged d disk result = (file : File) (at : ℕ) → result ≡ Err (fault.Damaged file at) → (image : Image) → d.seen disk ≡ Some image → ⊥
 
+-- What comes of a request over its link: the result, whether the link is clean, and what was
+-- written to it before and behind.
+pub record Outcome : Type 1 where
+  pub result : Result Served ServeFault
+  pub clean : Type 0
+  pub given : Option (List ℕ)
+  pub given' : Option (List ℕ)
+
+abbrev pub outcome : Result Served ServeFault → Type 0 → Option (List ℕ) → Option (List ℕ) → Outcome
+outcome result clean given given' = record { result = result; clean = clean; given = given; given' = given' }
+
 -- One answer that may be given: what was written of it, what is held behind it, and that every
 -- image since the start stands for this run and a prefix of the same history.
-pub record Answers {D : Type 0} (d : Ghosts D) {M : Type 0} (fits : NamedItems → Type 0) (holds : Chooser → List TimedCommand → M →
-    Type 0) (e : Entry) (may : Answer → Type 0) (delimited : Bool) (clean : Type 0)
-    (result : Result Served ServeFault) (given given' : Option (List ℕ)) (store : Store M) (old new : D) : Type 0 where
+pub record Answers {D : Type 0} (d : Ghosts D) {M : Type 0} (kind : Kind M) (e : Entry) (may : Answer → Type 0) (delimited : Bool)
+    (came : Outcome) (store : Store M) (old new : D) : Type 0 where
   pub answer : Answer
   pub may_be : may answer
-  pub gave : Gave answer.reply delimited clean result given given'
-  pub held : IsOpen result → HoldsFrom d fits holds e answer.commits (e.history ++ answer.more) store new
-  pub images : Always d old new (StandsIn fits e.run e.choose (e.history ++ answer.more) e.kept)
-  pub undamaged : IsUndamaged d new result
+  pub gave : Gave answer.reply delimited came.clean came.result came.given came.given'
+  pub held : IsOpen came.result → HoldsFrom d kind.fits kind.holds e answer.commits (e.history ++ answer.more) store new
+  pub images : Always d old new (StandsIn kind.fits e.run e.choose (e.history ++ answer.more) e.kept)
+  pub undamaged : IsUndamaged d new came.result
 
 -- One request: what was read of the bytes of the link, and what was answered to it.
-pub record Serves {D : Type 0} (d : Ghosts D) {M : Type 0} (fits : NamedItems → Type 0) (holds : Chooser → List TimedCommand → M →
-    Type 0) (e : Entry) (clean : Type 0)
-    (result : Result Served ServeFault) (left left' given given' : Option (List ℕ)) (store : Store M) (old new : D) : Type 0 where
+pub record Serves {D : Type 0} (d : Ghosts D) {M : Type 0} (kind : Kind M) (e : Entry) (came : Outcome) (left left' : Option (List ℕ))
+    (store : Store M) (old new : D) : Type 0 where
   pub read : Found
   pub took : Told (Fits read) left left'
   pub within : IfOk read IsWithin
-  pub answers : Answers d fits holds e (Says e (IsTold d new) read result) (is_whole read) clean result given given' store old new
+  pub answers : Answers d kind e (Says e (IsTold d new) read came.result) (is_whole read) came store old new
 
 -- the counts of faults never fall, and these answers come only where theirs rose
 pub record Comes (link link' disk disk' : ℕ) (result : Result Served ServeFault) : Type 0 where

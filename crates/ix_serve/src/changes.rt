@@ -11,9 +11,11 @@ ghost use Rattle.ix_model.specs.declared.commands.Command.TheVariants as command
 ghost use Rattle.ix_model.specs.declared.commands.TimedCommand.{TimedCommand};
 ghost use Rattle.ix_serve.specs.Answer.{MayChange, MayBe};
 ghost use Rattle.ix_serve.specs.Entries.{entry};
+ghost use Rattle.ix_serve.specs.Kinds.{kind};
 ghost use Rattle.ix_serve.specs.Replies.{reply};
-ghost use Rattle.ix_serve.specs.Serving.{Answers, Comes, IsClean, IsOpen, IsPlacedAtEnd, IsReplied, IsTold, still_open};
+ghost use Rattle.ix_serve.specs.Serving.{Answers, Comes, IsClean, IsOpen, IsPlacedAtEnd, IsReplied, IsTold, outcome, still_open};
 ghost use Rattle.ix_store.specs.Holding.{Represents, is_closed};
+ghost use Rattle.ix_store.specs.Remembering.{Remembers};
 
 use crate::bodies::{acked_body, begun_body};
 use crate::keeping::settle;
@@ -41,10 +43,10 @@ fn serve_change<K: Link, M: StoreMemory + Drop, D: Disk>(
     requires takes { M.takes (record { command = command; moment = moment }) }
     ensures answers { (choose : Chooser) (history : List TimedCommand) (base k : ℕ) → M.is_chooser choose → AllByRecursion M.takes history →
         Represents D.Disk M.Book.fits M.holds choose history base k store.old disk.old →
-        Answers D.Disk M.Book.fits M.holds (entry choose history base k store.old.run moment)
+        Answers D.Disk (kind M.takes M.Book.fits M.holds) (entry choose history base k store.old.run moment)
         (MayChange (entry choose history base k store.old.run moment) command (reply status Json body.now)) true
-        (IsClean (K.faults link.old) (K.faults link.new) (K.standing link.old) (K.standing link.new))
-        result (K.given link.old) (K.given link.new) store.new disk.old disk.new }
+        (outcome result (IsClean (K.faults link.old) (K.faults link.new) (K.standing link.old) (K.standing link.new)) (K.given link.old)
+        (K.given link.new)) store.new disk.old disk.new }
     ensures left { K.left link.new ≡ K.left link.old }
     ensures over { IsOpen result → LogsAtEnd D.Disk store.new.committer disk.new }
     ensures measured { KnowsLogLength D.Disk store.old.committer disk.old → IsOpen result →
@@ -53,6 +55,7 @@ fn serve_change<K: Link, M: StoreMemory + Drop, D: Disk>(
     ensures placed { IsPlacedAtEnd D.Disk disk.new result }
     ensures replied { IsReplied true result }
     ensures run { store.new.run ≡ store.old.run }
+    ensures remembers { Remembers M.is_chooser M.takes M.holds store.old.memory store.new.memory }
     ensures told { IsTold D.Disk disk.old → IsTold D.Disk disk.new }
     ensures goes { LinkStep (K.standing link.old) (K.standing link.new) }
     ensures comes { Comes (K.faults link.old) (K.faults link.new) (D.Disk.faults disk.old) (D.Disk.faults disk.new) result }
@@ -81,10 +84,10 @@ pub(crate) fn serve_begin<K: Link, M: StoreMemory + Drop, D: Disk>(
     requires takes { M.takes (record { command = commands.Begin channel meta; moment = moment }) }
     ensures answers { (choose : Chooser) (history : List TimedCommand) (base k : ℕ) → M.is_chooser choose → AllByRecursion M.takes history →
         Represents D.Disk M.Book.fits M.holds choose history base k store.old disk.old →
-        Answers D.Disk M.Book.fits M.holds (entry choose history base k store.old.run moment)
+        Answers D.Disk (kind M.takes M.Book.fits M.holds) (entry choose history base k store.old.run moment)
         (MayBe (entry choose history base k store.old.run moment) (IsTold D.Disk disk.new) (asks.Begin channel meta) result) true
-        (IsClean (K.faults link.old) (K.faults link.new) (K.standing link.old) (K.standing link.new))
-        result (K.given link.old) (K.given link.new) store.new disk.old disk.new }
+        (outcome result (IsClean (K.faults link.old) (K.faults link.new) (K.standing link.old) (K.standing link.new)) (K.given link.old)
+        (K.given link.new)) store.new disk.old disk.new }
     ensures left { K.left link.new ≡ K.left link.old }
     ensures over { IsOpen result → LogsAtEnd D.Disk store.new.committer disk.new }
     ensures measured { KnowsLogLength D.Disk store.old.committer disk.old → IsOpen result →
@@ -93,6 +96,7 @@ pub(crate) fn serve_begin<K: Link, M: StoreMemory + Drop, D: Disk>(
     ensures placed { IsPlacedAtEnd D.Disk disk.new result }
     ensures replied { IsReplied true result }
     ensures run { store.new.run ≡ store.old.run }
+    ensures remembers { Remembers M.is_chooser M.takes M.holds store.old.memory store.new.memory }
     ensures told { IsTold D.Disk disk.old → IsTold D.Disk disk.new }
     ensures goes { LinkStep (K.standing link.old) (K.standing link.new) }
     ensures comes { Comes (K.faults link.old) (K.faults link.new) (D.Disk.faults disk.old) (D.Disk.faults disk.new) result }
@@ -118,10 +122,10 @@ pub(crate) fn serve_block<K: Link, M: StoreMemory + Drop, D: Disk>(
     requires takes { M.takes (record { command = commands.Block channel bytes None; moment = moment }) }
     ensures answers { (choose : Chooser) (history : List TimedCommand) (base k : ℕ) → M.is_chooser choose → AllByRecursion M.takes history →
         Represents D.Disk M.Book.fits M.holds choose history base k store.old disk.old →
-        Answers D.Disk M.Book.fits M.holds (entry choose history base k store.old.run moment)
+        Answers D.Disk (kind M.takes M.Book.fits M.holds) (entry choose history base k store.old.run moment)
         (MayBe (entry choose history base k store.old.run moment) (IsTold D.Disk disk.new) (asks.Block channel bytes) result) true
-        (IsClean (K.faults link.old) (K.faults link.new) (K.standing link.old) (K.standing link.new))
-        result (K.given link.old) (K.given link.new) store.new disk.old disk.new }
+        (outcome result (IsClean (K.faults link.old) (K.faults link.new) (K.standing link.old) (K.standing link.new)) (K.given link.old)
+        (K.given link.new)) store.new disk.old disk.new }
     ensures left { K.left link.new ≡ K.left link.old }
     ensures over { IsOpen result → LogsAtEnd D.Disk store.new.committer disk.new }
     ensures measured { KnowsLogLength D.Disk store.old.committer disk.old → IsOpen result →
@@ -130,6 +134,7 @@ pub(crate) fn serve_block<K: Link, M: StoreMemory + Drop, D: Disk>(
     ensures placed { IsPlacedAtEnd D.Disk disk.new result }
     ensures replied { IsReplied true result }
     ensures run { store.new.run ≡ store.old.run }
+    ensures remembers { Remembers M.is_chooser M.takes M.holds store.old.memory store.new.memory }
     ensures told { IsTold D.Disk disk.old → IsTold D.Disk disk.new }
     ensures goes { LinkStep (K.standing link.old) (K.standing link.new) }
     ensures comes { Comes (K.faults link.old) (K.faults link.new) (D.Disk.faults disk.old) (D.Disk.faults disk.new) result }
@@ -158,10 +163,10 @@ pub(crate) fn serve_end<K: Link, M: StoreMemory + Drop, D: Disk>(
     requires takes { M.takes (record { command = commands.End channel; moment = moment }) }
     ensures answers { (choose : Chooser) (history : List TimedCommand) (base k : ℕ) → M.is_chooser choose → AllByRecursion M.takes history →
         Represents D.Disk M.Book.fits M.holds choose history base k store.old disk.old →
-        Answers D.Disk M.Book.fits M.holds (entry choose history base k store.old.run moment)
+        Answers D.Disk (kind M.takes M.Book.fits M.holds) (entry choose history base k store.old.run moment)
         (MayBe (entry choose history base k store.old.run moment) (IsTold D.Disk disk.new) (asks.End channel) result) true
-        (IsClean (K.faults link.old) (K.faults link.new) (K.standing link.old) (K.standing link.new))
-        result (K.given link.old) (K.given link.new) store.new disk.old disk.new }
+        (outcome result (IsClean (K.faults link.old) (K.faults link.new) (K.standing link.old) (K.standing link.new)) (K.given link.old)
+        (K.given link.new)) store.new disk.old disk.new }
     ensures left { K.left link.new ≡ K.left link.old }
     ensures over { IsOpen result → LogsAtEnd D.Disk store.new.committer disk.new }
     ensures measured { KnowsLogLength D.Disk store.old.committer disk.old → IsOpen result →
@@ -170,6 +175,7 @@ pub(crate) fn serve_end<K: Link, M: StoreMemory + Drop, D: Disk>(
     ensures placed { IsPlacedAtEnd D.Disk disk.new result }
     ensures replied { IsReplied true result }
     ensures run { store.new.run ≡ store.old.run }
+    ensures remembers { Remembers M.is_chooser M.takes M.holds store.old.memory store.new.memory }
     ensures told { IsTold D.Disk disk.old → IsTold D.Disk disk.new }
     ensures goes { LinkStep (K.standing link.old) (K.standing link.new) }
     ensures comes { Comes (K.faults link.old) (K.faults link.new) (D.Disk.faults disk.old) (D.Disk.faults disk.new) result }

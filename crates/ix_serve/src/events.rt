@@ -15,10 +15,11 @@ ghost use Rattle.ix_model.specs.Given.{Chooser};
 ghost use Rattle.ix_model.specs.declared.commands.TimedCommand.{TimedCommand};
 ghost use Rattle.ix_serve.specs.Answer.{MayBe};
 ghost use Rattle.ix_serve.specs.Entries.{Entry, entry};
+ghost use Rattle.ix_serve.specs.Kinds.{kind};
 ghost use Rattle.ix_serve.specs.Exports.{reply_of, MayReply, IsNoDamage, IsPlacedBy};
 ghost use Rattle.ix_serve.specs.Prefixes.{StandsIn};
 ghost use Rattle.ix_serve.specs.Replies.{most_lines};
-ghost use Rattle.ix_serve.specs.Serving.{Answers, Comes, Gave, IsClean, IsOpen, IsPlaced, IsReplied, IsTold, still_open};
+ghost use Rattle.ix_serve.specs.Serving.{Answers, Comes, Gave, IsClean, IsOpen, IsPlaced, IsReplied, IsTold, outcome, still_open};
 ghost use Rattle.ix_store.specs.Holding.{Represents, is_closed};
 
 use crate::replies::{decline, give, give_refusal, give_unread, give_up};
@@ -126,8 +127,9 @@ fn export_lines<M: StoreMemory + Drop, D: Disk>(
         Represents D.Disk M.Book.fits M.holds choose history base (length history) store.old disk.old → IsNoDamage D.Disk disk.new cause) }
     ensures measured { KnowsLogLength D.Disk store.old.committer disk.old → KnowsLogLength D.Disk store.new.committer disk.new }
     ensures closed { OnErr result (is_closed store.new ≡ true) }
-    ensures placed { IfErr result (λ cause. IsPlacedBy D.Disk (M.shown store.old.memory) disk.new cause) }
+    ensures placed { IfErr result (λ cause. IsPlacedBy D.Disk (M.shown store.new.memory) disk.new cause) }
     ensures run { store.new.run ≡ store.old.run }
+    ensures memory { store.new.memory ≡ store.old.memory }
     ensures same { D.Disk.seen disk.new ≡ D.Disk.seen disk.old }
     ensures over { LogsAtEnd D.Disk store.old.committer disk.old → LogsAtEnd D.Disk store.new.committer disk.new }
     ensures later { D.Disk.faults disk.old ≤ D.Disk.faults disk.new }
@@ -176,8 +178,9 @@ fn committed_lines<M: StoreMemory + Drop, D: Disk>(
     ensures measured { KnowsLogLength D.Disk store.old.committer disk.old →
         OnOk result (KnowsLogLength D.Disk store.new.committer disk.new) }
     ensures closed { OnErr result (is_closed store.new ≡ true) }
-    ensures placed { IfErr result (λ cause. IsPlacedBy D.Disk (M.shown store.old.memory) disk.new cause) }
+    ensures placed { IfErr result (λ cause. IsPlacedBy D.Disk (M.shown store.new.memory) disk.new cause) }
     ensures run { store.new.run ≡ store.old.run }
+    ensures memory { store.new.memory ≡ store.old.memory }
     ensures told { IsTold D.Disk disk.old → IsTold D.Disk disk.new }
     ensures over { OnOk result (LogsAtEnd D.Disk store.new.committer disk.new) }
     ensures later { D.Disk.faults disk.old ≤ D.Disk.faults disk.new }
@@ -223,18 +226,19 @@ pub(crate) fn serve_events<K: Link, M: StoreMemory + Drop, D: Disk>(
     requires over { LogsAtEnd D.Disk store.old.committer disk.old }
     ensures answers { (choose : Chooser) (history : List TimedCommand) (base k : ℕ) → M.is_chooser choose → AllByRecursion M.takes history →
         Represents D.Disk M.Book.fits M.holds choose history base k store.old disk.old →
-        Answers D.Disk M.Book.fits M.holds (entry choose history base k store.old.run moment)
+        Answers D.Disk (kind M.takes M.Book.fits M.holds) (entry choose history base k store.old.run moment)
         (MayBe (entry choose history base k store.old.run moment) (IsTold D.Disk disk.new) (asks.Events index.now range) result) true
-        (IsClean (K.faults link.old) (K.faults link.new) (K.standing link.old) (K.standing link.new))
-        result (K.given link.old) (K.given link.new) store.new disk.old disk.new }
+        (outcome result (IsClean (K.faults link.old) (K.faults link.new) (K.standing link.old) (K.standing link.new)) (K.given link.old)
+        (K.given link.new)) store.new disk.old disk.new }
     ensures left { K.left link.new ≡ K.left link.old }
     ensures over { IsOpen result → LogsAtEnd D.Disk store.new.committer disk.new }
     ensures measured { KnowsLogLength D.Disk store.old.committer disk.old → IsOpen result →
         KnowsLogLength D.Disk store.new.committer disk.new }
     ensures closed { still_open result ≡ false → is_closed store.new ≡ true }
-    ensures placed { IsPlaced D.Disk (M.shown store.old.memory) disk.new result }
+    ensures placed { IsPlaced D.Disk (M.shown store.new.memory) disk.new result }
     ensures replied { IsReplied true result }
     ensures run { store.new.run ≡ store.old.run }
+    ensures memory { store.new.memory ≡ store.old.memory }
     ensures told { IsTold D.Disk disk.old → IsTold D.Disk disk.new }
     ensures goes { GoesLink (K.standing link.old) (K.standing link.new) }
     ensures comes { Comes (K.faults link.old) (K.faults link.new) (D.Disk.faults disk.old) (D.Disk.faults disk.new) result }

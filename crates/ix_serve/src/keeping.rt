@@ -43,6 +43,7 @@ pub(crate) fn settle<M: StoreMemory + Drop, D: Disk>(
     ensures closed { still_open result ≡ false → is_closed store.new ≡ true }
     ensures placed { IsPlacedAtEnd D.Disk disk.new result }
     ensures run { store.new.run ≡ store.old.run }
+    ensures memory { store.new.memory ≡ store.old.memory }
     ensures told { IsTold D.Disk disk.old → IsTold D.Disk disk.new }
     ensures over { IsOpen result → LogsAtEnd D.Disk store.new.committer disk.new }
     ensures later { D.Disk.faults disk.old ≤ D.Disk.faults disk.new }
@@ -85,6 +86,7 @@ pub(crate) fn shorten_behind<M: Listing + Drop, D: Disk>(
     ensures placed { IfErr result (λ fault. (file : File) (at : ℕ) → fault ≡ ServeFault.Damaged file at → (image : Image) →
         D.Disk.seen disk.new ≡ Some image → at ≡ length (bytes_in image file)) }
     ensures run { store.new.run ≡ store.old.run }
+    ensures memory { store.new.memory ≡ store.old.memory }
     ensures told { Told Anyhow (D.Disk.seen disk.old) (D.Disk.seen disk.new) }
     ensures later { D.Disk.faults disk.old ≤ D.Disk.faults disk.new }
     ensures failed { IfErr result (λ fault. fault ≡ ServeFault.Disk → Rose (D.Disk.faults disk.old) (D.Disk.faults disk.new)) }

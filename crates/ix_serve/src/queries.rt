@@ -11,7 +11,9 @@ ghost use Rattle.ix_model.specs.declared.commands.TimedCommand.{TimedCommand};
 ghost use Rattle.ix_serve.specs.Answer.{MayBe};
 ghost use Rattle.ix_serve.specs.Bodies.{acks_body};
 ghost use Rattle.ix_serve.specs.Entries.{Entry, IsAt, entry, is_acked, is_pending};
-ghost use Rattle.ix_serve.specs.Serving.{Answers, AreTold, Comes, IsClean, IsListed, IsOpen, IsPlacedAtEnd, IsReplied, IsTold, still_open};
+ghost use Rattle.ix_serve.specs.Kinds.{kind};
+ghost use Rattle.ix_serve.specs.Serving.{Answers, AreTold, Comes, IsClean, IsListed, IsOpen, IsPlacedAtEnd, IsReplied, IsTold, outcome};
+ghost use Rattle.ix_serve.specs.Serving.{still_open};
 ghost use Rattle.ix_store.specs.Holding.{Represents, is_closed};
 
 use crate::bodies::add_value;
@@ -116,10 +118,10 @@ pub(crate) fn serve_acks<K: Link, M: StoreMemory + Drop, D: Disk>(
     requires over { LogsAtEnd D.Disk store.old.committer disk.old }
     ensures answers { (choose : Chooser) (history : List TimedCommand) (base k : ℕ) → M.is_chooser choose → AllByRecursion M.takes history →
         Represents D.Disk M.Book.fits M.holds choose history base k store.old disk.old →
-        Answers D.Disk M.Book.fits M.holds (entry choose history base k store.old.run moment)
+        Answers D.Disk (kind M.takes M.Book.fits M.holds) (entry choose history base k store.old.run moment)
         (MayBe (entry choose history base k store.old.run moment) (IsTold D.Disk disk.new) (asks.Acks run numbers.now) result) true
-        (IsClean (K.faults link.old) (K.faults link.new) (K.standing link.old) (K.standing link.new))
-        result (K.given link.old) (K.given link.new) store.new disk.old disk.new }
+        (outcome result (IsClean (K.faults link.old) (K.faults link.new) (K.standing link.old) (K.standing link.new)) (K.given link.old)
+        (K.given link.new)) store.new disk.old disk.new }
     ensures left { K.left link.new ≡ K.left link.old }
     ensures over { IsOpen result → LogsAtEnd D.Disk store.new.committer disk.new }
     ensures measured { KnowsLogLength D.Disk store.old.committer disk.old → IsOpen result →
@@ -128,6 +130,7 @@ pub(crate) fn serve_acks<K: Link, M: StoreMemory + Drop, D: Disk>(
     ensures placed { IsPlacedAtEnd D.Disk disk.new result }
     ensures replied { IsReplied true result }
     ensures run { store.new.run ≡ store.old.run }
+    ensures memory { store.new.memory ≡ store.old.memory }
     ensures told { IsTold D.Disk disk.old → IsTold D.Disk disk.new }
     ensures goes { LinkStep (K.standing link.old) (K.standing link.new) }
     ensures comes { Comes (K.faults link.old) (K.faults link.new) (D.Disk.faults disk.old) (D.Disk.faults disk.new) result }

@@ -9,10 +9,12 @@ ghost use Rattle.ix_model.specs.Given.{Chooser};
 ghost use Rattle.ix_model.specs.declared.commands.TimedCommand.{TimedCommand};
 ghost use Rattle.ix_serve.specs.Answer.{MayBe};
 ghost use Rattle.ix_serve.specs.Entries.{entry};
+ghost use Rattle.ix_serve.specs.Kinds.{kind};
 ghost use Rattle.ix_serve.specs.Serving.{Answers, Comes, IsClean, IsLongStill, IsOpen, IsPlaced, IsReplied, IsShortBehind, IsTold, Reads};
-ghost use Rattle.ix_serve.specs.Serving.{Serves, still_open};
+ghost use Rattle.ix_serve.specs.Serving.{Serves, outcome, still_open};
 ghost use Rattle.ix_serve.specs.Taking.{TakesAsks};
 ghost use Rattle.ix_store.specs.Holding.{Represents, is_closed};
+ghost use Rattle.ix_store.specs.Remembering.{Remembers};
 
 use crate::changes::{serve_begin, serve_block, serve_end};
 use crate::events::serve_events;
@@ -40,18 +42,19 @@ fn serve_ask<K: Link, M: StoreMemory + Drop, D: Disk>(
     requires within { KeepsLimits ask }
     ensures answers { (choose : Chooser) (history : List TimedCommand) (base k : ℕ) → M.is_chooser choose → AllByRecursion M.takes history →
         Represents D.Disk M.Book.fits M.holds choose history base k store.old disk.old →
-        Answers D.Disk M.Book.fits M.holds (entry choose history base k store.old.run moment)
+        Answers D.Disk (kind M.takes M.Book.fits M.holds) (entry choose history base k store.old.run moment)
         (MayBe (entry choose history base k store.old.run moment) (IsTold D.Disk disk.new) ask result) true
-        (IsClean (K.faults link.old) (K.faults link.new) (K.standing link.old) (K.standing link.new))
-        result (K.given link.old) (K.given link.new) store.new disk.old disk.new }
+        (outcome result (IsClean (K.faults link.old) (K.faults link.new) (K.standing link.old) (K.standing link.new)) (K.given link.old)
+        (K.given link.new)) store.new disk.old disk.new }
     ensures left { K.left link.new ≡ K.left link.old }
     ensures over { IsOpen result → LogsAtEnd D.Disk store.new.committer disk.new }
     ensures measured { KnowsLogLength D.Disk store.old.committer disk.old → IsOpen result →
         KnowsLogLength D.Disk store.new.committer disk.new }
     ensures closed { still_open result ≡ false → is_closed store.new ≡ true }
-    ensures placed { IsPlaced D.Disk (M.shown store.old.memory) disk.new result }
+    ensures placed { IsPlaced D.Disk (M.shown store.new.memory) disk.new result }
     ensures replied { IsReplied true result }
     ensures run { store.new.run ≡ store.old.run }
+    ensures remembers { Remembers M.is_chooser M.takes M.holds store.old.memory store.new.memory }
     ensures told { IsTold D.Disk disk.old → IsTold D.Disk disk.new }
     ensures goes { LinkStep (K.standing link.old) (K.standing link.new) }
     ensures comes { Comes (K.faults link.old) (K.faults link.new) (D.Disk.faults disk.old) (D.Disk.faults disk.new) result }
@@ -86,16 +89,17 @@ fn serve_request<K: Link, M: StoreMemory + Drop, D: Disk>(
     requires takes { TakesAsks M.takes }
     ensures serves { (choose : Chooser) (history : List TimedCommand) (base k : ℕ) → M.is_chooser choose → AllByRecursion M.takes history →
         Represents D.Disk M.Book.fits M.holds choose history base k store.old disk.old →
-        Serves D.Disk M.Book.fits M.holds (entry choose history base k store.old.run moment)
-        (IsClean (K.faults link.old) (K.faults link.new) (K.standing link.old) (K.standing link.new))
-        result (K.left link.old) (K.left link.new) (K.given link.old) (K.given link.new) store.new disk.old disk.new }
+        Serves D.Disk (kind M.takes M.Book.fits M.holds) (entry choose history base k store.old.run moment)
+        (outcome result (IsClean (K.faults link.old) (K.faults link.new) (K.standing link.old) (K.standing link.new)) (K.given link.old)
+        (K.given link.new)) (K.left link.old) (K.left link.new) store.new disk.old disk.new }
     ensures over { IsOpen result → LogsAtEnd D.Disk store.new.committer disk.new }
     ensures measured { KnowsLogLength D.Disk store.old.committer disk.old → IsOpen result →
         KnowsLogLength D.Disk store.new.committer disk.new }
     ensures closed { still_open result ≡ false → is_closed store.new ≡ true }
-    ensures placed { IsPlaced D.Disk (M.shown store.old.memory) disk.new result }
+    ensures placed { IsPlaced D.Disk (M.shown store.new.memory) disk.new result }
     ensures reads { Reads result (K.left link.old) (K.left link.new) }
     ensures run { store.new.run ≡ store.old.run }
+    ensures remembers { Remembers M.is_chooser M.takes M.holds store.old.memory store.new.memory }
     ensures told { IsTold D.Disk disk.old → IsTold D.Disk disk.new }
     ensures goes { LinkStep (K.standing link.old) (K.standing link.new) }
     ensures comes { Comes (K.faults link.old) (K.faults link.new) (D.Disk.faults disk.old) (D.Disk.faults disk.new) result }
@@ -131,17 +135,17 @@ pub fn serve_one<K: Link, M: Listing + Drop, D: Disk>(
     // and held, and what every image stands for.
     ensures serves { (choose : Chooser) (history : List TimedCommand) (base k : ℕ) → M.is_chooser choose → AllByRecursion M.takes history →
         Represents D.Disk M.Book.fits M.holds choose history base k store.old disk.old →
-        Serves D.Disk M.Book.fits M.holds (entry choose history base k store.old.run moment)
-        (IsClean (K.faults link.old) (K.faults link.new) (K.standing link.old) (K.standing link.new))
-        result (K.left link.old) (K.left link.new) (K.given link.old) (K.given link.new) store.new disk.old disk.new }
+        Serves D.Disk (kind M.takes M.Book.fits M.holds) (entry choose history base k store.old.run moment)
+        (outcome result (IsClean (K.faults link.old) (K.faults link.new) (K.standing link.old) (K.standing link.new)) (K.given link.old)
+        (K.given link.new)) (K.left link.old) (K.left link.new) store.new disk.old disk.new }
     // What comes of a request goes by what was read, also where the disk holds no history: where it
     // is cut or refused, and whether another may follow.
     ensures reads { Reads result (K.left link.old) (K.left link.new) }
     // After a fault of the disk, or damage, the store is closed, and damage is named as the disk
-    // reads, whatever it stands for: the file ends at the place, or it is that of a bucket that
-    // memory shows, of which no record ends behind the place within the bytes that count.
+    // reads, whatever it stands for: the file ends at the place, or it is that of a bucket which the
+    // store shows, of which no record ends behind the place within the bytes that count.
     ensures closed { still_open result ≡ false → is_closed store.new ≡ true }
-    ensures placed { IsPlaced D.Disk (M.shown store.old.memory) disk.new result }
+    ensures placed { IsPlaced D.Disk (M.shown store.new.memory) disk.new result }
     // Behind a reply the log is not long, unless a command is staged, or the reply comes with
     // `unshortened`; and then it is long.
     ensures short { (choose : Chooser) (history : List TimedCommand) (base k : ℕ) →
@@ -152,6 +156,9 @@ pub fn serve_one<K: Link, M: Listing + Drop, D: Disk>(
     ensures over { IsOpen result → LogsAtEnd D.Disk store.new.committer disk.new }
     ensures measured { KnowsLogLength D.Disk store.old.committer disk.old → IsOpen result →
         KnowsLogLength D.Disk store.new.committer disk.new }
+    // Memory goes on holding what it held, with accepted commands behind it, whatever the files of
+    // buckets hold.
+    ensures remembers { Remembers M.is_chooser M.takes M.holds store.old.memory store.new.memory }
     // The run goes on, a disk that tells what it reads goes on telling, and the link is what it was
     // when it began.
     ensures run { store.new.run ≡ store.old.run }

@@ -1,5 +1,5 @@
 -- A run over one link that has ended with its link has read all of it.
-use Rattle.std.proofs.Common.{◌≡◌, ◌⊎◌, ◌∙◌, ℕ, true, false, List, [], ◌∷◌, length, refl, sym, ap, subst, inl, inr, ⊎_elim, Option, Some}
+use Rattle.std.proofs.Common.{◌≡◌, ◌⊎◌, ℕ, true, false, List, [], ◌∷◌, length, refl, subst, inl, inr, ⊎_elim, Option, Some}
 use Rattle.std.proofs.Common.{None, Ok, Err}
 use Rattle.std.specs.Prelude.{IfSome}
 use Rattle.ix_base.specs.Told.{Told}

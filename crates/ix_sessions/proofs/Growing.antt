@@ -1,5 +1,5 @@
 -- How histories grow from turn to turn.
-use Rattle.std.proofs.Common.{◌≡◌, ◌≤◌, ◌⊎◌, ◌∙◌, ◌++◌, ◌&&◌, ℕ, Bool, true, false, List, [], ◌∷◌, length, take, refl, sym, ap, subst, inl}
+use Rattle.std.proofs.Common.{◌≡◌, ◌≤◌, ◌⊎◌, ◌∙◌, ◌++◌, ◌&&◌, ℕ, Bool, true, false, List, [], ◌∷◌, length, take, refl, sym, subst, inl}
 use Rattle.std.proofs.Common.{inr, ⊎_elim, Result, Ok, Err, arith, length-append}
 use Rattle.std.specs.Prelude.{if◌then◌else◌}
 use Rattle.std.proofs.lemmas.Bool.{false≢true}
@@ -21,7 +21,8 @@ use Rattle.ix_serve.specs.Serving.{HoldsFrom, IsOpen, still_open}
 use Rattle.ix_serve.specs.declared.served.Served.{Served}
 use Rattle.ix_serve.specs.declared.served.ServeFault.{ServeFault}
 use Rattle.ix_serve.specs.declared.served.ServeFault.TheVariants as fault
-use Rattle.ix_sessions.specs.Feeding.{Kind, Start, Turn, IsSafe, AreSafe, Has, history_after, disk_after, known}
+use Rattle.ix_serve.specs.Kinds.{Kind}
+use Rattle.ix_sessions.specs.Feeding.{Start, Turn, IsSafe, AreSafe, Has, history_after, disk_after, known}
 
 -- ---- prefixes
 

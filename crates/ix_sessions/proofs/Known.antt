@@ -158,12 +158,12 @@ module _ {D : Type 0} (g : Ghosts D) (fits : NamedItems → Type 0) (s : Start D
       ap (λ (n : ℕ). numbers (drop s.base (take n now))) all ∙ ap (λ (l : List TimedCommand). numbers (drop s.base l)) (take_whole now)
 
   -- a number that was asked for is committed when the next request comes
-  pub told_next : (earlier : List (Turn D)) (last turn : Turn D) (from mid to : Coming) (asked : List ℕ) (number : ℕ) →
-      IsTurn g fits s earlier last from mid → IsTurn g fits s (last ∷ earlier) turn mid to →
+  pub told_next : (earlier : List (Turn D)) (last turn : Turn D) (from mid mid' to : Coming) (asked : List ℕ) (number : ℕ) →
+      IsTurn g fits s earlier last from mid → IsTurn g fits s (last ∷ earlier) turn mid' to →
       last.read ≡ Ok (was.Asked (asks.Acks s.run asked)) → (last.answer ≡ declined → ⊥) → still_open last.result ≡ true →
       list_any (λ n. nat_eq n number) asked ≡ true → number < drawn (entry_of s earlier last) →
       is_acked (entry_of s (last ∷ earlier) turn) s.run number ≡ true
-  told_next earlier last turn from mid to asked number first is read not up has lt =
+  told_next earlier last turn from mid mid' to asked number first is read not up has lt =
       let e = entry_of s earlier last in
       let next = entry_of s (last ∷ earlier) turn in
       let h = history_after s earlier in
@@ -186,7 +186,7 @@ module _ {D : Type 0} (g : Ghosts D) (fits : NamedItems → Type 0) (s : Start D
       (λ x same_number. subst (λ (n : ℕ). is_pending e s.run n ≡ true) (sym (is_same x number same_number))
       (pending_is s.run number (drawn e) (committed e) lt unknown)) asked has in
       let commits : last.answer.commits ≡ true = ap (λ (a : Answer). a.commits) answers ∙ pending in
-      let all : committed next ≡ drawn next = all_told earlier last turn mid to is commits up in
+      let all : committed next ≡ drawn next = all_told earlier last turn mid' to is commits up in
       acked_is s.run number (committed next) (omega (arith, lt, drawn_as, all))))
       (λ (none : last.answer ≡ declined). absurd (not none))
       (subst (λ (f : Found). Says e (IsTold g last.disk) f last.result last.answer) read first.says)

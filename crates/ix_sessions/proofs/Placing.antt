@@ -1,23 +1,13 @@
 -- Where the damage is that ends a run, whatever the disk holds.
-use Rattle.std.proofs.Common.{◌≡◌, ◌∙◌, ℕ, true, ap, sym, inl, inr}
+use Rattle.std.proofs.Common.{◌≡◌, ◌∙◌, true, ap, sym}
 use Rattle.std.proofs.lemmas.Bool.{false≢true}
-use Rattle.ix_base.specs.declared.files.File.{File}
 use Rattle.ix_commit.specs.declared.fault.CommitFault.{CommitFault}
-use Rattle.ix_disk.specs.Image.{Image}
-use Rattle.ix_life.specs.declared.views.View.{View}
-use Rattle.ix_serve.specs.Serving.{IsBadPlace}
 use Rattle.ix_sessions.specs.Connections as connections
 use Rattle.ix_sessions.specs.Feeding as feeding
-use Rattle.ix_sessions.specs.Feeding.{IsDamagedAt}
 use Rattle.ix_sessions.specs.declared.feed.Fed.{Fed}
 use Rattle.ix_sessions.specs.declared.feed.Fed.TheVariants as fed
 use Rattle.ix_sessions.specs.declared.serve.Heard.{Heard}
 use Rattle.ix_sessions.specs.declared.serve.Heard.TheVariants as heard
-
--- what the reply to a request says
-pub damaged_at : (shown : View) (image : Image) (file : File) (at : ℕ) → IsBadPlace shown image file at → IsDamagedAt image file at
-damaged_at shown image file at (inl ends) = inl ends
-damaged_at shown image file at (inr bad) = inr (shown, bad)
 
 pub broken_fed : (a b : CommitFault) → fed.Broken a ≡ fed.Broken b → a ≡ b
 broken_fed a b is = cc

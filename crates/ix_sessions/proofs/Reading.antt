@@ -11,7 +11,7 @@ use Rattle.ix_serve.specs.Serving.{ComesOf, Reads}
 use Rattle.ix_serve.specs.declared.served.Served.{Served}
 use Rattle.ix_serve.specs.declared.served.ServeFault.{ServeFault}
 use Rattle.ix_serve.specs.declared.served.ServeFault.TheVariants as fault
-use Rattle.ix_sessions.specs.Connections.{Listened, break_of}
+use Rattle.ix_sessions.specs.Connections.{Listened}
 use Rattle.ix_sessions.specs.Feeding.{end_of, most_requests}
 use Rattle.ix_sessions.specs.Reading.{AreWhole, AsMany, EndsBehind, HearsMany, IsFailure, IsHeard, ReadsOn, ReadsTo, end_by}
 use Rattle.ix_sessions.specs.declared.feed.Fed.{Fed}

@@ -4,7 +4,7 @@ use Rattle.std.proofs.Common.{⊎_elim, inl, inr, Option, Some, None, Result, Ok
 use Rattle.std.specs.Prelude.{nat_eq, if◌then◌else◌}
 use Rattle.std.specs.List.{AllByRecursion}
 use Rattle.std.proofs.lemmas.Bool.{false≢true}
-use Rattle.ix_base.specs.Clocks.{Moments, Answered}
+use Rattle.ix_base.specs.Clocks.{Answered}
 use Rattle.ix_base.specs.Faults.{Rose}
 use Rattle.ix_base.specs.Told.{Told, HasWritten, HasBegun}
 use Rattle.ix_base.specs.declared.files.File.{File}
@@ -25,12 +25,13 @@ use Rattle.ix_store.proofs.Counted.{take_whole}
 use Rattle.ix_store.proofs.Lawful.{held_stands}
 use Rattle.ix_serve.specs.Answer.{Says, is_whole}
 use Rattle.ix_serve.specs.Entries.{entry}
-use Rattle.ix_sessions.specs.Feeding.{Comes, Kind, Start, Coming, Turn, IsTurn, AreSafe, Came, Has, history_after, disk_after, reply_text}
+use Rattle.ix_serve.specs.Kinds.{Kind}
+use Rattle.ix_sessions.specs.Feeding.{Comes, Start, Coming, Turn, IsTurn, AreSafe, Came, Has, history_after, disk_after, reply_text}
 use Rattle.ix_sessions.specs.Feeding.{known, AreTurns, EndsAs, AreTold, IsUndamagedEnd, Reaches, Feeds, Runs, IsWholeEnd, is_open_end, talk}
 use Rattle.ix_sessions.specs.Feeding.{end_of, most_requests}
 use Rattle.ix_serve.specs.Prefixes.{StandsIn}
 use Rattle.ix_serve.specs.Replies.{Reply, text_of}
-use Rattle.ix_serve.specs.Serving.{Wrote, Gave, IsOpen, IsTold, Serves}
+use Rattle.ix_serve.specs.Serving.{Wrote, Gave, IsOpen, IsTold, Serves, outcome}
 use Rattle.ix_sessions.specs.declared.feed.Fed.{Fed}
 use Rattle.ix_sessions.specs.declared.feed.Fed.TheVariants as fed
 use Rattle.ix_serve.specs.declared.served.Served.{Served}
@@ -148,8 +149,8 @@ module _ {D : Type 0} (g : Ghosts D) {M : Type 0} (kind : Kind M) (s : Start D) 
     (moment : ℤ) (clean clean' : Type 0) (result : Result Served ServeFault)
     (same : before.run ≡ s.run) (goes_on : store.run ≡ before.run) (shown : Told (Answered moment) mid.ahead to.ahead)
     (reached : Reaches g kind s count (talk from given) (talk mid given') before disk)
-    (serves : Serves g kind.fits kind.holds (entry s.choose (history_after s reached.turns) s.base reached.kept before.run moment) clean
-    result mid.left to.left given' given'' store disk new)
+    (serves : Serves g kind (entry s.choose (history_after s reached.turns) s.base reached.kept before.run moment)
+    (outcome result clean given' given'') mid.left to.left store disk new)
     (tells : IsTold g disk → IsTold g new) (taken : AllByRecursion kind.takes (history_after s reached.turns ++ serves.answers.answer.more))
   where
     turn : Turn D

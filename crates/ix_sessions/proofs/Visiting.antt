@@ -1,6 +1,6 @@
 -- How visits follow each other.
-use Rattle.std.proofs.Common.{◌≡◌, ◌≤◌, ◌<◌, ◌+◌, ◌⊎◌, ◌∙◌, ℕ, ℤ, true, false, List, [], ◌∷◌, length, ◌++◌, refl, sym, ap, subst}
-use Rattle.std.proofs.Common.{⊎_elim, inl, inr, Option, Some, None, Result, Ok, Err, arith, append_assoc, append-nil}
+use Rattle.std.proofs.Common.{◌≡◌, ◌≤◌, ◌<◌, ◌+◌, ◌∙◌, ℕ, ℤ, true, false, List, [], ◌∷◌, length, ◌++◌, refl, sym, ap, subst}
+use Rattle.std.proofs.Common.{inl, inr, Option, Some, None, Result, Ok, Err, arith, append_assoc, append-nil}
 use Rattle.std.specs.Prelude.{IfSome}
 use Rattle.std.specs.List.{AllByRecursion}
 use Rattle.std.proofs.lemmas.Bool.{false≢true}
@@ -23,22 +23,18 @@ use Rattle.ix_net.specs.Listeners.{Handed, Begins, TakesFirst, Adds, handed_back
 use Rattle.ix_net.proofs.GoesLemmas.{not_risen}
 use Rattle.ix_model.specs.declared.commands.TimedCommand.{TimedCommand}
 use Rattle.ix_store.specs.Holding.{Represents}
-use Rattle.ix_store.specs.Written.{RecoversTo}
 use Rattle.ix_store.specs.declared.store.Store.{Store}
-use Rattle.ix_store.proofs.Counted.{take_whole}
-use Rattle.ix_store.proofs.Lawful.{held_stands}
 use Rattle.ix_serve.specs.Answer.{Says, is_whole}
 use Rattle.ix_serve.specs.Entries.{entry}
-use Rattle.ix_serve.specs.Prefixes.{StandsIn}
-use Rattle.ix_serve.specs.Serving.{IsClean, IsOpen, IsTold, Serves}
+use Rattle.ix_serve.specs.Serving.{IsClean, IsOpen, IsTold, Serves, outcome}
 use Rattle.ix_serve.specs.declared.served.Served.{Served}
 use Rattle.ix_serve.specs.declared.served.ServeFault.{ServeFault}
 use Rattle.ix_serve.specs.declared.served.ServeFault.TheVariants as fault
-use Rattle.ix_serve.proofs.Standing.{of_all}
 use Rattle.ix_sessions.specs.Connections.{Comes, Visit, Listened, listened, HasHeard, turns_of, backs_of, held_by, IsVisit, AreVisits}
 use Rattle.ix_sessions.specs.Connections.{EndsAt, EndsIn, IsUndamagedEnd, Taken, HandedBack, Attends, Visits, Hears, Listens, break_of}
 use Rattle.ix_sessions.specs.Connections.{is_open_end, hearing}
-use Rattle.ix_sessions.specs.Feeding.{Kind, Start, start, Turn, AreSafe, AreTold, Has, first_entry, history_after, disk_after, known}
+use Rattle.ix_serve.specs.Kinds.{Kind}
+use Rattle.ix_sessions.specs.Feeding.{Start, start, Turn, AreSafe, AreTold, Has, first_entry, history_after, known}
 use Rattle.ix_sessions.specs.Feeding.{reply_text}
 use Rattle.ix_sessions.specs.declared.serve.Heard.{Heard}
 use Rattle.ix_sessions.specs.declared.serve.Heard.TheVariants as heard
@@ -101,7 +97,7 @@ pub attends : {D : Type 0} (g : Ghosts D) {M : Type 0} (kind : Kind M) (s : Star
     Begins begun left given faults → LinkStep begun ended → Told (TakesFirst left) from.waiting to.waiting →
     Told (Adds (handed_back ended given' faults')) from.handed to.handed →
     Told (Answered moment) ahead ahead' →
-    (serves : Serves g kind.fits kind.holds (first_entry s moment) (IsClean faults faults' begun ended) came left left' given given' store
+    (serves : Serves g kind (first_entry s moment) (outcome came (IsClean faults faults' begun ended) given given') left left' store
     s.disk new) →
     (came ≡ Err fault.Link → Rose faults faults') → AllByRecursion kind.takes (s.history ++ serves.answers.answer.more) →
     Attends g kind s came (hearing from ahead) (hearing to ahead') store new

@@ -14,9 +14,9 @@ use Rattle.ix_http.specs.Asked.{Fits}
 use Rattle.ix_commit.specs.declared.fault.CommitFault.{CommitFault}
 use Rattle.ix_commit.specs.declared.fault.CommitFault.TheVariants as commits
 use Rattle.ix_net.specs.Listeners.{Handed, TakesFirst, Adds}
-use Rattle.ix_model.specs.Given.{Chooser}
-use Rattle.ix_model.specs.declared.commands.TimedCommand.{TimedCommand}
+use Rattle.ix_life.specs.declared.views.View.{View}
 use Rattle.ix_store.specs.Holding.{Represents}
+use Rattle.ix_store.specs.Placing.{ReadsBad}
 use Rattle.ix_store.specs.Written.{RecoversTo}
 use Rattle.ix_store.specs.declared.store.Store.{Store}
 use Rattle.ix_serve.specs.Answer.{Answer, Found, Says, is_whole}
@@ -26,8 +26,9 @@ use Rattle.ix_serve.specs.Serving.{HoldsFrom, IsOpen, IsTold, IsUndamaged}
 use Rattle.ix_serve.specs.declared.served.Served.{Served}
 use Rattle.ix_serve.specs.declared.served.ServeFault.{ServeFault}
 use Rattle.ix_serve.specs.declared.served.ServeFault.TheVariants as fault
-use Rattle.ix_sessions.specs.Feeding.{Kind, Start, Turn, IsTurn, AreTold, Came, Has, coming, history_after, disk_after, known, reply_text}
-use Rattle.ix_sessions.specs.Feeding.{first_entry, IsDamagedAt}
+use Rattle.ix_serve.specs.Kinds.{Kind}
+use Rattle.ix_sessions.specs.Feeding.{Start, Turn, IsTurn, AreTold, Came, Has, coming, history_after, disk_after, known, reply_text}
+use Rattle.ix_sessions.specs.Feeding.{first_entry}
 use Rattle.ix_sessions.specs.declared.serve.Heard.{Heard}
 use Rattle.ix_sessions.specs.declared.serve.Heard.TheVariants as heard
 
@@ -109,10 +110,10 @@ EndsIn requests end visits =
     EndsAt requests end visits ⊎ ((cause : CommitFault) × (end ≡ heard.Broken cause) × (first : Heard) × (is_open_end first ≡ true)
     × EndsAt requests first visits)
 
--- damage that ends a run is named as the disk reads, whatever it holds
-abbrev pub IsPlacedEnd : {D : Type 0} → Ghosts D → D → Heard → Type 0
-IsPlacedEnd d disk end = (file : File) (at : ℕ) → end ≡ heard.Broken (commits.Damaged file at) → (image : Image) →
-    d.seen disk ≡ Some image → IsDamagedAt image file at
+-- Damage that ends a run is named as the disk reads, whatever it holds, and as the store shows its
+-- buckets then.
+abbrev pub IsPlacedEnd : {D : Type 0} → Ghosts D → View → D → Heard → Type 0
+IsPlacedEnd d shown disk end = (file : File) (at : ℕ) → end ≡ heard.Broken (commits.Damaged file at) → ReadsBad d shown disk file at
 
 -- No run over a disk that tells what it reads ends by damage.
 abbrev pub IsUndamagedEnd : {D : Type 0} → Ghosts D → D → Heard → Type 0

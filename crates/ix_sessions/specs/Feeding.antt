@@ -7,7 +7,7 @@ use Rattle.ix_base.specs.Faults.{Rose}
 use Rattle.ix_base.specs.Told.{Told, HasWritten, HasBegun}
 use Rattle.ix_base.specs.declared.files.File.{File}
 use Rattle.ix_manifest.specs.Book.{NamedItems}
-use Rattle.ix_disk.specs.Image.{Image, bytes_in}
+use Rattle.ix_disk.specs.Image.{Image}
 use Rattle.ix_disk.specs.Moments.{Always}
 use Rattle.ix_disk.specs.declared.disk.Disk.{Ghosts}
 use Rattle.ix_http.specs.Asked.{Fits}
@@ -16,12 +16,13 @@ use Rattle.ix_commit.specs.declared.fault.CommitFault.TheVariants as commits
 use Rattle.ix_model.specs.Given.{Chooser}
 use Rattle.ix_model.specs.declared.commands.TimedCommand.{TimedCommand}
 use Rattle.ix_life.specs.declared.views.View.{View}
-use Rattle.ix_store.specs.Exporting.{HasBadBucket}
 use Rattle.ix_store.specs.Holding.{Represents}
+use Rattle.ix_store.specs.Placing.{ReadsBad}
 use Rattle.ix_store.specs.Written.{RecoversTo}
 use Rattle.ix_store.specs.declared.store.Store.{Store}
 use Rattle.ix_serve.specs.Answer.{Answer, Found, Says, is_whole}
 use Rattle.ix_serve.specs.Entries.{Entry, entry}
+use Rattle.ix_serve.specs.Kinds.{Kind}
 use Rattle.ix_serve.specs.Prefixes.{StandsIn}
 use Rattle.ix_serve.specs.Replies.{Reply, text_of}
 use Rattle.ix_serve.specs.Serving.{IsTold, still_open}
@@ -66,15 +67,6 @@ is_open_end fed.Link = true
 is_open_end (fed.Broken cause) = false
 
 -- ---- what a run is about
-
--- what a state in memory takes, what its book may be, and whether it is that of a history
-pub record Kind (M : Type 0) : Type 1 where
-  pub takes : TimedCommand → Type 0
-  pub fits : NamedItems → Type 0
-  pub holds : Chooser → List TimedCommand → M → Type 0
-
-abbrev pub kind : {M : Type 0} → (TimedCommand → Type 0) → (NamedItems → Type 0) → (Chooser → List TimedCommand → M → Type 0) → Kind M
-kind takes fits holds = record { takes = takes; fits = fits; holds = holds }
 
 -- What a run of requests begins with: the history that store and disk hold, of which the first
 -- `base` commands were there when the store was mounted and the first `kept` are committed; the
@@ -232,15 +224,10 @@ EndsWith end (turn ∷ earlier) = (end_of (length earlier + 1) turn.result ≡ S
 abbrev pub EndsBy : {D : Type 0} → Fed → List (Turn D) → Type 0
 EndsBy end turns = EndsWith end turns ⊎ ((end ≡ fed.Endless) × (length turns ≡ most_requests) × GoOn turns)
 
--- The file ends at the place; or it is that of a bucket that memory has shown, of which no record
--- ends behind the place within the bytes that count.
-abbrev pub IsDamagedAt : Image → File → ℕ → Type 0
-IsDamagedAt image file at = (at ≡ length (bytes_in image file)) ⊎ ((shown : View) × HasBadBucket shown image file at)
-
--- damage that ends a run is named as the disk reads, whatever it holds
-abbrev pub IsPlacedEnd : {D : Type 0} → Ghosts D → D → Fed → Type 0
-IsPlacedEnd d disk end = (file : File) (at : ℕ) → end ≡ fed.Broken (commits.Damaged file at) → (image : Image) →
-    d.seen disk ≡ Some image → IsDamagedAt image file at
+-- Damage that ends a run is named as the disk reads, whatever it holds, and as the store shows its
+-- buckets then.
+abbrev pub IsPlacedEnd : {D : Type 0} → Ghosts D → View → D → Fed → Type 0
+IsPlacedEnd d shown disk end = (file : File) (at : ℕ) → end ≡ fed.Broken (commits.Damaged file at) → ReadsBad d shown disk file at
 
 -- No run over a disk that tells what it reads ends by damage.
 abbrev pub IsUndamagedEnd : {D : Type 0} → Ghosts D → D → Fed → Type 0

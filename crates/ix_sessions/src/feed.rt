@@ -6,12 +6,14 @@ ghost use Rattle.ix_commit.specs.Snapshot.{LogsAtEnd, NothingStaged, KnowsLogLen
 ghost use Rattle.ix_model.specs.Given.{Chooser};
 ghost use Rattle.ix_model.specs.declared.commands.TimedCommand.{TimedCommand};
 ghost use Rattle.ix_sessions.specs.Feeding as defs;
-ghost use Rattle.ix_sessions.specs.Feeding.{Feeds, IsPlacedEnd, Runs, kind, start, coming, talk};
+ghost use Rattle.ix_serve.specs.Kinds.{kind};
+ghost use Rattle.ix_sessions.specs.Feeding.{Feeds, IsPlacedEnd, Runs, start, coming, talk};
 ghost use Rattle.ix_sessions.specs.Reading.{ReadsTo};
 ghost use Rattle.ix_net.specs.Links.{LinkStep};
 ghost use Rattle.ix_serve.specs.Serving.{IsClean, IsTold};
 ghost use Rattle.ix_serve.specs.Taking.{TakesAsks};
 ghost use Rattle.ix_store.specs.Holding.{Represents};
+ghost use Rattle.ix_store.specs.Remembering.{Remembers};
 
 use ix_base::Clock;
 use ix_commit::CommitFault;
@@ -120,8 +122,9 @@ fn feed_all<K: Link, M: Listing + Drop, C: Clock, D: Disk>(
         (talk (coming (K.left link.old) (C.ahead clock.old)) (K.given link.old))
         (talk (coming (K.left link.new) (C.ahead clock.new)) (K.given link.new)) store.new disk.new }
     ensures reads { ReadsTo result (K.left link.old) (K.left link.new) }
-    ensures placed { IsPlacedEnd D.Disk disk.new result }
+    ensures placed { IsPlacedEnd D.Disk (M.shown store.new.memory) disk.new result }
     ensures run { store.new.run ≡ store.old.run }
+    ensures remembers { Remembers M.is_chooser M.takes M.holds store.old.memory store.new.memory }
     ensures over { defs.is_open_end result ≡ true → LogsAtEnd D.Disk store.new.committer disk.new }
     ensures measured { KnowsLogLength D.Disk store.old.committer disk.old → defs.is_open_end result ≡ true →
         KnowsLogLength D.Disk store.new.committer disk.new }
@@ -165,13 +168,17 @@ pub fn run_feed<K: Link, M: Listing + Drop, C: Clock, D: Disk>(
     // also where the disk holds no history.
     ensures reads { ReadsTo result (K.left link.old) (K.left link.new) }
     // Damage is named as the disk reads, whatever it holds: the file ends at the place, or it is
-    // that of a bucket, of which no record ends behind the place within the bytes that count.
-    ensures placed { IsPlacedEnd D.Disk disk.new result }
+    // that of a bucket which the store shows, of which no record ends behind the place within the
+    // bytes that count.
+    ensures placed { IsPlacedEnd D.Disk (M.shown store.new.memory) disk.new result }
     // What the next request or a checkpoint asks for.
     ensures over { defs.is_open_end result ≡ true → LogsAtEnd D.Disk store.new.committer disk.new }
     ensures idle { defs.is_open_end result ≡ true → NothingStaged store.new.committer }
     ensures measured { KnowsLogLength D.Disk store.old.committer disk.old → defs.is_open_end result ≡ true →
         KnowsLogLength D.Disk store.new.committer disk.new }
+    // Memory goes on holding what it held, with accepted commands behind it, whatever the files of
+    // buckets hold.
+    ensures remembers { Remembers M.is_chooser M.takes M.holds store.old.memory store.new.memory }
     // The run goes on, a disk that tells what it reads goes on telling, and the link is what it was
     // when it began.
     ensures run { store.new.run ≡ store.old.run }

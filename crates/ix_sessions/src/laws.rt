@@ -40,12 +40,12 @@ pub fn all_is_told_behind_a_commit<D: Disk, M: StoreMemory>()
         committed (entry_of s (last ∷ earlier) turn) ≡ drawn (entry_of s (last ∷ earlier) turn) }
 {}
 
-/// So a question for acknowledgements makes the next answer `true`: a number that the run has
-/// drawn, and that was asked for, is committed when the next request comes, unless there was no
-/// room in memory for the reply.
+/// So a question for acknowledgements makes the next answer `true`, over the same link or over the
+/// next connection: a number that the run has drawn, and that was asked for, is committed when the
+/// next request comes, unless there was no room in memory for the reply.
 pub fn an_asked_number_is_told_next<D: Disk, M: StoreMemory>()
-    ensures { (s : Start D) (earlier : List (Turn D)) (last turn : Turn D) (from mid to : Coming) (numbers : List ℕ) (number : ℕ) →
-        IsTurn D.Disk M.Book.fits s earlier last from mid → IsTurn D.Disk M.Book.fits s (last ∷ earlier) turn mid to →
+    ensures { (s : Start D) (earlier : List (Turn D)) (last turn : Turn D) (from mid mid' to : Coming) (numbers : List ℕ)
+        (number : ℕ) → IsTurn D.Disk M.Book.fits s earlier last from mid → IsTurn D.Disk M.Book.fits s (last ∷ earlier) turn mid' to →
         last.read ≡ Ok (was.Asked (asks.Acks s.run numbers)) → (last.answer ≡ declined → ⊥) → still_open last.result ≡ true →
         list_any (λ n. nat_eq n number) numbers ≡ true → number < drawn (entry_of s earlier last) →
         is_acked (entry_of s (last ∷ earlier) turn) s.run number ≡ true }

@@ -11,9 +11,11 @@ ghost use Rattle.ix_serve.specs.Serving.{IsOpen, IsPlaced, IsTold};
 ghost use Rattle.ix_serve.specs.Taking.{TakesAsks};
 ghost use Rattle.ix_sessions.specs.Connections as defs;
 ghost use Rattle.ix_sessions.specs.Connections.{Attends, Hears, IsPlacedEnd, Listens, listened, hearing};
-ghost use Rattle.ix_sessions.specs.Feeding.{kind, start};
+ghost use Rattle.ix_serve.specs.Kinds.{kind};
+ghost use Rattle.ix_sessions.specs.Feeding.{start};
 ghost use Rattle.ix_sessions.specs.Reading.{AsMany, HearsMany, IsHeard};
 ghost use Rattle.ix_store.specs.Holding.{Represents};
+ghost use Rattle.ix_store.specs.Remembering.{Remembers};
 
 use ix_base::{Clock, Failed};
 use ix_commit::CommitFault;
@@ -77,13 +79,14 @@ fn serve_next<L: Listener, M: Listing + Drop, C: Clock, D: Disk>(
         (hearing (listened (L.waiting listener.new) (L.handed listener.new)) (C.ahead clock.new)) store.new disk.new) }
     ensures reads { OnOk result ((read : Found) × IsHeard read (listened (L.waiting listener.old) (L.handed listener.old))
         (listened (L.waiting listener.new) (L.handed listener.new))) }
-    ensures placed { IfOk result (λ came. IsPlaced D.Disk (M.shown store.old.memory) disk.new came) }
+    ensures placed { IfOk result (λ came. IsPlaced D.Disk (M.shown store.new.memory) disk.new came) }
     ensures over { IfOk result (λ came. IsOpen came → LogsAtEnd D.Disk store.new.committer disk.new) }
     ensures measured { IfOk result (λ came. KnowsLogLength D.Disk store.old.committer disk.old → IsOpen came →
         KnowsLogLength D.Disk store.new.committer disk.new) }
     ensures later { D.Disk.faults disk.old ≤ D.Disk.faults disk.new }
     ensures failed { IfOk result (λ came. came ≡ Err ServeFault.Disk → Rose (D.Disk.faults disk.old) (D.Disk.faults disk.new)) }
     ensures run { store.new.run ≡ store.old.run }
+    ensures remembers { Remembers M.is_chooser M.takes M.holds store.old.memory store.new.memory }
     ensures told { IsTold D.Disk disk.old → IsTold D.Disk disk.new }
     ensures out { L.out listener.new ≡ L.out listener.old }
     ensures store { OnErr result (store.new ≡ store.old) }
@@ -119,11 +122,12 @@ fn serve_all<L: Listener, M: Listing + Drop, C: Clock, D: Disk>(
         (hearing (listened (L.waiting listener.new) (L.handed listener.new)) (C.ahead clock.new)) store.new disk.new }
     ensures reads { HearsMany (AsMany requests result) (listened (L.waiting listener.old) (L.handed listener.old))
         (listened (L.waiting listener.new) (L.handed listener.new)) }
-    ensures placed { IsPlacedEnd D.Disk disk.new result }
+    ensures placed { IsPlacedEnd D.Disk (M.shown store.new.memory) disk.new result }
     ensures over { defs.is_open_end result ≡ true → LogsAtEnd D.Disk store.new.committer disk.new }
     ensures measured { KnowsLogLength D.Disk store.old.committer disk.old → defs.is_open_end result ≡ true →
         KnowsLogLength D.Disk store.new.committer disk.new }
     ensures run { store.new.run ≡ store.old.run }
+    ensures remembers { Remembers M.is_chooser M.takes M.holds store.old.memory store.new.memory }
     ensures told { IsTold D.Disk disk.old → IsTold D.Disk disk.new }
     ensures out { L.out listener.new ≡ L.out listener.old }
     ensures comes { defs.Comes (L.faults listener.old) (L.faults listener.new) (D.Disk.faults disk.old) (D.Disk.faults disk.new) result }
@@ -165,18 +169,22 @@ pub fn run_serve<L: Listener, M: Listing + Drop, C: Clock, D: Disk>(
         Listens D.Disk (kind M.takes M.Book.fits M.holds) (start choose history base k store.old.run disk.old) requests result
         (hearing (listened (L.waiting listener.old) (L.handed listener.old)) (C.ahead clock.old))
         (hearing (listened (L.waiting listener.new) (L.handed listener.new)) (C.ahead clock.new)) store.new disk.new }
-    // Which connections were taken, and what came of each, goes by what they held, also where the
-    // disk holds no history.
+    // Which connections were taken and handed back, and what was read of each, goes by what they
+    // held, also where the disk holds no history.
     ensures reads { HearsMany (AsMany requests result) (listened (L.waiting listener.old) (L.handed listener.old))
         (listened (L.waiting listener.new) (L.handed listener.new)) }
     // Damage is named as the disk reads, whatever it holds: the file ends at the place, or it is
-    // that of a bucket, of which no record ends behind the place within the bytes that count.
-    ensures placed { IsPlacedEnd D.Disk disk.new result }
+    // that of a bucket which the store shows, of which no record ends behind the place within the
+    // bytes that count.
+    ensures placed { IsPlacedEnd D.Disk (M.shown store.new.memory) disk.new result }
     // What the next request or a checkpoint asks for.
     ensures over { defs.is_open_end result ≡ true → LogsAtEnd D.Disk store.new.committer disk.new }
     ensures idle { defs.is_open_end result ≡ true → NothingStaged store.new.committer }
     ensures measured { KnowsLogLength D.Disk store.old.committer disk.old → defs.is_open_end result ≡ true →
         KnowsLogLength D.Disk store.new.committer disk.new }
+    // Memory goes on holding what it held, with accepted commands behind it, whatever the files of
+    // buckets hold.
+    ensures remembers { Remembers M.is_chooser M.takes M.holds store.old.memory store.new.memory }
     // The run goes on, a disk that tells what it reads goes on telling, and as many connections are
     // out as before.
     ensures run { store.new.run ≡ store.old.run }

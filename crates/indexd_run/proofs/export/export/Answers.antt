@@ -1,7 +1,8 @@
-use Rattle.std.proofs.Common.{true, ◌≡◌, ◌∙◌, ℕ, [], List, refl, subst, sym}
+use Rattle.std.proofs.Common.{length, true, ◌≡◌, ◌∙◌, ℕ, [], List, refl, subst, sym}
 use Rattle.ix_model.specs.declared.commands.TimedCommand.{TimedCommand}
+use Rattle.ix_run.specs.Running.{outset}
 use Rattle.ix_run.proofs.Stored.{all_taken}
-use Rattle.indexd_run.specs.Ends.{Ends, outset}
+use Rattle.indexd_run.specs.Ends.{Ends}
 use Rattle.indexd_run.specs.Stops.{loses, loses_in}
 use Rattle.indexd_run.proofs.Shortening.{ends_short, short_stood, ends_behind, gave_taken}
 use Rattle.indexd_run.proofs.Tasks.{none_given, on_ok_by, at_ok, if_err_by, at_err, at_stop}
@@ -15,7 +16,7 @@ returns-in-Ok-clause-ends g c = λ choose h base chooser taken hold.
     c.make_short.new.store c.args.disk.now c.args.disk.now c.make_short.new.disk
     refl (c.make_short.ensures.images choose h base chooser taken hold))
     (subst (λ (run : ℕ). Ends (loses_in c.write_lines.result) g.D.Disk g.M.Book.ManifestState.fits g.M.StoreMemory.holds
-    (outset choose h base run c.make_short.new.disk) (λ (orders : List TimedCommand). orders ≡ []) c.write_lines.new.store
+    (outset choose h base (length h) run c.make_short.new.disk) (λ (orders : List TimedCommand). orders ≡ []) c.write_lines.new.store
     c.write_lines.new.disk)
     c.make_short.ensures.run (c.write_lines.ensures.ends choose h base (c.in-Ok.ensures.held refl choose h base chooser taken hold)))
 

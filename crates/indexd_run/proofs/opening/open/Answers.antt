@@ -1,5 +1,5 @@
 use Rattle.std.proofs.Common.{rules, le_trans, ◌≡◌, ◌∙◌, true, false, take, refl, sym, ap, ap₂, subst, inl, inr, w64, to_z, of_z}
-use Rattle.std.specs.Prelude.{Err, Some}
+use Rattle.std.specs.Prelude.{Err}
 use Rattle.std.proofs.lemmas.Int.{to_z-of_z}
 use mir.Val.{SFits}
 use Rattle.ix_commit.proofs.Reading.{anyhow_through}

@@ -1,7 +1,8 @@
 use Rattle.std.proofs.Common.{◌∙◌, arith, length, sym}
 use Rattle.indexd_serve.proofs.Reading.{reads_behind}
 use Rattle.ix_disk.proofs.Runs.{rose_later}
-use Rattle.ix_sessions.specs.Feeding.{history_after, kind, start}
+use Rattle.ix_serve.specs.Kinds.{kind}
+use Rattle.ix_sessions.specs.Feeding.{history_after, start}
 use Rattle.ix_serve.specs.Serving.{IsClean}
 use Rattle.indexd_serve.proofs.Behind.{requests_closed, requests_behind, closed_short, short_behind, undamaged_behind, disk_behind}
 use Rattle.indexd_serve.proofs.Behind.{link_behind}

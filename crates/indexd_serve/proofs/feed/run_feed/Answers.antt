@@ -12,6 +12,7 @@ use Rattle.ix_sessions.proofs.Turning.{safe_turns}
 use Rattle.indexd_serve.specs.Serving.{Requests, exchange}
 use Rattle.indexd_serve.proofs.Opening.{served_behind}
 use Rattle.indexd_serve.proofs.Ending.{same_ok}
+use Rattle.indexd_serve.proofs.Placing.{store_gone}
 use Rattle.ix_serve.proofs.Standing.{tells_on}
 use Rattle.indexd_serve.proofs.feed.run_feed.Goals as goal
 
@@ -78,4 +79,5 @@ pub returns-in_err-routes-clause-goes : goal.returns-in_err-routes-clause-goes
 returns-in_err-routes-clause-goes g c = goes_nowhere (g.K.Link.standing c.args.link.now)
 
 pub returns-clause-placed : goal.returns-clause-placed
-returns-clause-placed g c = λ file at is. c.feed_open.ensures.placed file at (same_ok is)
+returns-clause-placed g c = λ file at is. store_gone g.D.Disk (g.M.StoreMemory.shown c.feed_open.new.store.memory) c.feed_open.new.disk
+    file at (c.feed_open.ensures.placed file at (same_ok is))

@@ -11,6 +11,7 @@ use Rattle.indexd_run.proofs.Undamaged.{seen_on}
 use Rattle.indexd_serve.specs.Serving.{Connections}
 use Rattle.indexd_serve.proofs.Opening.{served_behind}
 use Rattle.indexd_serve.proofs.Ending.{same_ok}
+use Rattle.indexd_serve.proofs.Placing.{store_gone}
 use Rattle.ix_serve.proofs.Standing.{tells_on}
 use Rattle.indexd_serve.proofs.serve.run_serve.Goals as goal
 
@@ -70,4 +71,5 @@ pub returns-in-Err-clause-told : goal.returns-in-Err-clause-told
 returns-in-Err-clause-told g c = tells_on g.D.Disk _ c.args.disk.now c.open.new.disk c.open.ensures.told
 
 pub returns-clause-placed : goal.returns-clause-placed
-returns-clause-placed g c = λ file at is. c.serve_open.ensures.placed file at (same_ok is)
+returns-clause-placed g c = λ file at is. store_gone g.D.Disk (g.M.StoreMemory.shown c.serve_open.new.store.memory)
+    c.serve_open.new.disk file at (c.serve_open.ensures.placed file at (same_ok is))

@@ -1,7 +1,8 @@
 use Rattle.std.proofs.Common.{◌∙◌, arith, length, sym}
 use Rattle.ix_disk.proofs.Runs.{rose_later}
 use Rattle.ix_sessions.specs.Connections.{turns_of, listened}
-use Rattle.ix_sessions.specs.Feeding.{history_after, kind, start}
+use Rattle.ix_serve.specs.Kinds.{kind}
+use Rattle.ix_sessions.specs.Feeding.{history_after, start}
 use Rattle.indexd_serve.proofs.Behind.{connections_closed, connections_behind, closed_served, short_served, damaged_heard}
 use Rattle.indexd_serve.proofs.Behind.{undamaged_served, disk_heard, disk_served, listener_heard, listener_served}
 use Rattle.indexd_serve.proofs.Reading.{hears_closed, hears_behind}

@@ -9,11 +9,13 @@ use Rattle.ix_store.specs.Making.{with_order}
 use Rattle.ix_serve.specs.Entries.{entry, order}
 use Rattle.ix_serve.specs.Prefixes.{StandsIn}
 use Rattle.ix_serve.specs.Replies.{reply, refused}
+use Rattle.ix_serve.specs.Kinds.{kind}
 use Rattle.ix_serve.specs.Serving.{IsClean}
 use Rattle.ix_serve.proofs.Answering.{changed, comes_open, comes_settled, held_accepted, run_accepted, refused_so, wrote_settled}
 use Rattle.ix_serve.proofs.Answering.{open_undamaged, due_held, undue_held}
 use Rattle.ix_serve.proofs.Standing.{standing, measured_same}
 use Rattle.ix_serve.proofs.Closing.{open_still, replied_by, replied_settled, open_placed}
+use Rattle.ix_store.proofs.Recalling.{remembers_behind}
 use Rattle.ix_serve.proofs.changes.serve_change.Goals as goal
 
 pub returns-then-due : goal.returns-then-due
@@ -23,20 +25,24 @@ returns-then-due g c = record {
       let e = entry choose h base k c.args.store.now.run c.args.moment in
       let is = simp to_z-of_z at (c.in-Ok.ensures.accepted choose h base k hold.old chooser taken hold.staged) in
       let h2 = with_order choose h (order e c.args.command) in
-      let now = held_accepted g.D.Disk g.M.Book.ManifestState.fits g.M.StoreMemory.holds e c.args.command c.args.store.now c.accept.new.self
+      let now = held_accepted g.D.Disk (kind g.M.StoreMemory.takes g.M.Book.ManifestState.fits g.M.StoreMemory.holds) e c.args.command
+      c.args.store.now c.accept.new.self
       c.args.disk.now _ hold c.accept.ensures.logs is in
       let clean = IsClean (g.K.Link.faults c.args.link.now) (g.K.Link.faults c.give-came.new.link) (g.K.Link.standing c.args.link.now)
       (g.K.Link.standing c.give-came.new.link) in
-      changed g.D.Disk g.M.Book.ManifestState.fits g.M.StoreMemory.holds e c.args.command (reply c.args.status Json c.args.body.now) clean
+      changed g.D.Disk (kind g.M.StoreMemory.takes g.M.Book.ManifestState.fits g.M.StoreMemory.holds) e c.args.command
+      (reply c.args.status Json c.args.body.now) clean
       c.settle.result (g.K.Link.given c.args.link.now) (g.K.Link.given c.give-came.new.link)
       c.args.store.now c.accept.new.self c.settle.new.store c.args.disk.now c.settle.new.disk _ hold is
       (wrote_settled (reply c.args.status Json c.args.body.now) true clean c.give-came.result c.settle.result
       (g.K.Link.given c.args.link.now) (g.K.Link.given c.give-came.new.link) c.settle.ensures.came
       c.give-came.ensures.gave)
-      (λ stays. due_held g.D.Disk g.M.Book.ManifestState.fits g.M.StoreMemory.holds e _ h2 c.settle.new.store c.settle.new.disk
+      (λ stays. due_held g.D.Disk (kind g.M.StoreMemory.takes g.M.Book.ManifestState.fits g.M.StoreMemory.holds) e _ h2 c.settle.new.store
+      c.settle.new.disk
       now.staged.within (c.settle.ensures.done choose h2 base k now stays))
       (subst (λ (run : ℕ). Always g.D.Disk c.args.disk.now c.settle.new.disk (StandsIn g.M.Book.ManifestState.fits run choose h2 k))
-      (run_accepted g.D.Disk g.M.Book.ManifestState.fits g.M.StoreMemory.holds e c.args.command c.args.store.now c.accept.new.self
+      (run_accepted g.D.Disk (kind g.M.StoreMemory.takes g.M.Book.ManifestState.fits g.M.StoreMemory.holds) e c.args.command
+      c.args.store.now c.accept.new.self
       c.args.disk.now _ hold is) (c.settle.ensures.images choose h2 base k now))
       (c.settle.ensures.undamaged choose h2 base k now);
   left = c.give-came.ensures.left;
@@ -52,6 +58,9 @@ returns-then-due g c = record {
       (g.K.Link.standing c.give-came.new.link)) c.give-came.result (g.K.Link.given c.args.link.now) (g.K.Link.given c.give-came.new.link)
       c.give-came.ensures.gave);
   run = c.settle.ensures.run ∙ c.accept.ensures.run;
+  remembers = remembers_behind g.M.StoreMemory.is_chooser g.M.StoreMemory.takes g.M.StoreMemory.holds c.args.store.now.memory
+      c.accept.new.self.memory
+      c.settle.new.store.memory c.settle.ensures.memory c.accept.ensures.remembers;
   told = c.settle.ensures.told;
   goes = c.give-came.ensures.goes;
   comes = comes_settled (g.K.Link.faults c.args.link.now) (g.K.Link.faults c.give-came.new.link) (g.D.Disk.faults c.args.disk.now)
@@ -66,17 +75,21 @@ returns-else-due g c = record {
       let e = entry choose h base k c.args.store.now.run c.args.moment in
       let is = simp to_z-of_z at (c.in-Ok.ensures.accepted choose h base k hold.old chooser taken hold.staged) in
       let h2 = with_order choose h (order e c.args.command) in
-      let now = held_accepted g.D.Disk g.M.Book.ManifestState.fits g.M.StoreMemory.holds e c.args.command c.args.store.now c.accept.new.self
+      let now = held_accepted g.D.Disk (kind g.M.StoreMemory.takes g.M.Book.ManifestState.fits g.M.StoreMemory.holds) e c.args.command
+      c.args.store.now c.accept.new.self
       c.args.disk.now _ hold c.accept.ensures.logs is in
       let clean = IsClean (g.K.Link.faults c.args.link.now) (g.K.Link.faults c.give-came.new.link) (g.K.Link.standing c.args.link.now)
       (g.K.Link.standing c.give-came.new.link) in
-      changed g.D.Disk g.M.Book.ManifestState.fits g.M.StoreMemory.holds e c.args.command (reply c.args.status Json c.args.body.now) clean
+      changed g.D.Disk (kind g.M.StoreMemory.takes g.M.Book.ManifestState.fits g.M.StoreMemory.holds) e c.args.command
+      (reply c.args.status Json c.args.body.now) clean
       c.give-came.result (g.K.Link.given c.args.link.now) (g.K.Link.given c.give-came.new.link)
       c.args.store.now c.accept.new.self c.accept.new.self c.args.disk.now c.args.disk.now _ hold is c.give-came.ensures.gave
-      (λ stays. undue_held g.D.Disk g.M.Book.ManifestState.fits g.M.StoreMemory.holds e _ h2 c.accept.new.self c.args.disk.now
+      (λ stays. undue_held g.D.Disk (kind g.M.StoreMemory.takes g.M.Book.ManifestState.fits g.M.StoreMemory.holds) e _ h2
+      c.accept.new.self c.args.disk.now
       (sym (c.due-due.ensures choose h2 base k hold.old is.staged) ∙ c.if-due.false) now)
       (subst (λ (run : ℕ). Always g.D.Disk c.args.disk.now c.args.disk.now (StandsIn g.M.Book.ManifestState.fits run choose h2 k))
-      (run_accepted g.D.Disk g.M.Book.ManifestState.fits g.M.StoreMemory.holds e c.args.command c.args.store.now c.accept.new.self
+      (run_accepted g.D.Disk (kind g.M.StoreMemory.takes g.M.Book.ManifestState.fits g.M.StoreMemory.holds) e c.args.command
+      c.args.store.now c.accept.new.self
       c.args.disk.now _ hold is)
       (standing g.D.Disk g.M.Book.ManifestState.fits g.M.StoreMemory.holds choose h2 base k c.accept.new.self c.args.disk.now now))
       (open_undamaged g.D.Disk c.args.disk.now c.give-came.result c.give-came.ensures.open);
@@ -93,6 +106,7 @@ returns-else-due g c = record {
       (g.K.Link.standing c.give-came.new.link)) c.give-came.result (g.K.Link.given c.args.link.now) (g.K.Link.given c.give-came.new.link)
       c.give-came.ensures.gave;
   run = c.accept.ensures.run;
+  remembers = c.accept.ensures.remembers;
   told = λ told. told;
   goes = c.give-came.ensures.goes;
   comes = comes_open (g.K.Link.faults c.args.link.now) (g.K.Link.faults c.args.link.now) (g.K.Link.faults c.give-came.new.link)
@@ -106,7 +120,8 @@ returns-in-Err g c = record {
       let fits : SFits w64 c.args.moment = search rules in
       let e = entry choose h base k c.args.store.now.run c.args.moment in
       let refused = simp to_z-of_z at (c.in-Err.ensures.refused choose h base k hold.old chooser taken hold.staged) in
-      refused_so g.D.Disk g.M.Book.ManifestState.fits g.M.StoreMemory.holds e c.args.command (reply c.args.status Json c.args.body.now)
+      refused_so g.D.Disk (kind g.M.StoreMemory.takes g.M.Book.ManifestState.fits g.M.StoreMemory.holds) e c.args.command
+      (reply c.args.status Json c.args.body.now)
       (IsClean (g.K.Link.faults c.args.link.now) (g.K.Link.faults c.give_refusal.new.link) (g.K.Link.standing c.args.link.now)
       (g.K.Link.standing c.give_refusal.new.link)) c.give_refusal.result
       (g.K.Link.given c.args.link.now) (g.K.Link.given c.give_refusal.new.link) c.args.store.now c.accept.new.self c.args.disk.now
@@ -124,6 +139,7 @@ returns-in-Err g c = record {
       (g.K.Link.standing c.args.link.now) (g.K.Link.standing c.give_refusal.new.link)) c.give_refusal.result
       (g.K.Link.given c.args.link.now) (g.K.Link.given c.give_refusal.new.link) c.give_refusal.ensures.gave;
   run = c.accept.ensures.run;
+  remembers = c.accept.ensures.remembers;
   told = λ told. told;
   goes = c.give_refusal.ensures.goes;
   comes = comes_open (g.K.Link.faults c.args.link.now) (g.K.Link.faults c.args.link.now) (g.K.Link.faults c.give_refusal.new.link)

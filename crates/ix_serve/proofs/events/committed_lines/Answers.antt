@@ -1,9 +1,6 @@
-use Rattle.std.proofs.Common.{length, ◌∙◌, ap, subst, inl, Err, arith}
-use Rattle.std.specs.Prelude.{IfErr}
+use Rattle.std.proofs.Common.{length, ◌∙◌, ap, inl, Err, arith}
 use Rattle.ix_disk.proofs.Runs.{rose_later}
 use Rattle.ix_commit.specs.declared.fault.CommitFault.{CommitFault}
-use Rattle.ix_life.specs.declared.views.View.{View}
-use Rattle.ix_serve.specs.Exports.{IsPlacedBy}
 use Rattle.ix_serve.specs.Prefixes.{StandsIn}
 use Rattle.ix_serve.proofs.Answering.{if_ok, if_err, on_ok_always}
 use Rattle.ix_serve.proofs.Standing.{committing, standing_on, tells_on}
@@ -19,9 +16,9 @@ returns-in-Ok g c = record {
       says choose h base chooser taken (c.in-Ok.ensures.done choose h base k hold)) c.export_lines.ensures.undamaged;
   measured = λ measured. on_ok_always c.export_lines.result (c.export_lines.ensures.measured (c.in-Ok.ensures.measured (λ idle. measured)));
   closed = c.export_lines.ensures.closed;
-  placed = subst (λ (shown : View). IfErr c.export_lines.result (λ cause. IsPlacedBy g.D.Disk shown c.export_lines.new.disk cause))
-      (ap g.M.StoreMemory.shown c.commit.ensures.memory) c.export_lines.ensures.placed;
+  placed = c.export_lines.ensures.placed;
   run = c.export_lines.ensures.run ∙ c.commit.ensures.run;
+  memory = c.export_lines.ensures.memory ∙ c.commit.ensures.memory;
   told = λ told. let mid = tells_on g.D.Disk _ c.args.disk.now c.commit.new.disk c.commit.ensures.told told in
       (mid.0, c.export_lines.ensures.same ∙ mid.1);
   over = on_ok_always c.export_lines.result (c.export_lines.ensures.over c.in-Ok.ensures.over);
@@ -47,6 +44,7 @@ returns-in-Err g c = record {
   closed = by_committer c.commit.new.self c.in-Err.ensures.closed;
   placed = λ file at is image seen. inl ((c.in-Err.ensures.damaged file at (ap (λ (f : CommitFault). Err f) is)).1 image seen);
   run = c.commit.ensures.run;
+  memory = c.commit.ensures.memory;
   told = tells_on g.D.Disk _ c.args.disk.now c.commit.new.disk c.commit.ensures.told;
   over = tt;
   later = c.commit.ensures.later;

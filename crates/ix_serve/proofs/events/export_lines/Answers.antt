@@ -36,6 +36,7 @@ returns-in-Ok g c = record {
   closed = tt;
   placed = tt;
   run = c.export.ensures.run;
+  memory = c.export.ensures.memory;
   same = c.export.ensures.same;
   over = c.export.ensures.over;
   later = c.export.ensures.later;
@@ -59,6 +60,7 @@ returns-in-Err-Output g c = record {
   closed = tt;
   placed = tt;
   run = c.export.ensures.run;
+  memory = c.export.ensures.memory;
   same = c.export.ensures.same;
   over = c.export.ensures.over;
   later = c.export.ensures.later;
@@ -78,6 +80,7 @@ returns-in-Err-UnknownIndex g c = record {
   closed = tt;
   placed = tt;
   run = c.export.ensures.run;
+  memory = c.export.ensures.memory;
   same = c.export.ensures.same;
   over = c.export.ensures.over;
   later = c.export.ensures.later;
@@ -94,14 +97,16 @@ returns g c = record {
       choose h base image chooser taken hold (sym c.in-Err-Damaged.ensures.same ∙ seen);
   measured = c.export.ensures.measured;
   closed = by_export c.export.new.self _ _ c.export.ensures.closes (ap closes (c.in-Err-Damaged.is ∙ ap Err c.in-Err-Damaged.field-0-is));
-  placed = λ file at is image seen. placed_as (g.M.StoreMemory.shown c.args.store.now.memory) image c.in-Err-Damaged.file file
-      c.in-Err-Damaged.at at is
+  placed = λ file at is image seen. placed_as (g.M.StoreMemory.shown c.args.store.now.memory)
+      (g.M.StoreMemory.shown c.export.new.self.memory) image c.in-Err-Damaged.file file c.in-Err-Damaged.at at
+      (ap g.M.StoreMemory.shown c.export.ensures.memory) is
       (inr (
         c.args.index.now,
         c.in-Err-Damaged.ensures.bad c.in-Err-Damaged.file c.in-Err-Damaged.at
             (ap (λ (f : ExportFault). Err f) c.in-Err-Damaged.field-0-is) image (sym c.in-Err-Damaged.ensures.same ∙ seen),
       ));
   run = c.export.ensures.run;
+  memory = c.export.ensures.memory;
   same = c.export.ensures.same;
   over = c.export.ensures.over;
   later = c.export.ensures.later;
@@ -118,6 +123,7 @@ returns-in-Err-NoMemory g c = record {
   closed = tt;
   placed = tt;
   run = c.export.ensures.run;
+  memory = c.export.ensures.memory;
   same = c.export.ensures.same;
   over = c.export.ensures.over;
   later = c.export.ensures.later;
@@ -136,6 +142,7 @@ returns-in-Err-Closed g c = record {
   closed = tt;
   placed = tt;
   run = c.export.ensures.run;
+  memory = c.export.ensures.memory;
   same = c.export.ensures.same;
   over = c.export.ensures.over;
   later = c.export.ensures.later;
@@ -152,6 +159,7 @@ returns-in-Err-Disk g c = record {
   closed = by_export c.export.new.self _ _ c.export.ensures.closes (ap closes (c.in-Err-Disk.is ∙ ap Err c.in-Err-Disk.field-0-is));
   placed = λ file at is. absurd (disk_or_damaged file at is);
   run = c.export.ensures.run;
+  memory = c.export.ensures.memory;
   same = c.export.ensures.same;
   over = c.export.ensures.over;
   later = c.export.ensures.later;

@@ -4,6 +4,7 @@ use Rattle.ix_serve.specs.Answer.{MayBe, IsExport, says, answer_of_fault}
 use Rattle.ix_serve.specs.Entries.{entry}
 use Rattle.ix_serve.specs.Exports.{reply_of, MayReply}
 use Rattle.ix_serve.specs.Replies.{Reply, no_memory, broken}
+use Rattle.ix_serve.specs.Kinds.{kind}
 use Rattle.ix_serve.specs.Serving.{IsClean, IsOpen, IsTold}
 use Rattle.ix_serve.specs.declared.served.ServeFault.TheVariants as fault
 use Rattle.ix_serve.proofs.Answering.{comes_open, comes_closed, err_back, queried, due_held, open_undamaged, closed, damaged_back}
@@ -23,20 +24,24 @@ returns-in-Ok g c = record {
       let reply : MayReply told e c.args.index.now c.args.range said =
       subst (λ (name : List ℕ). MayReply told e name c.args.range said) c.as_slice.ensures (c.in-Ok.ensures.reply e chooser taken hold) in
       ⊎_elim
-      (λ (none : said ≡ no_memory). queried g.D.Disk g.M.Book.ManifestState.fits g.M.StoreMemory.holds e may true clean
+      (λ (none : said ≡ no_memory). queried g.D.Disk (kind g.M.StoreMemory.takes g.M.Book.ManifestState.fits g.M.StoreMemory.holds) e may
+      true clean
       c.give_exported.result (g.K.Link.given c.args.link.now) (g.K.Link.given c.give_exported.new.link)
       c.committed_lines.new.store c.args.disk.now c.committed_lines.new.disk (Some said) false
       (inr (inl (ap (λ (r : Reply). says false r) none))) c.give_exported.ensures.gave
-      (λ stays. due_held g.D.Disk g.M.Book.ManifestState.fits g.M.StoreMemory.holds e false h c.committed_lines.new.store
+      (λ stays. due_held g.D.Disk (kind g.M.StoreMemory.takes g.M.Book.ManifestState.fits g.M.StoreMemory.holds) e false h
+      c.committed_lines.new.store
       c.committed_lines.new.disk hold.staged.within now)
       (c.committed_lines.ensures.images choose h base k hold)
       (open_undamaged g.D.Disk c.committed_lines.new.disk c.give_exported.result c.give_exported.ensures.open))
       (λ (is : IsExport told e c.args.index.now c.args.range said).
-      queried g.D.Disk g.M.Book.ManifestState.fits g.M.StoreMemory.holds e may true clean c.give_exported.result
+      queried g.D.Disk (kind g.M.StoreMemory.takes g.M.Book.ManifestState.fits g.M.StoreMemory.holds) e may true clean
+      c.give_exported.result
       (g.K.Link.given c.args.link.now) (g.K.Link.given c.give_exported.new.link)
       c.committed_lines.new.store c.args.disk.now c.committed_lines.new.disk (Some said) true (inl (said, is, refl))
       c.give_exported.ensures.gave
-      (λ stays. due_held g.D.Disk g.M.Book.ManifestState.fits g.M.StoreMemory.holds e true h c.committed_lines.new.store
+      (λ stays. due_held g.D.Disk (kind g.M.StoreMemory.takes g.M.Book.ManifestState.fits g.M.StoreMemory.holds) e true h
+      c.committed_lines.new.store
       c.committed_lines.new.disk hold.staged.within now)
       (c.committed_lines.ensures.images choose h base k hold)
       (open_undamaged g.D.Disk c.committed_lines.new.disk c.give_exported.result c.give_exported.ensures.open))
@@ -45,13 +50,15 @@ returns-in-Ok g c = record {
   over = λ stays. c.in-Ok.ensures.over;
   measured = λ measured stays. c.in-Ok.ensures.measured measured;
   closed = λ down. absurd (open_still c.give_exported.result c.give_exported.ensures.open down);
-  placed = placed_at_end g.D.Disk (g.M.StoreMemory.shown c.args.store.now.memory) c.committed_lines.new.disk c.give_exported.result
+  placed = placed_at_end g.D.Disk (g.M.StoreMemory.shown c.committed_lines.new.store.memory) c.committed_lines.new.disk
+      c.give_exported.result
       (open_placed g.D.Disk c.committed_lines.new.disk c.give_exported.result c.give_exported.ensures.open);
   replied = replied_by (reply_of c.in-Ok.exported) true
       (IsClean (g.K.Link.faults c.args.link.now) (g.K.Link.faults c.give_exported.new.link) (g.K.Link.standing c.args.link.now)
       (g.K.Link.standing c.give_exported.new.link)) c.give_exported.result (g.K.Link.given c.args.link.now)
       (g.K.Link.given c.give_exported.new.link) c.give_exported.ensures.gave;
   run = c.committed_lines.ensures.run;
+  memory = c.committed_lines.ensures.memory;
   told = c.committed_lines.ensures.told;
   goes = c.give_exported.ensures.goes;
   comes = comes_open (g.K.Link.faults c.args.link.now) (g.K.Link.faults c.args.link.now) (g.K.Link.faults c.give_exported.new.link)
@@ -68,7 +75,8 @@ returns-in-Err g c = record {
       let may = MayBe e told (asks.Events c.args.index.now c.args.range) c.give_up.result in
       let clean = IsClean (g.K.Link.faults c.args.link.now) (g.K.Link.faults c.give_up.new.link) (g.K.Link.standing c.args.link.now)
       (g.K.Link.standing c.give_up.new.link) in
-      queried g.D.Disk g.M.Book.ManifestState.fits g.M.StoreMemory.holds e may true clean c.give_up.result (g.K.Link.given c.args.link.now)
+      queried g.D.Disk (kind g.M.StoreMemory.takes g.M.Book.ManifestState.fits g.M.StoreMemory.holds) e may true clean c.give_up.result
+      (g.K.Link.given c.args.link.now)
       (g.K.Link.given c.give_up.new.link)
       c.committed_lines.new.store c.args.disk.now c.committed_lines.new.disk (Some (broken c.in-Err.cause)) false
       (inr (inr (c.in-Err.cause, c.give_up.ensures.result, refl))) c.give_up.ensures.gave
@@ -86,6 +94,7 @@ returns-in-Err g c = record {
       ∙ is))) image seen;
   replied = replied_err true c.in-Err.cause c.give_up.result c.give_up.ensures.result;
   run = c.committed_lines.ensures.run;
+  memory = c.committed_lines.ensures.memory;
   told = c.committed_lines.ensures.told;
   goes = c.give_up.ensures.goes;
   comes = comes_closed (g.K.Link.faults c.args.link.now) (g.K.Link.faults c.give_up.new.link) (g.D.Disk.faults c.args.disk.now)

@@ -19,6 +19,7 @@ returns-in-Ok g c = record {
   closed = λ down. absurd (open_still c.args.came c.requires.open down);
   placed = open_placed g.D.Disk c.commit.new.disk c.args.came c.requires.open;
   run = c.commit.ensures.run;
+  memory = c.commit.ensures.memory;
   told = tells_on g.D.Disk _ c.args.disk.now c.commit.new.disk c.commit.ensures.told;
   over = λ stays. c.in-Ok.ensures.over;
   later = c.commit.ensures.later;
@@ -39,6 +40,7 @@ returns-in-Err g c = record {
       (ap (λ (f : CommitFault). Err f) (damaged_back c.in-Err.cause file at (sym c.answer_of_fault.ensures
       ∙ err_back c.answer_of_fault.result (fault.Damaged file at) is)))).1 image seen;
   run = c.commit.ensures.run;
+  memory = c.commit.ensures.memory;
   told = tells_on g.D.Disk _ c.args.disk.now c.commit.new.disk c.commit.ensures.told;
   over = λ stays. absurd (not_open c.answer_of_fault.result c.in-Err.cause c.answer_of_fault.ensures stays);
   later = c.commit.ensures.later;

@@ -28,6 +28,7 @@ returns-then-staged g c = record {
   closed = tt;
   placed = tt;
   run = refl;
+  memory = refl;
   told = anyhow_same (g.D.Disk.seen c.args.disk.now) (g.D.Disk.seen c.args.disk.now) refl;
   later = omega arith;
   failed = tt;
@@ -49,6 +50,7 @@ returns-then-not-long g c = record {
   closed = tt;
   placed = tt;
   run = refl;
+  memory = refl;
   told = anyhow_same (g.D.Disk.seen c.args.disk.now) (g.D.Disk.seen c.args.disk.now) refl;
   later = omega arith;
   failed = tt;
@@ -75,6 +77,7 @@ returns-in-Err g c = record {
   placed = λ file at is image seen. (c.in-Err.ensures.damaged file at
       (ap Err (damaged_back c.in-Err.cause file at (sym c.answer_of_fault.ensures ∙ is)))).1 image seen;
   run = c.commit.ensures.run;
+  memory = c.commit.ensures.memory;
   told = c.commit.ensures.told;
   later = c.commit.ensures.later;
   failed = λ is. c.commit.ensures.cause (c.in-Err.is ∙ ap Err (disk_back c.in-Err.cause (sym c.answer_of_fault.ensures ∙ is)));
@@ -104,6 +107,7 @@ returns-in-Ok-checkpoint g c = record {
   closed = tt;
   placed = tt;
   run = c.checkpoint.ensures.run ∙ c.commit.ensures.run;
+  memory = c.checkpoint.ensures.kept ∙ c.commit.ensures.memory;
   told = anyhow_through (g.D.Disk.seen c.args.disk.now) (g.D.Disk.seen c.commit.new.disk) (g.D.Disk.seen c.checkpoint.new.disk)
       c.commit.ensures.told c.checkpoint.ensures.told;
   later = omega (arith, c.commit.ensures.later, c.checkpoint.ensures.later);
@@ -140,6 +144,7 @@ returns-in-Err-NoMemory g c = record {
   closed = tt;
   placed = tt;
   run = c.checkpoint.ensures.run ∙ c.commit.ensures.run;
+  memory = c.checkpoint.ensures.kept ∙ c.commit.ensures.memory;
   told = anyhow_through (g.D.Disk.seen c.args.disk.now) (g.D.Disk.seen c.commit.new.disk) (g.D.Disk.seen c.checkpoint.new.disk)
       c.commit.ensures.told c.checkpoint.ensures.told;
   later = omega (arith, c.commit.ensures.later, c.checkpoint.ensures.later);
@@ -165,6 +170,7 @@ returns-in-Err-Disk g c = record {
   closed = by_committer c.checkpoint.new.self (c.checkpoint.ensures.closed (c.in-Err-Disk.is ∙ ap Err c.in-Err-Disk.field-0-is));
   placed = λ file at is. absurd (not_damaged file at is);
   run = c.checkpoint.ensures.run ∙ c.commit.ensures.run;
+  memory = c.checkpoint.ensures.kept ∙ c.commit.ensures.memory;
   told = anyhow_through (g.D.Disk.seen c.args.disk.now) (g.D.Disk.seen c.commit.new.disk) (g.D.Disk.seen c.checkpoint.new.disk)
       c.commit.ensures.told c.checkpoint.ensures.told;
   later = omega (arith, c.commit.ensures.later, c.checkpoint.ensures.later);

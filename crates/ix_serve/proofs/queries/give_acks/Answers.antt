@@ -1,4 +1,4 @@
-use Rattle.std.proofs.Common.{◌≡◌, ◌∙◌, ℕ, List, map, true, refl, inl, inr}
+use Rattle.std.proofs.Common.{◌≡◌, ◌∙◌, map, true, refl, inl, inr}
 use Rattle.std.specs.List.{list_any}
 use Rattle.ix_http.specs.declared.kinds.Kind.TheVariants.{Json}
 use Rattle.ix_serve.specs.Answer.{says}

@@ -1,4 +1,4 @@
-use Rattle.std.proofs.Common.{refl, ap, ◌∙◌}
+use Rattle.std.proofs.Common.{refl, ◌∙◌}
 use Rattle.ix_http.specs.declared.kinds.Kind.TheVariants.{Json}
 use Rattle.ix_serve.specs.Serving.{IsClean}
 use Rattle.ix_serve.proofs.Answering.{gave_as}

@@ -6,7 +6,8 @@ use Rattle.ix_disk.specs.Moments.{Always}
 use Rattle.ix_commit.specs.Contents.{Anyhow}
 use Rattle.ix_serve.specs.Entries.{entry}
 use Rattle.ix_serve.specs.Prefixes.{StandsIn}
-use Rattle.ix_serve.specs.Serving.{IsClean, IsTold, Serves, Reads}
+use Rattle.ix_serve.specs.Kinds.{kind}
+use Rattle.ix_serve.specs.Serving.{IsClean, IsTold, Serves, Reads, outcome}
 use Rattle.ix_serve.specs.declared.served.Served.{Served}
 use Rattle.ix_serve.specs.declared.served.Served.TheVariants as served
 use Rattle.ix_serve.specs.declared.served.ServeFault.{ServeFault}
@@ -17,6 +18,7 @@ use Rattle.ix_serve.proofs.Standing.{tells_on}
 use Rattle.ix_serve.proofs.Taking.{says_taken}
 use Rattle.ix_serve.proofs.Closing.{reads_again, reads_fault, open_placed, placed_at_end}
 use Rattle.std.proofs.lemmas.Bool.{false≢true}
+use Rattle.ix_store.proofs.Recalling.{remembers_behind}
 use Rattle.ix_serve.proofs.serve.serve_one.Goals as goal
 
 pub returns-in-Ok : goal.returns-in-Ok
@@ -31,7 +33,8 @@ returns-in-Ok g c = record {
       let given = says_taken g.M.StoreMemory.takes g.met.M.StoreMemory.ticks_are_taken c.requires.takes e taken
       (IsTold g.D.Disk c.serve_request.new.disk) first.read c.serve_request.result first.answers.answer first.within
       first.answers.may_be in
-      serves_short g.D.Disk g.M.Book.ManifestState.fits g.M.StoreMemory.holds e clean c.serve_request.result c.in-Ok-Reply.status
+      serves_short g.D.Disk (kind g.M.StoreMemory.takes g.M.Book.ManifestState.fits g.M.StoreMemory.holds) e clean c.serve_request.result
+      c.in-Ok-Reply.status
       c.in-Ok-Reply.delimited _
       (g.K.Link.left c.args.link.now) (g.K.Link.left c.serve_request.new.link) (g.K.Link.given c.args.link.now)
       (g.K.Link.given c.serve_request.new.link)
@@ -46,7 +49,7 @@ returns-in-Ok g c = record {
   over = λ stays. c.in-Ok.ensures.over;
   measured = λ measured stays. c.in-Ok.ensures.measured (c.in-Ok-Reply.ensures.measured measured tt);
   closed = λ down. absurd (false≢true (sym down));
-  placed = placed_at_end g.D.Disk (g.M.StoreMemory.shown c.args.store.now.memory) c.shorten_behind.new.disk
+  placed = placed_at_end g.D.Disk (g.M.StoreMemory.shown c.shorten_behind.new.store.memory) c.shorten_behind.new.disk
       (Ok (served.Reply c.in-Ok-Reply.status c.in-Ok-Reply.delimited c.in-Ok.unshortened))
       (open_placed g.D.Disk c.shorten_behind.new.disk
       (Ok (served.Reply c.in-Ok-Reply.status c.in-Ok-Reply.delimited c.in-Ok.unshortened)) tt);
@@ -54,6 +57,9 @@ returns-in-Ok g c = record {
       (g.K.Link.left c.serve_request.new.link) (c.in-Ok-Reply.is
       ∙ ap Ok c.in-Ok-Reply.field-0-is) c.serve_request.ensures.reads c.in-Ok.unshortened;
   run = c.shorten_behind.ensures.run ∙ c.serve_request.ensures.run;
+  remembers = remembers_behind g.M.StoreMemory.is_chooser g.M.StoreMemory.takes g.M.StoreMemory.holds c.args.store.now.memory
+      c.serve_request.new.store.memory
+      c.shorten_behind.new.store.memory c.shorten_behind.ensures.memory c.serve_request.ensures.remembers;
   told = λ told. tells_on g.D.Disk _ c.serve_request.new.disk c.shorten_behind.new.disk c.shorten_behind.ensures.told
       (c.serve_request.ensures.told told);
   goes = c.serve_request.ensures.goes;
@@ -75,7 +81,8 @@ returns-in-Err-shorten_behind g c = record {
       let given = says_taken g.M.StoreMemory.takes g.met.M.StoreMemory.ticks_are_taken c.requires.takes e taken
       (IsTold g.D.Disk c.serve_request.new.disk) first.read c.serve_request.result first.answers.answer first.within
       first.answers.may_be in
-      serves_failed g.D.Disk g.M.Book.ManifestState.fits g.M.StoreMemory.holds e clean c.serve_request.result c.in-Ok-Reply.status
+      serves_failed g.D.Disk (kind g.M.StoreMemory.takes g.M.Book.ManifestState.fits g.M.StoreMemory.holds) e clean c.serve_request.result
+      c.in-Ok-Reply.status
       c.in-Ok-Reply.delimited _
       (g.K.Link.left c.args.link.now) (g.K.Link.left c.serve_request.new.link) (g.K.Link.given c.args.link.now)
       (g.K.Link.given c.serve_request.new.link)
@@ -100,6 +107,9 @@ returns-in-Err-shorten_behind g c = record {
       ∙ ap Ok c.in-Ok-Reply.field-0-is) c.serve_request.ensures.reads c.in-Err-shorten_behind.fault c.in-Err-shorten_behind.ensures.cause.0
       c.in-Err-shorten_behind.ensures.cause.1;
   run = c.shorten_behind.ensures.run ∙ c.serve_request.ensures.run;
+  remembers = remembers_behind g.M.StoreMemory.is_chooser g.M.StoreMemory.takes g.M.StoreMemory.holds c.args.store.now.memory
+      c.serve_request.new.store.memory
+      c.shorten_behind.new.store.memory c.shorten_behind.ensures.memory c.serve_request.ensures.remembers;
   told = λ told. tells_on g.D.Disk _ c.serve_request.new.disk c.shorten_behind.new.disk c.shorten_behind.ensures.told
       (c.serve_request.ensures.told told);
   goes = c.serve_request.ensures.goes;
@@ -118,20 +128,22 @@ returns-in-Ok-Ended g c = record {
       let clean = IsClean (g.K.Link.faults c.args.link.now) (g.K.Link.faults c.serve_request.new.link) (g.K.Link.standing c.args.link.now)
       (g.K.Link.standing c.serve_request.new.link) in
       let first = simp to_z-of_z at (c.serve_request.ensures.serves choose h base k chooser taken hold) in
-      subst (λ (r : Result Served ServeFault). Serves g.D.Disk g.M.Book.ManifestState.fits g.M.StoreMemory.holds e clean r
-      (g.K.Link.left c.args.link.now) (g.K.Link.left c.serve_request.new.link)
-      (g.K.Link.given c.args.link.now) (g.K.Link.given c.serve_request.new.link) c.serve_request.new.store c.args.disk.now
+      subst (λ (r : Result Served ServeFault). Serves g.D.Disk (kind g.M.StoreMemory.takes g.M.Book.ManifestState.fits
+      g.M.StoreMemory.holds) e
+      (outcome r clean (g.K.Link.given c.args.link.now) (g.K.Link.given c.serve_request.new.link)) (g.K.Link.left c.args.link.now)
+      (g.K.Link.left c.serve_request.new.link) c.serve_request.new.store c.args.disk.now
       c.serve_request.new.disk) (c.in-Ok-Ended.is ∙ ap Ok c.in-Ok-Ended.field-0-is) first;
   short = λ choose h base k hold. tt;
   long = tt;
   over = λ stays. c.in-Ok-Ended.ensures.over tt;
   measured = λ measured stays. c.in-Ok-Ended.ensures.measured measured tt;
   closed = λ down. absurd (false≢true (sym down));
-  placed = placed_at_end g.D.Disk (g.M.StoreMemory.shown c.args.store.now.memory) c.serve_request.new.disk (Ok served.Ended)
+  placed = placed_at_end g.D.Disk (g.M.StoreMemory.shown c.serve_request.new.store.memory) c.serve_request.new.disk (Ok served.Ended)
       (open_placed g.D.Disk c.serve_request.new.disk (Ok served.Ended) tt);
   reads = subst (λ (r : Result Served ServeFault). Reads r (g.K.Link.left c.args.link.now) (g.K.Link.left c.serve_request.new.link))
       (c.in-Ok-Ended.is ∙ ap Ok c.in-Ok-Ended.field-0-is) c.serve_request.ensures.reads;
   run = c.serve_request.ensures.run;
+  remembers = c.serve_request.ensures.remembers;
   told = c.serve_request.ensures.told;
   goes = c.serve_request.ensures.goes;
   comes = comes_reply (g.K.Link.faults c.args.link.now) (g.K.Link.faults c.serve_request.new.link) (g.D.Disk.faults c.args.disk.now)
@@ -147,9 +159,10 @@ returns-in-Err g c = record {
       let clean = IsClean (g.K.Link.faults c.args.link.now) (g.K.Link.faults c.serve_request.new.link) (g.K.Link.standing c.args.link.now)
       (g.K.Link.standing c.serve_request.new.link) in
       let first = simp to_z-of_z at (c.serve_request.ensures.serves choose h base k chooser taken hold) in
-      subst (λ (r : Result Served ServeFault). Serves g.D.Disk g.M.Book.ManifestState.fits g.M.StoreMemory.holds e clean r
-      (g.K.Link.left c.args.link.now) (g.K.Link.left c.serve_request.new.link)
-      (g.K.Link.given c.args.link.now) (g.K.Link.given c.serve_request.new.link) c.serve_request.new.store c.args.disk.now
+      subst (λ (r : Result Served ServeFault). Serves g.D.Disk (kind g.M.StoreMemory.takes g.M.Book.ManifestState.fits
+      g.M.StoreMemory.holds) e
+      (outcome r clean (g.K.Link.given c.args.link.now) (g.K.Link.given c.serve_request.new.link)) (g.K.Link.left c.args.link.now)
+      (g.K.Link.left c.serve_request.new.link) c.serve_request.new.store c.args.disk.now
       c.serve_request.new.disk) (c.in-Err.is) first;
   short = λ choose h base k hold. tt;
   long = tt;
@@ -160,6 +173,7 @@ returns-in-Err g c = record {
   reads = subst (λ (r : Result Served ServeFault). Reads r (g.K.Link.left c.args.link.now) (g.K.Link.left c.serve_request.new.link))
       c.in-Err.is c.serve_request.ensures.reads;
   run = c.serve_request.ensures.run;
+  remembers = c.serve_request.ensures.remembers;
   told = c.serve_request.ensures.told;
   goes = c.serve_request.ensures.goes;
   comes = c.in-Err.ensures.comes;

@@ -8,6 +8,7 @@ use Rattle.ix_net.proofs.GoesLemmas.{goes_on}
 use Rattle.ix_serve.specs.Answer.{Found, MayBe, Says}
 use Rattle.ix_serve.specs.Entries.{entry}
 use Rattle.ix_serve.specs.Replies.{no_memory, unread}
+use Rattle.ix_serve.specs.Kinds.{kind}
 use Rattle.ix_serve.specs.Serving.{Gave, IsClean, IsTold, IsReplied}
 use Rattle.ix_serve.specs.declared.served.Served.{Served}
 use Rattle.ix_serve.specs.declared.served.Served.TheVariants as served
@@ -17,6 +18,7 @@ use Rattle.ix_serve.proofs.Answering.{idle, served_so, clean_behind, cleaner, co
 use Rattle.ix_serve.proofs.Behind.{ok_err}
 use Rattle.ix_serve.proofs.Closing.{open_still, replied_by, status_by, reads_so, open_placed, placed_at_end}
 use Rattle.std.proofs.lemmas.Bool.{false≢true}
+use Rattle.ix_store.proofs.Recalling.{remembers_same}
 use Rattle.ix_serve.proofs.serve.serve_request.Goals as goal
 
 not_link : (let result : Result Served ServeFault = Err fault.Cut in result ≡ Err fault.Link) → ⊥
@@ -29,12 +31,14 @@ returns-in-Ok-Ended g c = record {
       let read : Found = Ok was.Ended in
       let clean = IsClean (g.K.Link.faults c.args.link.now) (g.K.Link.faults c.read_request.new.link) (g.K.Link.standing c.args.link.now)
       (g.K.Link.standing c.read_request.new.link) in
-      served_so g.D.Disk g.M.Book.ManifestState.fits g.M.StoreMemory.holds e clean (Ok served.Ended) (g.K.Link.left c.args.link.now)
+      served_so g.D.Disk (kind g.M.StoreMemory.takes g.M.Book.ManifestState.fits g.M.StoreMemory.holds) e clean (Ok served.Ended)
+      (g.K.Link.left c.args.link.now)
       (g.K.Link.left c.read_request.new.link) (g.K.Link.left c.read_request.new.link)
       (g.K.Link.given c.args.link.now) (g.K.Link.given c.read_request.new.link) c.args.store.now c.args.disk.now c.args.disk.now
       c.read_request.result read (c.in-Ok-Ended.is ∙ ap Ok c.in-Ok-Ended.field-0-is) refl c.read_request.ensures.read
       c.read_request.ensures.within
-      (idle g.D.Disk g.M.Book.ManifestState.fits g.M.StoreMemory.holds e (Says e (IsTold g.D.Disk c.args.disk.now) read (Ok served.Ended))
+      (idle g.D.Disk (kind g.M.StoreMemory.takes g.M.Book.ManifestState.fits g.M.StoreMemory.holds) e
+      (Says e (IsTold g.D.Disk c.args.disk.now) read (Ok served.Ended))
       true clean (Ok served.Ended) (g.K.Link.given c.args.link.now) (g.K.Link.given c.read_request.new.link)
       c.args.store.now c.args.disk.now None (refl, refl) c.read_request.ensures.reads.given tt refl hold);
   over = λ stays. c.requires.over;
@@ -46,6 +50,8 @@ returns-in-Ok-Ended g c = record {
       (g.K.Link.left c.read_request.new.link) (c.in-Ok-Ended.is
       ∙ ap Ok c.in-Ok-Ended.field-0-is) refl c.read_request.ensures.read c.read_request.ensures.within refl;
   run = refl;
+  remembers = remembers_same g.M.StoreMemory.is_chooser g.M.StoreMemory.takes g.M.StoreMemory.holds c.args.store.now.memory
+      c.args.store.now.memory refl;
   told = λ told. told;
   goes = c.read_request.ensures.reads.goes;
   comes = comes_open (g.K.Link.faults c.args.link.now) (g.K.Link.faults c.read_request.new.link) (g.K.Link.faults c.read_request.new.link)
@@ -60,12 +66,14 @@ returns-in-Err-Failed g c = record {
       let read : Found = Err link.Failed in
       let clean = IsClean (g.K.Link.faults c.args.link.now) (g.K.Link.faults c.read_request.new.link) (g.K.Link.standing c.args.link.now)
       (g.K.Link.standing c.read_request.new.link) in
-      served_so g.D.Disk g.M.Book.ManifestState.fits g.M.StoreMemory.holds e clean (Err fault.Link) (g.K.Link.left c.args.link.now)
+      served_so g.D.Disk (kind g.M.StoreMemory.takes g.M.Book.ManifestState.fits g.M.StoreMemory.holds) e clean (Err fault.Link)
+      (g.K.Link.left c.args.link.now)
       (g.K.Link.left c.read_request.new.link) (g.K.Link.left c.read_request.new.link)
       (g.K.Link.given c.args.link.now) (g.K.Link.given c.read_request.new.link) c.args.store.now c.args.disk.now c.args.disk.now
       c.read_request.result read (c.in-Err-Failed.is
       ∙ ap Err c.in-Err-Failed.field-0-is) refl c.read_request.ensures.read c.read_request.ensures.within
-      (idle g.D.Disk g.M.Book.ManifestState.fits g.M.StoreMemory.holds e (Says e (IsTold g.D.Disk c.args.disk.now) read (Err fault.Link))
+      (idle g.D.Disk (kind g.M.StoreMemory.takes g.M.Book.ManifestState.fits g.M.StoreMemory.holds) e
+      (Says e (IsTold g.D.Disk c.args.disk.now) read (Err fault.Link))
       false clean (Err fault.Link) (g.K.Link.given c.args.link.now) (g.K.Link.given c.read_request.new.link)
       c.args.store.now c.args.disk.now None (refl, refl) c.read_request.ensures.reads.given tt refl hold);
   over = λ stays. c.requires.over;
@@ -77,6 +85,8 @@ returns-in-Err-Failed g c = record {
       (g.K.Link.left c.read_request.new.link) (c.in-Err-Failed.is
       ∙ ap Err c.in-Err-Failed.field-0-is) refl c.read_request.ensures.read c.read_request.ensures.within refl;
   run = refl;
+  remembers = remembers_same g.M.StoreMemory.is_chooser g.M.StoreMemory.takes g.M.StoreMemory.holds c.args.store.now.memory
+      c.args.store.now.memory refl;
   told = λ told. told;
   goes = c.read_request.ensures.reads.goes;
   comes = comes_open (g.K.Link.faults c.args.link.now) (g.K.Link.faults c.args.link.now) (g.K.Link.faults c.read_request.new.link)
@@ -91,12 +101,14 @@ returns-in-Err-Cut g c = record {
       let read : Found = Err link.Cut in
       let clean = IsClean (g.K.Link.faults c.args.link.now) (g.K.Link.faults c.read_request.new.link) (g.K.Link.standing c.args.link.now)
       (g.K.Link.standing c.read_request.new.link) in
-      served_so g.D.Disk g.M.Book.ManifestState.fits g.M.StoreMemory.holds e clean (Err fault.Cut) (g.K.Link.left c.args.link.now)
+      served_so g.D.Disk (kind g.M.StoreMemory.takes g.M.Book.ManifestState.fits g.M.StoreMemory.holds) e clean (Err fault.Cut)
+      (g.K.Link.left c.args.link.now)
       (g.K.Link.left c.read_request.new.link) (g.K.Link.left c.read_request.new.link)
       (g.K.Link.given c.args.link.now) (g.K.Link.given c.read_request.new.link) c.args.store.now c.args.disk.now c.args.disk.now
       c.read_request.result read (c.in-Err-Cut.is ∙ ap Err c.in-Err-Cut.field-0-is) refl c.read_request.ensures.read
       c.read_request.ensures.within
-      (idle g.D.Disk g.M.Book.ManifestState.fits g.M.StoreMemory.holds e (Says e (IsTold g.D.Disk c.args.disk.now) read (Err fault.Cut))
+      (idle g.D.Disk (kind g.M.StoreMemory.takes g.M.Book.ManifestState.fits g.M.StoreMemory.holds) e
+      (Says e (IsTold g.D.Disk c.args.disk.now) read (Err fault.Cut))
       false clean (Err fault.Cut) (g.K.Link.given c.args.link.now) (g.K.Link.given c.read_request.new.link)
       c.args.store.now c.args.disk.now None (refl, refl) c.read_request.ensures.reads.given tt refl hold);
   over = λ stays. c.requires.over;
@@ -108,6 +120,8 @@ returns-in-Err-Cut g c = record {
       (g.K.Link.left c.read_request.new.link) (c.in-Err-Cut.is
       ∙ ap Err c.in-Err-Cut.field-0-is) refl c.read_request.ensures.read c.read_request.ensures.within refl;
   run = refl;
+  remembers = remembers_same g.M.StoreMemory.is_chooser g.M.StoreMemory.takes g.M.StoreMemory.holds c.args.store.now.memory
+      c.args.store.now.memory refl;
   told = λ told. told;
   goes = c.read_request.ensures.reads.goes;
   comes = comes_open (g.K.Link.faults c.args.link.now) (g.K.Link.faults c.read_request.new.link) (g.K.Link.faults c.read_request.new.link)
@@ -124,12 +138,13 @@ returns-in-Ok-Refused g c = record {
       (g.K.Link.standing c.give_unread.new.link) in
       let later = IsClean (g.K.Link.faults c.read_request.new.link) (g.K.Link.faults c.give_unread.new.link)
       (g.K.Link.standing c.read_request.new.link) (g.K.Link.standing c.give_unread.new.link) in
-      served_so g.D.Disk g.M.Book.ManifestState.fits g.M.StoreMemory.holds e clean c.give_unread.result (g.K.Link.left c.args.link.now)
+      served_so g.D.Disk (kind g.M.StoreMemory.takes g.M.Book.ManifestState.fits g.M.StoreMemory.holds) e clean c.give_unread.result
+      (g.K.Link.left c.args.link.now)
       (g.K.Link.left c.read_request.new.link) (g.K.Link.left c.give_unread.new.link)
       (g.K.Link.given c.args.link.now) (g.K.Link.given c.give_unread.new.link) c.args.store.now c.args.disk.now c.args.disk.now
       c.read_request.result read (c.in-Ok-Refused.is
       ∙ ap Ok c.in-Ok-Refused.field-0-is) c.give_unread.ensures.left c.read_request.ensures.read c.read_request.ensures.within
-      (idle g.D.Disk g.M.Book.ManifestState.fits g.M.StoreMemory.holds e
+      (idle g.D.Disk (kind g.M.StoreMemory.takes g.M.Book.ManifestState.fits g.M.StoreMemory.holds) e
       (Says e (IsTold g.D.Disk c.args.disk.now) read c.give_unread.result) c.in-Ok-Refused.delimited clean c.give_unread.result
       (g.K.Link.given c.args.link.now) (g.K.Link.given c.give_unread.new.link)
       c.args.store.now c.args.disk.now (Some (unread c.in-Ok-Refused.fault)) refl
@@ -159,6 +174,8 @@ returns-in-Ok-Refused g c = record {
             (g.K.Link.given c.read_request.new.link) (g.K.Link.given c.give_unread.new.link) c.give_unread.ensures.gave,
       );
   run = refl;
+  remembers = remembers_same g.M.StoreMemory.is_chooser g.M.StoreMemory.takes g.M.StoreMemory.holds c.args.store.now.memory
+      c.args.store.now.memory refl;
   told = λ told. told;
   goes = goes_on c.read_request.ensures.reads.goes c.give_unread.ensures.goes;
   comes = comes_open (g.K.Link.faults c.args.link.now) (g.K.Link.faults c.read_request.new.link) (g.K.Link.faults c.give_unread.new.link)
@@ -175,12 +192,14 @@ returns-in-Err-NoMemory g c = record {
       (g.K.Link.standing c.decline.new.link) in
       let later = IsClean (g.K.Link.faults c.read_request.new.link) (g.K.Link.faults c.decline.new.link)
       (g.K.Link.standing c.read_request.new.link) (g.K.Link.standing c.decline.new.link) in
-      served_so g.D.Disk g.M.Book.ManifestState.fits g.M.StoreMemory.holds e clean c.decline.result (g.K.Link.left c.args.link.now)
+      served_so g.D.Disk (kind g.M.StoreMemory.takes g.M.Book.ManifestState.fits g.M.StoreMemory.holds) e clean c.decline.result
+      (g.K.Link.left c.args.link.now)
       (g.K.Link.left c.read_request.new.link) (g.K.Link.left c.decline.new.link)
       (g.K.Link.given c.args.link.now) (g.K.Link.given c.decline.new.link) c.args.store.now c.args.disk.now c.args.disk.now
       c.read_request.result read (c.in-Err-NoMemory.is
       ∙ ap Err c.in-Err-NoMemory.field-0-is) c.decline.ensures.left c.read_request.ensures.read c.read_request.ensures.within
-      (idle g.D.Disk g.M.Book.ManifestState.fits g.M.StoreMemory.holds e (Says e (IsTold g.D.Disk c.args.disk.now) read c.decline.result)
+      (idle g.D.Disk (kind g.M.StoreMemory.takes g.M.Book.ManifestState.fits g.M.StoreMemory.holds) e
+      (Says e (IsTold g.D.Disk c.args.disk.now) read c.decline.result)
       c.in-Err-NoMemory.whole clean c.decline.result (g.K.Link.given c.args.link.now) (g.K.Link.given c.decline.new.link)
       c.args.store.now c.args.disk.now (Some no_memory) refl
       (gave_cleaner (Some no_memory) c.in-Err-NoMemory.whole later clean c.decline.result (g.K.Link.given c.args.link.now)
@@ -210,6 +229,8 @@ returns-in-Err-NoMemory g c = record {
             (g.K.Link.given c.read_request.new.link) (g.K.Link.given c.decline.new.link) c.decline.ensures.gave,
       );
   run = refl;
+  remembers = remembers_same g.M.StoreMemory.is_chooser g.M.StoreMemory.takes g.M.StoreMemory.holds c.args.store.now.memory
+      c.args.store.now.memory refl;
   told = λ told. told;
   goes = goes_on c.read_request.ensures.reads.goes c.decline.ensures.goes;
   comes = comes_open (g.K.Link.faults c.args.link.now) (g.K.Link.faults c.read_request.new.link) (g.K.Link.faults c.decline.new.link)
@@ -227,12 +248,13 @@ returns-in-Ok-Asked g c = record {
       (g.K.Link.standing c.serve_ask.new.link) in
       let later = IsClean (g.K.Link.faults c.read_request.new.link) (g.K.Link.faults c.serve_ask.new.link)
       (g.K.Link.standing c.read_request.new.link) (g.K.Link.standing c.serve_ask.new.link) in
-      served_so g.D.Disk g.M.Book.ManifestState.fits g.M.StoreMemory.holds e clean c.serve_ask.result (g.K.Link.left c.args.link.now)
+      served_so g.D.Disk (kind g.M.StoreMemory.takes g.M.Book.ManifestState.fits g.M.StoreMemory.holds) e clean c.serve_ask.result
+      (g.K.Link.left c.args.link.now)
       (g.K.Link.left c.read_request.new.link) (g.K.Link.left c.serve_ask.new.link)
       (g.K.Link.given c.args.link.now) (g.K.Link.given c.serve_ask.new.link) c.serve_ask.new.store c.args.disk.now c.serve_ask.new.disk
       c.read_request.result read (c.in-Ok-Asked.is ∙ ap Ok c.in-Ok-Asked.field-0-is) c.serve_ask.ensures.left
       c.read_request.ensures.read c.read_request.ensures.within
-      (cleaner g.D.Disk g.M.Book.ManifestState.fits g.M.StoreMemory.holds e
+      (cleaner g.D.Disk (kind g.M.StoreMemory.takes g.M.Book.ManifestState.fits g.M.StoreMemory.holds) e
       (MayBe e (IsTold g.D.Disk c.serve_ask.new.disk) c.in-Ok-Asked.ask c.serve_ask.result) true later clean c.serve_ask.result
       (g.K.Link.given c.read_request.new.link) (g.K.Link.given c.serve_ask.new.link) (g.K.Link.given c.args.link.now) c.serve_ask.new.store
       c.args.disk.now c.serve_ask.new.disk
@@ -249,6 +271,7 @@ returns-in-Ok-Asked g c = record {
       ∙ ap Ok c.in-Ok-Asked.field-0-is) c.serve_ask.ensures.left c.read_request.ensures.read c.read_request.ensures.within
       c.serve_ask.ensures.replied;
   run = c.serve_ask.ensures.run;
+  remembers = c.serve_ask.ensures.remembers;
   told = c.serve_ask.ensures.told;
   goes = goes_on c.read_request.ensures.reads.goes c.serve_ask.ensures.goes;
   comes = comes_later (g.K.Link.faults c.args.link.now) (g.K.Link.faults c.read_request.new.link) (g.K.Link.faults c.serve_ask.new.link)

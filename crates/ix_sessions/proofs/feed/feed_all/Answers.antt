@@ -8,19 +8,23 @@ use Rattle.ix_net.proofs.GoesLemmas.{goes_nowhere, goes_on}
 use Rattle.ix_serve.specs.Entries.{entry}
 use Rattle.ix_serve.specs.Serving.{IsClean, IsTold}
 use Rattle.ix_serve.proofs.Answering.{clean_behind}
-use Rattle.ix_sessions.specs.Feeding.{history_after, kind, start, coming}
+use Rattle.ix_serve.specs.Kinds.{kind}
+use Rattle.ix_sessions.specs.Feeding.{history_after, start, coming}
 use Rattle.ix_serve.proofs.Taking.{says_taken}
 use Rattle.ix_sessions.specs.declared.feed.Fed.{Fed}
-use Rattle.ix_sessions.proofs.Placing.{damaged_at, endless_sound}
+use Rattle.ix_sessions.proofs.Placing.{endless_sound}
 use Rattle.ix_sessions.proofs.Reading.{read_on, read_end, read_all}
 use Rattle.ix_sessions.proofs.Turning.{comes_ended, comes_endless, reach_on, feeds_on, feeds_all, stays_open, open_end}
 use Rattle.ix_sessions.proofs.Turning.{damaged_turn}
+use Rattle.ix_store.proofs.Recalling.{remembers_on, remembers_same}
 use Rattle.ix_sessions.proofs.feed.feed_all.Goals as goal
 
 pub loop-served-init : goal.loop-served-init
 loop-served-init g c = record {
   over = c.requires.over;
   run = refl;
+  remembers = remembers_same g.M.StoreMemory.is_chooser g.M.StoreMemory.takes g.M.StoreMemory.holds c.args.store.now.memory
+      c.args.store.now.memory refl;
   link_later = omega arith;
   disk_later = omega arith;
   measured = λ is. is;
@@ -74,9 +78,11 @@ returns-in-Some g c = record {
       c.serve_one-came.result c.loop-served.invariant.reads c.serve_one-came.ensures.reads c.in-Some.end (sym c.end_of.ensures
       ∙ c.in-Some.is);
   run = c.serve_one-came.ensures.run ∙ c.loop-served.invariant.run;
-  placed = λ file at is image seen. damaged_at (g.M.StoreMemory.shown c.loop-served.store.memory) image file at
-      (c.serve_one-came.ensures.placed file at (damaged_turn _ c.serve_one-came.result file at
-      (sym c.end_of.ensures ∙ c.in-Some.is ∙ ap (λ (e : Fed). Some e) is)) image seen);
+  remembers = remembers_on g.M.StoreMemory.is_chooser g.M.StoreMemory.takes g.M.StoreMemory.holds c.args.store.now.memory
+      c.loop-served.store.memory
+      c.serve_one-came.new.store.memory c.loop-served.invariant.remembers c.serve_one-came.ensures.remembers;
+  placed = λ file at is. c.serve_one-came.ensures.placed file at (damaged_turn _ c.serve_one-came.result file at
+      (sym c.end_of.ensures ∙ c.in-Some.is ∙ ap (λ (e : Fed). Some e) is));
   over = λ up. c.serve_one-came.ensures.over (open_end _ c.serve_one-came.result c.in-Some.end (sym c.end_of.ensures ∙ c.in-Some.is) up);
   measured = λ is up.
       c.serve_one-came.ensures.measured (c.loop-served.invariant.measured is)
@@ -98,6 +104,9 @@ loop-served-preserved g c = let l = c.loop-served in
     record {
       over = c.serve_one-came.ensures.over (stays_open _ c.serve_one-came.result none).0;
       run = c.serve_one-came.ensures.run ∙ l.invariant.run;
+      remembers = remembers_on g.M.StoreMemory.is_chooser g.M.StoreMemory.takes g.M.StoreMemory.holds c.args.store.now.memory
+          c.loop-served.store.memory
+          c.serve_one-came.new.store.memory l.invariant.remembers c.serve_one-came.ensures.remembers;
       link_later = omega (arith, l.invariant.link_later, c.serve_one-came.ensures.comes.link_later);
       disk_later = omega (arith, l.invariant.disk_later, c.serve_one-came.ensures.comes.disk_later);
       measured = λ is. c.serve_one-came.ensures.measured (l.invariant.measured is) (stays_open _ c.serve_one-came.result none).0;
@@ -143,6 +152,7 @@ returns g c = record {
   reads = read_all c.loop-served.served (g.K.Link.left c.args.link.now) (g.K.Link.left c.loop-served.link) (omega arith)
       c.loop-served.invariant.reads;
   run = c.loop-served.invariant.run;
+  remembers = c.loop-served.invariant.remembers;
   placed = λ file at is. absurd (endless_sound is);
   over = λ up. c.loop-served.invariant.over;
   measured = λ is up. c.loop-served.invariant.measured is;

@@ -5,8 +5,10 @@ use Rattle.ix_net.specs.Links.{LinkStep}
 use Rattle.ix_model.specs.Given.{Chooser}
 use Rattle.ix_model.specs.declared.commands.TimedCommand.{TimedCommand}
 use Rattle.ix_store.specs.Holding.{Represents}
+use Rattle.ix_store.specs.Remembering.{Remembers}
 use Rattle.ix_serve.specs.Serving.{IsTold}
-use Rattle.ix_sessions.specs.Feeding.{Reaches, kind, start, coming, talk}
+use Rattle.ix_serve.specs.Kinds.{kind}
+use Rattle.ix_sessions.specs.Feeding.{Reaches, start, coming, talk}
 use Rattle.ix_sessions.specs.Reading.{ReadsOn}
 use Rattle.ix_sessions.proofs.feed.feed_all.Given as goal
 
@@ -14,6 +16,7 @@ abbrev pub invariant-loop-served : goal.invariant-loop-served
 invariant-loop-served g l = record {
   over : LogsAtEnd g.D.Disk l.store.committer l.disk;
   run : l.store.run ≡ l.fn.store.run;
+  remembers : Remembers g.M.StoreMemory.is_chooser g.M.StoreMemory.takes g.M.StoreMemory.holds l.fn.store.memory l.store.memory;
   link_later : g.K.Link.faults l.fn.link ≤ g.K.Link.faults l.link;
   disk_later : g.D.Disk.faults l.fn.disk ≤ g.D.Disk.faults l.disk;
   measured : KnowsLogLength g.D.Disk l.fn.store.committer l.fn.disk → KnowsLogLength g.D.Disk l.store.committer l.disk;

@@ -2,12 +2,14 @@ use Rattle.std.proofs.Common.{Err, sym, ap, ◌∙◌, inl}
 use Rattle.std.proofs.lemmas.Bool.{false≢true}
 use Rattle.ix_commit.specs.declared.fault.CommitFault.{CommitFault}
 use Rattle.ix_serve.specs.Serving.{IsClean}
-use Rattle.ix_sessions.specs.Feeding.{history_after, kind, start, coming}
+use Rattle.ix_serve.specs.Kinds.{kind}
+use Rattle.ix_sessions.specs.Feeding.{history_after, start, coming}
 use Rattle.ix_serve.proofs.Standing.{tells_on}
 use Rattle.ix_sessions.specs.declared.feed.Fed.TheVariants as fed
 use Rattle.ix_sessions.proofs.Placing.{broken_fed, open_fed}
 use Rattle.ix_sessions.proofs.Reading.{read_failed}
 use Rattle.ix_sessions.proofs.Turning.{comes_committed, comes_broken, runs_closed, runs_committed, runs_broken}
+use Rattle.ix_store.proofs.Recalling.{remembers_behind}
 use Rattle.ix_sessions.proofs.feed.run_feed.Goals as goal
 
 pub returns-then-not-open : goal.returns-then-not-open
@@ -28,6 +30,7 @@ returns-then-not-open g c = record {
   idle = λ up. absurd (false≢true (sym (sym c.is_open-open.ensures ∙ c.if-not-open.true) ∙ up));
   measured = c.feed_all-end.ensures.measured;
   run = c.feed_all-end.ensures.run;
+  remembers = c.feed_all-end.ensures.remembers;
   told = c.feed_all-end.ensures.told;
   goes = c.feed_all-end.ensures.goes;
   comes = c.feed_all-end.ensures.comes;
@@ -55,6 +58,9 @@ returns-in-Ok g c = record {
   idle = λ up. c.in-Ok.ensures.idle;
   measured = λ measured up. c.in-Ok.ensures.measured (λ idle. c.feed_all-end.ensures.measured measured up);
   run = c.commit.ensures.run ∙ c.feed_all-end.ensures.run;
+  remembers = remembers_behind g.M.StoreMemory.is_chooser g.M.StoreMemory.takes g.M.StoreMemory.holds c.args.store.now.memory
+      c.feed_all-end.new.store.memory
+      c.commit.new.self.memory c.commit.ensures.memory c.feed_all-end.ensures.remembers;
   told = λ told. tells_on g.D.Disk _ c.feed_all-end.new.disk c.commit.new.disk c.commit.ensures.told (c.feed_all-end.ensures.told told);
   goes = c.feed_all-end.ensures.goes;
   comes = comes_committed (g.K.Link.faults c.args.link.now) (g.K.Link.faults c.feed_all-end.new.link) (g.D.Disk.faults c.args.disk.now)
@@ -87,6 +93,9 @@ returns-in-Err g c = record {
   idle = λ up. absurd (false≢true up);
   measured = λ measured up. absurd (false≢true up);
   run = c.commit.ensures.run ∙ c.feed_all-end.ensures.run;
+  remembers = remembers_behind g.M.StoreMemory.is_chooser g.M.StoreMemory.takes g.M.StoreMemory.holds c.args.store.now.memory
+      c.feed_all-end.new.store.memory
+      c.commit.new.self.memory c.commit.ensures.memory c.feed_all-end.ensures.remembers;
   told = λ told. tells_on g.D.Disk _ c.feed_all-end.new.disk c.commit.new.disk c.commit.ensures.told (c.feed_all-end.ensures.told told);
   goes = c.feed_all-end.ensures.goes;
   comes = comes_broken (g.K.Link.faults c.args.link.now) (g.K.Link.faults c.feed_all-end.new.link) (g.D.Disk.faults c.args.disk.now)

@@ -2,11 +2,13 @@ use Rattle.std.proofs.Common.{Err, sym, ap, ◌∙◌, inl}
 use Rattle.std.proofs.lemmas.Bool.{false≢true}
 use Rattle.ix_commit.specs.declared.fault.CommitFault.{CommitFault}
 use Rattle.ix_sessions.specs.Connections.{turns_of, listened}
-use Rattle.ix_sessions.specs.Feeding.{history_after, kind, start}
+use Rattle.ix_serve.specs.Kinds.{kind}
+use Rattle.ix_sessions.specs.Feeding.{history_after, start}
 use Rattle.ix_serve.proofs.Standing.{tells_on}
 use Rattle.ix_sessions.proofs.Placing.{broken_heard, open_heard}
 use Rattle.ix_sessions.proofs.Reading.{hear_failed}
 use Rattle.ix_sessions.proofs.Visiting.{comes_committed, comes_broken, listens_closed, listens_committed, listens_broken}
+use Rattle.ix_store.proofs.Recalling.{remembers_behind}
 use Rattle.ix_sessions.proofs.serve.run_serve.Goals as goal
 
 pub returns-then-not-is_open : goal.returns-then-not-is_open
@@ -25,6 +27,7 @@ returns-then-not-is_open g c = record {
   idle = λ up. absurd (false≢true (sym (sym c.is_open.ensures ∙ c.if-not-is_open.true) ∙ up));
   measured = c.serve_all-end.ensures.measured;
   run = c.serve_all-end.ensures.run;
+  remembers = c.serve_all-end.ensures.remembers;
   told = c.serve_all-end.ensures.told;
   out = c.serve_all-end.ensures.out;
   comes = c.serve_all-end.ensures.comes;
@@ -52,6 +55,9 @@ returns-in-Ok g c = record {
   idle = λ up. c.in-Ok.ensures.idle;
   measured = λ measured up. c.in-Ok.ensures.measured (λ idle. c.serve_all-end.ensures.measured measured up);
   run = c.commit.ensures.run ∙ c.serve_all-end.ensures.run;
+  remembers = remembers_behind g.M.StoreMemory.is_chooser g.M.StoreMemory.takes g.M.StoreMemory.holds c.args.store.now.memory
+      c.serve_all-end.new.store.memory
+      c.commit.new.self.memory c.commit.ensures.memory c.serve_all-end.ensures.remembers;
   told = λ told. tells_on g.D.Disk _ c.serve_all-end.new.disk c.commit.new.disk c.commit.ensures.told (c.serve_all-end.ensures.told told);
   out = c.serve_all-end.ensures.out;
   comes = comes_committed (g.L.Listener.faults c.args.listener.now) (g.L.Listener.faults c.serve_all-end.new.listener)
@@ -85,6 +91,9 @@ returns-in-Err g c = record {
   idle = λ up. absurd (false≢true up);
   measured = λ measured up. absurd (false≢true up);
   run = c.commit.ensures.run ∙ c.serve_all-end.ensures.run;
+  remembers = remembers_behind g.M.StoreMemory.is_chooser g.M.StoreMemory.takes g.M.StoreMemory.holds c.args.store.now.memory
+      c.serve_all-end.new.store.memory
+      c.commit.new.self.memory c.commit.ensures.memory c.serve_all-end.ensures.remembers;
   told = λ told. tells_on g.D.Disk _ c.serve_all-end.new.disk c.commit.new.disk c.commit.ensures.told (c.serve_all-end.ensures.told told);
   out = c.serve_all-end.ensures.out;
   comes = comes_broken (g.L.Listener.faults c.args.listener.now) (g.L.Listener.faults c.serve_all-end.new.listener)

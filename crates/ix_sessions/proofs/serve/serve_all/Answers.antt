@@ -1,19 +1,23 @@
 use Rattle.std.proofs.Common.{◌≡◌, ◌≤◌, ◌+◌, [], refl, sym, ap, ◌∙◌, arith}
 use Rattle.std.proofs.lemmas.Bool.{false≢true}
 use Rattle.ix_sessions.specs.Connections.{turns_of, listened}
-use Rattle.ix_sessions.specs.Feeding.{history_after, kind, start}
-use Rattle.ix_sessions.proofs.Placing.{broken_heard, damaged_at, deaf_sound, done_sound}
+use Rattle.ix_serve.specs.Kinds.{kind}
+use Rattle.ix_sessions.specs.Feeding.{history_after, start}
+use Rattle.ix_sessions.proofs.Placing.{broken_heard, deaf_sound, done_sound}
 use Rattle.ix_sessions.proofs.Reading.{hear_as, hear_on, hear_stopped}
 use Rattle.ix_sessions.specs.Reading.{AsMany}
 use Rattle.ix_sessions.specs.declared.serve.Heard.TheVariants as heard
 use Rattle.ix_sessions.proofs.Visiting.{comes_done, comes_stopped, comes_visited, visits_on, hears_broken, hears_all, hears_stopped}
 use Rattle.ix_sessions.proofs.Visiting.{damaged_visit, stays_open, none_taken, none_handed, over_still, measured_still}
+use Rattle.ix_store.proofs.Recalling.{remembers_on, remembers_same}
 use Rattle.ix_sessions.proofs.serve.serve_all.Goals as goal
 
 pub loop-served-init : goal.loop-served-init
 loop-served-init g c = record {
   over = c.requires.over;
   run = refl;
+  remembers = remembers_same g.M.StoreMemory.is_chooser g.M.StoreMemory.takes g.M.StoreMemory.holds c.args.store.now.memory
+      c.args.store.now.memory refl;
   listener_later = omega arith;
   disk_later = omega arith;
   out = refl;
@@ -60,12 +64,14 @@ returns-in-Some g c = record {
       hear_as (c.loop-served._served + 1) (AsMany c.args.requests (heard.Broken c.in-Some.cause)) from to most
       (hear_on c.loop-served._served from (listened (g.L.Listener.waiting c.loop-served.listener)
       (g.L.Listener.handed c.loop-served.listener)) to c.loop-served.invariant.hears c.in-Ok.ensures.reads);
-  placed = λ file at is image seen. damaged_at (g.M.StoreMemory.shown c.loop-served.store.memory) image file at
-      (c.in-Ok.ensures.placed file at (damaged_visit c.in-Ok.came c.in-Some.cause file at
-      (sym c.break_of.ensures ∙ c.in-Some.is) (broken_heard _ _ is)) image seen);
+  placed = λ file at is. c.in-Ok.ensures.placed file at (damaged_visit c.in-Ok.came c.in-Some.cause file at
+      (sym c.break_of.ensures ∙ c.in-Some.is) (broken_heard _ _ is));
   over = λ up. absurd (false≢true up);
   measured = λ is up. absurd (false≢true up);
   run = c.serve_next.ensures.run ∙ c.loop-served.invariant.run;
+  remembers = remembers_on g.M.StoreMemory.is_chooser g.M.StoreMemory.takes g.M.StoreMemory.holds c.args.store.now.memory
+      c.loop-served.store.memory
+      c.serve_next.new.store.memory c.loop-served.invariant.remembers c.serve_next.ensures.remembers;
   told = λ is. c.serve_next.ensures.told (c.loop-served.invariant.told is);
   out = c.serve_next.ensures.out ∙ c.loop-served.invariant.out;
   comes =
@@ -103,6 +109,9 @@ returns-in-Err g c = record {
       measured_still g.D.Disk c.loop-served.store c.serve_next.new.store c.loop-served.disk c.serve_next.new.disk c.in-Err.ensures.store
       c.in-Err.ensures.left (c.loop-served.invariant.measured is);
   run = c.serve_next.ensures.run ∙ c.loop-served.invariant.run;
+  remembers = remembers_on g.M.StoreMemory.is_chooser g.M.StoreMemory.takes g.M.StoreMemory.holds c.args.store.now.memory
+      c.loop-served.store.memory
+      c.serve_next.new.store.memory c.loop-served.invariant.remembers c.serve_next.ensures.remembers;
   told = λ is. c.serve_next.ensures.told (c.loop-served.invariant.told is);
   out = c.serve_next.ensures.out ∙ c.loop-served.invariant.out;
   comes =
@@ -118,6 +127,9 @@ loop-served-preserved g c = let l = c.loop-served in
     record {
       over = c.in-Ok.ensures.over (stays_open c.in-Ok.came none);
       run = c.serve_next.ensures.run ∙ l.invariant.run;
+      remembers = remembers_on g.M.StoreMemory.is_chooser g.M.StoreMemory.takes g.M.StoreMemory.holds c.args.store.now.memory
+          c.loop-served.store.memory
+          c.serve_next.new.store.memory l.invariant.remembers c.serve_next.ensures.remembers;
       listener_later = omega (arith, l.invariant.listener_later, c.serve_next.ensures.cause.later);
       disk_later = omega (arith, l.invariant.disk_later, c.serve_next.ensures.later);
       out = c.serve_next.ensures.out ∙ l.invariant.out;
@@ -161,6 +173,7 @@ returns g c = record {
   over = λ up. c.loop-served.invariant.over;
   measured = λ is up. c.loop-served.invariant.measured is;
   run = c.loop-served.invariant.run;
+  remembers = c.loop-served.invariant.remembers;
   told = c.loop-served.invariant.told;
   out = c.loop-served.invariant.out;
   comes = comes_done (g.L.Listener.faults c.args.listener.now) (g.L.Listener.faults c.loop-served.listener)

@@ -4,9 +4,11 @@ use Rattle.ix_commit.specs.Snapshot.{LogsAtEnd, KnowsLogLength}
 use Rattle.ix_model.specs.Given.{Chooser}
 use Rattle.ix_model.specs.declared.commands.TimedCommand.{TimedCommand}
 use Rattle.ix_store.specs.Holding.{Represents}
+use Rattle.ix_store.specs.Remembering.{Remembers}
 use Rattle.ix_serve.specs.Serving.{IsTold}
 use Rattle.ix_sessions.specs.Connections.{Visits, listened, hearing}
-use Rattle.ix_sessions.specs.Feeding.{kind, start}
+use Rattle.ix_serve.specs.Kinds.{kind}
+use Rattle.ix_sessions.specs.Feeding.{start}
 use Rattle.ix_sessions.specs.Reading.{HearsMany}
 use Rattle.ix_sessions.proofs.serve.serve_all.Given as goal
 
@@ -14,6 +16,7 @@ abbrev pub invariant-loop-served : goal.invariant-loop-served
 invariant-loop-served g l = record {
   over : LogsAtEnd g.D.Disk l.store.committer l.disk;
   run : l.store.run ≡ l.fn.store.run;
+  remembers : Remembers g.M.StoreMemory.is_chooser g.M.StoreMemory.takes g.M.StoreMemory.holds l.fn.store.memory l.store.memory;
   listener_later : g.L.Listener.faults l.fn.listener ≤ g.L.Listener.faults l.listener;
   disk_later : g.D.Disk.faults l.fn.disk ≤ g.D.Disk.faults l.disk;
   out : g.L.Listener.out l.listener ≡ g.L.Listener.out l.fn.listener;

@@ -10,9 +10,11 @@ use Rattle.ix_serve.specs.Entries.{entry}
 use Rattle.ix_serve.specs.Serving.{IsTold}
 use Rattle.ix_serve.proofs.Taking.{says_taken}
 use Rattle.ix_sessions.specs.Connections.{listened}
-use Rattle.ix_sessions.specs.Feeding.{kind, start}
+use Rattle.ix_serve.specs.Kinds.{kind}
+use Rattle.ix_sessions.specs.Feeding.{start}
 use Rattle.ix_sessions.proofs.Reading.{hearing}
 use Rattle.ix_sessions.proofs.Visiting.{attends}
+use Rattle.ix_store.proofs.Recalling.{remembers_same}
 use Rattle.ix_sessions.proofs.serve.serve_next.Goals as goal
 
 pub returns : goal.returns
@@ -62,6 +64,7 @@ returns g c = record {
   later = c.serve_one-came.ensures.comes.disk_later;
   failed = c.serve_one-came.ensures.comes.by_disk;
   run = c.serve_one-came.ensures.run;
+  remembers = c.serve_one-came.ensures.remembers;
   told = c.serve_one-came.ensures.told;
   out = omega (arith, c.done.ensures.out, c.in_ok-conn.ensures.out);
   store = tt;
@@ -84,6 +87,8 @@ returns-in_err-conn g c =
       later = omega arith;
       failed = tt;
       run = refl;
+      remembers = remembers_same g.M.StoreMemory.is_chooser g.M.StoreMemory.takes g.M.StoreMemory.holds c.args.store.now.memory
+          c.args.store.now.memory refl;
       told = λ told. told;
       out = c.in_err-conn.ensures.out;
       store = refl;

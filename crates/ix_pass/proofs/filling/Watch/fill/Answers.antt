@@ -8,7 +8,7 @@ use Rattle.ix_model.specs.declared.commands.TimedCommand.{TimedCommand}
 use Rattle.ix_run.specs.declared.giving.GiveFault.{GiveFault}
 use Rattle.ix_store.proofs.Booked.{all_more}
 use Rattle.ix_pass.specs.Blocks.{IsPiece}
-use Rattle.ix_pass.specs.Giving.{Tried, Went}
+use Rattle.ix_pass.specs.Giving.{Tried, Went, kind, change}
 use Rattle.ix_watch.specs.Visits.{joined, adds, IsFull}
 use Rattle.ix_pass.specs.declared.fault.PassFault.{PassFault}
 use Rattle.ix_pass.specs.declared.fault.PassFault.TheVariants as stops
@@ -32,8 +32,8 @@ loop-at-init g c = record {
   within = c.requires.from;
   read = told_any (Came c.args.from c.args.from []) (came_none c.args.from) c.args.self.path.now (g.T.Tree.files c.args.tree.now);
   tried = tried_none (g.C.Clock.ahead c.args.clock.now)
-      (λ (orders : List TimedCommand). Went g.D.Disk g.M.StoreMemory.is_chooser g.M.StoreMemory.takes g.M.Book.ManifestState.fits
-      g.M.StoreMemory.holds (Ok tt) orders c.args.store.now c.args.disk.now c.args.store.now c.args.disk.now)
+      (λ (orders : List TimedCommand). Went g.D.Disk (kind g.M.StoreMemory.is_chooser g.M.StoreMemory.takes g.M.Book.ManifestState.fits
+      g.M.StoreMemory.holds) (Ok tt) orders (change c.args.store.now c.args.disk.now c.args.store.now c.args.disk.now))
       (went_none g.D.Disk g.M.StoreMemory.is_chooser g.M.StoreMemory.takes g.M.Book.ManifestState.fits g.M.StoreMemory.holds
       g.met.M.StoreMemory.ticks_are_taken c.args.store.now c.args.disk.now c.requires.over);
   over = c.requires.over;
@@ -55,8 +55,8 @@ returns-in-Err g c = let i = c.loop-at.invariant in record {
         (came_front c.args.from c.loop-at.at (joined i.blocks)) c.args.self.path.now (g.T.Tree.files c.args.tree.now) i.read;
     tried = subst (λ (r : Result Unit GiveFault). Tried true (adds c.args.self.path.now c.args.self.head.now c.args.from i.blocks)
         (g.C.Clock.ahead c.args.clock.now) (g.C.Clock.ahead c.loop-at.clock)
-        (λ (orders : List TimedCommand). Went g.D.Disk g.M.StoreMemory.is_chooser g.M.StoreMemory.takes g.M.Book.ManifestState.fits
-        g.M.StoreMemory.holds r orders c.args.store.now c.args.disk.now c.loop-at.store c.loop-at.disk))
+        (λ (orders : List TimedCommand). Went g.D.Disk (kind g.M.StoreMemory.is_chooser g.M.StoreMemory.takes g.M.Book.ManifestState.fits
+        g.M.StoreMemory.holds) r orders (change c.args.store.now c.args.disk.now c.loop-at.store c.loop-at.disk)))
         (sym (gave_all c.in-Err.fault c.in-Err.ensures.not_given)) i.tried;
   };
   failed = λ is. rose_later (g.T.Tree.faults c.args.tree.now) (g.T.Tree.faults c.loop-at.tree) (g.T.Tree.faults c.read_piece.new.tree)

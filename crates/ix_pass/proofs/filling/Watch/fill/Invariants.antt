@@ -3,7 +3,7 @@ use Rattle.std.specs.Prelude.{IfSome, Ok}
 use Rattle.std.specs.List.{AllByRecursion}
 use Rattle.ix_commit.specs.Snapshot.{LogsAtEnd}
 use Rattle.ix_fs.specs.Trees.{bytes_at}
-use Rattle.ix_pass.specs.Giving.{Tried, Went}
+use Rattle.ix_pass.specs.Giving.{Tried, Went, kind, change}
 use Rattle.ix_watch.specs.Visits.{joined, adds, IsFull}
 use Rattle.ix_pass.proofs.Filled.{Came}
 use Rattle.ix_pass.proofs.filling.Watch.fill.Given as goal
@@ -16,8 +16,8 @@ invariant-loop-at g l = record {
   within : l.at ≤ l.self.size;
   read : IfSome (g.T.Tree.files l.initial.tree) (λ all. IfSome (bytes_at all l.self.path.now) (Came l.from l.at (joined blocks)));
   tried : Tried true (adds l.self.path.now l.self.head.now l.from blocks) (g.C.Clock.ahead l.initial.clock) (g.C.Clock.ahead l.clock)
-      (λ orders. Went g.D.Disk g.M.StoreMemory.is_chooser g.M.StoreMemory.takes g.M.Book.ManifestState.fits g.M.StoreMemory.holds (Ok tt)
-      orders l.initial.store l.initial.disk l.store l.disk);
+      (λ orders. Went g.D.Disk (kind g.M.StoreMemory.is_chooser g.M.StoreMemory.takes g.M.Book.ManifestState.fits g.M.StoreMemory.holds)
+      (Ok tt) orders (change l.initial.store l.initial.disk l.store l.disk));
   over : LogsAtEnd g.D.Disk l.store.committer l.disk;
   room : length l.room ≡ 1048576;
   same : g.T.Tree.files l.tree ≡ g.T.Tree.files l.initial.tree;

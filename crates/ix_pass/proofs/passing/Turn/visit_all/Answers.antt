@@ -13,7 +13,7 @@ use Rattle.ix_watch.specs.Passes.{Visit, IsVisited}
 use Rattle.ix_watch.specs.Visits.{visited_of}
 use Rattle.ix_watch.specs.declared.visited.Visited.{Visited}
 use Rattle.ix_pass.specs.Filling.{gave_of}
-use Rattle.ix_pass.specs.Giving.{Went}
+use Rattle.ix_pass.specs.Giving.{Went, kind, change}
 use Rattle.ix_pass.specs.Passing.{MayVisit}
 use Rattle.ix_pass.specs.declared.fault.PassFault.{PassFault}
 use Rattle.ix_pass.specs.declared.fault.PassFault.TheVariants as stops
@@ -149,9 +149,9 @@ returns-in-Err-tell g c =
         asked = asks_on i.orders vis.tried.orders (g.C.Clock.ahead c.args.clock.now) (g.C.Clock.ahead c.loop-file.clock)
             (g.C.Clock.ahead c.visit.new.clock) i.asked vis.tried.asked;
         done = record {
-          went = subst (λ (r : Result Unit GiveFault). Went g.D.Disk g.M.StoreMemory.is_chooser g.M.StoreMemory.takes
-              g.M.Book.ManifestState.fits g.M.StoreMemory.holds r (i.orders
-              ++ vis.tried.orders) c.args.store.now c.args.disk.now c.visit.new.store c.visit.new.disk)
+          went = subst (λ (r : Result Unit GiveFault). Went g.D.Disk (kind g.M.StoreMemory.is_chooser g.M.StoreMemory.takes
+              g.M.Book.ManifestState.fits g.M.StoreMemory.holds) r (i.orders ++ vis.tried.orders)
+              (change c.args.store.now c.args.disk.now c.visit.new.store c.visit.new.disk))
               (sym (memory_gave c.in-Err-tell.fault c.in-Err-tell.ensures.memory))
               (went_on g.D.Disk g.M.StoreMemory.is_chooser g.M.StoreMemory.takes g.M.Book.ManifestState.fits g.M.StoreMemory.holds
               g.met.M.StoreMemory.ticks_are_taken (Ok tt) i.orders vis.tried.orders c.args.store.now c.loop-file.store c.visit.new.store

@@ -6,7 +6,7 @@ use Rattle.ix_model.specs.Given.{Chooser}
 use Rattle.ix_model.specs.declared.commands.TimedCommand.{TimedCommand}
 use Rattle.ix_store.specs.Holding.{Represents}
 use Rattle.ix_watch.specs.Passes.{Visit, file_of, lines, Asks, AreVisited}
-use Rattle.ix_pass.specs.Giving.{Went}
+use Rattle.ix_pass.specs.Giving.{Went, kind, change}
 use Rattle.ix_pass.proofs.passing.Turn.visit_all.Given as goal
 
 abbrev pub invariant-loop-file : goal.invariant-loop-file
@@ -15,8 +15,8 @@ invariant-loop-file g l = record {
   orders : List TimedCommand;
   files : map file_of visits ≡ take l.file-index l.files;
   asked : Asks orders (g.C.Clock.ahead l.initial.clock) (g.C.Clock.ahead l.clock);
-  went : Went g.D.Disk g.M.StoreMemory.is_chooser g.M.StoreMemory.takes g.M.Book.ManifestState.fits g.M.StoreMemory.holds (Ok tt) orders
-      l.initial.store l.initial.disk l.store l.disk;
+  went : Went g.D.Disk (kind g.M.StoreMemory.is_chooser g.M.StoreMemory.takes g.M.Book.ManifestState.fits g.M.StoreMemory.holds) (Ok tt)
+      orders (change l.initial.store l.initial.disk l.store l.disk);
   are : (choose : Chooser) (history : List TimedCommand) (base k : ℕ) → g.M.StoreMemory.is_chooser choose →
       AllByRecursion g.M.StoreMemory.takes history →
       Represents g.D.Disk g.M.Book.ManifestState.fits g.M.StoreMemory.holds choose history base k l.initial.store l.initial.disk →

@@ -6,7 +6,7 @@ use Rattle.ix_base.specs.Told.{IsFrontOf}
 use Rattle.ix_model.specs.declared.commands.Command.{Command}
 use Rattle.ix_model.specs.declared.commands.TimedCommand.{TimedCommand}
 use Rattle.ix_pass.specs.Filling.{gave_of}
-use Rattle.ix_pass.specs.Giving.{Tried, Went}
+use Rattle.ix_pass.specs.Giving.{Tried, Went, kind, change}
 use Rattle.ix_watch.specs.Visits.{joined, adds, ends}
 use Rattle.ix_pass.specs.Visiting.{opens}
 use Rattle.ix_pass.proofs.Filled.{told_any, told_one}
@@ -33,8 +33,8 @@ returns-in-Err-clause-reads g c = record {
   tried = tried_short false (opens c.args.self.opening.again c.args.self.file.now c.args.self.opening.is_open)
       (adds c.args.self.file.now.path c.args.self.seen.now.head c.args.self.from []
       ++ ends c.args.self.file.now c.args.self.close) (g.C.Clock.ahead c.args.clock.now) (g.C.Clock.ahead c.open.new.clock)
-      (λ (orders : List TimedCommand). Went g.D.Disk g.M.StoreMemory.is_chooser g.M.StoreMemory.takes g.M.Book.ManifestState.fits
-      g.M.StoreMemory.holds (Err c.in-Err.fault) orders c.args.store.now c.args.disk.now c.open.new.store c.open.new.disk)
+      (λ (orders : List TimedCommand). Went g.D.Disk (kind g.M.StoreMemory.is_chooser g.M.StoreMemory.takes g.M.Book.ManifestState.fits
+      g.M.StoreMemory.holds) (Err c.in-Err.fault) orders (change c.args.store.now c.args.disk.now c.open.new.store c.open.new.disk))
       c.in-Err.ensures;
 }
 
@@ -49,18 +49,18 @@ returns-in-Err-fill-clause-reads g c =
       reached = tt;
       read = fills.read;
       tried = subst (λ (l : List Command). Tried false l (g.C.Clock.ahead c.args.clock.now) (g.C.Clock.ahead c.fill.new.clock)
-          (λ (orders : List TimedCommand). Went g.D.Disk g.M.StoreMemory.is_chooser g.M.StoreMemory.takes g.M.Book.ManifestState.fits
-          g.M.StoreMemory.holds (gave_of {T = ℕ} (Err c.in-Err-fill.fault)) orders c.args.store.now c.args.disk.now c.fill.new.store
-          c.fill.new.disk))
+          (λ (orders : List TimedCommand). Went g.D.Disk (kind g.M.StoreMemory.is_chooser g.M.StoreMemory.takes g.M.Book.ManifestState.fits
+          g.M.StoreMemory.holds) (gave_of {T = ℕ} (Err c.in-Err-fill.fault)) orders
+          (change c.args.store.now c.args.disk.now c.fill.new.store c.fill.new.disk)))
           (append_assoc (opens c.args.self.opening.again c.args.self.file.now c.args.self.opening.is_open)
           (adds c.args.self.file.now.path c.args.self.seen.now.head c.args.self.from blocks)
           (ends c.args.self.file.now c.args.self.close))
           (tried_short true ((opens c.args.self.opening.again c.args.self.file.now c.args.self.opening.is_open)
           ++ (adds c.args.self.file.now.path c.args.self.seen.now.head c.args.self.from blocks))
           (ends c.args.self.file.now c.args.self.close) (g.C.Clock.ahead c.args.clock.now) (g.C.Clock.ahead c.fill.new.clock)
-          (λ (orders : List TimedCommand). Went g.D.Disk g.M.StoreMemory.is_chooser g.M.StoreMemory.takes g.M.Book.ManifestState.fits
-          g.M.StoreMemory.holds (gave_of {T = ℕ} (Err c.in-Err-fill.fault)) orders c.args.store.now c.args.disk.now c.fill.new.store
-          c.fill.new.disk)
+          (λ (orders : List TimedCommand). Went g.D.Disk (kind g.M.StoreMemory.is_chooser g.M.StoreMemory.takes g.M.Book.ManifestState.fits
+          g.M.StoreMemory.holds) (gave_of {T = ℕ} (Err c.in-Err-fill.fault)) orders
+          (change c.args.store.now c.args.disk.now c.fill.new.store c.fill.new.disk))
           (tried_on g.D.Disk g.M.StoreMemory.is_chooser g.M.StoreMemory.takes g.M.Book.ManifestState.fits g.M.StoreMemory.holds
           g.met.M.StoreMemory.ticks_are_taken true (gave_of {T = ℕ} (Err c.in-Err-fill.fault))
           (opens c.args.self.opening.again c.args.self.file.now c.args.self.opening.is_open)
@@ -110,8 +110,9 @@ returns-in-Err-end_if-clause-reads g c =
       tried = tried_some false ((opens c.args.self.opening.again c.args.self.file.now c.args.self.opening.is_open)
           ++ ((adds c.args.self.file.now.path c.args.self.seen.now.head c.args.self.from blocks)
           ++ (ends c.args.self.file.now c.args.self.close))) (g.C.Clock.ahead c.args.clock.now) (g.C.Clock.ahead c.end_if.new.clock)
-          (λ (orders : List TimedCommand). Went g.D.Disk g.M.StoreMemory.is_chooser g.M.StoreMemory.takes g.M.Book.ManifestState.fits
-          g.M.StoreMemory.holds (Err c.in-Err-end_if.fault) orders c.args.store.now c.args.disk.now c.end_if.new.store c.end_if.new.disk)
+          (λ (orders : List TimedCommand). Went g.D.Disk (kind g.M.StoreMemory.is_chooser g.M.StoreMemory.takes g.M.Book.ManifestState.fits
+          g.M.StoreMemory.holds) (Err c.in-Err-end_if.fault) orders
+          (change c.args.store.now c.args.disk.now c.end_if.new.store c.end_if.new.disk))
           (tried_on g.D.Disk g.M.StoreMemory.is_chooser g.M.StoreMemory.takes g.M.Book.ManifestState.fits g.M.StoreMemory.holds
           g.met.M.StoreMemory.ticks_are_taken true (Err c.in-Err-end_if.fault)
           (opens c.args.self.opening.again c.args.self.file.now c.args.self.opening.is_open)

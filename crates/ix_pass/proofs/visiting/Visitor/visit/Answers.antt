@@ -10,10 +10,10 @@ use Rattle.ix_monitor.specs.declared.steps.Step.{Step}
 use Rattle.ix_model.specs.declared.commands.TimedCommand.{TimedCommand}
 use Rattle.ix_run.specs.declared.giving.GiveFault.{GiveFault}
 use Rattle.ix_pass.specs.Filling.{gave_of}
-use Rattle.ix_pass.specs.Giving.{Tried, Went}
+use Rattle.ix_pass.specs.Giving.{Tried, Went, kind, change}
 use Rattle.ix_watch.specs.Visits.{joined, seen_of}
 use Rattle.ix_watch.specs.Visits.{IsFoundIn}
-use Rattle.ix_pass.specs.Visiting.{is_whole, StepReads, Steps, found_with}
+use Rattle.ix_pass.specs.Visiting.{is_whole, StepReads, Steps, found_with, looked_at}
 use Rattle.ix_pass.proofs.Buffers.{if_both, if_one}
 use Rattle.ix_pass.proofs.Filled.{gave_all}
 use Rattle.ix_pass.proofs.Going.{went_none, tried_none, tried_some}
@@ -39,8 +39,8 @@ returns-in-Ok-None-clause-visits g c = record {
       (λ (all : List TreeFile). o ≡ option_map seen_of (bytes_at all c.args.self.file.now.path))) c.in-Ok-None.field-0-is
       c.in-Ok-None.ensures.seen);
   tried = tried_none (g.C.Clock.ahead c.args.clock.now)
-      (λ (orders : List TimedCommand). Went g.D.Disk g.M.StoreMemory.is_chooser g.M.StoreMemory.takes g.M.Book.ManifestState.fits
-      g.M.StoreMemory.holds (Ok tt) orders c.args.store.now c.args.disk.now c.args.store.now c.args.disk.now)
+      (λ (orders : List TimedCommand). Went g.D.Disk (kind g.M.StoreMemory.is_chooser g.M.StoreMemory.takes g.M.Book.ManifestState.fits
+      g.M.StoreMemory.holds) (Ok tt) orders (change c.args.store.now c.args.disk.now c.args.store.now c.args.disk.now))
       (went_none g.D.Disk g.M.StoreMemory.is_chooser g.M.StoreMemory.takes g.M.Book.ManifestState.fits g.M.StoreMemory.holds
       g.met.M.StoreMemory.ticks_are_taken c.args.store.now c.args.disk.now c.requires.over);
 }
@@ -55,16 +55,16 @@ returns-in-Err-clause-visits g c = record {
   read = tt;
   told = unseen_in c.args.self.file.now.path (g.T.Tree.files c.args.tree.now);
   tried = tried_some false [] (g.C.Clock.ahead c.args.clock.now) (g.C.Clock.ahead c.args.clock.now)
-      (λ (orders : List TimedCommand). Went g.D.Disk g.M.StoreMemory.is_chooser g.M.StoreMemory.takes g.M.Book.ManifestState.fits
-      g.M.StoreMemory.holds (gave_of {T = ℕ} (Err c.in-Err.fault)) orders c.args.store.now c.args.disk.now c.args.store.now
-      c.args.disk.now)
+      (λ (orders : List TimedCommand). Went g.D.Disk (kind g.M.StoreMemory.is_chooser g.M.StoreMemory.takes g.M.Book.ManifestState.fits
+      g.M.StoreMemory.holds) (gave_of {T = ℕ} (Err c.in-Err.fault)) orders
+      (change c.args.store.now c.args.disk.now c.args.store.now c.args.disk.now))
       (subst (λ (r : Result Unit GiveFault). Tried true [] (g.C.Clock.ahead c.args.clock.now) (g.C.Clock.ahead c.args.clock.now)
-      (λ (orders : List TimedCommand). Went g.D.Disk g.M.StoreMemory.is_chooser g.M.StoreMemory.takes g.M.Book.ManifestState.fits
-      g.M.StoreMemory.holds r orders c.args.store.now c.args.disk.now c.args.store.now c.args.disk.now))
+      (λ (orders : List TimedCommand). Went g.D.Disk (kind g.M.StoreMemory.is_chooser g.M.StoreMemory.takes g.M.Book.ManifestState.fits
+      g.M.StoreMemory.holds) r orders (change c.args.store.now c.args.disk.now c.args.store.now c.args.disk.now)))
       (sym (gave_all c.in-Err.fault c.in-Err.ensures.not_given))
       (tried_none (g.C.Clock.ahead c.args.clock.now) (λ (orders : List TimedCommand).
-      Went g.D.Disk g.M.StoreMemory.is_chooser g.M.StoreMemory.takes g.M.Book.ManifestState.fits g.M.StoreMemory.holds (Ok tt) orders
-      c.args.store.now c.args.disk.now c.args.store.now c.args.disk.now)
+      Went g.D.Disk (kind g.M.StoreMemory.is_chooser g.M.StoreMemory.takes g.M.Book.ManifestState.fits g.M.StoreMemory.holds) (Ok tt)
+      orders (change c.args.store.now c.args.disk.now c.args.store.now c.args.disk.now))
       (went_none g.D.Disk g.M.StoreMemory.is_chooser g.M.StoreMemory.takes g.M.Book.ManifestState.fits g.M.StoreMemory.holds
       g.met.M.StoreMemory.ticks_are_taken c.args.store.now c.args.disk.now c.requires.over)));
 }
@@ -79,11 +79,11 @@ returns-in-Err-is_open_in-clause-visits g c = record {
   read = tt;
   told = unseen_in c.args.self.file.now.path (g.T.Tree.files c.args.tree.now);
   tried = tried_some false [] (g.C.Clock.ahead c.args.clock.now) (g.C.Clock.ahead c.args.clock.now)
-      (λ (orders : List TimedCommand). Went g.D.Disk g.M.StoreMemory.is_chooser g.M.StoreMemory.takes g.M.Book.ManifestState.fits
-      g.M.StoreMemory.holds (Ok tt) orders c.args.store.now c.args.disk.now c.args.store.now c.args.disk.now)
+      (λ (orders : List TimedCommand). Went g.D.Disk (kind g.M.StoreMemory.is_chooser g.M.StoreMemory.takes g.M.Book.ManifestState.fits
+      g.M.StoreMemory.holds) (Ok tt) orders (change c.args.store.now c.args.disk.now c.args.store.now c.args.disk.now))
       (tried_none (g.C.Clock.ahead c.args.clock.now) (λ (orders : List TimedCommand).
-      Went g.D.Disk g.M.StoreMemory.is_chooser g.M.StoreMemory.takes g.M.Book.ManifestState.fits g.M.StoreMemory.holds (Ok tt) orders
-      c.args.store.now c.args.disk.now c.args.store.now c.args.disk.now)
+      Went g.D.Disk (kind g.M.StoreMemory.is_chooser g.M.StoreMemory.takes g.M.Book.ManifestState.fits g.M.StoreMemory.holds) (Ok tt)
+      orders (change c.args.store.now c.args.disk.now c.args.store.now c.args.disk.now))
       (went_none g.D.Disk g.M.StoreMemory.is_chooser g.M.StoreMemory.takes g.M.Book.ManifestState.fits g.M.StoreMemory.holds
       g.met.M.StoreMemory.ticks_are_taken c.args.store.now c.args.disk.now c.requires.over));
 }
@@ -97,14 +97,17 @@ returns-clause-visits g c =
     (bytes_at all c.args.self.file.now.path)) =
     subst (λ (o : Option Seen). IfSome files (λ (all : List TreeFile). o ≡ option_map seen_of (bytes_at all c.args.self.file.now.path)))
     c.in-Ok-Some.field-0-is c.in-Ok-Some.ensures.seen in
-    let steps : Steps c.take.result (g.T.Tree.files c.look_at.new.tree) c.args.self.file.now c.in-Ok-Some.seen (plan c.in-Ok-Some.seen kept)
-    c.in-Ok.is_open c.args.self.close (g.C.Clock.ahead c.args.clock.now) (g.C.Clock.ahead c.take.new.clock)
-    (λ (orders : List TimedCommand). Went g.D.Disk g.M.StoreMemory.is_chooser g.M.StoreMemory.takes g.M.Book.ManifestState.fits
-    g.M.StoreMemory.holds (gave_of c.take.result) orders c.args.store.now c.args.disk.now c.take.new.store c.take.new.disk)
-    = subst (λ (s : Step). Steps c.take.result (g.T.Tree.files c.look_at.new.tree) c.args.self.file.now c.in-Ok-Some.seen s c.in-Ok.is_open
-    c.args.self.close (g.C.Clock.ahead c.args.clock.now) (g.C.Clock.ahead c.take.new.clock)
-    (λ (orders : List TimedCommand). Went g.D.Disk g.M.StoreMemory.is_chooser g.M.StoreMemory.takes g.M.Book.ManifestState.fits
-    g.M.StoreMemory.holds (gave_of c.take.result) orders c.args.store.now c.args.disk.now c.take.new.store c.take.new.disk)) step
+    let steps : Steps c.take.result (g.T.Tree.files c.look_at.new.tree)
+    (looked_at c.args.self.file.now c.in-Ok-Some.seen c.in-Ok.is_open c.args.self.close) (plan c.in-Ok-Some.seen kept)
+    (g.C.Clock.ahead c.args.clock.now) (g.C.Clock.ahead c.take.new.clock)
+    (λ (orders : List TimedCommand). Went g.D.Disk (kind g.M.StoreMemory.is_chooser g.M.StoreMemory.takes g.M.Book.ManifestState.fits
+    g.M.StoreMemory.holds) (gave_of c.take.result) orders (change c.args.store.now c.args.disk.now c.take.new.store c.take.new.disk))
+    = subst (λ (s : Step). Steps c.take.result (g.T.Tree.files c.look_at.new.tree)
+    (looked_at c.args.self.file.now c.in-Ok-Some.seen c.in-Ok.is_open c.args.self.close) s (g.C.Clock.ahead c.args.clock.now)
+    (g.C.Clock.ahead c.take.new.clock)
+    (λ (orders : List TimedCommand). Went g.D.Disk (kind g.M.StoreMemory.is_chooser g.M.StoreMemory.takes g.M.Book.ManifestState.fits
+    g.M.StoreMemory.holds) (gave_of c.take.result) orders (change c.args.store.now c.args.disk.now c.take.new.store c.take.new.disk)))
+    step
     c.take.ensures.steps in
     record {
       kept = kept;

@@ -8,6 +8,7 @@ use Rattle.ix_model.specs.declared.commands.TimedCommand.{TimedCommand}
 use Rattle.ix_store.specs.Holding.{Represents}
 use Rattle.ix_run.specs.Giving.{HasGivenAll}
 use Rattle.ix_run.specs.Storing.{block_order, joined, IsBlock, input_limit}
+use Rattle.ix_run.specs.Running.{outset}
 use Rattle.ix_run.proofs.input.Stream.fill.Given as goal
 
 abbrev pub invariant-loop-taken : goal.invariant-loop-taken
@@ -20,8 +21,8 @@ invariant-loop-taken g l = record {
   given : (choose : Chooser) (history : List TimedCommand) (base k : ℕ) → g.M.StoreMemory.is_chooser choose →
       AllByRecursion g.M.StoreMemory.takes history →
       Represents g.D.Disk g.M.Book.ManifestState.fits g.M.StoreMemory.holds choose history base k l.initial.store l.initial.disk →
-      HasGivenAll g.D.Disk g.M.Book.ManifestState.fits l.initial.store.run g.M.StoreMemory.holds choose history
-      (map (block_order l.self.moment) pieces) base k l.store l.initial.disk l.disk;
+      HasGivenAll g.D.Disk g.M.Book.ManifestState.fits g.M.StoreMemory.holds
+      (outset choose history base k l.initial.store.run l.initial.disk) (map (block_order l.self.moment) pieces) l.store l.disk;
   over : LogsAtEnd g.D.Disk l.store.committer l.disk;
   measured : KnowsLogLength g.D.Disk l.initial.store.committer l.initial.disk → KnowsLogLength g.D.Disk l.store.committer l.disk;
   told : Told Anyhow (g.D.Disk.seen l.initial.disk) (g.D.Disk.seen l.disk);
