@@ -4,3 +4,4 @@ pub mod Faults
 pub mod Texts
 pub mod Configuration
 pub mod Given
+pub mod Inputs

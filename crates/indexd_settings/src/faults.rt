@@ -120,7 +120,7 @@ fn add_fault(line: &mut Bytes, before: &[u8], fault: &[u8]) -> Result<(), NoMemo
 }
 
 /// The line of a fault in the name of a stanza.
-fn stanza_line(
+pub(crate) fn stanza_line(
     alloc: Global,
     file: SettingsFile,
     stanza: &[u8],
@@ -135,7 +135,7 @@ fn stanza_line(
 }
 
 /// The line of a fault in the value of a key.
-fn value_line(
+pub(crate) fn value_line(
     alloc: Global,
     file: SettingsFile,
     stanza: &[u8],

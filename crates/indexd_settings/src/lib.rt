@@ -5,12 +5,14 @@
 
 mod configuration;
 mod faults;
+mod inputs;
 mod layers;
 mod merged;
 mod reading;
 
 pub use configuration::{Configuration, read_configuration};
 pub use faults::{ConfigurationFault, ConfigurationStop};
+pub use inputs::{MonitorStop, Monitored, input_line, read_monitored};
 pub use layers::{LayerFault, LayerStop, SettingsFile};
 pub use merged::MergedFiles;
 pub use reading::{configs_are_taken, read_config};

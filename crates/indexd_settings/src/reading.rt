@@ -30,7 +30,7 @@ fn keep(alloc: Global, found: &MergedFiles) -> Result<KeptList, NoMemory>
 }
 
 /// Reads the values of the merged files, and keeps what they say.
-fn config_of(alloc: Global, found: &MergedFiles) -> Result<Config, ConfigurationStop>
+pub(crate) fn config_of(alloc: Global, found: &MergedFiles) -> Result<Config, ConfigurationStop>
     ensures given { IfOk result (λ config. IsGivenBy found.now config) }
     ensures stopped { IfErr result (λ stop. StopsAt found.now stop) }
 {

@@ -350,12 +350,16 @@ impl Tree for MemTree {
 
 /// The files below the current folder, by a runtime. It tells nothing of them.
 #[derive(Drop)]
-pub struct HostTree<R: Files + Drop> {
+pub struct HostTree<R> {
     rt: R,
     faults: u64,
     missing: u64,
     /// The path that the first fault was about, and the system's reason.
     first_fault: Option<String>,
+    /// What the paths begin with that are not passed over; `None` where none are.
+    strict: Option<&'static [u8]>,
+    /// What was passed over.
+    passed_over: Vec<String>,
 }
 
 /// The system's reason without the number that stands behind it.
@@ -366,11 +370,19 @@ fn without_number(text: &str) -> &str {
     }
 }
 
+/// What is told of a path, with `: ` between.
+fn told(alloc: Global, path: &[u8], reason: &str) -> Result<String, NoMemory> {
+    let path = str::from_utf8(path).unwrap_or("a path that is not UTF-8");
+    Ok(format!(in alloc; "{path}: {reason}")?)
+}
+
 /// What is told of a fault: the path, and the reason without its number.
 fn text_of(alloc: Global, path: &[u8], fault: &io::Error) -> Result<String, NoMemory> {
-    let path = str::from_utf8(path).unwrap_or("a path that is not UTF-8");
-    let text = format!(in alloc; "{path}: {fault}")?;
-    Ok(String::from_str(alloc, without_number(text.as_str()))?)
+    if is_unfit(fault) {
+        return told(alloc, path, "not a plain file");
+    }
+    let text = format!(in alloc; "{fault}")?;
+    told(alloc, path, without_number(text.as_str()))
 }
 
 impl<R: Files + AllocGlobal + Drop> HostTree<R> {
@@ -379,12 +391,28 @@ impl<R: Files + AllocGlobal + Drop> HostTree<R> {
         ensures faults { result.faults ≡ 0 }
         ensures missing { result.missing ≡ 0 }
     {
+        let passed_over = Vec::new(rt.alloc());
         HostTree {
             rt,
             faults: 0,
             missing: 0,
             first_fault: None,
+            strict: None,
+            passed_over,
         }
+    }
+
+    /// The tree of the files that this runtime reaches. What is there and cannot be read, as a file
+    /// that others may not see, a folder in the place of a file, or a name that is no UTF-8, is
+    /// passed over as if it were not there, and kept to be told; but below paths that begin so it
+    /// is a fault, as it is in each tree that is made by `new`.
+    pub fn passing_over(rt: R, but: &'static [u8]) -> Self
+        ensures faults { result.faults ≡ 0 }
+        ensures missing { result.missing ≡ 0 }
+    {
+        let mut tree = HostTree::new(rt);
+        tree.strict = Some(but);
+        tree
     }
 
     /// What failed first, where something failed: the path and the system's reason, with `: `
@@ -394,6 +422,12 @@ impl<R: Files + AllocGlobal + Drop> HostTree<R> {
             Some(text) => Some(text.as_str()),
             None => None,
         }
+    }
+
+    /// What was passed over, one behind the other: paths and reasons, with `: ` between. Where
+    /// there was no room for one, it is not told.
+    pub fn passed_over(&self) -> &[String] {
+        self.passed_over.as_slice()
     }
 
     /// Keeps what is told of a fault, if it is the first one.
@@ -406,6 +440,39 @@ impl<R: Files + AllocGlobal + Drop> HostTree<R> {
         }
     }
 
+    /// Keeps what was passed over.
+    fn pass_over(&mut self, text: Result<String, NoMemory>)
+        ensures faults { self.new.faults ≡ self.old.faults }
+        ensures missing { self.new.missing ≡ self.old.missing }
+    {
+        if let Ok(text) = text {
+            let _ = self.passed_over.push(text);
+        }
+    }
+
+    /// Whether what cannot be read at this path is passed over.
+    fn passes(&self, path: &[u8]) -> bool {
+        match self.strict {
+            Some(front) => !path.starts_with(front),
+            None => false,
+        }
+    }
+
+    /// What a call on a path answers that came to this fault. One that is passed over is kept.
+    fn answer(&mut self, path: &[u8], fault: &io::Error) -> TreeFault
+        ensures faults { self.new.faults ≡ self.old.faults }
+        ensures missing { self.new.missing ≡ self.old.missing }
+    {
+        let answer = fault_of(fault);
+        let is_there = answer == TreeFault::Failed || is_unfit(fault);
+        if is_there && self.passes(path) {
+            let text = text_of(self.rt.alloc(), path, fault);
+            self.pass_over(text);
+            return TreeFault::Missing;
+        }
+        answer
+    }
+
     /// Counts what a call on a path has come to, and answers it.
     fn count<T: Drop>(&mut self, path: &[u8], found: io::Result<T>) -> Result<T, TreeFault>
         ensures found { IfOk result (λ it. found ≡ Ok it) }
@@ -415,7 +482,7 @@ impl<R: Files + AllocGlobal + Drop> HostTree<R> {
             Ok(it) => return Ok(it),
             Err(fault) => fault,
         };
-        let answer = fault_of(&fault);
+        let answer = self.answer(path, &fault);
         match answer {
             TreeFault::Failed => {
                 self.keep(path, &fault);
@@ -435,6 +502,11 @@ fn fault_of(fault: &io::Error) -> TreeFault {
         ErrorKind::OutOfMemory => TreeFault::NoMemory,
         _ => TreeFault::Failed,
     }
+}
+
+/// Whether something is there that is no plain file. The system has no number for that.
+fn is_unfit(fault: &io::Error) -> bool {
+    fault.kind() == ErrorKind::NotFound && fault.raw_os_error().is_none()
 }
 
 /// A path as the system takes it. One that is not UTF-8 has no file that could be named.
@@ -513,21 +585,28 @@ fn is_unnamed(fault: &io::Error) -> bool {
     fault.kind() == ErrorKind::InvalidFilename && fault.raw_os_error().is_none()
 }
 
-/// The names in a folder, in order. An entry whose name is not UTF-8 is passed over.
+/// The names in a folder, in order. An entry whose name is not UTF-8 is passed over, and counted.
 fn read_names<R: Files + AllocGlobal + Clone + Drop>(
     rt: &R,
     alloc: Global,
     path: &[u8],
+    unnamed: &mut u64,
 ) -> io::Result<Names> {
     let mut texts = Vec::new(alloc);
     for entry in fs::read_dir(rt, path_text(path)?)? {
         match entry {
             Ok(entry) => keep_name(alloc, entry.file_name(), &mut texts)?,
-            Err(fault) if is_unnamed(&fault) => {}
+            Err(fault) if is_unnamed(&fault) => *unnamed = unnamed.saturating_add(1),
             Err(fault) => return Err(fault),
         }
     }
     sorted(alloc, texts)
+}
+
+/// What is told of a folder with names that are not UTF-8.
+fn unnamed_text(alloc: Global, path: &[u8], unnamed: u64) -> Result<String, NoMemory> {
+    let reason = format!(in alloc; "names that are not UTF-8: {unnamed}")?;
+    told(alloc, path, reason.as_str())
 }
 
 impl<R: Files<File = File> + AllocGlobal + Clone + Drop> Tree for HostTree<R> {
@@ -538,7 +617,11 @@ impl<R: Files<File = File> + AllocGlobal + Clone + Drop> Tree for HostTree<R> {
     ghost missing = { λ t. t.missing };
 
     fn list(&mut self, alloc: Global, path: &[u8]) -> Result<Names, TreeFault> {
-        let found = read_names(&self.rt, alloc, path);
+        let mut unnamed = 0;
+        let found = read_names(&self.rt, alloc, path, &mut unnamed);
+        if unnamed > 0 && self.passes(path) {
+            self.pass_over(unnamed_text(alloc, path, unnamed));
+        }
         self.count(path, found)
     }
 

@@ -1,7 +1,7 @@
 -- What inputs.conf says: its first fault, and the files that are watched. From Splunk's Admin
 -- Manual, inputs.conf.
-use Rattle.std.specs.Prelude.{◌≡◌, ℕ, Bool, true, false, not, ◌&&◌, ◌||◌, nat_le, length, if◌then◌else◌, List, [], ◌∷◌, Option, Some, None}
-use Rattle.std.specs.Prelude.{is_some, unwrap_or, codes, bytes_eq}
+use Rattle.std.specs.Prelude.{◌≡◌, ◌≤◌, ℕ, Bool, true, false, not, ◌&&◌, ◌||◌, nat_le, length, if◌then◌else◌, List, [], ◌∷◌, Option, Some}
+use Rattle.std.specs.Prelude.{None, IfSome, is_some, unwrap_or, codes, bytes_eq}
 use Rattle.std.specs.Option.{option_and_then, option_or}
 use Rattle.std.specs.List.{flat_map}
 use Rattle.ix_conf.specs.declared.layers.MergedEntry.{MergedEntry}
@@ -95,3 +95,10 @@ watched_at entries e = watched_with entries e e.key
 -- stanza by stanza, in the order of their bytes
 abbrev pub inputs : List MergedEntry → List Input
 inputs entries = flat_map (watched_at entries) entries
+
+-- What an input states of its events: names of at most 1,024 bytes, and an index that is configured.
+pub record IsStated (limits : LimitSet) (input : Input) : Type 0 where
+  pub host : length input.host ≤ 1024
+  pub source : IfSome input.source (λ (name : List ℕ). length name ≤ 1024)
+  pub sourcetype : IfSome input.sourcetype (λ (name : List ℕ). length name ≤ 1024)
+  pub index : IfSome input.index (λ (name : List ℕ). is_some (limits_of limits name) ≡ true)

@@ -2,7 +2,7 @@
 
 ghost use Rattle.std.specs.Prelude.{◌≡◌, ◌++◌, None, IfErr, IfOk, OnOk, unwrap_or, codes};
 ghost use Rattle.std.specs.Option.{option_copied};
-ghost use Rattle.std.specs.List.{flat_map};
+ghost use Rattle.std.specs.List.{flat_map, AllByRecursion};
 ghost use Rattle.ix_conf.specs.Lent.{item_entry};
 ghost use Rattle.ix_conf_values.specs.Values.{value_of};
 ghost use Rattle.ix_monitor.specs.Inputs as defs;
@@ -144,6 +144,8 @@ impl Inputs {
     pub fn load(alloc: Global, inputs: &Merged, limits: &LimitSet) -> Result<Inputs, InputFault>
         ensures ok { IfOk result (λ list. list ≡ defs.inputs inputs.now) }
         ensures sound { OnOk result (defs.first_fault limits.now inputs.now ≡ None) }
+        // So what each states is short, and its index is configured.
+        ensures stated { IfOk result (λ list. AllByRecursion (defs.IsStated limits.now) list) }
         ensures err { IfErr result (λ fault. defs.Refuses (defs.first_fault limits.now inputs.now) fault) }
     {
         judge(alloc, inputs, limits)?;

@@ -1,0 +1,5 @@
+pub mod Stopping
+pub mod Turns
+pub mod Visited
+pub mod Passed
+pub mod Growing

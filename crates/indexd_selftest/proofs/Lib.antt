@@ -1,0 +1,14 @@
+pub mod Joined
+pub mod Cutting
+pub mod Digits
+pub mod Reading
+pub mod Results
+pub mod Refused
+pub mod Replied
+pub mod Texts
+pub mod Begun
+pub mod Filled
+pub mod Looping
+pub mod Standing
+pub mod Empty
+pub mod Configured
