@@ -20,6 +20,10 @@ use std::{env, io};
 /// The number of the last of the three streams that every program is started with.
 const LAST_STREAM: i32 = 2;
 
+/// What the paths of files of settings begin with. A watched file that cannot be read is passed over,
+/// and one of these is not.
+const SETTINGS: &[u8] = b"etc/";
+
 /// Opens the null device in place of each stream that the program was started without. The system
 /// gives a file that is opened the lowest free number, so without this a file of the store would
 /// take the number of a stream, and what is written to the stream would go into the file.
@@ -63,7 +67,7 @@ fn main(rt: HostRuntime) -> ExitCode {
     };
     let mut input = StdSource::new(rt.reader());
     let mut clock = HostClock::new(&rt);
-    let mut tree = HostTree::new(&rt);
+    let mut tree = HostTree::passing_over(&rt, SETTINGS);
     let mut disk = HostDisk::new(rt.alloc(), &rt);
     let mut listener = TcpListen::new(rt.alloc(), &rt);
     let status = top(
@@ -76,6 +80,9 @@ fn main(rt: HostRuntime) -> ExitCode {
         &mut disk,
         &mut listener,
     );
+    for it in tree.passed_over() {
+        let _ = eprintln!(&rt; "indexd: {it}");
+    }
     if let Some(fault) = tree.first_fault() {
         let _ = eprintln!(&rt; "indexd: {fault}");
     }

@@ -9,13 +9,16 @@ use Rattle.indexd_settings.specs.declared.layers.SettingsFile.{SettingsFile}
 use Rattle.indexd_cli.specs.Orders.{Asked, preview, btool, feed, serve, monitor, buckets, export, roll, thaw, tick, selftest}
 use Rattle.indexd_run.specs.declared.task.Task.{Task}
 use Rattle.indexd_run.specs.declared.task.Task.TheVariants as tasks
+use Rattle.indexd_core.specs.Blamed.{IsFilled}
 use Rattle.indexd_core.specs.Btool.{Tells}
 use Rattle.indexd_core.specs.Carried.{ComesOf, Keeps, HasCause, Carries}
 use Rattle.indexd_core.specs.Commands.{is_built, is_task, asked_for}
 use Rattle.indexd_core.specs.Feeds.{Feeds}
+use Rattle.indexd_core.specs.Monitors.{Monitors}
 use Rattle.indexd_core.specs.Prepared.{Stated}
 use Rattle.indexd_core.specs.Runs as runs
 use Rattle.indexd_core.specs.Runs.{Previews}
+use Rattle.indexd_core.specs.Selftests.{Tests, OnlyWrites, LacksRoom}
 use Rattle.indexd_core.specs.Serves.{Serves}
 use Rattle.indexd_core.specs.Sides.{Side}
 use Rattle.indexd_core.specs.Stored.{Stored, Tasked, unread}
@@ -53,8 +56,9 @@ blames Endless = false
 blames Full = true
 blames InUse = true
 
-pub blameless : (status : Status) {D : Type 0} (d : Ghosts D) (old new : Around D) → blames status ≡ false → HasCause status d old new
-blameless status d old new none = record {
+pub blameless : (o : Option Asked) (status : Status) {D : Type 0} (d : Ghosts D) (old new : Around D) → blames status ≡ false →
+    HasCause o status d old new
+blameless o status d old new none = record {
   input = λ is. absurd (yes_no (blames status) (ap blames is) none);
   output = λ is. absurd (yes_no (blames status) (ap blames is) none);
   disk = λ is. absurd (yes_no (blames status) (ap blames is) none);
@@ -88,7 +92,7 @@ comes_of_none d (Some (preview host source sourcetype index true)) old output sa
 comes_of_none d (Some (btool name)) old output said = (λ file named. said, refl, refl)
 comes_of_none d (Some feed) old output said = unread (refl, refl, refl) said
 comes_of_none d (Some (serve port requests)) old output said = (unread (refl, refl, refl) said, refl)
-comes_of_none d (Some (monitor close)) old output said = tt
+comes_of_none d (Some (monitor close)) old output said = (inr (unread (refl, refl) said), refl)
 comes_of_none d (Some buckets) old output said = (tasks.Buckets, refl, unread (refl, refl) said, refl)
 comes_of_none d (Some (export index range)) old output said =
     (tasks.Export (record { ref_ptr = (0, 0); now = index }) range, refl, unread (refl, refl) said, refl)
@@ -101,7 +105,7 @@ comes_of_none d (Some (roll index)) old output said = (
 comes_of_none d (Some (thaw index id)) old output said =
     (tasks.Thaw (record { ref_ptr = (0, 0); now = index }) id, refl, unread (refl, refl) said, refl)
 comes_of_none d (Some tick) old output said = (tasks.Tick, refl, unread (refl, refl) said, refl)
-comes_of_none d (Some (selftest seed count)) old output said = tt
+comes_of_none d (Some (selftest seed count)) old output said = (said, refl)
 
 not_usage : Memory ≡ Usage → ⊥
 not_usage is = cc
@@ -117,7 +121,7 @@ no_room d o status old output is said later = subst (λ (s : Status). Carries o 
   used = λ used stored. record { status_is = inr refl; alone = left_alone d old.disk };
   short = λ ok. inr (inl (left_alone d old.disk));
   keeps = nothing_kept d old output later;
-  cause = blameless Memory d old (wrote old output) refl;
+  cause = blameless o Memory d old (wrote old output) refl;
 })
 
 comes_of_refused : {D : Type 0} (d : Ghosts D) (o : Option Asked) (status : Status) (old : Around D) (output : Side) → is_built o ≡ false →
@@ -128,13 +132,13 @@ comes_of_refused d (Some (btool name)) status old output unbuilt =
     (λ file named. absurd (yes_no (is_some (file_named name)) (ap is_some named) unbuilt), refl, refl)
 comes_of_refused d (Some feed) status old output unbuilt = absurd (true≢false unbuilt)
 comes_of_refused d (Some (serve port requests)) status old output unbuilt = absurd (true≢false unbuilt)
-comes_of_refused d (Some (monitor close)) status old output unbuilt = tt
+comes_of_refused d (Some (monitor close)) status old output unbuilt = absurd (true≢false unbuilt)
 comes_of_refused d (Some buckets) status old output unbuilt = absurd (true≢false unbuilt)
 comes_of_refused d (Some (export index range)) status old output unbuilt = absurd (true≢false unbuilt)
 comes_of_refused d (Some (roll index)) status old output unbuilt = absurd (true≢false unbuilt)
 comes_of_refused d (Some (thaw index id)) status old output unbuilt = absurd (true≢false unbuilt)
 comes_of_refused d (Some tick) status old output unbuilt = absurd (true≢false unbuilt)
-comes_of_refused d (Some (selftest seed count)) status old output unbuilt = tt
+comes_of_refused d (Some (selftest seed count)) status old output unbuilt = absurd (true≢false unbuilt)
 
 -- the words are no command
 pub refused : {D : Type 0} (d : Ghosts D) (o : Option Asked) (status : Status) (old : Around D) (output : Side) → is_built o ≡ false →
@@ -148,7 +152,7 @@ refused d o status old output unbuilt is said later = subst (λ (s : Status). Ca
   used = λ used stored. record { status_is = inr refl; alone = left_alone d old.disk };
   short = λ ok. inr (inl (left_alone d old.disk));
   keeps = nothing_kept d old output later;
-  cause = blameless Usage d old (wrote old output) refl;
+  cause = blameless o Usage d old (wrote old output) refl;
 })
 
 same_file : (file other : SettingsFile) → ◌≡◌ {A = Option SettingsFile} (Some file) (Some other) → file ≡ other
@@ -254,6 +258,35 @@ module _ {D : Type 0} {d : Ghosts D} {status : Status} {old new : Around D} wher
     };
   }
 
+-- ---- a selftest
+
+module _ {D : Type 0} (d : Ghosts D) (seed count : ℕ) (old : Around D) (output : Side) where
+  tests_at : (status s : Status) → Tests status seed count old.output output → status ≡ s → Tests s seed count old.output output
+  tests_at status s told is = subst (λ (s : Status). Tests s seed count old.output output) is told
+
+  -- its text was written, and all else was left alone
+  pub tested : (status : Status) → Tests status seed count old.output output → old.output.faults ≤ output.faults →
+      Carries (Some (selftest seed count)) status d old (wrote old output)
+  tested status told later = record {
+    usage = λ is. absurd (tests_at status Usage told is);
+    refused = λ unbuilt. absurd (true≢false unbuilt);
+    comes = (told, refl);
+    untouched = λ other. refl;
+    used = λ used stored. absurd (true≢false (sym stored));
+    short = λ ok. inr (inl (left_alone d old.disk));
+    keeps = nothing_kept d old output later;
+    cause = record {
+      input = λ is. absurd (tests_at status Input told is);
+      output = λ is. (tests_at status Output told is).2;
+      disk = λ is. absurd (tests_at status DiskFault told is);
+      listener = λ is. absurd (tests_at status ListenerFault told is);
+      undamaged = λ is. absurd (tests_at status Damaged told is);
+      blamed = λ is. absurd (tests_at status Damaged told is);
+      full = λ is. (tests_at status Full told is).0;
+      in_use = λ is. absurd (tests_at status InUse told is);
+    };
+  }
+
 module _ {D : Type 0} (d : Ghosts D) (status : Status) (old new : Around D) where
   -- ---- tasks
 
@@ -264,6 +297,13 @@ module _ {D : Type 0} (d : Ghosts D) (status : Status) (old new : Around D) wher
   task_comes (tasks.Roll index) told same = (tasks.Roll index, refl, told, same)
   task_comes (tasks.Thaw index id) told same = (tasks.Thaw index id, refl, told, same)
   task_comes tasks.Tick told same = (tasks.Tick, refl, told, same)
+
+pub task_lacks : {D : Type 0} (d : Ghosts D) (disk : D) (task : Task) → IsFilled d disk → LacksRoom (Some (asked_for task)) d disk
+task_lacks d disk tasks.Buckets filled = filled
+task_lacks d disk (tasks.Export index range) filled = filled
+task_lacks d disk (tasks.Roll index) filled = filled
+task_lacks d disk (tasks.Thaw index id) filled = filled
+task_lacks d disk tasks.Tick filled = filled
 
 pub task_is_built : (task : Task) → is_built (Some (asked_for task)) ≡ true
 task_is_built tasks.Buckets = refl
@@ -301,6 +341,15 @@ module _ {D : Type 0} {d : Ghosts D} {o : Option Asked} {status : Status} {old n
       Serves status requests d old new
       × (new.input ≡ old.input)
   by_serve port requests did is = comes_as (Some (serve port requests)) did is
+
+  pub by_monitor : (close : Bool) → Carries o status d old new → o ≡ Some (monitor close) →
+      Monitors status close d old new
+      × (new.input ≡ old.input)
+  by_monitor close did is = comes_as (Some (monitor close)) did is
+
+  pub by_selftest : (seed count : ℕ) → Carries o status d old new → o ≡ Some (selftest seed count) →
+      Tests status seed count old.output new.output × OnlyWrites old new
+  by_selftest seed count did is = comes_as (Some (selftest seed count)) did is
 
 some_task : {D : Type 0} (d : Ghosts D) (o : Option Asked) (status : Status) (old new : Around D) → is_task o ≡ true →
     ComesOf o status d old new →

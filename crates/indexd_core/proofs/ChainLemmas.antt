@@ -1,6 +1,7 @@
 -- What a run leaves, the next one begins with.
-use Rattle.std.proofs.Common.{◌≡◌, ◌≤◌, ◌<◌, ◌⊎◌, ◌∙◌, ℕ, Bool, List, [], ◌∷◌, length, take, refl, sym, ap, subst, inl, inr}
+use Rattle.std.proofs.Common.{◌≡◌, ◌≤◌, ◌<◌, ◌⊎◌, ◌∙◌, ℕ, Bool, true, false, List, [], ◌∷◌, length, take, refl, sym, ap, subst, inl, inr}
 use Rattle.std.proofs.Common.{⊎_elim, Some, arith}
+use Rattle.std.proofs.lemmas.Bool.{true≢false}
 use Rattle.std.proofs.lemmas.List.{take-take}
 use Rattle.ix_disk.proofs.Runs.{always_begins, always_still}
 use Rattle.ix_disk.specs.Image.{Image}
@@ -23,9 +24,12 @@ use Rattle.ix_sessions.specs.Connections.{Listened}
 use Rattle.ix_sessions.specs.Feeding.{AreSafe, Has, Lasts, Start, Turn, disk_after, history_after, known}
 use Rattle.indexd_serve.specs.Serving.{Serving, HasServed}
 use Rattle.indexd_run.specs.Opened.{Doing, HasRun, HasShut, HasStopped, IsNewRun, Passes, Past, past_of, Course, StandsFor, mounted_with}
+use Rattle.indexd_run.specs.Stops.{loses}
 use Rattle.indexd_run.specs.declared.stop.Stop.{Stop}
+use Rattle.indexd_run.specs.declared.stop.Stop.TheVariants as stops
 use Rattle.indexd_run.specs.declared.task.Task.{Task}
 use Rattle.indexd_core.specs.Chain.{MayRun, Leaves, unmounted, mounted, IsLeftOf, IsStopOf, MayGoOn, GoesOnBehindEach, KeepsKnown}
+use Rattle.indexd_core.specs.Chain.{may_lose, KeepsAll, EndsKept}
 use Rattle.indexd_core.specs.Feeds.{Feeds, FeedComes}
 use Rattle.indexd_core.specs.Feeds as feeds
 use Rattle.indexd_core.specs.Locked.{IsLeftAlone, IsLockedOut}
@@ -34,8 +38,9 @@ use Rattle.indexd_core.specs.Serves as serves
 use Rattle.indexd_core.specs.Serves.{Serves, ServeComes}
 use Rattle.indexd_core.specs.Sides.{Side}
 use Rattle.indexd_core.specs.Stored as stored
-use Rattle.indexd_core.specs.Stored.{Comes, Whole, Tasked, Stored, Outcomes}
+use Rattle.indexd_core.specs.Stored.{Comes, Whole, Tasked, Stored, Outcomes, WroteUnread, status_of}
 use Rattle.indexd_core.specs.declared.status.Status.{Status}
+use Rattle.indexd_core.specs.declared.status.Status.TheVariants.{Done, DiskFault, InUse}
 use Rattle.indexd_core.proofs.LockedLemmas.{out_alone}
 use Rattle.indexd_core.specs.Around.{Around, course_of}
 
@@ -55,7 +60,7 @@ module _ {D : Type 0} (d : Ghosts D) (past : Past) (before disk : D) where
   of_out status may out = of_alone may (out_alone d before disk status out)
 
   -- nothing was asked of the disk
-  of_same : MayRun d past before → disk ≡ before → Leaves d past before disk
+  pub of_same : MayRun d past before → disk ≡ before → Leaves d past before disk
   of_same may same = unmounted (subst (λ (x : D). Always d before x (StandsFor fits past)) (sym same)
       (always_begins d before (StandsFor fits past) may.begins))
 
@@ -74,7 +79,7 @@ module _ {D : Type 0} (d : Ghosts D) (past : Past) (run : Course D) where
   of_served : (serves : Serving D) → HasServed d IsTaken fits past run serves → Left
   of_served serves was = mounted was.new_run was.count was.now was.least was.given was.passes
 
-  of_comes : {status : Status} {named : List ℕ} {to : Outcomes} {output' : Side} → MayRun d past run.before →
+  pub of_comes : {status : Status} {named : List ℕ} {to : Outcomes} {output' : Side} → MayRun d past run.before →
       Comes status d run named to output' → Left
   of_comes may (stored.done is from) = of_run d past run.before run.disk _ _ (from past may)
   of_comes may (stored.stopped stop middle is from wrote line) = of_stopped stop _ _ (from past may)
@@ -92,7 +97,7 @@ module _ {D : Type 0} (d : Ghosts D) (past : Past) (run : Course D) where
   of_serve may (serves.served end reads from line) = of_served _ (from past may)
 
 module _ {D : Type 0} (d : Ghosts D) (past : Past) (from to : Around D) (may : MayRun d past from.disk) where
-  of_whole : {status : Status} {still out : Type 0} {comes : Config → Type 0} → (still → to.disk ≡ from.disk) →
+  pub of_whole : {status : Status} {still out : Type 0} {comes : Config → Type 0} → (still → to.disk ≡ from.disk) →
       (out → Leaves d past from.disk to.disk) → ((config : Config) → comes config → Leaves d past from.disk to.disk) →
       Whole status from to still out comes → Leaves d past from.disk to.disk
   of_whole alone refused so (stored.unread still wrote) = of_same d past from.disk to.disk may (alone still)
@@ -100,7 +105,7 @@ module _ {D : Type 0} (d : Ghosts D) (past : Past) (from to : Around D) (may : M
   of_whole alone refused so (stored.ran config is comes) = so config comes
 
   -- the disk was not given
-  not_given : (status : Status) → IsLockedOut status d from.disk to.disk → Leaves d past from.disk to.disk
+  pub not_given : (status : Status) → IsLockedOut status d from.disk to.disk → Leaves d past from.disk to.disk
   not_given status out = of_out d past from.disk to.disk status may out
 
   pub feeds_leave : (status : Status) → Feeds status d from to → Leaves d past from.disk to.disk
@@ -164,6 +169,19 @@ module _ {D E : Type 0} (d : Ghosts D) (e : Ghosts E) (only_now : (disk : D) (im
     tells = tells;
   }
 
+  -- all that was given is there behind a stop from the last commit on
+  pub from_commit : MayRun d past before → (keeps : KeepsAll d past before disk) → (later : E) (image : Image) →
+      e.seen later ≡ Some image → IsLeftOf d keeps.committed disk e later →
+      MayRun e (past_of past.choose keeps.now keeps.new_run (length keeps.now)) later
+  from_commit may keeps later image tells stop = record {
+    chooser = may.chooser;
+    given = keeps.given;
+    begins = each d e only_now keeps.committed disk (RecoversToPrefix fits keeps.new_run past.choose keeps.now (length keeps.now))
+        keeps.lasts.at_first keeps.lasts.since later stop;
+    image = image;
+    tells = tells;
+  }
+
   pub goes_on : MayRun d past before → (leaves : Leaves d past before disk) → (later : E) (image : Image) →
       e.seen later ≡ Some image → IsStopOf d past before disk leaves e later → MayGoOn e past later
   goes_on may (unmounted stood) later image tells stop =
@@ -180,6 +198,103 @@ module _ {D E : Type 0} (d : Ghosts D) (e : Ghosts E) (only_now : (disk : D) (im
         ∙ (ap (take past.least) passes.first ∙ take-take past.least count past.history least);
     may_run = from_mount may now new_run count given passes later image tells stop;
   }
+
+-- ---- what a task or an input has committed
+
+not_done : (stop : Stop) → status_of stop ≡ Done → ⊥
+not_done stops.Memory e = cc
+not_done stops.Disk e = cc
+not_done (stops.Damaged file at) e = cc
+not_done stops.Inconsistent e = cc
+not_done stops.NotFound e = cc
+not_done stops.TooManyChannels e = cc
+not_done stops.Full e = cc
+not_done stops.Output e = cc
+not_done stops.Input e = cc
+not_done stops.Endless e = cc
+
+lost_not : (stop : Stop) → may_lose (status_of stop) ≡ false → loses stop ≡ false
+lost_not stops.Memory is = refl
+lost_not stops.Disk is = is
+lost_not (stops.Damaged file at) is = is
+lost_not stops.Inconsistent is = refl
+lost_not stops.NotFound is = refl
+lost_not stops.TooManyChannels is = refl
+lost_not stops.Full is = refl
+lost_not stops.Output is = refl
+lost_not stops.Input is = refl
+lost_not stops.Endless is = refl
+
+module _ {D : Type 0} (d : Ghosts D) (past : Past) (run : Course D) where
+  kept_of : (lost : Bool) (may : List TimedCommand → List TimedCommand → List TimedCommand → Type 0) → lost ≡ false →
+      HasRun lost d IsTaken fits past may run.before run.disk → KeepsAll d past run.before run.disk
+  kept_of true may is was = absurd (true≢false is)
+  kept_of false may is was = record {
+    new_run = was.new_run;
+    count = was.count;
+    now = given_all past.choose (mounted_with past was.count was.configured) was.orders;
+    given = was.given;
+    passes = was.passes;
+    committed = was.committed;
+    lasts = was.lasts;
+  }
+
+  abbrev Kept : Status → Type 0
+  Kept status = EndsKept status d past run.before run.disk
+
+  kept_shut : (status : Status) (stop : Stop) → status ≡ status_of stop → loses stop ≡ false → HasShut stop d IsTaken fits past run →
+      Kept status
+  kept_shut status stop is kept (inl none) = inr (λ e. not_done stop (sym is ∙ e), none.stood)
+  kept_shut status stop is kept (inr was) = inl (kept_of (loses stop) _ kept was)
+
+  kept_stopped : (status : Status) (stop : Stop) (untouched : Type 0) (may : Doing) → status ≡ status_of stop → loses stop ≡ false →
+      HasStopped stop d IsTaken fits past run untouched may → Kept status
+  kept_stopped status stop untouched may is kept (inl shut) = kept_shut status stop is kept shut.0
+  kept_stopped status stop untouched may is kept (inr was) = inl (kept_of (loses stop) _ kept was)
+
+  pub kept_comes : {status : Status} {named : List ℕ} {to : Outcomes} {output' : Side} → MayRun d past run.before →
+      may_lose status ≡ false → Comes status d run named to output' → Kept status
+  kept_comes may kept (stored.done is from) = inl (kept_of false _ refl (from past may))
+  kept_comes {status = status} may kept (stored.stopped stop middle is from wrote line) =
+      kept_stopped status stop _ _ is (lost_not stop (ap may_lose (sym is) ∙ kept)) (from past may)
+
+module _ {D : Type 0} (d : Ghosts D) (past : Past) (from to : Around D) (may : MayRun d past from.disk) where
+  pub kept_same : (status : Status) → (status ≡ Done → ⊥) → to.disk ≡ from.disk → EndsKept status d past from.disk to.disk
+  kept_same status not same = inr (
+    not,
+    subst (λ (x : D). Always d from.disk x (StandsFor fits past)) (sym same)
+        (always_begins d from.disk (StandsFor fits past) may.begins),
+  )
+
+  kept_out : (status : Status) → IsLockedOut status d from.disk to.disk → EndsKept status d past from.disk to.disk
+  kept_out status out = inr (
+    out_not status out,
+    always_still d from.disk to.disk (StandsFor fits past) (out_alone d from.disk to.disk status out).images may.begins,
+  ) where
+    out_not : (status : Status) → IsLockedOut status d from.disk to.disk → status ≡ Done → ⊥
+    out_not status (inl used) is = let e : InUse ≡ Done = sym used.0 ∙ is in cc
+    out_not status (inr failed) is = let e : DiskFault ≡ Done = sym failed.0 ∙ is in cc
+
+  unread_not : (status : Status) → WroteUnread status from.files from.failed to.failed from.output to.output → status ≡ Done → ⊥
+  unread_not status wrote is =
+      subst (λ (s : Status). WroteUnread s from.files from.failed to.failed from.output to.output) is wrote
+
+  pub kept_whole : {status : Status} {still out : Type 0} {comes : Config → Type 0} → (still → to.disk ≡ from.disk) →
+      (out → IsLockedOut status d from.disk to.disk) → ((config : Config) → comes config → EndsKept status d past from.disk to.disk) →
+      Whole status from to still out comes → EndsKept status d past from.disk to.disk
+  kept_whole {status = status} alone refused so (stored.unread still wrote) = kept_same status (unread_not status wrote) (alone still)
+  kept_whole {status = status} alone refused so (stored.locked_out config is out said) = kept_out status (refused out)
+  kept_whole alone refused so (stored.ran config is comes) = so config comes
+
+  pub task_keeps : (status : Status) (task : Task) → may_lose status ≡ false → Tasked status task d from to →
+      EndsKept status d past from.disk to.disk
+  task_keeps status task kept comes = kept_whole (λ still. still.1) (λ out. out.1)
+      (λ config so. kept_comes d past (course_of config from to) may kept so) comes
+
+  pub stored_keeps : (status : Status) (stated : Stated) → may_lose status ≡ false → Stored status stated d from to →
+      EndsKept status d past from.disk to.disk
+  stored_keeps status stated kept comes = kept_whole (λ still. still.2) (λ out. out.2)
+      (λ config so. kept_comes d past (course_of config from to) may kept so.0) comes
 
 -- ---- what was known as committed
 

@@ -13,3 +13,5 @@ pub mod Empty
 pub mod ReadLemmas
 pub mod LockedLemmas
 pub mod BlamedLemmas
+pub mod MonitorLemmas
+pub mod WatchingLemmas

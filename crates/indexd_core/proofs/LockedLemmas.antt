@@ -81,7 +81,8 @@ module _ {D : Type 0} {d : Ghosts D} {old mid : D} (alone : IsLeftAlone d old mi
     allowed = was.allowed;
     given = was.given;
     passes = passes_from begins was.passes;
-    exit = was.exit;
+    committed = was.committed;
+    lasts = was.lasts;
   }
 
   module _ (config : Config) (ahead ahead' : Option Moments) (new : D) where

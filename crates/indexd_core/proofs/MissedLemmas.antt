@@ -109,7 +109,7 @@ entry_brief name (x ∷ es) h e =
     (λ t. subst IsBrief (sym (same_bytes name x.stanza (both_are (bytes_eq name x.stanza) (bytes_eq [] x.key) t).0)) h.0)
     (λ t. entry_brief name es h.1 (rw t at e))
 
-configured_brief : (force : List Kept) (name : List ℕ) → AreBrief force → is_configured force name ≡ true → IsBrief name
+pub configured_brief : (force : List Kept) (name : List ℕ) → AreBrief force → is_configured force name ≡ true → IsBrief name
 configured_brief force name h e =
     by_test (bytes_eq name (codes "main"))
     (λ t. subst IsBrief (sym (same_bytes name (codes "main") t)) (let short : 4 ≤ 1024 = omega arith in short))

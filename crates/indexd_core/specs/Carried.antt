@@ -8,12 +8,14 @@ use Rattle.indexd_settings.specs.declared.layers.SettingsFile.{SettingsFile}
 use Rattle.indexd_cli.specs.Orders.{Asked, preview, btool, feed, serve, monitor, buckets, export, roll, thaw, tick, selftest}
 use Rattle.indexd_run.specs.declared.task.Task.{Task}
 use Rattle.indexd_core.specs.Around.{Around, but_store}
-use Rattle.indexd_core.specs.Blamed.{NamesDamage, IsFilled}
+use Rattle.indexd_core.specs.Blamed.{NamesDamage}
 use Rattle.indexd_core.specs.Btool.{Tells}
 use Rattle.indexd_core.specs.Commands.{is_built, is_stored, asked_for}
 use Rattle.indexd_core.specs.Feeds.{Feeds}
 use Rattle.indexd_core.specs.Locked.{HasRefused, EndsUsed}
+use Rattle.indexd_core.specs.Monitors.{Monitors}
 use Rattle.indexd_core.specs.Runs.{Previews, Refuses}
+use Rattle.indexd_core.specs.Selftests.{Tests, OnlyWrites, LacksRoom}
 use Rattle.indexd_core.specs.Serves.{Serves}
 use Rattle.indexd_core.specs.Shortened.{LeavesShort}
 use Rattle.indexd_core.specs.Stored.{FromStart, Stored, Tasked}
@@ -27,7 +29,8 @@ TaskOf asked status d old new =
     × Tasked status task d old new
     × (new.input ≡ old.input)
 
--- What comes of each command. `btool` leaves the input and the clock alone, and `serve` the input.
+-- What comes of each command. `btool` leaves the input and the clock alone, `serve` and `monitor` the
+-- input, and `selftest` all but the output.
 abbrev pub ComesOf : Option Asked → Status → {D : Type 0} → Ghosts D → Around D → Around D → Type 0
 ComesOf None status d old new = Unit {0}
 ComesOf (Some (preview host source sourcetype index false)) status d old new =
@@ -39,13 +42,13 @@ ComesOf (Some (btool name)) status d old new =
     × (new.input ≡ old.input) × (new.ahead ≡ old.ahead)
 ComesOf (Some feed) status d old new = Feeds status d old new
 ComesOf (Some (serve port requests)) status d old new = Serves status requests d old new × (new.input ≡ old.input)
-ComesOf (Some (monitor close)) status d old new = Unit {0}
+ComesOf (Some (monitor close)) status d old new = Monitors status close d old new × (new.input ≡ old.input)
 ComesOf (Some buckets) status d old new = TaskOf buckets status d old new
 ComesOf (Some (export index range)) status d old new = TaskOf (export index range) status d old new
 ComesOf (Some (roll index)) status d old new = TaskOf (roll index) status d old new
 ComesOf (Some (thaw index id)) status d old new = TaskOf (thaw index id) status d old new
 ComesOf (Some tick) status d old new = TaskOf tick status d old new
-ComesOf (Some (selftest seed count)) status d old new = Unit {0}
+ComesOf (Some (selftest seed count)) status d old new = Tests status seed count old.output new.output × OnlyWrites old new
 
 -- no command changes the files, each takes back all connections, and no count falls
 pub record Keeps {D : Type 0} (d : Ghosts D) (old new : Around D) : Type 0 where
@@ -59,15 +62,15 @@ pub record Keeps {D : Type 0} (d : Ghosts D) (old new : Around D) : Type 0 where
   pub tree_later : old.failed ≤ new.failed
   pub missing_later : old.missing ≤ new.missing
 
--- the causes of statuses
-pub record HasCause (status : Status) {D : Type 0} (d : Ghosts D) (old new : Around D) : Type 0 where
+-- the causes of statuses, of what is asked for
+pub record HasCause (asked : Option Asked) (status : Status) {D : Type 0} (d : Ghosts D) (old new : Around D) : Type 0 where
   pub input : status ≡ Input → Rose old.input.faults new.input.faults ⊎ Rose old.failed new.failed
   pub output : status ≡ Output → Rose old.output.faults new.output.faults
   pub disk : status ≡ DiskFault → Rose (d.faults old.disk) (d.faults new.disk)
   pub listener : status ≡ ListenerFault → Rose old.deaf new.deaf
   pub undamaged : status ≡ Damaged → FromStart d old.disk (λ past. ⊥)
   pub blamed : status ≡ Damaged → NamesDamage d old.disk new.disk old.output new.output
-  pub full : status ≡ Full → IsFilled d old.disk
+  pub full : status ≡ Full → LacksRoom asked d old.disk
   pub in_use : status ≡ InUse → HasRefused d old.disk new.disk
 
 -- what comes of what is asked for, or of words that ask for nothing
@@ -79,4 +82,4 @@ pub record Carries (asked : Option Asked) (status : Status) {D : Type 0} (d : Gh
   pub used : d.in_use old.disk ≡ Some true → is_stored asked ≡ true → EndsUsed status d old.disk new.disk
   pub short : LeavesShort status d old.disk new.disk
   pub keeps : Keeps d old new
-  pub cause : HasCause status d old new
+  pub cause : HasCause asked status d old new

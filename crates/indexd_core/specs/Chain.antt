@@ -1,5 +1,5 @@
 -- How runs follow each other over one disk.
-use Rattle.std.specs.Prelude.{◌≡◌, ◌≤◌, ◌⊎◌, ℕ, List, [], ◌∷◌, length, take, Some}
+use Rattle.std.specs.Prelude.{◌≡◌, ◌≤◌, ◌⊎◌, ℕ, Bool, true, false, List, [], ◌∷◌, length, take, Some}
 use Rattle.ix_disk.specs.Image.{Image}
 use Rattle.ix_disk.specs.Moments.{Always}
 use Rattle.ix_disk.specs.declared.disk.Disk.{Ghosts}
@@ -8,7 +8,12 @@ use Rattle.ix_state.specs.Taken.{AreGiven}
 use Rattle.ix_model.specs.declared.commands.TimedCommand.{TimedCommand}
 use Rattle.ix_replay.specs.Fits.{fits}
 use Rattle.ix_sessions.specs.Feeding.{Start, Turn, known}
+use Rattle.ix_run.specs.Running.{StandsFrom}
 use Rattle.indexd_run.specs.Opened.{Past, past_of, StandsFor, Begins, Passes}
+use Rattle.indexd_core.specs.declared.status.Status.{Status}
+use Rattle.indexd_core.specs.declared.status.Status.TheVariants.{Done, Memory, Usage, Configuration, Input, DiskFault, Damaged, Output}
+use Rattle.indexd_core.specs.declared.status.Status.TheVariants.{ListenerFault, NotFound, TooManyChannels, Unreadable, Endless, Full}
+use Rattle.indexd_core.specs.declared.status.Status.TheVariants.{InUse}
 
 -- The premise of a run, for which `FromStart` asks: every image of the disk stands for a first part
 -- of one history of commands that may be given, with the first so many of them at least, and for
@@ -51,6 +56,43 @@ pub record MayGoOn {E : Type 0} (e : Ghosts E) (past : Past) (later : E) : Type 
   pub no_earlier : past.run ≤ least_run
   pub first : take past.least next ≡ take past.least past.history
   pub may_run : MayRun e (past_of past.choose next least_run n) later
+
+-- ---- what a task or an input has committed
+
+-- Whether a run that ends so may have lost what it accepted last: the disk was at fault, or what it
+-- keeps is damaged.
+abbrev pub may_lose : Status → Bool
+may_lose Done = false
+may_lose Memory = false
+may_lose Usage = false
+may_lose Configuration = false
+may_lose Input = false
+may_lose DiskFault = true
+may_lose Damaged = true
+may_lose Output = false
+may_lose ListenerFault = false
+may_lose NotFound = false
+may_lose TooManyChannels = false
+may_lose Unreadable = false
+may_lose Endless = false
+may_lose Full = false
+may_lose InUse = false
+
+-- A run has mounted and given all of this history, and from the disk behind its last commit on
+-- every image has all of it.
+pub record KeepsAll {D : Type 0} (d : Ghosts D) (past : Past) (before disk : D) : Type 0 where
+  pub new_run : ℕ
+  pub count : ℕ
+  pub now : List TimedCommand
+  pub given : AreGiven now
+  pub passes : Passes d fits past now new_run count before disk
+  pub committed : D
+  pub lasts : StandsFrom d fits new_run past.choose now (length now) committed disk
+
+-- So it is of a run that ends with this status; or it is not done, and has mounted nothing.
+abbrev pub EndsKept : Status → {D : Type 0} → Ghosts D → Past → D → D → Type 0
+EndsKept status d past before disk =
+    KeepsAll d past before disk ⊎ ((status ≡ Done → ⊥) × Always d before disk (StandsFor fits past))
 
 -- ---- what was known as committed
 

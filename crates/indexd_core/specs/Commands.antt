@@ -1,4 +1,4 @@
--- Which words are commands of the program. `monitor` and `selftest` are not built yet.
+-- Which words are commands of the program.
 use Rattle.std.specs.Prelude.{◌≡◌, ℕ, Bool, true, false, List, Option, Some, None, is_some}
 use Rattle.ix_base.specs.Clocks.{Moments}
 use Rattle.indexd_cli.specs.Orders.{Asked, preview, btool, feed, serve, monitor, buckets, export, roll, thaw, tick, selftest, asked}
@@ -14,13 +14,13 @@ is_built (Some (preview host source sourcetype index store)) = true
 is_built (Some (btool file)) = is_some (file_named file)
 is_built (Some feed) = true
 is_built (Some (serve port requests)) = true
-is_built (Some (monitor close)) = false
+is_built (Some (monitor close)) = true
 is_built (Some buckets) = true
 is_built (Some (export index range)) = true
 is_built (Some (roll index)) = true
 is_built (Some (thaw index id)) = true
 is_built (Some tick) = true
-is_built (Some (selftest seed count)) = false
+is_built (Some (selftest seed count)) = true
 
 abbrev pub is_command : List (List ℕ) → Bool
 is_command words = is_built (asked words)
@@ -44,6 +44,14 @@ AskFeed words = asked words ≡ Some feed
 -- the words ask for so many connections to be served on a port
 abbrev pub AskServe : List (List ℕ) → ℕ → ℕ → Type 0
 AskServe words port requests = asked words ≡ Some (serve port requests)
+
+-- the words ask for a pass over watched files, behind which their channels are ended or not
+abbrev pub AskMonitor : List (List ℕ) → Bool → Type 0
+AskMonitor words close = asked words ≡ Some (monitor close)
+
+-- the words ask for a selftest
+abbrev pub AskSelftest : List (List ℕ) → ℕ → ℕ → Type 0
+AskSelftest words seed count = asked words ≡ Some (selftest seed count)
 
 -- what is asked for by a task over a store
 abbrev pub asked_for : Task → Asked
@@ -78,7 +86,7 @@ is_stored (Some (preview host source sourcetype index store)) = store
 is_stored (Some (btool file)) = false
 is_stored (Some feed) = true
 is_stored (Some (serve port requests)) = true
-is_stored (Some (monitor close)) = false
+is_stored (Some (monitor close)) = true
 is_stored (Some buckets) = true
 is_stored (Some (export index range)) = true
 is_stored (Some (roll index)) = true

@@ -17,3 +17,5 @@ pub mod Starts
 pub mod Chain
 pub mod Locked
 pub mod Blamed
+pub mod Monitors
+pub mod Selftests

@@ -1,5 +1,5 @@
 //! How a run over a store that stops is told: its status, and its line. None of it takes memory.
-//! `stored.rt`, `feed.rt` and `serve.rt` call `say_stop`.
+//! `stored.rt`, `feed.rt`, `serve.rt` and `monitor.rt` call `say_stop`.
 
 ghost use Rattle.std.specs.Prelude.{◌≡◌, ◌≤◌, ◌++◌, length};
 ghost use Rattle.indexd_core.specs.Prepared as prepared;

@@ -190,7 +190,11 @@ fn not_found_line(alloc: Global, index: &[u8]) -> Result<Bytes, NoMemory>
 
 /// Writes the line of a status. Where there was no room for it, that is the status; where it cannot
 /// be written, the status stays.
-fn say_line<W: Sink>(line: Result<Bytes, NoMemory>, status: Status, output: &mut W) -> Status
+pub(crate) fn say_line<W: Sink>(
+    line: Result<Bytes, NoMemory>,
+    status: Status,
+    output: &mut W,
+) -> Status
     ensures line { IfOk line (λ text. (result ≡ status) × Said text
         (side (W.faults output.old) (W.given output.old)) (side (W.faults output.new) (W.given output.new))) }
     ensures no_line { OnErr line ((result ≡ Status.Memory) × Said (status_text Status.Memory)

@@ -1,23 +1,25 @@
 //! All that the program does.
 
-ghost use Rattle.std.specs.Prelude.{◌≡◌, ◌≢◌, ◌≤◌, ◌⊎◌, ℕ, List, Some, true, false};
+ghost use Rattle.std.specs.Prelude.{◌≡◌, ◌≢◌, ◌≤◌, ◌⊎◌, ℕ, Bool, List, Some, true, false};
 ghost use Rattle.ix_base.specs.Faults.{Rose};
 ghost use Rattle.ix_serve.specs.Serving.{IsTold};
 ghost use Rattle.indexd_settings.specs.Layers.{file_named};
 ghost use Rattle.indexd_settings.specs.declared.layers.SettingsFile.{SettingsFile};
 ghost use Rattle.indexd_cli.specs.Orders.{asked};
 ghost use Rattle.indexd_cli.specs.Shown.{shown};
-ghost use Rattle.indexd_core.specs.Blamed.{NamesDamage, IsFilled};
+ghost use Rattle.indexd_core.specs.Blamed.{NamesDamage};
 ghost use Rattle.indexd_core.specs.Btool.{Tells};
 ghost use Rattle.indexd_core.specs.Around.{around, around_of, outside_of};
 ghost use Rattle.indexd_core.specs.Carried.{Carries};
 ghost use Rattle.indexd_core.specs.Commands.{asked_for, is_command, is_stored, is_task, is_heard, AskPreview, AskBtool, AskTask, AskStore};
-ghost use Rattle.indexd_core.specs.Commands.{AskFeed, AskServe};
+ghost use Rattle.indexd_core.specs.Commands.{AskFeed, AskServe, AskMonitor, AskSelftest};
 ghost use Rattle.indexd_core.specs.Feeds.{Feeds};
 ghost use Rattle.indexd_core.specs.Locked.{HasRefused, EndsUsed};
+ghost use Rattle.indexd_core.specs.Monitors.{Monitors};
 ghost use Rattle.indexd_core.specs.Prepared.{Stated};
 ghost use Rattle.indexd_core.specs.Runs.{Previews, Refuses};
 ghost use Rattle.ix_sessions.specs.Connections.{Listened, listened};
+ghost use Rattle.indexd_core.specs.Selftests.{Tests, OnlyWrites, LacksRoom};
 ghost use Rattle.indexd_core.specs.Serves.{Serves};
 ghost use Rattle.indexd_core.specs.Shortened.{LeavesShort};
 ghost use Rattle.indexd_core.specs.Sides.{Side, side};
@@ -26,7 +28,9 @@ ghost use Rattle.indexd_core.specs.Texts.{Said, status_text};
 
 use crate::btool::btool;
 use crate::feed::feed;
+use crate::monitor::run_monitored;
 use crate::preview::run_preview;
+use crate::selftest::run_selftest;
 use crate::serve::{Serving, serve};
 use crate::status::{Status, say};
 use crate::stored::{run_stored, store_preview};
@@ -119,9 +123,8 @@ fn carry_out<S: Source, W: Sink, C: Clock, T: Tree, D: Disk, L: Listener>(
             let serving = Serving { port, requests };
             serve(alloc, serving, output, clock, tree, disk, listener)
         }
-        // these are not built yet
-        Invocation::Monitor { .. } => stop(Status::Usage, output),
-        Invocation::Selftest { .. } => stop(Status::Usage, output),
+        Invocation::Monitor { close } => run_monitored(alloc, close, output, clock, tree, disk),
+        Invocation::Selftest { seed, count } => run_selftest(alloc, seed, count, output),
     }
 }
 
@@ -173,11 +176,17 @@ fn answer<S: Source, W: Sink, C: Clock, T: Tree, D: Disk, L: Listener>(
 /// behind the other from the input, and writes the replies. `serve --port PORT --requests COUNT`
 /// takes the port of the machine itself, serves so many connections, one request each, whose
 /// replies go back on them, and writes `served COUNT`. The port is taken before the store is
-/// touched. Each of these commands takes the store for itself, once it has read the settings and
-/// before it reads or writes anything of the store: where another program has it, it does nothing
-/// and ends with `InUse`. Once it has mounted the store, it makes the log short where it is long,
-/// whatever it ends with, unless the disk has failed or a file is damaged: for want of memory, or
-/// where the disk fails at it, it ends with `Memory` or `DiskFault` in place of any other status.
+/// touched. `monitor [--close]` makes one pass over the files that inputs.conf watches, gives what
+/// is new in them to the store, and writes a line for each. Each of these commands takes the store
+/// for itself, once it has read the settings and before it reads or writes anything of the store:
+/// where another program has it, it does nothing and ends with `InUse`. Once it has mounted the
+/// store, it makes the log short where it is long, whatever it ends with, unless the disk has
+/// failed or a file is damaged: for want of memory, or where the disk fails at it, it ends with
+/// `Memory` or `DiskFault` in place of any other status.
+///
+/// `selftest SEED COUNT` works over none of this: it makes a store in memory, gives it so many
+/// lines of its own through requests, cut into blocks as the seed has it, mounts it again, and
+/// writes `selftest SEED COUNT` and the listing of that store.
 ///
 /// A run may be stopped at any moment, and the next one goes on from what the disk has then. What
 /// is promised of it speaks of every history of commands of which each image that a crash may leave
@@ -189,10 +198,11 @@ fn answer<S: Source, W: Sink, C: Clock, T: Tree, D: Disk, L: Listener>(
 /// later one. So no image goes back to an earlier run, whether a run serves, does a task, is
 /// stopped or does not mount, and no number of a run is used twice. A number that a reply tells as
 /// stored is that of a command of this run which every image has from then on. At the exit every
-/// image has all that was accepted, unless the disk has failed or a file is damaged. `runs_leave`,
-/// `an_exit_is_a_stop` and `the_next_run_may_begin` join one run to the next,
+/// image has all that was accepted, unless the disk has failed or a file is damaged; and where a
+/// task or an input has made its last commit, every image from then on has all of it (`runs_keep`).
+/// `runs_leave`, `an_exit_is_a_stop` and `the_next_run_may_begin` join one run to the next,
 /// `an_empty_disk_may_run` begins them, and `the_next_run_has_a_greater_number` is on their
-/// numbers.
+/// numbers. Of `monitor` the same is said by `monitors_leave` and `monitors_keep`.
 ///
 /// Any other words are `Usage`. `Configuration` comes exactly where the files that the command
 /// reads have a fault, and `InUse` exactly where another program has the store. `Input` comes only
@@ -204,12 +214,13 @@ fn answer<S: Source, W: Sink, C: Clock, T: Tree, D: Disk, L: Listener>(
 /// names the end of a file, a place in one where no record of a bucket of some size stands, as the
 /// disk reads at the exit, or `meta/1 at 0` where what the store has in memory contradicts itself:
 /// that this is the place of the damage is said by `commit` and `export` of the store, and not here.
-/// `Full` comes only where the store has had its last run, or behind a mount. Of a disk that stands
-/// for a history it is said too that `NotFound` comes where INDEX is not configured, or the bucket
-/// is not in the archive, `TooManyChannels` where 256 channels are open, `Full` where the store
-/// would pass its bounds or has had its last run, and `Endless` where `preview` took 2^40 bytes or
-/// `feed` served 2^32 requests; and `Damaged` never comes where each image stands for such a
-/// history. The line of the status stands behind the output.
+/// `Full` comes only where the store has had its last run, or behind a mount, or where the store of
+/// a selftest has no room. Of a disk that stands for a history it is said too that `NotFound` comes
+/// where INDEX is not configured, or the bucket is not in the archive, `TooManyChannels` where 256
+/// channels are open, `Full` where the store would pass its bounds or has had its last run, and
+/// `Endless` where `preview` took 2^40 bytes or `feed` served 2^32 requests; and `Damaged` never
+/// comes where each image stands for such a history. The line of the status stands behind the
+/// output.
 pub fn top<S: Source, W: Sink, C: Clock, T: Tree, D: Disk, L: Listener>(
     alloc: Global,
     words: &[Text],
@@ -275,6 +286,21 @@ pub fn top<S: Source, W: Sink, C: Clock, T: Tree, D: Disk, L: Listener>(
         (around_of S.Source W.Sink C.Clock T.Tree L.Listener input.old output.old clock.old tree.old listener.old disk.old)
         (around_of S.Source W.Sink C.Clock T.Tree L.Listener input.new output.new clock.new tree.new listener.new disk.new) }
 
+    // A pass over watched files: at 0 each file of the inputs was visited once, what is new in it
+    // was given behind what the store had, as the stream of its channel, every image at the exit
+    // has it, and the output tells it by a line for each file. At any other status the first of the
+    // files were visited, no image has lost what was mounted, and the status has its cause and its
+    // line. `watched_files_are_read_on` says what that is for a file that only grows.
+    ensures monitored { (close : Bool) → AskMonitor words.now close → Monitors result close D.Disk
+        (around_of S.Source W.Sink C.Clock T.Tree L.Listener input.old output.old clock.old tree.old listener.old disk.old)
+        (around_of S.Source W.Sink C.Clock T.Tree L.Listener input.new output.new clock.new tree.new listener.new disk.new) }
+
+    // A selftest: at 0 the output is `selftest SEED COUNT` and the listing of the state that the
+    // commands of the selftest lead to, its lines being cut into blocks as the seed has it. `Full`
+    // comes only where the store that it makes has no room for one of them or for one of its runs.
+    ensures tested { (seed count : ℕ) → AskSelftest words.now seed count → Tests result seed count
+        (side (W.faults output.old) (W.given output.old)) (side (W.faults output.new) (W.given output.new)) }
+
     // `InUse` comes only where another program has the store, which the disk has refused to this
     // one: then nothing of it was changed, and by the clauses above the clock was not asked, the
     // input not read, no connection heard, and nothing but the line written. Where the disk knows
@@ -287,9 +313,9 @@ pub fn top<S: Source, W: Sink, C: Clock, T: Tree, D: Disk, L: Listener>(
     // unless there was no room in memory, or the disk has failed or is damaged.
     ensures short { LeavesShort result D.Disk disk.old disk.new }
 
-    // What a command leaves alone: one that works over no store the disk, a task and `serve` the
-    // input, `btool` the input and the clock, one that hears no listener the listener, and each the
-    // files. As many connections are out as before.
+    // What a command leaves alone: one that works over no store the disk, a task, `serve` and
+    // `monitor` the input, `btool` the input and the clock, `selftest` all but the output, one that
+    // hears no listener the listener, and each the files. As many connections are out as before.
     ensures untouched { is_stored (asked words.now) ≡ false → disk.new ≡ disk.old }
     ensures unasked { is_task (asked words.now) ≡ true → (S.left input.new ≡ S.left input.old) × (S.faults input.new ≡ S.faults input.old) }
     ensures unread { (name : List ℕ) → AskBtool words.now name → (S.left input.new ≡ S.left input.old)
@@ -297,6 +323,11 @@ pub fn top<S: Source, W: Sink, C: Clock, T: Tree, D: Disk, L: Listener>(
         × (C.ahead clock.new ≡ C.ahead clock.old) }
     ensures unfed { (port requests : ℕ) → AskServe words.now port requests → (S.left input.new ≡ S.left input.old)
         × (S.faults input.new ≡ S.faults input.old) }
+    ensures unmonitored { (close : Bool) → AskMonitor words.now close → (S.left input.new ≡ S.left input.old)
+        × (S.faults input.new ≡ S.faults input.old) }
+    ensures only_writes { (seed count : ℕ) → AskSelftest words.now seed count → OnlyWrites
+        (around_of S.Source W.Sink C.Clock T.Tree L.Listener input.old output.old clock.old tree.old listener.old disk.old)
+        (around_of S.Source W.Sink C.Clock T.Tree L.Listener input.new output.new clock.new tree.new listener.new disk.new) }
     ensures out { L.out listener.new ≡ L.out listener.old }
     ensures unheard { is_heard (asked words.now) ≡ false → listener.new ≡ listener.old }
     ensures unchanged { T.files tree.new ≡ T.files tree.old }
@@ -313,10 +344,11 @@ pub fn top<S: Source, W: Sink, C: Clock, T: Tree, D: Disk, L: Listener>(
     // at the start, a log was damaged, and nothing was mounted; or where, as it reads at the exit,
     // the file ends or no record of a bucket stands, once a store was mounted; or `meta/1 at 0`,
     // where what a mounted store has in memory contradicts itself. And `Full` comes only where, as
-    // the disk read, the store has had its last run; or from one that was mounted.
+    // the disk read, the store has had its last run; or from one that was mounted; or, of a
+    // selftest, where the store that it makes has no room.
     ensures blamed { result ≡ Status.Damaged → NamesDamage D.Disk disk.old disk.new
         (side (W.faults output.old) (W.given output.old)) (side (W.faults output.new) (W.given output.new)) }
-    ensures full { result ≡ Status.Full → IsFilled D.Disk disk.old }
+    ensures full { result ≡ Status.Full → LacksRoom (asked words.now) D.Disk disk.old }
     // A disk that tells what it reads goes on telling.
     ensures told { IsTold D.Disk disk.old → IsTold D.Disk disk.new }
     ensures disk_later { D.Disk.faults disk.old ≤ D.Disk.faults disk.new }

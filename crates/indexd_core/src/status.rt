@@ -37,7 +37,8 @@ pub enum Status {
     Unreadable,
     /// 13: the input has 2^40 bytes or more, or 2^32 requests were served. `indexd: endless input`
     Endless,
-    /// 17: the store would pass the bounds of what it can keep. `indexd: store full`
+    /// 17: the store, or that of a selftest, would pass the bounds of what it can keep.
+    /// `indexd: store full`
     Full,
     /// 18: another program has the store. `indexd: store in use`
     InUse,

@@ -1,16 +1,15 @@
 -- A run that is done, over a disk on which nothing was written: what is said of every run from a
 -- start is said of it. For `first_run`.
-use Rattle.std.proofs.Common.{◌≡◌, ◌<◌, inl, inr, ℕ, true, List, [], sym, ap, ◌∙◌, subst, length, take, arith, refl}
+use Rattle.std.proofs.Common.{◌≡◌, ◌<◌, inl, inr, ℕ, true, List, [], sym, ap, ◌∙◌, subst, length, arith, refl}
 use Rattle.std.specs.Prelude.{Option, false}
 use Rattle.std.proofs.lemmas.List.{take_all}
 use Rattle.ix_base.specs.Clocks.{Moments}
-use Rattle.ix_disk.specs.Image.{Image, nothing}
+use Rattle.ix_disk.specs.Image.{Image}
 use Rattle.ix_disk.specs.declared.disk.Disk.{Ghosts}
 use Rattle.ix_sessions.specs.Connections as connections
 use Rattle.ix_sessions.specs.Connections.{Listened}
 use Rattle.ix_sessions.specs.Feeding as feeding
 use Rattle.ix_sessions.specs.declared.feed.Fed.{Fed}
-use Rattle.ix_sessions.specs.declared.feed.Fed.TheVariants as fed
 use Rattle.ix_sessions.specs.declared.serve.Heard.{Heard}
 use Rattle.ix_sessions.specs.declared.serve.Heard.TheVariants as heard
 use Rattle.ix_commit.specs.declared.fault.CommitFault.TheVariants as commits
@@ -23,7 +22,7 @@ use Rattle.ix_run.specs.Giving.{given_all}
 use Rattle.ix_run.proofs.Gone.{stands_from}
 use Rattle.ix_serve.specs.Serving.{IsTold}
 use Rattle.ix_store.specs.Written.{RecoversTo, RecoversToPrefix}
-use Rattle.indexd_serve.specs.Ends.{FedBehind, HeardBehind, fed_of, heard_end}
+use Rattle.indexd_serve.specs.Ends.{FedBehind, HeardBehind, fed_of}
 use Rattle.indexd_serve.specs.Serving.{exchange, HasServed, Requests, Connections}
 use Rattle.indexd_serve.specs.Sides.{IsSound}
 use Rattle.indexd_serve.specs.declared.end.End.{End}
@@ -40,10 +39,11 @@ use Rattle.indexd_core.specs.Locked.{IsLockedOut}
 use Rattle.indexd_core.specs.Serves as serves
 use Rattle.indexd_core.specs.Chain.{MayRun}
 use Rattle.indexd_core.specs.Serves.{ServeComes, EndsServing}
+use Rattle.indexd_core.specs.Selftests.{Tests}
 use Rattle.indexd_core.specs.Sides.{Side}
 use Rattle.indexd_core.specs.Stored.{status_of, FromStart, Outcomes, Comes, done, stopped, WroteUnread, Whole, unread, locked_out, ran}
 use Rattle.indexd_core.specs.declared.status.Status.{Status}
-use Rattle.indexd_core.specs.declared.status.Status.TheVariants.{Done, ListenerFault, DiskFault, InUse}
+use Rattle.indexd_core.specs.declared.status.Status.TheVariants.{Done, DiskFault, InUse}
 use Rattle.indexd_premises.specs.Standing.{HasHistory}
 
 -- ---- statuses
@@ -126,7 +126,7 @@ module _ {D : Type 0} {d : Ghosts D} {disk : D} (choose : Chooser) (may : MayRun
   of_run : (mays : List TimedCommand → List TimedCommand → List TimedCommand → Type 0) (disk' : D) → IsTold d disk' →
       HasRun false d IsTaken fits none mays disk disk' → HasHistory d disk'
   of_run mays disk' told was = history_of (given_all choose (mounted_with none was.count was.configured) was.orders) was.new_run disk'
-      was.passes.later was.given was.exit told
+      was.passes.later was.given was.lasts.since.now told
 
   module _ (status : Status) (config : Config) (ahead ahead' : Option Moments) where
     pub of_comes : (named : List ℕ) (to : Outcomes) (output' : Side) (disk' : D) → IsTold d disk' → status ≡ Done →
@@ -171,3 +171,8 @@ of_whole status from to still out comes said is never f (unread s wrote) =
     absurd (subst (λ (s : Status). WroteUnread s from.files from.failed to.failed from.output to.output) is wrote)
 of_whole status from to still out comes said is never f (locked_out config given o s) = absurd (never o)
 of_whole status from to still out comes said is never f (ran config given c) = f config c
+
+-- one that is done has written its summary
+pub of_tests : (seed count : ℕ) (status : Status) (output output' : Side) → status ≡ Done → Tests status seed count output output' →
+    Tests Done seed count output output'
+of_tests seed count status output output' is tests = subst (λ (s : Status). Tests s seed count output output') is tests

@@ -1,8 +1,18 @@
--- What a first run leaves for a second one, with no premise on histories.
-use Rattle.std.specs.Prelude.{◌≡◌, ◌<◌, ◌⊎◌, ℕ, true, List, [], length}
+-- What a first run leaves for a second one, with no premise on histories, and what a selftest writes,
+-- with none on choosers.
+use Rattle.std.specs.Prelude.{◌≡◌, ◌<◌, ◌⊎◌, ◌++◌, ℕ, true, List, [], length, Option}
+use Rattle.ix_base.specs.Told.{HasWritten}
 use Rattle.ix_disk.specs.declared.disk.Disk.{Ghosts}
 use Rattle.ix_model.specs.Given.{Chooser}
+use Rattle.ix_model.specs.Shown.{view}
+use Rattle.ix_model.specs.Step.{state_after}
+use Rattle.ix_model.specs.declared.commands.Config.{Config}
 use Rattle.ix_model.specs.declared.commands.TimedCommand.{TimedCommand}
+use Rattle.ix_report.specs.Listing.{listing}
+use Rattle.ix_run.specs.Giving.{given_all}
+use Rattle.indexd_selftest.specs.Blocks.{AreCut}
+use Rattle.indexd_selftest.specs.History.{AreInForce, first_line, orders}
+use Rattle.indexd_selftest.specs.Lines.{stream}
 use Rattle.indexd_run.specs.Opened.{past_of}
 use Rattle.indexd_cli.specs.Orders.{asked}
 use Rattle.indexd_core.specs.Chain.{MayRun, MayGoOn}
@@ -36,3 +46,14 @@ abbrev pub IsOverStore : List (List ℕ) → Type 0
 IsOverStore words =
     (is_task (asked words) ≡ true) ⊎ ((stated : Stated) × AskStore words stated) ⊎ AskFeed words
     ⊎ ((port : ℕ) × (requests : ℕ) × AskServe words port requests)
+
+-- What was written is the first line of a selftest, and the listing of a state that its commands
+-- lead to.
+pub record HasListed (seed count : ℕ) (told told' : Option (List ℕ)) : Type 0 where
+  pub choose : Chooser
+  pub config : Config
+  pub in_force : AreInForce config
+  pub blocks : List (List ℕ)
+  pub cut : AreCut seed (stream count) blocks
+  pub written : HasWritten (first_line seed count ++ listing (view (state_after choose (given_all choose [] (orders config blocks))))) told
+      told'

@@ -10,11 +10,11 @@ ghost use Rattle.std.specs.Prelude.{◌≡◌, ℕ, [], true};
 ghost use Rattle.ix_model.specs.Given.{Chooser};
 ghost use Rattle.indexd_run.specs.Opened.{past_of};
 ghost use Rattle.indexd_core.specs.Chain.{MayRun};
-ghost use Rattle.indexd_core.specs.Commands.{is_task, AskStore, AskFeed, AskServe};
+ghost use Rattle.indexd_core.specs.Commands.{is_task, AskStore, AskFeed, AskServe, AskSelftest};
 ghost use Rattle.indexd_core.specs.Prepared.{Stated};
 ghost use Rattle.indexd_core.specs.Starts.{IsBlank, IsStart};
 ghost use Rattle.indexd_cli.specs.Orders.{asked};
-ghost use Rattle.indexd_premises.specs.Standing.{GoesOn, IsLeftOpen, IsOverStore};
+ghost use Rattle.indexd_premises.specs.Standing.{GoesOn, HasListed, IsLeftOpen, IsOverStore};
 
 #[cfg(test)]
 mod tests;
@@ -59,6 +59,9 @@ pub fn first_run<S: Source, W: Sink, C: Clock, T: Tree, L: Listener>(
     ensures stored { (stated : Stated) → AskStore words.now stated → GoesOn result.0 ⟦<MemDisk as Disk>⟧ result.1 }
     ensures fed { AskFeed words.now → GoesOn result.0 ⟦<MemDisk as Disk>⟧ result.1 }
     ensures served { (port requests : ℕ) → AskServe words.now port requests → GoesOn result.0 ⟦<MemDisk as Disk>⟧ result.1 }
+    // What a selftest writes is said of every chooser, and so of one that there is.
+    ensures tested { (seed count : ℕ) → AskSelftest words.now seed count → result.0 ≡ Status.Done →
+        HasListed seed count (W.given output.old) (W.given output.new) }
 {
     runs_leave::<MemDisk>();
     an_exit_is_a_stop::<MemDisk>();

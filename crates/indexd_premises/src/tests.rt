@@ -67,6 +67,7 @@ fn first_runs_are_done(rt: HostRuntime) {
     check(&rt, alloc, "preview --host h --source s --store");
     check(&rt, alloc, "feed");
     check(&rt, alloc, "serve --port 8089 --requests 1");
+    check(&rt, alloc, "selftest 7 1");
 }
 
 /// The number of the status of a second run behind such a first one.

@@ -1,7 +1,7 @@
 //! Files of a store that were cut or changed by somebody else, and what stands in some of them.
 
 use crate::tests::exchanges::Exchanges;
-use crate::tests::runs::{A_B_C, DEFAULT, Files, KEPT, LATER, NOON, PLAIN, STORE, Task};
+use crate::tests::runs::{A_B_C, AGE, DEFAULT, Files, KEPT, LATER, NOON, PLAIN, STORE, Task};
 use crate::tests::steps::{BUCKET, LOG, ROOT, Script, Step, check_each};
 use ix_base::{Area, File};
 
@@ -177,6 +177,12 @@ const MARKS: &[u8] = b"\0\0\0\x01\0\0\0\x01a\0\0\0";
 /// An event is left open.
 const OPEN: Step = Step::Cut(STORE, DEFAULT, "a\nb", "4: indexd: input fault\n");
 
+/// The listing of a store of which the one event was frozen.
+const LISTED_FROZEN: Task = (LATER, "buckets", AGE, "");
+
+const FROZEN_LISTING: &str =
+    "0: index main stored 0 bytes 0 frozen 1\nfrozen main db_1700000000_1700000000_0 age 1700000101 1 deleted\nevents settled 1 nulled 0 dropped 0\n";
+
 const NO_CARRY: Step = Step::Run(LISTED, "6: indexd: damaged: meta/1 at 128\n");
 
 /// No line, one line more than `MAX_EVENTS`, a text that is longer than the carry, the two marks,
@@ -250,6 +256,50 @@ static VALUELESS: [Script<'static>; 6] = [
 #[test]
 fn settings_without_values_are_named(rt: HostRuntime) {
     check_each(&rt, rt.alloc(), &VALUELESS);
+}
+
+static REFUSED_FIRST: [Script<'static>; 4] = [
+    // settings without values come before a run that has no number
+    &[
+        Step::Run((NOON, "tick", PLAIN, ""), "0: frozen 0\n"),
+        SPENT,
+        Step::Refused(LISTED, "17: indexd: store full\n", &[LOG]),
+        Step::Change(LOG, b"false", 0, b"maybe"),
+        Step::Refused(LISTED, "6: indexd: damaged: meta/1 at 19\n", &[LOG]),
+    ],
+    // and so does what is carried and is no carry
+    &[
+        OPEN,
+        SPENT,
+        Step::Change(LOG, MARKS, 3, b"\0"),
+        Step::Refused(LISTED, "6: indexd: damaged: meta/1 at 128\n", &[LOG]),
+    ],
+    // what the last removals name is removed once more, where the store is not damaged
+    &[
+        Step::Run((NOON, STORE, AGE, "a"), "0: "),
+        Step::Run((NOON, "roll main", AGE, ""), "0: rolled 1\n"),
+        Step::Run((LATER, "tick", AGE, ""), "0: frozen 1\n"),
+        Step::Length(BUCKET, 0),
+        Step::Lengthen(BUCKET, 5),
+        Step::Run(LISTED_FROZEN, FROZEN_LISTING),
+        Step::Length(BUCKET, 0),
+    ],
+    &[
+        Step::Run((NOON, STORE, AGE, "a"), "0: "),
+        Step::Run((NOON, "roll main", AGE, ""), "0: rolled 1\n"),
+        Step::Run((LATER, "tick", AGE, ""), "0: frozen 1\n"),
+        Step::Lengthen(BUCKET, 5),
+        Step::Change(LOG, b"false", 0, b"maybe"),
+        Step::Refused(LISTED, "6: indexd: damaged: meta/1 at 19\n", &[LOG, BUCKET]),
+        Step::Length(BUCKET, 5),
+    ],
+];
+
+/// A store that is damaged is left as it was, however often it is tried, and that it is damaged comes
+/// before that it is full.
+#[test]
+fn a_damaged_store_is_left_as_it_was(rt: HostRuntime) {
+    check_each(&rt, rt.alloc(), &REFUSED_FIRST);
 }
 
 /// The greatest number that there is.

@@ -9,7 +9,8 @@ use ix_net::{Listener, MemLinkList, MemListener};
 use std::alloc::Global;
 use std::process::Abort;
 
-/// Files of `etc/system/local`, with `§` between: the name of each, a colon, and its text.
+/// Files of `etc/system/local`, with `§` between: the name of each, a colon, and its text. A name that begins with `/` is the path of
+/// another file.
 pub(crate) type Files<'a> = &'a str;
 
 /// 2023-11-14T22:13:20Z, in microseconds since 1970.
@@ -131,8 +132,11 @@ pub(crate) fn words_of(alloc: Global, line: &str) -> Vec<Text> {
     words
 }
 
-/// The path of a file of `etc/system/local`.
+/// The path of a file of `etc/system/local`, or of one that has a path of its own.
 fn path_of(alloc: Global, name: &str) -> Bytes {
+    if name.starts_with("/") {
+        return bytes_of(alloc, name.as_bytes());
+    }
     let mut path = bytes_of(alloc, b"etc/system/local/");
     let _ = path.extend(name.as_bytes());
     let _ = path.extend(b".conf");

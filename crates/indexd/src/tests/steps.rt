@@ -13,6 +13,8 @@ use std::process::Abort;
 pub(crate) enum Step {
     /// A run, and what it says.
     Run(Task, &'static str),
+    /// Two runs, one behind the other, that say the same and leave these files as they were.
+    Refused(Task, &'static str, &'static [File]),
     /// A run at noon whose reading fails where the input ends: its words, its files, its input, and what it says.
     Cut(&'static str, Files<'static>, &'static str, &'static str),
     /// A run of `feed` at noon: its files, its requests with their replies, and the status and the line of its end.
@@ -247,6 +249,26 @@ fn take_run(rt: &impl Abort, alloc: Global, disk: &mut MemDisk, task: Task, want
     compare(rt, task.1, told(alloc, task, disk), want);
 }
 
+/// Two runs say what is wanted, and leave a file as it was.
+fn take_refused(
+    rt: &impl Abort,
+    alloc: Global,
+    disk: &mut MemDisk,
+    (task, want): (Task, &str),
+    file: File,
+) {
+    let before = read_file(alloc, disk, file);
+    let length = length_of(disk, file);
+    take_run(rt, alloc, disk, task, want);
+    take_run(rt, alloc, disk, task, want);
+    sure(rt, length_of(disk, file) == length, "a length that stays");
+    sure(
+        rt,
+        holds(alloc, disk, file, before.as_slice()),
+        "a file that stays",
+    );
+}
+
 /// A run whose reading fails where the input ends says what is wanted.
 fn take_cut(
     rt: &impl Abort,
@@ -289,6 +311,11 @@ fn take_file(rt: &impl Abort, alloc: Global, disk: &mut MemDisk, step: &Step) {
 fn take(rt: &impl Abort, alloc: Global, disk: &mut MemDisk, step: &Step) {
     match *step {
         Step::Run(task, want) => take_run(rt, alloc, disk, task, want),
+        Step::Refused(task, want, files) => {
+            for file in files {
+                take_refused(rt, alloc, disk, (task, want), *file);
+            }
+        }
         Step::Cut(line, files, input, want) => {
             take_cut(rt, alloc, disk, (line, files, input), want)
         }

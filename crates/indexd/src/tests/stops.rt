@@ -103,11 +103,18 @@ fn changes_of(disk: &MemDisk) -> usize {
     disk.calls().saturating_sub(asked)
 }
 
-/// What a run leaves that stops behind so many calls.
-fn stopped(alloc: Global, base: &MemDisk, trial: &Trial, calls: u64) -> MemDisk {
+/// Whether what a run did is there for sure: it does not blame the disk, or has told before that a
+/// block is stored.
+fn is_done(said: String) -> bool {
+    let said = said.as_str();
+    !said.ends_with("indexd: disk fault\n") || said.contains("{\"acks\":[true]}")
+}
+
+/// What a run leaves that stops behind so many calls, and whether it is done.
+fn stopped(alloc: Global, base: &MemDisk, trial: &Trial, calls: u64) -> (MemDisk, bool) {
     let mut disk = StopDisk::new(crash_of(alloc, base, false), calls);
-    drop(told(alloc, trial.task, &mut disk));
-    disk.into_inner()
+    let is_done = is_done(told(alloc, trial.task, &mut disk));
+    (disk.into_inner(), is_done)
 }
 
 /// A crash of one of the two forms, behind so many calls of a run.
@@ -131,9 +138,9 @@ fn check_stop(
     trial: &Trial,
     (calls, total, before): (u64, u64, usize),
 ) -> usize {
-    let disk = stopped(alloc, base, trial, calls);
+    let (disk, is_done) = stopped(alloc, base, trial, calls);
     let changes = changes_of(&disk);
-    let is_done = calls == total;
+    let is_done = is_done || calls == total;
     if changes != before || is_done {
         check_crash(rt, alloc, &disk, trial, (false, calls, is_done));
         check_crash(rt, alloc, &disk, trial, (true, calls, is_done));
@@ -155,11 +162,6 @@ fn check_stops(
     for calls in first..=total.min(last) {
         changes = check_stop(rt, alloc, base, trial, (calls, total, changes));
     }
-}
-
-/// Whether a run is done: it does not blame the disk.
-fn is_done(said: String) -> bool {
-    !said.as_str().ends_with("indexd: disk fault\n")
 }
 
 /// Fails a call of a run.
@@ -341,9 +343,13 @@ fn a_call_that_fails_while_settings_change(rt: HostRuntime) {
     check_behind(&rt, rt.alloc(), &OPENED, &CHANGE, Hindrance::Fails);
 }
 
-/// A channel is begun, and a block of two whole lines and a begun one is sent.
-const REQUESTS: &str =
-    "PUT /channels/c HTTP/1.1\r\nContent-Length: 25\r\n\r\n{\"host\":\"h\",\"source\":\"s\"}POST /channels/c/blocks HTTP/1.1\r\nContent-Length: 5\r\n\r\nx\ny\nz";
+/// A channel is begun, a block of two whole lines and a begun one is sent, and it is asked twice
+/// whether the block is stored: the first question has it stored.
+const REQUESTS: &str = "\
+    PUT /channels/c HTTP/1.1\r\nContent-Length: 25\r\n\r\n{\"host\":\"h\",\"source\":\"s\"}\
+    POST /channels/c/blocks HTTP/1.1\r\nContent-Length: 5\r\n\r\nx\ny\nz\
+    POST /acks HTTP/1.1\r\nContent-Length: 20\r\n\r\n{\"run\":1,\"acks\":[0]}\
+    POST /acks HTTP/1.1\r\nContent-Length: 20\r\n\r\n{\"run\":1,\"acks\":[0]}";
 
 const SERVED: &str = "\
     0: 0: index main stored 0 bytes 0 frozen 0\nevents settled 0 nulled 0 dropped 0\n¶\
@@ -359,7 +365,7 @@ static SERVE: Trial = Trial {
     shown: SERVED,
 };
 
-/// A stop leaves both events of a block, or none.
+/// A stop leaves both events of a block, or none, and both where it was told that they are stored.
 #[test]
 fn a_stop_while_a_block_is_served(rt: HostRuntime) {
     check_behind(&rt, rt.alloc(), &[], &SERVE, ALL);

@@ -5,7 +5,7 @@ use Rattle.indexd_cli.specs.declared.invocation.Invocation.{Invocation}
 use Rattle.indexd_cli.specs.declared.invocation.Invocation.TheVariants.{Preview}
 use Rattle.indexd_core.specs.Commands.{is_heard}
 use Rattle.indexd_core.specs.Origins.{stated_of}
-use Rattle.indexd_core.proofs.CarriedLemmas.{carried_as, previewed, listed, refused}
+use Rattle.indexd_core.proofs.CarriedLemmas.{carried_as, previewed, listed, refused, tested}
 use Rattle.indexd_core.proofs.NamedLemmas.{stated_short}
 use Rattle.indexd_core.proofs.program.carry_out.Goals as goal
 
@@ -144,6 +144,42 @@ returns-in-Serve g c =
       unheard = λ other. absurd (true≢false (sym (ap (λ (o : Invocation). is_heard (Some (shown o))) c.in-Serve.is) ∙ other));
     }
 
+pub returns-in-Monitor : goal.returns-in-Monitor
+returns-in-Monitor g c =
+    let did = c.run_monitored.ensures in
+    record {
+      carried = carried_as (ap (λ (o : Invocation). Some (shown o)) c.in-Monitor.is) (record {
+        usage = λ is. absurd (did.usage is);
+        refused = λ unbuilt. absurd (true≢false unbuilt);
+        comes = (did.monitored _ _ _ _, refl);
+        untouched = λ other. absurd (true≢false other);
+        used = λ known stored. did.used known;
+        short = did.short;
+        keeps = record {
+          files = did.same;
+          out = refl;
+          told = did.told;
+          disk_later = did.disk_later;
+          heard_later = le_refl _;
+          read_later = le_refl _;
+          written_later = did.written_later;
+          tree_later = did.tree_later;
+          missing_later = did.missing_later;
+        };
+        cause = record {
+          input = λ is. inr (did.input is);
+          output = did.output;
+          disk = did.disk;
+          listener = λ is. absurd (did.listener is);
+          undamaged = did.undamaged;
+          blamed = did.blamed;
+          full = did.full;
+          in_use = did.in_use;
+        };
+      });
+      unheard = λ other. refl;
+    }
+
 pub returns-in-Buckets : goal.returns-in-Buckets
 returns-in-Buckets g c = record {
   carried = carried_as (ap (λ (o : Invocation). Some (shown o)) c.in-Buckets.is) (c.do_task.ensures _ _ _ _);
@@ -201,16 +237,10 @@ returns-in-None g c = record {
   unheard = λ other. refl;
 }
 
-pub returns-in-Monitor : goal.returns-in-Monitor
-returns-in-Monitor g c = record {
-  carried = carried_as (ap (λ (o : Invocation). Some (shown o)) c.in-Monitor.is)
-      (refused g.D.Disk _ _ _ _ refl c.stop-in-Monitor.ensures.status c.stop-in-Monitor.ensures.line c.stop-in-Monitor.ensures.later);
-  unheard = λ other. refl;
-}
-
 pub returns-in-Selftest : goal.returns-in-Selftest
 returns-in-Selftest g c = record {
   carried = carried_as (ap (λ (o : Invocation). Some (shown o)) c.in-Selftest.is)
-      (refused g.D.Disk _ _ _ _ refl c.stop-in-Selftest.ensures.status c.stop-in-Selftest.ensures.line c.stop-in-Selftest.ensures.later);
+      (tested g.D.Disk c.in-Selftest.seed c.in-Selftest.count _ _ c.run_selftest.result c.run_selftest.ensures.tests
+      c.run_selftest.ensures.later);
   unheard = λ other. refl;
 }

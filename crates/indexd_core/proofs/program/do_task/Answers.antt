@@ -1,5 +1,5 @@
 use Rattle.std.proofs.Common.{inr, le_refl, refl}
-use Rattle.indexd_core.proofs.CarriedLemmas.{task_comes, task_is_built}
+use Rattle.indexd_core.proofs.CarriedLemmas.{task_comes, task_is_built, task_lacks}
 use Rattle.indexd_core.proofs.StoredLemmas.{task_is_stored, yes_no}
 use Rattle.indexd_core.proofs.program.do_task.Goals as goal
 
@@ -31,7 +31,7 @@ returns g c = λ input heard deaf left.
         listener = λ is. absurd (did.listener is);
         undamaged = did.undamaged;
         blamed = did.blamed;
-        full = did.full;
+        full = λ is. task_lacks g.D.Disk c.args.disk.now c.args.task (did.full is);
         in_use = did.in_use;
       };
     }

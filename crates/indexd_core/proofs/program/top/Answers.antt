@@ -1,6 +1,6 @@
 use Rattle.std.proofs.Common.{ap}
 use Rattle.indexd_core.specs.Sides.{Side}
-use Rattle.indexd_core.proofs.CarriedLemmas.{by_preview, by_store, by_btool, by_feed, by_serve, by_task}
+use Rattle.indexd_core.proofs.CarriedLemmas.{by_preview, by_store, by_btool, by_feed, by_serve, by_monitor, by_task, by_selftest}
 use Rattle.indexd_core.proofs.program.top.Goals as goal
 
 pub returns : goal.returns
@@ -15,6 +15,8 @@ returns g c =
       stored = λ stated asks. by_store stated did asks;
       fed = λ asks. by_feed did asks;
       served = λ port requests asks. (by_serve port requests did asks).0;
+      monitored = λ close asks. (by_monitor close did asks).0;
+      tested = λ seed count asks. (by_selftest seed count did asks).0;
       in_use = did.cause.in_use;
       used = did.used;
       short = did.short;
@@ -26,6 +28,10 @@ returns g c =
       unfed = λ port requests asks.
           let same = (by_serve port requests did asks).1 in
           (ap (λ (s : Side). s.told) same, ap (λ (s : Side). s.faults) same);
+      unmonitored = λ close asks.
+          let same = (by_monitor close did asks).1 in
+          (ap (λ (s : Side). s.told) same, ap (λ (s : Side). s.faults) same);
+      only_writes = λ seed count asks. (by_selftest seed count did asks).1;
       out = did.keeps.out;
       unheard = c.answer.ensures.unheard;
       unchanged = did.keeps.files;
