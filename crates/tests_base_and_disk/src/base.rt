@@ -471,6 +471,35 @@ fn real_asked(rt: &HostRuntime) -> String {
     text
 }
 
+/// Calls on real files of which some cannot be read, and what they answer where those are passed
+/// over that do not begin with `real/apps/`.
+static PASSING: [(Ask<'static>, &str); 6] = [
+    (Ask::Size(b"real/apps"), "Err(Missing) "),
+    (Ask::Read(b"real/\xFF", 0), "Err(Missing)  "),
+    (Ask::Size(b"real/no"), "Err(Missing) "),
+    (Ask::Size(b"real/apps/10"), "Ok(7) "),
+    (Ask::Size(b"real/apps/b"), "Err(Missing) "),
+    (Ask::Size(b"real/apps/\xFF"), "Err(Failed) "),
+];
+
+fn passing_asked(rt: &HostRuntime) -> String {
+    let mut text = String::new(rt.alloc());
+    note_making(rt, &mut text);
+    let mut tree = HostTree::passing_over(rt, b"real/apps/");
+    note_unlike(&mut text, rt.alloc(), &mut tree, &PASSING);
+    note(&mut text, tree.passed_over().len());
+    if let Some(first) = tree.passed_over().first() {
+        say(&mut text, first.as_str());
+    }
+    text
+}
+
+#[test]
+fn the_tree_of_the_system_passes_over_what_cannot_be_read(rt: HostRuntime) {
+    let want = "true true true true 2 real/apps: not a plain file ";
+    compare(&rt, passing_asked(&rt), want);
+}
+
 #[test]
 fn the_tree_of_the_system_reads_real_files(rt: HostRuntime) {
     compare(&rt, real_asked(&rt), "true true true true ");

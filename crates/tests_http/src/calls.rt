@@ -1,5 +1,5 @@
 //! How many calls of the system one request costs, over a network of this test that counts them: a head and a small body that
-//! are there are one read, and a reply of up to 8,192 bytes is one write.
+//! are there are one read, and a reply of up to 8,192 bytes is one write. And which connections are closed at once behind a reply.
 
 ghost use Rattle.std.specs.Prelude.{◌≤◌, length};
 
@@ -9,7 +9,7 @@ use ix_http::{Incoming, Kind, write_reply};
 use ix_net::{Listener, TcpListen};
 use std::alloc::Global;
 use std::cell::Cell;
-use std::io::{self, Read, Write};
+use std::io::{self, ErrorKind, Read, Write};
 use std::net::{Ipv4Addr, Net, OpenListener, OpenStream, Shutdown, SocketAddr};
 use std::os::fd::{AsRawFd, RawFd};
 use std::time::{Clock, Duration};
@@ -24,8 +24,12 @@ struct Counts {
     sent: Cell<usize>,
     /// How many bytes it has taken.
     taken: Cell<usize>,
+    /// How many reads there were, but for those that did not wait and found nothing.
     reads: Cell<u64>,
     writes: Cell<u64>,
+    /// Whether a read does not wait.
+    looks: Cell<bool>,
+    has_shut_down: Cell<bool>,
 }
 
 fn make_counts() -> Counts {
@@ -34,6 +38,8 @@ fn make_counts() -> Counts {
         taken: Cell::new(0),
         reads: Cell::new(0),
         writes: Cell::new(0),
+        looks: Cell::new(false),
+        has_shut_down: Cell::new(false),
     }
 }
 
@@ -41,13 +47,17 @@ fn make_counts() -> Counts {
 #[derive(Clone, Copy)]
 struct Line<'a> {
     counts: &'a Counts,
-    /// What the peer sends. Then it waits for its reply, and hangs up.
+    /// What the peer sends. Then it waits for its reply, and hangs up as soon as a read waits.
     asked: &'a [u8],
     /// It sends so many bytes at a time.
     piece: usize,
 }
 
 impl Line<'_> {
+    fn has_sent_all(&self) -> bool {
+        self.counts.sent.get() >= self.asked.len()
+    }
+
     /// Sends what comes next, and answers how many bytes that are.
     fn send(&self, buf: &mut [u8]) -> usize
         ensures { result ≤ length buf.old }
@@ -115,11 +125,13 @@ impl<'a> OpenListener for Line<'a> {
 }
 
 impl OpenStream for Line<'_> {
-    fn shutdown(&self, _how: Shutdown) -> io::Result<()> {
+    fn shutdown(&self, how: Shutdown) -> io::Result<()> {
+        self.counts.has_shut_down.set(how == Shutdown::Write);
         Ok(())
     }
 
-    fn set_nonblocking(&self, _nonblocking: bool) -> io::Result<()> {
+    fn set_nonblocking(&self, nonblocking: bool) -> io::Result<()> {
+        self.counts.looks.set(nonblocking);
         Ok(())
     }
 
@@ -134,6 +146,9 @@ impl OpenStream for Line<'_> {
 
 impl Read for Line<'_> {
     fn read(&mut self, buf: &mut [u8]) -> io::Result<usize> {
+        if self.counts.looks.get() && self.has_sent_all() {
+            return Err(io::Error::from(ErrorKind::WouldBlock));
+        }
         count(&self.counts.reads);
         Ok(self.send(buf))
     }
@@ -174,7 +189,8 @@ fn block_of(alloc: Global, count: usize) -> Bytes {
 }
 
 /// Serves the next connection, and writes whether the request was read, in how many reads, in how many writes its reply goes out,
-/// how many bytes they have, and how many reads there are with the end of the connection.
+/// how many bytes they have, how many reads there are with the end of the connection, and whether its peer was told the end first
+/// and then listened to.
 fn note_served<L: Listener>(
     text: &mut String,
     alloc: Global,
@@ -192,6 +208,7 @@ fn note_served<L: Listener>(
         note(text, counts.taken.get());
         listener.done(link);
         note(text, counts.reads.get());
+        note(text, counts.has_shut_down.get());
     }
 }
 
@@ -241,14 +258,76 @@ fn reads_said(alloc: Global) -> String {
 }
 
 /// A head alone, small blocks, and one that has 8,192 bytes with its head are one read each. What comes in two pieces is two, a
-/// block with one byte more is two, and so is the longest one, where the system gives all that it is asked for. Behind each reply there
-/// is one read more, which waits for the peer to hang up.
+/// block with one byte more is two, and so is the longest one, where the system gives all that it is asked for. Behind each reply the
+/// connection is closed without a further read that waits.
 #[test]
 fn a_small_request_is_one_read(rt: HostRuntime) {
-    let wanted = "true 1 1 85 2 true 2 1 85 3 \
-        true 1 1 85 2 true 1 1 85 2 true 2 1 85 3 \
-        true 1 1 85 2 true 2 1 85 3 true 2 1 85 3 ";
+    let wanted = "true 1 1 85 1 false true 2 1 85 2 false \
+        true 1 1 85 1 false true 1 1 85 1 false true 2 1 85 2 false \
+        true 1 1 85 1 false true 2 1 85 2 false true 2 1 85 2 false ";
     compare(&rt, reads_said(rt.alloc()), wanted);
+}
+
+/// Requests of which it is known where they end, and of which nothing is left unread: two that are good, and one that is refused.
+const WHOLE: &[&[u8]] = &[
+    b"\r\nPOST /channels/c/end HTTP/1.1\nHost: x\n\n",
+    b"POST /channels/c/blocks HTTP/1.1\r\ncontent-LENGTH:\t 2 \r\nContent-Type: x\r\n\r\nab",
+    b"PUT /buckets HTTP/1.1\r\nContent-Length: 2\r\n\r\n{}",
+];
+
+/// Requests behind which more may come, or has come already.
+const OPEN: &[&[u8]] = &[
+    b"POST /channels/c/blocks HTTP/1.1\r\nContent-Length: 2000000\r\n\r\nab",
+    b"POST /channels/c/blocks HTTP/1.1\r\nContent-Length: 2\r\nContent-Length: 2\r\n\r\nab",
+    b"POST /channels/c/blocks HTTP/1.1\r\nContent-Length: +2\r\n\r\nab",
+    b"POST /channels/c/blocks HTTP/1.1\r\nContent-Length: 2 2\r\n\r\nab",
+    b"POST /channels/c/blocks HTTP/1.1\r\nContent-Length: 99999999999999999999\r\n\r\nab",
+    b"POST /channels/c/blocks HTTP/1.1\r\nTransfer-Encoding: chunked\r\n\r\n0\r\n\r\n",
+    b"GET /buckets HTTP/2.0\r\n\r\n",
+    b"GET /buckets HTTP/1.1\r\n\r\nG",
+];
+
+/// What each of these requests costs, where all of it is there.
+fn note_all(text: &mut String, alloc: Global, requests: &[&[u8]]) {
+    for asked in requests {
+        note_request(text, alloc, asked, usize::MAX, b"{}");
+    }
+}
+
+fn whole_said(alloc: Global) -> String {
+    let mut text = String::new(alloc);
+    note_all(&mut text, alloc, WHOLE);
+    text
+}
+
+/// Where the whole request was read, also where it is refused then, its connection is closed at once.
+#[test]
+fn a_whole_request_is_not_waited_behind(rt: HostRuntime) {
+    let wanted = "true 1 1 85 1 false true 1 1 85 1 false false 1 1 85 1 false ";
+    compare(&rt, whole_said(rt.alloc()), wanted);
+}
+
+fn open_said(alloc: Global) -> String {
+    let mut text = String::new(alloc);
+    note_all(&mut text, alloc, OPEN);
+    note_request(
+        &mut text,
+        alloc,
+        b"GET /buckets HTTP/1.1\r\n\r\nGET",
+        25,
+        b"{}",
+    );
+    text
+}
+
+/// Where it is not known where a request ends, where it was not read to its end, and where a byte came behind it, its peer is told
+/// the end, and what it sends is read on until it hangs up. The last one sends more behind its request, and that is seen at the end.
+#[test]
+fn a_peer_that_may_send_more_is_listened_to(rt: HostRuntime) {
+    let wanted = "false 1 1 85 2 true false 1 1 85 2 true false 1 1 85 2 true false 1 1 85 2 true \
+        false 1 1 85 2 true false 1 1 85 2 true false 1 1 85 2 true \
+        true 1 1 85 2 true true 1 1 85 4 true ";
+    compare(&rt, open_said(rt.alloc()), wanted);
 }
 
 /// What a reply costs whose body has so many bytes.
@@ -272,7 +351,7 @@ fn writes_said(alloc: Global) -> String {
 /// A reply that has 8,192 bytes with its head is one write, and a longer one is two, where the system takes all that it is given.
 #[test]
 fn a_small_reply_is_one_write(rt: HostRuntime) {
-    let wanted = "true 1 1 83 2 true 1 1 4182 2 true 1 1 8192 2 \
-        true 1 2 8193 2 true 1 2 1048665 2 ";
+    let wanted = "true 1 1 83 1 false true 1 1 4182 1 false true 1 1 8192 1 false \
+        true 1 2 8193 1 false true 1 2 1048665 1 false ";
     compare(&rt, writes_said(rt.alloc()), wanted);
 }

@@ -1,0 +1,5 @@
+//! Tests of a store by its public calls.
+#![tactic(auto)]
+
+#[cfg(test)]
+mod closed;
