@@ -4,6 +4,7 @@ use Rattle.std.proofs.Common.{◌≡◌, ◌<◌, inl, inr, ℕ, true, List, [],
 use Rattle.std.specs.Prelude.{Option, false}
 use Rattle.std.proofs.lemmas.List.{take_all}
 use Rattle.ix_base.specs.Clocks.{Moments}
+use Rattle.ix_base.specs.Told.{HasWritten}
 use Rattle.ix_disk.specs.Image.{Image}
 use Rattle.ix_disk.specs.declared.disk.Disk.{Ghosts}
 use Rattle.ix_sessions.specs.Connections as connections
@@ -13,6 +14,7 @@ use Rattle.ix_sessions.specs.declared.feed.Fed.{Fed}
 use Rattle.ix_sessions.specs.declared.serve.Heard.{Heard}
 use Rattle.ix_sessions.specs.declared.serve.Heard.TheVariants as heard
 use Rattle.ix_commit.specs.declared.fault.CommitFault.TheVariants as commits
+use Rattle.ix_state.specs.Configs.{IsChooser}
 use Rattle.ix_state.specs.Taken.{IsTaken, AreGiven}
 use Rattle.ix_model.specs.Given.{Chooser}
 use Rattle.ix_model.specs.declared.commands.Config.{Config}
@@ -44,7 +46,7 @@ use Rattle.indexd_core.specs.Sides.{Side}
 use Rattle.indexd_core.specs.Stored.{status_of, FromStart, Outcomes, Comes, done, stopped, WroteUnread, Whole, unread, locked_out, ran}
 use Rattle.indexd_core.specs.declared.status.Status.{Status}
 use Rattle.indexd_core.specs.declared.status.Status.TheVariants.{Done, DiskFault, InUse}
-use Rattle.indexd_premises.specs.Standing.{HasHistory}
+use Rattle.indexd_premises.specs.Standing.{HasHistory, HasListed}
 
 -- ---- statuses
 
@@ -173,6 +175,20 @@ of_whole status from to still out comes said is never f (locked_out config given
 of_whole status from to still out comes said is never f (ran config given c) = f config c
 
 -- one that is done has written its summary
-pub of_tests : (seed count : ℕ) (status : Status) (output output' : Side) → status ≡ Done → Tests status seed count output output' →
+of_tests : (seed count : ℕ) (status : Status) (output output' : Side) → status ≡ Done → Tests status seed count output output' →
     Tests Done seed count output output'
 of_tests seed count status output output' is tests = subst (λ (s : Status). Tests s seed count output output') is tests
+
+-- so it is for one chooser that there is
+pub of_listed : (seed count : ℕ) (status : Status) (output output' : Side) (choose : Chooser) → IsChooser choose → status ≡ Done →
+    Tests status seed count output output' → HasListed seed count output.told output'.told
+of_listed seed count status output output' choose is_chooser is tests =
+    let told = of_tests seed count status output output' is tests in
+    record {
+      choose = choose;
+      config = told.1.config;
+      in_force = told.1.in_force;
+      blocks = told.1.blocks;
+      cut = told.1.cut;
+      written = subst (λ (text : List ℕ). HasWritten text output.told output'.told) (told.1.text_is choose is_chooser) told.2;
+    }

@@ -1,7 +1,6 @@
-use Rattle.std.proofs.Common.{[], List, ℕ, subst}
-use Rattle.ix_base.specs.Told.{HasWritten}
+use Rattle.std.proofs.Common.{[]}
 use Rattle.indexd_run.specs.Opened.{past_of}
-use Rattle.indexd_premises.proofs.Finished.{not_out, of_comes, of_feed, of_serve, of_tests, of_whole}
+use Rattle.indexd_premises.proofs.Finished.{not_out, of_comes, of_feed, of_listed, of_serve, of_whole}
 use Rattle.indexd_premises.proofs.first_run.Goals as goal
 
 pub returns-clause-undamaged : goal.returns-clause-undamaged
@@ -70,12 +69,4 @@ returns-clause-served g c = λ port requests asks.
 pub returns-clause-tested : goal.returns-clause-tested
 returns-clause-tested g c = λ seed count asks is.
     let b = c.empty_disk-disk.ensures.begins in
-    let told = of_tests seed count _ _ _ is (c.top-status.ensures.tested seed count asks) in
-    record {
-      choose = b.0;
-      config = told.1.config;
-      in_force = told.1.in_force;
-      blocks = told.1.blocks;
-      cut = told.1.cut;
-      written = subst (λ (text : List ℕ). HasWritten text _ _) (told.1.text_is b.0 b.1.chooser) told.2;
-    }
+    of_listed seed count _ _ _ b.0 b.1.chooser is (c.top-status.ensures.tested seed count asks)
