@@ -269,6 +269,19 @@ fn take_refused(
     );
 }
 
+/// Two runs for each of these files say what is wanted, and leave the file as it was.
+fn take_refusals(
+    rt: &impl Abort,
+    alloc: Global,
+    disk: &mut MemDisk,
+    (task, want): (Task, &str),
+    files: &[File],
+) {
+    for file in files {
+        take_refused(rt, alloc, disk, (task, want), *file);
+    }
+}
+
 /// A run whose reading fails where the input ends says what is wanted.
 fn take_cut(
     rt: &impl Abort,
@@ -311,11 +324,7 @@ fn take_file(rt: &impl Abort, alloc: Global, disk: &mut MemDisk, step: &Step) {
 fn take(rt: &impl Abort, alloc: Global, disk: &mut MemDisk, step: &Step) {
     match *step {
         Step::Run(task, want) => take_run(rt, alloc, disk, task, want),
-        Step::Refused(task, want, files) => {
-            for file in files {
-                take_refused(rt, alloc, disk, (task, want), *file);
-            }
-        }
+        Step::Refused(task, want, files) => take_refusals(rt, alloc, disk, (task, want), files),
         Step::Cut(line, files, input, want) => {
             take_cut(rt, alloc, disk, (line, files, input), want)
         }
