@@ -1,7 +1,7 @@
 -- A run that is done, over a disk on which nothing was written: what is said of every run from a
 -- start is said of it. For `first_run`.
 use Rattle.std.proofs.Common.{◌≡◌, ◌<◌, inl, inr, ℕ, true, List, [], sym, ap, ◌∙◌, subst, length, arith, refl}
-use Rattle.std.specs.Prelude.{Option, false}
+use Rattle.std.specs.Prelude.{Bool, Option, false}
 use Rattle.std.proofs.lemmas.List.{take_all}
 use Rattle.ix_base.specs.Clocks.{Moments}
 use Rattle.ix_base.specs.Told.{HasWritten}
@@ -40,12 +40,13 @@ use Rattle.indexd_core.specs.Feeds.{FeedComes, end_status}
 use Rattle.indexd_core.specs.Locked.{IsLockedOut}
 use Rattle.indexd_core.specs.Serves as serves
 use Rattle.indexd_core.specs.Chain.{MayRun}
+use Rattle.indexd_core.specs.Monitors.{Monitors}
 use Rattle.indexd_core.specs.Serves.{ServeComes, EndsServing}
 use Rattle.indexd_core.specs.Selftests.{Tests}
 use Rattle.indexd_core.specs.Sides.{Side}
 use Rattle.indexd_core.specs.Stored.{status_of, FromStart, Outcomes, Comes, done, stopped, WroteUnread, Whole, unread, locked_out, ran}
 use Rattle.indexd_core.specs.declared.status.Status.{Status}
-use Rattle.indexd_core.specs.declared.status.Status.TheVariants.{Done, DiskFault, InUse}
+use Rattle.indexd_core.specs.declared.status.Status.TheVariants.{Done, Configuration, DiskFault, InUse}
 use Rattle.indexd_premises.specs.Standing.{HasHistory, HasListed}
 
 -- ---- statuses
@@ -173,6 +174,15 @@ of_whole status from to still out comes said is never f (unread s wrote) =
     absurd (subst (λ (s : Status). WroteUnread s from.files from.failed to.failed from.output to.output) is wrote)
 of_whole status from to still out comes said is never f (locked_out config given o s) = absurd (never o)
 of_whole status from to still out comes said is never f (ran config given c) = f config c
+
+-- one that monitors files and is done has a history
+pub of_monitored : {D : Type 0} (d : Ghosts D) (choose : Chooser) (status : Status) (close : Bool) (from to : Around D) →
+    MayRun d (past_of choose [] 0 0) from.disk → IsTold d to.disk → status ≡ Done → Monitors status close d from to → HasHistory d to.disk
+of_monitored d choose status close from to may told is (inl misjudged) =
+    let e : Configuration ≡ Done = sym misjudged.status_is ∙ is in cc
+of_monitored d choose status close from to may told is (inr run) =
+    of_whole status from to _ _ _ _ is (λ out. not_out d from.disk to.disk status is out.1)
+    (λ config come. of_comes choose may status config from.ahead to.ahead _ _ _ _ told is come.2) run
 
 -- one that is done has written its summary
 of_tests : (seed count : ℕ) (status : Status) (output output' : Side) → status ≡ Done → Tests status seed count output output' →

@@ -1,6 +1,6 @@
 -- What a first run leaves for a second one, with no premise on histories, and what a selftest writes,
 -- with none on choosers.
-use Rattle.std.specs.Prelude.{◌≡◌, ◌<◌, ◌⊎◌, ◌++◌, ℕ, true, List, [], length, Option}
+use Rattle.std.specs.Prelude.{◌≡◌, ◌<◌, ◌⊎◌, ◌++◌, ℕ, Bool, true, List, [], length, Option}
 use Rattle.ix_base.specs.Told.{HasWritten}
 use Rattle.ix_disk.specs.declared.disk.Disk.{Ghosts}
 use Rattle.ix_model.specs.Given.{Chooser}
@@ -16,7 +16,7 @@ use Rattle.indexd_selftest.specs.Lines.{stream}
 use Rattle.indexd_run.specs.Opened.{past_of}
 use Rattle.indexd_cli.specs.Orders.{asked}
 use Rattle.indexd_core.specs.Chain.{MayRun, MayGoOn}
-use Rattle.indexd_core.specs.Commands.{is_task, AskStore, AskFeed, AskServe}
+use Rattle.indexd_core.specs.Commands.{is_task, AskStore, AskFeed, AskServe, AskMonitor}
 use Rattle.indexd_core.specs.Prepared.{Stated}
 use Rattle.indexd_core.specs.declared.status.Status.{Status}
 use Rattle.indexd_core.specs.declared.status.Status.TheVariants.{Done}
@@ -41,11 +41,12 @@ pub record GoesOn (status : Status) {D : Type 0} (d : Ghosts D) (disk : D) : Typ
 abbrev pub IsLeftOpen : {D : Type 0} → Ghosts D → D → Type 0
 IsLeftOpen d disk = (choose : Chooser) × MayGoOn d (past_of choose [] 0 0) disk
 
--- the words ask for a run over a store: a task, an input that is stored, requests or connections
+-- the words ask for a run over a store: a task, an input that is stored, requests, connections, or
+-- files that are watched
 abbrev pub IsOverStore : List (List ℕ) → Type 0
 IsOverStore words =
     (is_task (asked words) ≡ true) ⊎ ((stated : Stated) × AskStore words stated) ⊎ AskFeed words
-    ⊎ ((port : ℕ) × (requests : ℕ) × AskServe words port requests)
+    ⊎ ((port : ℕ) × (requests : ℕ) × AskServe words port requests) ⊎ ((close : Bool) × AskMonitor words close)
 
 -- What was written is the first line of a selftest, and the listing of a state that its commands
 -- lead to.

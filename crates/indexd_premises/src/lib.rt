@@ -6,11 +6,11 @@
 //! Whoever adds a premise to `MayRun` of `indexd_core` shows here what meets it.
 #![tactic(auto)]
 
-ghost use Rattle.std.specs.Prelude.{◌≡◌, ℕ, [], true};
+ghost use Rattle.std.specs.Prelude.{◌≡◌, ℕ, Bool, [], true};
 ghost use Rattle.ix_model.specs.Given.{Chooser};
 ghost use Rattle.indexd_run.specs.Opened.{past_of};
 ghost use Rattle.indexd_core.specs.Chain.{MayRun};
-ghost use Rattle.indexd_core.specs.Commands.{is_task, AskStore, AskFeed, AskServe, AskSelftest};
+ghost use Rattle.indexd_core.specs.Commands.{is_task, AskStore, AskFeed, AskServe, AskMonitor, AskSelftest};
 ghost use Rattle.indexd_core.specs.Prepared.{Stated};
 ghost use Rattle.indexd_core.specs.Starts.{IsBlank, IsStart};
 ghost use Rattle.indexd_cli.specs.Orders.{asked};
@@ -20,8 +20,8 @@ ghost use Rattle.indexd_premises.specs.Standing.{GoesOn, HasListed, IsLeftOpen, 
 mod tests;
 
 use indexd_core::{
-    Status, an_empty_disk_may_run, an_exit_is_a_stop, blank_disks_are_starts, runs_leave,
-    the_next_run_may_begin, top,
+    Status, an_empty_disk_may_run, an_exit_is_a_stop, blank_disks_are_starts, monitors_leave,
+    runs_leave, the_next_run_may_begin, top,
 };
 use ix_base::{Clock, FailPlan, Sink, Source, Text};
 use ix_disk::{Disk, MemDisk};
@@ -59,11 +59,13 @@ pub fn first_run<S: Source, W: Sink, C: Clock, T: Tree, L: Listener>(
     ensures stored { (stated : Stated) → AskStore words.now stated → GoesOn result.0 ⟦<MemDisk as Disk>⟧ result.1 }
     ensures fed { AskFeed words.now → GoesOn result.0 ⟦<MemDisk as Disk>⟧ result.1 }
     ensures served { (port requests : ℕ) → AskServe words.now port requests → GoesOn result.0 ⟦<MemDisk as Disk>⟧ result.1 }
+    ensures monitored { (close : Bool) → AskMonitor words.now close → GoesOn result.0 ⟦<MemDisk as Disk>⟧ result.1 }
     // What a selftest writes is said of every chooser, and so of one that there is.
     ensures tested { (seed count : ℕ) → AskSelftest words.now seed count → result.0 ≡ Status.Done →
         HasListed seed count (W.given output.old) (W.given output.new) }
 {
     runs_leave::<MemDisk>();
+    monitors_leave::<MemDisk>();
     an_exit_is_a_stop::<MemDisk>();
     the_next_run_may_begin::<MemDisk, MemDisk>();
     let mut disk = empty_disk(alloc);
@@ -91,6 +93,7 @@ pub fn second_run<S: Source, W: Sink, C: Clock, T: Tree, L: Listener>(
     ensures goes_on { IsOverStore words.now → IsOverStore again.now → IsLeftOpen ⟦<MemDisk as Disk>⟧ result.1 }
 {
     runs_leave::<MemDisk>();
+    monitors_leave::<MemDisk>();
     an_exit_is_a_stop::<MemDisk>();
     the_next_run_may_begin::<MemDisk, MemDisk>();
     let (_first, mut disk) = first_run(alloc, words, input, output, clock, tree, listener);

@@ -67,6 +67,7 @@ fn first_runs_are_done(rt: HostRuntime) {
     check(&rt, alloc, "preview --host h --source s --store");
     check(&rt, alloc, "feed");
     check(&rt, alloc, "serve --port 8089 --requests 1");
+    check(&rt, alloc, "monitor --close");
     check(&rt, alloc, "selftest 7 1");
 }
 
@@ -95,7 +96,7 @@ fn code_behind(alloc: Global, line: &str, again: &str) -> u8 {
 #[test]
 fn second_runs_are_done(rt: HostRuntime) {
     let alloc = rt.alloc();
-    for line in ["tick", "feed", "serve --port 8089 --requests 1"] {
+    for line in ["tick", "feed", "serve --port 8089 --requests 1", "monitor"] {
         let code = code_behind(alloc, line, "buckets");
         assert!(rt; code == 0, "{line}: {code}");
     }
