@@ -1,5 +1,6 @@
 //! Runs that are stopped at each call of the disk, or for which one call fails.
 
+use crate::tests::exchanges::BEGUN;
 use crate::tests::runs::{
     Files, KEPT, LATER, NOON, PLAIN, STORE, Task, calls_since, crash_of, disk_of, told,
 };
@@ -110,11 +111,21 @@ fn is_done(said: String) -> bool {
     !said.ends_with("indexd: disk fault\n") || said.contains("{\"acks\":[true]}")
 }
 
-/// What a run leaves that stops behind so many calls, and whether it is done.
-fn stopped(alloc: Global, base: &MemDisk, trial: &Trial, calls: u64) -> (MemDisk, bool) {
+/// A run blames the disk, in its status and in its line, where a call has failed, and is done else.
+fn check_blame(rt: &impl Abort, line: &str, said: &str, has_failed: bool) {
+    let is_right = if has_failed {
+        said.starts_with("5: ") && said.ends_with("indexd: disk fault\n")
+    } else {
+        said.starts_with("0: ")
+    };
+    assert!(rt; is_right, "{line}: {said}");
+}
+
+/// What a run leaves that stops behind so many calls, and what it says.
+fn stopped(alloc: Global, base: &MemDisk, trial: &Trial, calls: u64) -> (MemDisk, String) {
     let mut disk = StopDisk::new(crash_of(alloc, base, false), calls);
-    let is_done = is_done(told(alloc, trial.task, &mut disk));
-    (disk.into_inner(), is_done)
+    let said = told(alloc, trial.task, &mut disk);
+    (disk.into_inner(), said)
 }
 
 /// A crash of one of the two forms, behind so many calls of a run.
@@ -138,9 +149,10 @@ fn check_stop(
     trial: &Trial,
     (calls, total, before): (u64, u64, usize),
 ) -> usize {
-    let (disk, is_done) = stopped(alloc, base, trial, calls);
+    let (disk, said) = stopped(alloc, base, trial, calls);
+    check_blame(rt, trial.task.1, said.as_str(), calls < total);
     let changes = changes_of(&disk);
-    let is_done = is_done || calls == total;
+    let is_done = is_done(said);
     if changes != before || is_done {
         check_crash(rt, alloc, &disk, trial, (false, calls, is_done));
         check_crash(rt, alloc, &disk, trial, (true, calls, is_done));
@@ -167,7 +179,9 @@ fn check_stops(
 /// Fails a call of a run.
 fn check_fail(rt: &impl Abort, alloc: Global, base: &MemDisk, trial: &Trial, call: u64) {
     let mut failing = OneFail::new(crash_of(alloc, base, false), call);
-    let is_done = is_done(told(alloc, trial.task, &mut failing));
+    let said = told(alloc, trial.task, &mut failing);
+    check_blame(rt, trial.task.1, said.as_str(), true);
+    let is_done = is_done(said);
     let mut disk = failing.into_inner();
     check_held(rt, alloc, &mut disk, trial, (call, is_done));
 }
@@ -376,6 +390,37 @@ fn a_call_that_fails_while_a_block_is_served(rt: HostRuntime) {
     check_behind(&rt, rt.alloc(), &[], &SERVE, Hindrance::Fails);
 }
 
+/// The run before has begun the channel, and has lost the block. So a sender asks for it in vain,
+/// sends it again, and asks twice whether that one is stored.
+const REQUESTS_AGAIN: &str = "\
+    POST /acks HTTP/1.1\r\nContent-Length: 20\r\n\r\n{\"run\":1,\"acks\":[0]}\
+    POST /channels/c/blocks HTTP/1.1\r\nContent-Length: 5\r\n\r\nx\ny\nz\
+    POST /acks HTTP/1.1\r\nContent-Length: 20\r\n\r\n{\"run\":2,\"acks\":[0]}\
+    POST /acks HTTP/1.1\r\nContent-Length: 20\r\n\r\n{\"run\":2,\"acks\":[0]}";
+
+static LOST: [Step; 1] = [Step::Feed(PLAIN, BEGUN, "0", "")];
+
+static SERVE_AGAIN: Trial = Trial {
+    done: 0,
+    task: (NOON, "feed", PLAIN, REQUESTS_AGAIN),
+    asks: (
+        (NOON, "export main", PLAIN, ""),
+        (NOON, "buckets", PLAIN, ""),
+    ),
+    shown: SERVED,
+};
+
+/// A stop of the next run leaves both events of a block that is sent again, or none of that run.
+#[test]
+fn a_stop_while_a_block_is_sent_again(rt: HostRuntime) {
+    check_behind(&rt, rt.alloc(), &LOST, &SERVE_AGAIN, ALL);
+}
+
+#[test]
+fn a_call_that_fails_while_a_block_is_sent_again(rt: HostRuntime) {
+    check_behind(&rt, rt.alloc(), &LOST, &SERVE_AGAIN, Hindrance::Fails);
+}
+
 /// A store with three events whose log is long: bytes behind its last gate, which mean nothing, make it so.
 static LONG_LOG: [Step; 2] = [
     Step::Run((NOON, STORE, KEPT, "x\ny\nz"), "0: "),
@@ -403,4 +448,90 @@ fn a_stop_while_a_log_is_made_short(rt: HostRuntime) {
 #[test]
 fn a_call_that_fails_while_a_log_is_made_short(rt: HostRuntime) {
     check_behind(&rt, rt.alloc(), &LONG_LOG, &SHORTENING, Hindrance::Fails);
+}
+
+/// A watched file of two lines.
+const WATCHED: Files<'static> =
+    "props:[default]\nSHOULD_LINEMERGE = false\n§inputs:[monitor:///logs/app.log]\n§/logs/app.log:one\ntwo\n";
+
+/// What the next pass tells, which ends the channel, and what is stored then: each line once.
+const READ: &str = "\
+    0: /logs/app.log from 0 to 8\n\
+    0: main\t1700000000.000000\tlocalhost\t/logs/app.log\tunknown\t\tone\n\
+    main\t1700000000.000000\tlocalhost\t/logs/app.log\tunknown\t\ttwo\n¶\
+    0: /logs/app.log skip\n\
+    0: main\t1700000000.000000\tlocalhost\t/logs/app.log\tunknown\t\tone\n\
+    main\t1700000000.000000\tlocalhost\t/logs/app.log\tunknown\t\ttwo\n";
+
+static WATCH: Trial = Trial {
+    done: 0,
+    task: (NOON, "monitor", WATCHED, ""),
+    asks: (
+        (NOON, "monitor --close", WATCHED, ""),
+        (NOON, "export main", WATCHED, ""),
+    ),
+    shown: READ,
+};
+
+/// A stop of a pass leaves a file that the next pass reads from its start, or one that was read.
+#[test]
+fn a_stop_while_a_file_is_watched(rt: HostRuntime) {
+    check_behind(&rt, rt.alloc(), &[], &WATCH, ALL);
+}
+
+#[test]
+fn a_call_that_fails_while_a_file_is_watched(rt: HostRuntime) {
+    check_behind(&rt, rt.alloc(), &[], &WATCH, Hindrance::Fails);
+}
+
+/// The second line is not ended.
+const UNENDED: Files<'static> =
+    "props:[default]\nSHOULD_LINEMERGE = false\n§inputs:[monitor:///logs/app.log]\n§/logs/app.log:one\ntwo";
+
+/// Another one stands in its place.
+const REPLACED: Files<'static> =
+    "props:[default]\nSHOULD_LINEMERGE = false\n§inputs:[monitor:///logs/app.log]\n§/logs/app.log:new\n";
+
+static WATCHED_BEFORE: [Step; 1] = [Step::Run(
+    (NOON, "monitor", UNENDED, ""),
+    "0: /logs/app.log from 0 to 7\n",
+)];
+
+/// The same where another file has come in the place of one that was read.
+const READ_AGAIN: &str = "\
+    0: /logs/app.log again from 0 to 4\n\
+    0: main\t1700000000.000000\tlocalhost\t/logs/app.log\tunknown\t\tone\n\
+    main\t1700000000.000000\tlocalhost\t/logs/app.log\tunknown\t\ttwo\n\
+    main\t1700000101.000000\tlocalhost\t/logs/app.log\tunknown\t\tnew\n¶\
+    0: /logs/app.log skip\n\
+    0: main\t1700000000.000000\tlocalhost\t/logs/app.log\tunknown\t\tone\n\
+    main\t1700000000.000000\tlocalhost\t/logs/app.log\tunknown\t\ttwo\n\
+    main\t1700000101.000000\tlocalhost\t/logs/app.log\tunknown\t\tnew\n";
+
+static WATCH_AGAIN: Trial = Trial {
+    done: 0,
+    task: (LATER, "monitor", REPLACED, ""),
+    asks: (
+        (LATER, "monitor --close", REPLACED, ""),
+        (LATER, "export main", REPLACED, ""),
+    ),
+    shown: READ_AGAIN,
+};
+
+/// The channel of a file is ended and begun anew. A stop between the two, or behind them, leaves a
+/// file that the next pass reads again from its start: no line of either is lost, or there twice.
+#[test]
+fn a_stop_while_a_file_is_read_again(rt: HostRuntime) {
+    check_behind(&rt, rt.alloc(), &WATCHED_BEFORE, &WATCH_AGAIN, ALL);
+}
+
+#[test]
+fn a_call_that_fails_while_a_file_is_read_again(rt: HostRuntime) {
+    check_behind(
+        &rt,
+        rt.alloc(),
+        &WATCHED_BEFORE,
+        &WATCH_AGAIN,
+        Hindrance::Fails,
+    );
 }
