@@ -1,7 +1,7 @@
 //! Passes over watched files: what each tells, and what is stored of them.
 
 use crate::tests::runs::{NOON, compare, disk_of, run_of, said};
-use crate::tests::steps::{Script, Step, check_each};
+use crate::tests::steps::{BUCKET, LOG, Script, Step, check_each};
 use std::alloc::Global;
 use std::process::Abort;
 
@@ -129,6 +129,219 @@ static SCRIPTS: [Script<'static>; 5] = [
 #[test]
 fn files_are_read_on_and_told(rt: HostRuntime) {
     check_each(&rt, rt.alloc(), &SCRIPTS);
+}
+
+/// It has lost its second line.
+const SHRUNK: &str =
+    "props:[default]\nSHOULD_LINEMERGE = false\n§inputs:[monitor:///logs/app.log]\n§/logs/app.log:one\n";
+
+/// Another one of as many bytes stands in its place.
+const AS_LONG: &str =
+    "props:[default]\nSHOULD_LINEMERGE = false\n§inputs:[monitor:///logs/app.log]\n§/logs/app.log:six\nten\n";
+
+/// A first line of 260 letters, so of more bytes than a file is known by, and another line.
+const WIDE: &str = "\
+    props:[default]\nSHOULD_LINEMERGE = false\n§inputs:[monitor:///logs/app.log]\n§/logs/app.log:\
+    xxxxxxxxxxxxxxxxxxxxxxxxxxxxxxxxxxxxxxxxxxxxxxxxxxxxxxxxxxxxxxxxxxxxxxxxxxxxxxxxxxxxxxxxxxxxxxxxxxxxxxxxxxxxxxxxxxxxxxxxxxxxxxxxxx\
+    xxxxxxxxxxxxxxxxxxxxxxxxxxxxxxxxxxxxxxxxxxxxxxxxxxxxxxxxxxxxxxxxxxxxxxxxxxxxxxxxxxxxxxxxxxxxxxxxxxxxxxxxxxxxxxxxxxxxxxxxxxxxxxxxxx\n\
+    two\n";
+
+/// It has lost its second line.
+const WIDE_SHRUNK: &str = "\
+    props:[default]\nSHOULD_LINEMERGE = false\n§inputs:[monitor:///logs/app.log]\n§/logs/app.log:\
+    xxxxxxxxxxxxxxxxxxxxxxxxxxxxxxxxxxxxxxxxxxxxxxxxxxxxxxxxxxxxxxxxxxxxxxxxxxxxxxxxxxxxxxxxxxxxxxxxxxxxxxxxxxxxxxxxxxxxxxxxxxxxxxxxxx\
+    xxxxxxxxxxxxxxxxxxxxxxxxxxxxxxxxxxxxxxxxxxxxxxxxxxxxxxxxxxxxxxxxxxxxxxxxxxxxxxxxxxxxxxxxxxxxxxxxxxxxxxxxxxxxxxxxxxxxxxxxxxxxxxxxxx\n";
+
+/// The file is read for the first time.
+const READ: Step = Step::Run(
+    (NOON, "monitor", FIRST, ""),
+    "0: /logs/app.log from 0 to 8\n",
+);
+
+static CHANGED: [Script<'static>; 4] = [
+    // it has fewer bytes than were read, and others than it was known by
+    &[
+        READ,
+        Step::Run(
+            (NOON, "monitor", SHRUNK, ""),
+            "0: /logs/app.log again from 0 to 4\n",
+        ),
+        Step::Run(
+            (NOON, "monitor --close", SHRUNK, ""),
+            "0: /logs/app.log skip\n",
+        ),
+        Step::Run(
+            (NOON, "export main", SHRUNK, ""),
+            "0: main\t1700000000.000000\tlocalhost\t/logs/app.log\tunknown\t\tone\n\
+            main\t1700000000.000000\tlocalhost\t/logs/app.log\tunknown\t\ttwo\n\
+            main\t1700000000.000000\tlocalhost\t/logs/app.log\tunknown\t\tone\n",
+        ),
+    ],
+    // it has fewer bytes than were read, and begins with all that it was known by
+    &[
+        Step::Run(
+            (NOON, "monitor", WIDE, ""),
+            "0: /logs/app.log from 0 to 265\n",
+        ),
+        Step::Run(
+            (NOON, "monitor", WIDE_SHRUNK, ""),
+            "0: /logs/app.log again from 0 to 261\n",
+        ),
+        Step::Run(
+            (NOON, "monitor --close", WIDE_SHRUNK, ""),
+            "0: /logs/app.log skip\n",
+        ),
+        Step::Run(
+            (NOON, "buckets", WIDE_SHRUNK, ""),
+            "0: index main stored 3 bytes 754 frozen 0\n\
+            bucket main hot_v1_0 hot 3 754\n\
+            events settled 3 nulled 0 dropped 0\n",
+        ),
+    ],
+    // it has as many bytes as were read, and others
+    &[
+        READ,
+        Step::Run(
+            (NOON, "monitor", AS_LONG, ""),
+            "0: /logs/app.log again from 0 to 8\n",
+        ),
+        Step::Run(
+            (NOON, "export main", AS_LONG, ""),
+            "0: main\t1700000000.000000\tlocalhost\t/logs/app.log\tunknown\t\tone\n\
+            main\t1700000000.000000\tlocalhost\t/logs/app.log\tunknown\t\ttwo\n\
+            main\t1700000000.000000\tlocalhost\t/logs/app.log\tunknown\t\tsix\n",
+        ),
+    ],
+    // it is gone for a while, and then has grown
+    &[
+        READ,
+        Step::Run((NOON, "monitor", GONE, ""), "0: /logs/app.log missing\n"),
+        Step::Run(
+            (NOON, "monitor", GROWN, ""),
+            "0: /logs/app.log from 8 to 14\n",
+        ),
+    ],
+];
+
+/// A file that was cut or replaced is read again from its start, and one that was away is read on.
+#[test]
+fn files_that_change_are_read_again(rt: HostRuntime) {
+    check_each(&rt, rt.alloc(), &CHANGED);
+}
+
+/// Inputs that are not as they should be, each with what is wrong with it.
+const BAD_SWITCH: &str = "inputs:[monitor:///a]\ndisabled = maybe\nhost = h\n";
+
+const NO_PATH: &str = "inputs:[monitor://]\n[monitor:///a*/b]\n";
+
+const DEEP: &str = "inputs:[monitor:///logs/.../app.log]\n";
+
+const NO_SETTING: &str = "inputs:[monitor:///a]\nhost\n";
+
+/// The name of the index is judged first.
+const BAD_NAME: &str = "inputs:[monitor:///a]\nindex = web\n§indexes:[Main]\n";
+
+/// The greatest number that there is.
+const GREATEST: &[u8] = b"\x7f\xff\xff\xff\xff\xff\xff\xff";
+
+/// The greatest number of a run.
+const SPENT: Step = Step::Change(LOG, b"", 11, GREATEST);
+
+/// No further file has a number.
+const NO_FILE: Step = Step::Change(LOG, b"\x0b\0\0\0\0\0\0\0\x02", 1, GREATEST);
+
+const NO_ROOM: Step = Step::Run((NOON, "monitor", GROWN, ""), "17: indexd: store full\n");
+
+const CUT: Step = Step::Run(
+    (NOON, "monitor", GROWN, ""),
+    "6: indexd: damaged: home/1 at 10\n",
+);
+
+static ENDS: [Script<'static>; 6] = [
+    // words
+    &[
+        Step::Run((NOON, "monitor /logs", FIRST, ""), "2: indexd: usage\n"),
+        Step::Run(
+            (NOON, "monitor --close --close", FIRST, ""),
+            "2: indexd: usage\n",
+        ),
+        Step::Run(
+            (NOON, "monitor --close=yes", FIRST, ""),
+            "2: indexd: usage\n",
+        ),
+        Step::Length(LOG, 0),
+    ],
+    // inputs, which are judged before the store is opened
+    &[
+        Step::Run(
+            (NOON, "monitor", BAD_SWITCH, ""),
+            "3: indexd: configuration: inputs [monitor:///a] disabled: BadValue\n",
+        ),
+        Step::Run(
+            (NOON, "monitor", NO_PATH, ""),
+            "3: indexd: configuration: inputs [monitor://]: BadStanza\n",
+        ),
+        Step::Run(
+            (NOON, "monitor", DEEP, ""),
+            "3: indexd: configuration: inputs [monitor:///logs/.../app.log]: BadStanza\n",
+        ),
+        Step::Run(
+            (NOON, "monitor", NO_SETTING, ""),
+            "3: indexd: configuration: etc/system/local/inputs.conf line 2: NoEquals\n",
+        ),
+        Step::Run(
+            (NOON, "monitor", BAD_NAME, ""),
+            "3: indexd: configuration: indexes [Main]: BadIndexName\n",
+        ),
+        Step::Length(LOG, 0),
+    ],
+    // a log that was changed, which is told behind faults of inputs
+    &[
+        READ,
+        Step::Change(LOG, b"", 1, b"\xff"),
+        Step::Refused(
+            (NOON, "monitor", FIRST, ""),
+            "6: indexd: damaged: meta/1 at 0\n",
+            &[LOG],
+        ),
+        Step::Run(
+            (NOON, "monitor", BAD_INDEX, ""),
+            "3: indexd: configuration: inputs [monitor:///a] index: BadValue\n",
+        ),
+    ],
+    // a bucket that was cut takes nothing more, and the next pass finds what this one has found
+    &[READ, Step::Shorten(BUCKET, 10), CUT, CUT],
+    // no further run has a number
+    &[
+        Step::Run(
+            (NOON, "buckets", FIRST, ""),
+            "0: index main stored 0 bytes 0 frozen 0\nevents settled 0 nulled 0 dropped 0\n",
+        ),
+        SPENT,
+        Step::Refused(
+            (NOON, "monitor", FIRST, ""),
+            "17: indexd: store full\n",
+            &[LOG],
+        ),
+    ],
+    // no bucket can be made for what is new, so it is not read
+    &[
+        READ,
+        NO_FILE,
+        Step::Run((NOON, "roll main", FIRST, ""), "0: rolled 1\n"),
+        NO_ROOM,
+        NO_ROOM,
+        Step::Run(
+            (NOON, "export main", FIRST, ""),
+            "0: main\t1700000000.000000\tlocalhost\t/logs/app.log\tunknown\t\tone\n",
+        ),
+    ],
+];
+
+/// A pass ends with the status of what has kept it from its end, and writes no line of a file then.
+#[test]
+fn passes_end_with_their_statuses(rt: HostRuntime) {
+    check_each(&rt, rt.alloc(), &ENDS);
 }
 
 /// So many watched files of one line each.

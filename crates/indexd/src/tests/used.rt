@@ -4,7 +4,7 @@ use crate::tests::runs::{Run, compare, disk_of, run_of, said};
 use std::alloc::Global;
 
 /// Every command on a store.
-const LINES: &str = "buckets¶export main¶roll main¶thaw main 0¶tick¶feed¶\
+const LINES: &str = "buckets¶export main¶roll main¶thaw main 0¶tick¶feed¶monitor¶monitor --close¶\
     preview --host h --source s --store¶serve --port 0 --requests 1";
 
 /// What a command says where another program has the store, how many calls of the disk there were, and how often it refused.
