@@ -10,6 +10,8 @@ mod events;
 mod examples;
 mod exchanges;
 mod faults;
+mod frozen;
+mod hindered;
 mod hostile;
 mod kept;
 mod monitored;
