@@ -120,7 +120,7 @@ fn block(alloc: Global) -> Command
     }
 }
 
-fn end(alloc: Global) -> Command
+fn ending(alloc: Global) -> Command
     ensures { IsTakenCommand result }
 {
     Command::End {
@@ -178,7 +178,7 @@ fn give_all<D: Disk>(
 {
     give(store, disk, begin(alloc), NOON)?;
     give(store, disk, block(alloc), NOON)?;
-    give_last(store, disk, end(alloc), NOON)
+    give_last(store, disk, ending(alloc), NOON)
 }
 
 fn end_of(given: Result<Accepted, GiveFault>) -> End {
@@ -264,7 +264,7 @@ fn is_closed<D: Disk>(alloc: Global, store: &mut Store<StateMachine>, disk: &mut
     is_closed_to(store, Command::Tick)
         && is_closed_to(store, begin(alloc))
         && is_closed_to(store, block(alloc))
-        && is_closed_to(store, end(alloc))
+        && is_closed_to(store, ending(alloc))
         && is_closed_to(store, roll(alloc))
         && is_closed_to(store, thaw(alloc))
         && exports_nothing(alloc, store, disk)

@@ -115,7 +115,11 @@ pub(crate) fn replied<D: Disk>(
     disk: &mut D,
 ) -> String {
     let input = blocks_of(alloc, begins, blocks);
-    said(alloc, run_of("feed", files, input.as_slice()), disk)
+    let run = Run {
+        most: 1 << 16,
+        ..run_of("feed", files, input.as_slice())
+    };
+    said(alloc, run, disk)
 }
 
 /// How many replies have this status.
