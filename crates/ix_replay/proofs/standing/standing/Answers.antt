@@ -8,4 +8,5 @@ use Rattle.ix_replay.proofs.standing.standing.Goals as goal
 
 pub returns-in-None : goal.returns-in-None
 returns-in-None c = sym (none_known c.args.places.now c.args.items.now (named c.args.kind [] 0) c.requires.known
-    (subst (λ (k : ℕ). get nat_cmp c.args.places.now k ≡ None) c.only_key.ensures (sym c.get.ensures.value ∙ ap option_copied c.in-None.is)))
+    (subst (λ (k : ℕ). get nat_cmp c.args.places.now k ≡ None) c.only_key.ensures
+    (sym c.get.ensures.value ∙ ap option_copied c.in-None.is)))
