@@ -2,4 +2,3 @@ pub mod Opening
 pub mod Ending
 pub mod Behind
 pub mod Reading
-pub mod Placing
