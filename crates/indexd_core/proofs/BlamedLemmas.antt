@@ -1,18 +1,10 @@
 -- Why a run ends with `Damaged` or `Full`: by its stop, by the end of its requests, and from where it
 -- has the store on.
-use Rattle.std.proofs.Common.{◌≡◌, ◌≤◌, ◌⊎◌, ◌∙◌, ℕ, List, ◌++◌, refl, sym, inl, inr, ⊎_elim, le_refl}
+use Rattle.std.proofs.Common.{◌≡◌, ◌≤◌, ◌⊎◌, ◌∙◌, ℕ, List, refl, sym, inl, inr, le_refl}
 use Rattle.ix_base.specs.declared.files.File.{File}
 use Rattle.ix_disk.specs.declared.disk.Disk.{Ghosts}
-use Rattle.ix_life.specs.declared.views.View.{View}
-use Rattle.ix_model.specs.Given.{Chooser}
-use Rattle.ix_model.specs.Shown.{view}
-use Rattle.ix_model.specs.Step.{state_after}
-use Rattle.ix_model.specs.declared.commands.TimedCommand.{TimedCommand}
-use Rattle.ix_recovery.proofs.Seen.{seen_once}
 use Rattle.ix_recovery.specs.Recalled.{GivesNone}
 use Rattle.ix_replay.specs.Fits.{fits}
-use Rattle.ix_state.specs.Held.{SeesStorage, shelves_of}
-use Rattle.ix_state.specs.declared.state.StoreState.{StoreState}
 use Rattle.indexd_run.specs.Blamed.{HasMounted, IsBadStart, ReadsBad, Blames}
 use Rattle.indexd_run.specs.declared.stop.Stop.{Stop}
 use Rattle.indexd_run.specs.declared.stop.Stop.TheVariants as stops
@@ -20,7 +12,7 @@ use Rattle.indexd_serve.specs.declared.end.End.{End}
 use Rattle.indexd_serve.specs.declared.end.End.TheVariants as ends
 use Rattle.indexd_serve.specs.declared.end.ServeEnd.{ServeEnd}
 use Rattle.indexd_serve.specs.declared.end.ServeEnd.TheVariants as serving
-use Rattle.indexd_core.specs.Blamed.{EndsWith, IsDamaged, at_start, mounted, contradicted, NamesDamage, IsFilled, IsSeen, MayShow}
+use Rattle.indexd_core.specs.Blamed.{EndsWith, IsDamaged, at_start, mounted, contradicted, NamesDamage, IsFilled}
 use Rattle.indexd_core.specs.Feeds.{end_status, end_line}
 use Rattle.indexd_core.specs.Locked.{IsLeftAlone}
 use Rattle.indexd_core.specs.Serves.{EndsServing}
@@ -31,49 +23,16 @@ use Rattle.indexd_core.specs.declared.status.Status.{Status}
 use Rattle.indexd_core.specs.declared.status.Status.TheVariants as statuses
 use Rattle.indexd_core.proofs.StoredLemmas.{apart}
 
--- ---- what is seen of the store
-
-view_is : (choose : Chooser) (history : List TimedCommand) (held : StoreState) →
-    SeesStorage (state_after choose history) (shelves_of held) held.view.ledger held.last held.tick →
-    held.view ≡ view (state_after choose history)
-view_is choose history held s =
-    let ledger = seen_once choose history held.view.ledger s.ledger_is s.ledger_rises in
-    λ i. record {
-      indexes = (s.shelves_are i).indexes;
-      ledger = ledger i;
-      settled = (s.shelves_are i).settled;
-      nulled = (s.shelves_are i).nulled;
-      dropped = (s.shelves_are i).dropped;
-    }
-
-module _ {D : Type 0} (d : Ghosts D) (disk : D) where
-  -- what memory shows is what is seen of the history that it holds
-  seen_of : (shown : View) → MayShow d disk shown → IsSeen d disk shown
-  seen_of shown may choose history image chooser given seen says =
-      let held = may.recalls choose history image chooser given seen says in
-      (held.0, held.1, may.is ∙ view_is choose (history ++ held.0) may.memory.held held.2.state.storage)
-
-  -- where as much is known of the one as of the other
-  place_weaker : (before : D) → ((shown : View) → IsSeen d before shown → IsSeen d disk shown) → (new : D) (file : File) (at : ℕ) →
-      ReadsBad d (IsSeen d before) new file at → ReadsBad d (IsSeen d disk) new file at
-  place_weaker before weaker new file at bad image seen =
-      ⊎_elim (λ ends. inl ends) (λ is. inr (is.0, weaker is.0 is.1, is.2)) (bad image seen)
-
-  place_seen : (new : D) (file : File) (at : ℕ) → ReadsBad d (MayShow d disk) new file at → ReadsBad d (IsSeen d disk) new file at
-  place_seen new file at bad image seen = ⊎_elim (λ ends. inl ends) (λ is. inr (is.0, seen_of is.0 is.1, is.2)) (bad image seen)
-
--- ---- why a run ends so
-
 module _ {D : Type 0} (d : Ghosts D) (disk disk' : D) where
-  by_either : (file : File) (at : ℕ) → IsBadStart d fits GivesNone disk file at ⊎ (HasMounted d fits disk × ReadsBad d (MayShow d disk) disk' file at) →
+  by_either : (file : File) (at : ℕ) → IsBadStart d fits GivesNone disk file at ⊎ (HasMounted d fits disk × ReadsBad d disk' file at) →
       IsDamaged d file at disk disk'
   by_either file at (inl bad) = at_start bad
-  by_either file at (inr was) = mounted was.0 (place_seen d disk disk' file at was.1)
+  by_either file at (inr was) = mounted was.0 was.1
 
   -- ---- stops
 
   named_by_stop : (stop : Stop) (named : List ℕ) (output output' : Side) → statuses.Damaged ≡ status_of stop →
-      Blames stop d fits GivesNone (MayShow d disk) disk disk' → EndsWith (line_of named stop) output output' → NamesDamage d disk disk' output output'
+      Blames stop d fits GivesNone disk disk' → EndsWith (line_of named stop) output output' → NamesDamage d disk disk' output output'
   named_by_stop stops.Memory named output output' is why line = absurd (apart statuses.Damaged statuses.Memory refl is)
   named_by_stop stops.Disk named output output' is why line = absurd (apart statuses.Damaged statuses.DiskFault refl is)
   named_by_stop (stops.Damaged file at) named output output' is why line =
@@ -88,13 +47,13 @@ module _ {D : Type 0} (d : Ghosts D) (disk disk' : D) where
   named_by_stop stops.Endless named output output' is why line = absurd (apart statuses.Damaged statuses.Endless refl is)
 
   pub stop_names : (ended : Status) (stop : Stop) (named : List ℕ) (output before output' : Side) → ended ≡ status_of stop →
-      ended ≡ statuses.Damaged → Blames stop d fits GivesNone (MayShow d disk) disk disk' → output.faults ≤ before.faults →
+      ended ≡ statuses.Damaged → Blames stop d fits GivesNone disk disk' → output.faults ≤ before.faults →
       Said (line_of named stop) before output' →
       NamesDamage d disk disk' output output'
   stop_names ended stop named output before output' is at why later said =
       named_by_stop stop named output output' (sym at ∙ is) why (record { before = before; later = later; said = said })
 
-  full_by_stop : (stop : Stop) → statuses.Full ≡ status_of stop → Blames stop d fits GivesNone (MayShow d disk) disk disk' → IsFilled d disk
+  full_by_stop : (stop : Stop) → statuses.Full ≡ status_of stop → Blames stop d fits GivesNone disk disk' → IsFilled d disk
   full_by_stop stops.Memory is why = absurd (apart statuses.Full statuses.Memory refl is)
   full_by_stop stops.Disk is why = absurd (apart statuses.Full statuses.DiskFault refl is)
   full_by_stop (stops.Damaged file at) is why = absurd (apart statuses.Full statuses.Damaged refl is)
@@ -107,13 +66,13 @@ module _ {D : Type 0} (d : Ghosts D) (disk disk' : D) where
   full_by_stop stops.Endless is why = absurd (apart statuses.Full statuses.Endless refl is)
 
   pub stop_fills : (ended : Status) (stop : Stop) → ended ≡ status_of stop → ended ≡ statuses.Full →
-      Blames stop d fits GivesNone (MayShow d disk) disk disk' → IsFilled d disk
+      Blames stop d fits GivesNone disk disk' → IsFilled d disk
   stop_fills ended stop is at why = full_by_stop stop (sym at ∙ is) why
 
   -- ---- ends of requests
 
   named_by_end : (end : End) (output output' : Side) → statuses.Damaged ≡ end_status end → HasMounted d fits disk →
-      ((file : File) (at : ℕ) → end ≡ ends.Damaged file at → ReadsBad d (MayShow d disk) disk' file at) →
+      ((file : File) (at : ℕ) → end ≡ ends.Damaged file at → ReadsBad d disk' file at) →
       EndsWith (end_line end) output output' → NamesDamage d disk disk' output output'
   named_by_end ends.Ended output output' is was place line = absurd (apart statuses.Damaged statuses.Done refl is)
   named_by_end (ends.Unreadable request) output output' is was place line = absurd (apart statuses.Damaged statuses.Unreadable refl is)
@@ -121,12 +80,12 @@ module _ {D : Type 0} (d : Ghosts D) (disk disk' : D) where
   named_by_end ends.Endless output output' is was place line = absurd (apart statuses.Damaged statuses.Endless refl is)
   named_by_end ends.Disk output output' is was place line = absurd (apart statuses.Damaged statuses.DiskFault refl is)
   named_by_end (ends.Damaged file at) output output' is was place line =
-      record { file = file; at = at; line = line; damaged = mounted was (place_seen d disk disk' file at (place file at refl)) }
+      record { file = file; at = at; line = line; damaged = mounted was (place file at refl) }
   named_by_end ends.Input output output' is was place line = absurd (apart statuses.Damaged statuses.Input refl is)
   named_by_end ends.Output output output' is was place line = absurd (apart statuses.Damaged statuses.Output refl is)
 
   pub end_names : (ended : Status) (end : End) (output before output' : Side) → ended ≡ end_status end → ended ≡ statuses.Damaged →
-      HasMounted d fits disk → ((file : File) (at : ℕ) → end ≡ ends.Damaged file at → ReadsBad d (MayShow d disk) disk' file at) →
+      HasMounted d fits disk → ((file : File) (at : ℕ) → end ≡ ends.Damaged file at → ReadsBad d disk' file at) →
       output.faults ≤ before.faults → Said (end_line end) before output' →
       NamesDamage d disk disk' output output'
   end_names ended end output before output' is at was place later said =
@@ -136,7 +95,7 @@ module _ {D : Type 0} (d : Ghosts D) (disk disk' : D) where
 
   pub served_names : (ended : Status) (requests : ℕ) (end : ServeEnd) (output output' : Side) →
       EndsServing ended requests end output output' → ended ≡ statuses.Damaged → HasMounted d fits disk →
-      ((file : File) (at : ℕ) → end ≡ serving.Damaged file at → ReadsBad d (MayShow d disk) disk' file at) →
+      ((file : File) (at : ℕ) → end ≡ serving.Damaged file at → ReadsBad d disk' file at) →
       NamesDamage d disk disk' output output'
   served_names ended requests serving.Done output output' (inl done) is was place =
       absurd (apart statuses.Done statuses.Damaged refl (sym done.0 ∙ is))
@@ -152,7 +111,7 @@ module _ {D : Type 0} (d : Ghosts D) (disk disk' : D) where
     file = file;
     at = at;
     line = record { before = output; later = le_refl output.faults; said = wrote.1 };
-    damaged = mounted was (place_seen d disk disk' file at (place file at refl));
+    damaged = mounted was (place file at refl);
   }
 
 full_by_end : (end : End) → statuses.Full ≡ end_status end → ⊥
@@ -191,9 +150,7 @@ module _ {D : Type 0} {d : Ghosts D} {old mid : D} (alone : IsLeftAlone d old mi
 
   damaged_from : (file : File) (at : ℕ) (new : D) → IsDamaged d file at mid new → IsDamaged d file at old new
   damaged_from file at new (at_start bad) = at_start (λ image seen. bad image (alone.same ∙ seen))
-  damaged_from file at new (mounted was place) = mounted (mounted_from was)
-      (place_weaker d old mid (λ shown is choose history image chooser given seen says. is choose history image chooser given
-      (alone.same ∙ seen) says) new file at place)
+  damaged_from file at new (mounted was place) = mounted (mounted_from was) place
   damaged_from file at new (contradicted was first zero) = contradicted (mounted_from was) first zero
 
   pub names_from : (new : D) (output output' : Side) → NamesDamage d mid new output output' → NamesDamage d old new output output'

@@ -1,21 +1,10 @@
 -- Why a run ends with `Damaged` or `Full`, whatever the disk held at its start.
-use Rattle.std.specs.Prelude.{◌≡◌, ◌≤◌, ◌⊎◌, ℕ, List, ◌++◌, Some}
+use Rattle.std.specs.Prelude.{◌≡◌, ◌≤◌, ◌⊎◌, ℕ, List}
 use Rattle.ix_base.specs.declared.files.File.{File}
-use Rattle.ix_disk.specs.Image.{Image}
 use Rattle.ix_disk.specs.declared.disk.Disk.{Ghosts}
-use Rattle.ix_life.specs.declared.views.View.{View}
-use Rattle.ix_model.specs.Given.{Chooser}
-use Rattle.ix_model.specs.Shown.{view}
-use Rattle.ix_model.specs.Step.{state_after}
-use Rattle.ix_model.specs.declared.commands.TimedCommand.{TimedCommand}
 use Rattle.ix_recovery.specs.Recalled.{GivesNone}
 use Rattle.ix_replay.specs.Fits.{fits}
-use Rattle.ix_state.specs.Configs.{IsChooser}
-use Rattle.ix_state.specs.Taken.{AreGiven, IsTaken}
-use Rattle.ix_store.specs.Remembering.{SaysHistory}
-use Rattle.ix_apply.specs.Standing.{StateRepresents}
-use Rattle.ix_apply.specs.declared.state_machine.StateMachine.{StateMachine}
-use Rattle.indexd_run.specs.Blamed.{HasMounted, IsBadStart, IsShown, ReadsBad}
+use Rattle.indexd_run.specs.Blamed.{HasMounted, IsBadStart, ReadsBad}
 use Rattle.indexd_run.specs.Shortened.{HasHadItsRuns}
 use Rattle.indexd_core.specs.Sides.{Side}
 use Rattle.indexd_core.specs.Stored.{damaged_line, first_log}
@@ -27,25 +16,13 @@ pub record EndsWith (line : List ℕ) (output output' : Side) : Type 0 where
   pub later : output.faults ≤ before.faults
   pub said : Said line before output'
 
--- What is seen of a store that was mounted: where its logs said the state of a history, as the disk
--- read at the start, it is what is seen of that history with commands behind it that were accepted.
-abbrev pub IsSeen : {D : Type 0} → Ghosts D → D → View → Type 0
-IsSeen d before shown = (choose : Chooser) (history : List TimedCommand) (image : Image) → IsChooser choose → AreGiven history →
-    d.seen before ≡ Some image → SaysHistory fits choose history image →
-    (more : List TimedCommand) × AreGiven (history ++ more) × (shown ≡ view (state_after choose (history ++ more)))
-
--- So the state in memory shows it.
-abbrev pub MayShow : {D : Type 0} → Ghosts D → D → View → Type 0
-MayShow d before = IsShown d fits IsChooser IsTaken (λ choose history (machine : StateMachine).
-    StateRepresents choose history machine.held machine.fresh) (λ machine. machine.held.view) before
-
 -- Why a run calls a file damaged at a place. It was so at the start, as the disk read, and nothing
--- was mounted; or a store was mounted, and as the disk reads at the exit the file ends there, or
--- behind it no record ends of a bucket that is seen of the store; or what the mounted store has in
--- memory contradicts itself, which is told as damage of the first log at 0.
+-- was mounted; or a store was mounted, and as the disk reads at the exit the file ends there, or no
+-- record of a bucket stands there; or what the mounted store has in memory contradicts itself, which
+-- is told as damage of the first log at 0.
 pub data IsDamaged {D : Type 0} (d : Ghosts D) (file : File) (at : ℕ) (disk disk' : D) : Type 0 where
   at_start : IsBadStart d fits GivesNone disk file at → IsDamaged d file at disk disk'
-  mounted : HasMounted d fits disk → ReadsBad d (IsSeen d disk) disk' file at → IsDamaged d file at disk disk'
+  mounted : HasMounted d fits disk → ReadsBad d disk' file at → IsDamaged d file at disk disk'
   contradicted : HasMounted d fits disk → file ≡ first_log → at ≡ 0 → IsDamaged d file at disk disk'
 
 -- The line at the end of the output names a file and a place, and that file is damaged there.

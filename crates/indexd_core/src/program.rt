@@ -211,10 +211,9 @@ fn answer<S: Source, W: Sink, C: Clock, T: Tree, D: Disk, L: Listener>(
 /// it does not get its port, `Unreadable` where a request of `feed` was cut or it is not known where
 /// it ends, and `Memory` where there was no room. Where nothing was mounted, the line of `Damaged`
 /// names a file and a place where a log was bad as the disk read at the start. Behind a mount it
-/// names the end of a file, or a place where no record ends of a bucket that is seen of what was
-/// mounted with commands behind it, as the disk reads at the exit, or `meta/1 at 0` where what the
-/// store has in memory contradicts itself: that fewer bytes stand at the end of a file than were
-/// committed is said by `commit` of the store, and not here.
+/// names the end of a file, a place in one where no record of a bucket of some size stands, as the
+/// disk reads at the exit, or `meta/1 at 0` where what the store has in memory contradicts itself:
+/// that this is the place of the damage is said by `commit` and `export` of the store, and not here.
 /// `Full` comes only where the store has had its last run, or behind a mount, or where the store of
 /// a selftest has no room. Of a disk that stands for a history it is said too that `NotFound` comes
 /// where INDEX is not configured, or the bucket is not in the archive, `TooManyChannels` where 256
@@ -343,9 +342,8 @@ pub fn top<S: Source, W: Sink, C: Clock, T: Tree, D: Disk, L: Listener>(
     ensures undamaged { result ≡ Status.Damaged → FromStart D.Disk disk.old (λ past. ⊥) }
     // Whatever the disk held: the line of `Damaged` names a file and a place where, as the disk read
     // at the start, a log was damaged, and nothing was mounted; or where, as it reads at the exit,
-    // the file ends or no record ends of a bucket that is seen of the store, once one was mounted:
-    // of the history whose state the logs said at the start, with commands behind it; or `meta/1 at
-    // 0`, where what a mounted store has in memory contradicts itself. And `Full` comes only where, as
+    // the file ends or no record of a bucket stands, once a store was mounted; or `meta/1 at 0`,
+    // where what a mounted store has in memory contradicts itself. And `Full` comes only where, as
     // the disk read, the store has had its last run; or from one that was mounted; or, of a
     // selftest, where the store that it makes has no room.
     ensures blamed { result ≡ Status.Damaged → NamesDamage D.Disk disk.old disk.new

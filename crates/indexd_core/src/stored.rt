@@ -14,7 +14,7 @@ ghost use Rattle.indexd_run.specs.Opened.{HasRun, HasStopped, WhenOpen, course};
 ghost use Rattle.indexd_run.specs.Previews.{HasFed, HasTaken};
 ghost use Rattle.indexd_run.specs.Shortened.{EndsShort, StopsShort};
 ghost use Rattle.indexd_run.specs.Stops.{is_output, is_input};
-ghost use Rattle.indexd_core.specs.Blamed.{NamesDamage, IsFilled, MayShow};
+ghost use Rattle.indexd_core.specs.Blamed.{NamesDamage, IsFilled};
 ghost use Rattle.indexd_core.specs.Locked.{HasRefused, EndsUsed};
 ghost use Rattle.indexd_core.specs.Origins.{stated_of};
 ghost use Rattle.indexd_core.specs.Prepared.{index_or_default};
@@ -161,7 +161,7 @@ fn miss<C: Clock, D: Disk>(
     ensures later { D.Disk.faults disk.old ≤ D.Disk.faults disk.new }
     ensures cause { result ≡ Stop.Disk → Rose (D.Disk.faults disk.old) (D.Disk.faults disk.new) }
     ensures undamaged { defs.status_of result ≡ Status.Damaged → FromStart D.Disk disk.old (λ past. ⊥) }
-    ensures blamed { Blames result D.Disk fits GivesNone (MayShow D.Disk disk.old) disk.old disk.new }
+    ensures blamed { Blames result D.Disk fits GivesNone disk.old disk.new }
     ensures quiet { is_output result ≡ false }
     ensures unread { is_input result ≡ false }
 {
@@ -200,7 +200,7 @@ fn store_input<C: Clock, S: Source, D: Disk>(
     ensures read_later { S.faults input.old ≤ S.faults input.new }
     ensures input { IsErrOf result Stop.Input → Rose (S.faults input.old) (S.faults input.new) }
     ensures undamaged { IfErr result (λ stop. defs.status_of stop ≡ Status.Damaged → FromStart D.Disk disk.old (λ past. ⊥)) }
-    ensures blamed { IfErr result (λ stop. Blames stop D.Disk fits GivesNone (MayShow D.Disk disk.old) disk.old disk.new) }
+    ensures blamed { IfErr result (λ stop. Blames stop D.Disk fits GivesNone disk.old disk.new) }
     ensures quiet { IfErr result (λ stop. is_output stop ≡ false) }
     ensures read { HasTaken result (S.left input.old) (S.left input.new) }
 {

@@ -11,11 +11,11 @@ ghost use Rattle.ix_files.specs.Sought.{IsFileOf};
 ghost use Rattle.ix_commit.specs.Contents.{Anyhow};
 ghost use Rattle.ix_model.specs.Given.{Chooser};
 ghost use Rattle.ix_model.specs.declared.commands.TimedCommand.{TimedCommand};
-ghost use Rattle.ix_run.specs.Placed.{ReadsEnd};
 ghost use Rattle.ix_run.specs.Resting.{CheckpointReady, ReadsShort};
 ghost use Rattle.ix_run.specs.Running.{outset};
 ghost use Rattle.ix_store.specs.Holding.{Represents};
 ghost use Rattle.ix_pass.specs.Passing.{MayVisit};
+ghost use Rattle.indexd_run.specs.Blamed.{ReadsBad};
 ghost use Rattle.indexd_run.specs.Ends.{Ends};
 ghost use Rattle.indexd_run.specs.Shortened.{is_short};
 ghost use Rattle.indexd_run.specs.Stops.{loses_in, is_output};
@@ -65,7 +65,7 @@ fn make_pass<M: Listing + Drop, D: Disk, C: Clock, T: Tree>(
         (choose : Chooser) (history : List TimedCommand) (base : ℕ) → M.is_chooser choose →
         AllByRecursion M.takes history → Represents D.Disk M.Book.fits M.holds choose history base (length history) store.old disk.old →
         (image : Image) → D.Disk.seen disk.new ≡ Some image → ⊥ }
-    ensures placed { (file : File) (at : ℕ) → result ≡ Err (Stop.Damaged file at) → ReadsEnd D.Disk disk.new file at }
+    ensures placed { (file : File) (at : ℕ) → result ≡ Err (Stop.Damaged file at) → ReadsBad D.Disk disk.new file at }
     ensures told { Told Anyhow (D.Disk.seen disk.old) (D.Disk.seen disk.new) }
     ensures later { D.Disk.faults disk.old ≤ D.Disk.faults disk.new }
     ensures cause { IsErrOf result Stop.Disk → Rose (D.Disk.faults disk.old) (D.Disk.faults disk.new) }
@@ -111,7 +111,7 @@ pub(crate) fn monitor<M: Listing + Drop, D: Disk, C: Clock, T: Tree>(
         (choose : Chooser) (history : List TimedCommand) (base : ℕ) → M.is_chooser choose →
         AllByRecursion M.takes history → Represents D.Disk M.Book.fits M.holds choose history base (length history) store.old disk.old →
         (image : Image) → D.Disk.seen disk.new ≡ Some image → ⊥ }
-    ensures placed { (file : File) (at : ℕ) → result ≡ Err (Stop.Damaged file at) → ReadsEnd D.Disk disk.new file at }
+    ensures placed { (file : File) (at : ℕ) → result ≡ Err (Stop.Damaged file at) → ReadsBad D.Disk disk.new file at }
     ensures told { Told Anyhow (D.Disk.seen disk.old) (D.Disk.seen disk.new) }
     ensures later { D.Disk.faults disk.old ≤ D.Disk.faults disk.new }
     ensures cause { IsErrOf result Stop.Disk → Rose (D.Disk.faults disk.old) (D.Disk.faults disk.new) }

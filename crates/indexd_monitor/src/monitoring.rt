@@ -12,12 +12,11 @@ ghost use Rattle.ix_files.specs.Sought.{IsFileOf};
 ghost use Rattle.ix_commit.specs.Contents.{Anyhow};
 ghost use Rattle.ix_model.specs.Given.{Chooser};
 ghost use Rattle.ix_model.specs.declared.commands.TimedCommand.{TimedCommand};
-ghost use Rattle.ix_run.specs.Placed.{ReadsEnd};
 ghost use Rattle.ix_run.specs.Resting.{CheckpointReady, ReadsShort};
 ghost use Rattle.ix_run.specs.Running.{outset};
 ghost use Rattle.ix_store.specs.Holding.{Represents};
 ghost use Rattle.ix_pass.specs.Passing.{MayVisit};
-ghost use Rattle.indexd_run.specs.Blamed.{Blames, IsShown};
+ghost use Rattle.indexd_run.specs.Blamed.{Blames, ReadsBad};
 ghost use Rattle.indexd_run.specs.Ends.{Ends};
 ghost use Rattle.indexd_run.specs.Opened.{Begins, configuring, WhenOpen, HasRun, HasStopped, Past, course};
 ghost use Rattle.indexd_run.specs.Shortened.{is_short, EndsShort};
@@ -57,7 +56,7 @@ fn monitor_and_write<M: Listing + Drop, D: Disk, C: Clock, T: Tree, W: Sink>(
         (choose : Chooser) (history : List TimedCommand) (base : ℕ) → M.is_chooser choose →
         AllByRecursion M.takes history → Represents D.Disk M.Book.fits M.holds choose history base (length history) store.old disk.old →
         (image : Image) → D.Disk.seen disk.new ≡ Some image → ⊥ }
-    ensures placed { (file : File) (at : ℕ) → result ≡ Err (Stop.Damaged file at) → ReadsEnd D.Disk disk.new file at }
+    ensures placed { (file : File) (at : ℕ) → result ≡ Err (Stop.Damaged file at) → ReadsBad D.Disk disk.new file at }
     ensures told { Told Anyhow (D.Disk.seen disk.old) (D.Disk.seen disk.new) }
     ensures later { D.Disk.faults disk.old ≤ D.Disk.faults disk.new }
     ensures cause { IsErrOf result Stop.Disk → Rose (D.Disk.faults disk.old) (D.Disk.faults disk.new) }
@@ -118,8 +117,7 @@ pub fn run_monitor<M: Listing + Drop, D: Disk, C: Clock, T: Tree, W: Sink>(
     ensures sound { IsErrOf result Stop.Inconsistent → (past : Past) → M.is_chooser past.choose → AllByRecursion M.takes past.history →
         Begins D.Disk M.Book.fits past disk.old → (image : Image) → D.Disk.seen disk.old ≡ Some image → ⊥ }
     // Whatever the disk held, a stop blames what the mount or the mounted store has met.
-    ensures blamed { IfErr result (λ stop. Blames stop D.Disk M.Book.fits M.gives_none
-        (IsShown D.Disk M.Book.fits M.is_chooser M.takes M.holds M.shown disk.old) disk.old disk.new) }
+    ensures blamed { IfErr result (λ stop. Blames stop D.Disk M.Book.fits M.gives_none disk.old disk.new) }
     // Its log is not long then, as the disk reads, whatever it stops for; but where memory was
     // short, or the disk has failed or is not sound.
     ensures short { EndsShort D.Disk M.Book.fits result disk.old disk.new }

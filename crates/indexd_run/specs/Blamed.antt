@@ -1,6 +1,5 @@
 -- Why a run stops at damage, or for want of room, whatever the disk held at its start.
-use Rattle.std.specs.Prelude.{◌≡◌, ◌⊎◌, ℕ, List, ◌++◌, length, Some}
-use Rattle.std.specs.List.{AllByRecursion}
+use Rattle.std.specs.Prelude.{◌≡◌, ◌⊎◌, ℕ, List, length, Some}
 use Rattle.ix_base.specs.declared.files.File.{File}
 use Rattle.ix_disk.specs.Image.{Image, bytes_in}
 use Rattle.ix_disk.specs.declared.disk.Disk.{Ghosts}
@@ -8,11 +7,8 @@ use Rattle.ix_items.specs.declared.items.Item.{Item}
 use Rattle.ix_items.specs.declared.items.Kept.{Kept}
 use Rattle.ix_life.specs.declared.views.View.{View}
 use Rattle.ix_manifest.specs.Book.{NamedItems}
-use Rattle.ix_model.specs.Given.{Chooser}
-use Rattle.ix_model.specs.declared.commands.TimedCommand.{TimedCommand}
 use Rattle.ix_store.specs.Exporting.{HasBadBucket}
 use Rattle.ix_store.specs.Finding.{IsBadStore}
-use Rattle.ix_store.specs.Remembering.{SaysHistory}
 use Rattle.indexd_run.specs.Opened.{IsNewRun}
 use Rattle.indexd_run.specs.Shortened.{HasHadItsRuns, HasRunsLeft}
 use Rattle.indexd_run.specs.declared.stop.Stop.{Stop}
@@ -30,43 +26,25 @@ pub record HasMounted {D : Type 0} (d : Ghosts D) (fits : NamedItems → Type 0)
 abbrev pub IsBadStart : {D : Type 0} → Ghosts D → (NamedItems → Type 0) → (List Kept → Item → Type 0) → D → File → ℕ → Type 0
 IsBadStart d fits gives_none before file at = (image : Image) → d.seen before ≡ Some image → IsBadStore fits gives_none file at image
 
--- Whatever history the logs said the state of, as the disk read at the start: memory holds that
--- history, with commands behind it that were accepted since.
-abbrev pub Recalls : {D : Type 0} → Ghosts D → {M : Type 0} → (NamedItems → Type 0) → (Chooser → Type 0) → (TimedCommand → Type 0) →
-    (Chooser → List TimedCommand → M → Type 0) → D → M → Type 0
-Recalls d fits chooses takes holds before memory = (choose : Chooser) (history : List TimedCommand) (image : Image) → chooses choose →
-    AllByRecursion takes history → d.seen before ≡ Some image → SaysHistory fits choose history image →
-    (more : List TimedCommand) × AllByRecursion takes (history ++ more) × holds choose (history ++ more) memory
-
--- A memory that holds so much shows this.
-pub record IsShown {D : Type 0} (d : Ghosts D) {M : Type 0} (fits : NamedItems → Type 0) (chooses : Chooser →
-    Type 0) (takes : TimedCommand → Type 0)
-    (holds : Chooser → List TimedCommand → M → Type 0) (shows : M → View) (before : D) (shown : View) : Type 0 where
-  pub memory : M
-  pub is : shown ≡ shows memory
-  pub recalls : Recalls d fits chooses takes holds before memory
-
 -- As the disk reads, the file ends at the place, which a commit has met; or it is that of a bucket
--- that such a memory shows, of which no record ends behind the place within the bytes that count,
--- which an export has met.
-abbrev pub ReadsBad : {D : Type 0} → Ghosts D → (View → Type 0) → D → File → ℕ → Type 0
-ReadsBad d may_show disk file at = (image : Image) → d.seen disk ≡ Some image →
-    (at ≡ length (bytes_in image file)) ⊎ ((shown : View) × may_show shown × HasBadBucket shown image file at)
+-- that memory has shown, of which no record ends behind the place within the bytes that count, which
+-- an export has met.
+abbrev pub ReadsBad : {D : Type 0} → Ghosts D → D → File → ℕ → Type 0
+ReadsBad d disk file at = (image : Image) → d.seen disk ≡ Some image →
+    (at ≡ length (bytes_in image file)) ⊎ ((shown : View) × HasBadBucket shown image file at)
 
 -- What is behind a stop: damage is that of the start, or of a store that was mounted, as the disk
--- reads behind the run, and as memory may show the buckets; a store is full where it has had its
--- last run, or where one was mounted that refuses a command; and what is in memory contradicts
--- itself only once a store was mounted.
-abbrev pub Blames : Stop → {D : Type 0} → Ghosts D → (NamedItems → Type 0) → (List Kept → Item → Type 0) → (View → Type 0) → D → D →
-    Type 0
-Blames stops.Memory d fits gives_none may_show before disk = Unit {0}
-Blames stops.Disk d fits gives_none may_show before disk = Unit {0}
-Blames (stops.Damaged file at) d fits gives_none may_show before disk =
-    IsBadStart d fits gives_none before file at ⊎ (HasMounted d fits before × ReadsBad d may_show disk file at)
-Blames stops.Inconsistent d fits gives_none may_show before disk = HasMounted d fits before
-Blames stops.NotFound d fits gives_none may_show before disk = Unit {0}
-Blames stops.TooManyChannels d fits gives_none may_show before disk = Unit {0}
-Blames stops.Full d fits gives_none may_show before disk = HasHadItsRuns d fits before ⊎ HasMounted d fits before
-Blames stops.Output d fits gives_none may_show before disk = Unit {0}
-Blames stops.Input d fits gives_none may_show before disk = Unit {0}
-Blames stops.Endless d fits gives_none may_show before disk = Unit {0}
+-- reads behind the run; a store is full where it has had its last run, or where one was mounted
+-- that refuses a command; and what is in memory contradicts itself only once a store was mounted.
+abbrev pub Blames : Stop → {D : Type 0} → Ghosts D → (NamedItems → Type 0) → (List Kept → Item → Type 0) → D → D → Type 0
+Blames stops.Memory d fits gives_none before disk = Unit {0}
+Blames stops.Disk d fits gives_none before disk = Unit {0}
+Blames (stops.Damaged file at) d fits gives_none before disk =
+    IsBadStart d fits gives_none before file at ⊎ (HasMounted d fits before × ReadsBad d disk file at)
+Blames stops.Inconsistent d fits gives_none before disk = HasMounted d fits before
+Blames stops.NotFound d fits gives_none before disk = Unit {0}
+Blames stops.TooManyChannels d fits gives_none before disk = Unit {0}
+Blames stops.Full d fits gives_none before disk = HasHadItsRuns d fits before ⊎ HasMounted d fits before
+Blames stops.Output d fits gives_none before disk = Unit {0}
+Blames stops.Input d fits gives_none before disk = Unit {0}
+Blames stops.Endless d fits gives_none before disk = Unit {0}

@@ -14,7 +14,7 @@ ghost use Rattle.ix_run.specs.Resting.{CheckpointReady, ReadsShort};
 ghost use Rattle.ix_run.specs.Running.{outset};
 ghost use Rattle.ix_store.specs.Exporting.{is_seen};
 ghost use Rattle.ix_store.specs.Holding.{Represents};
-ghost use Rattle.ix_store.specs.Placing.{ReadsBad};
+ghost use Rattle.indexd_run.specs.Blamed.{ReadsBad};
 ghost use Rattle.indexd_run.specs.Ends.{Ends};
 ghost use Rattle.indexd_run.specs.Shortened.{is_short};
 ghost use Rattle.indexd_run.specs.Stops.{loses_in, is_input};
@@ -59,8 +59,7 @@ fn write_lines<M: StoreMemory + Drop, D: Disk, W: Sink>(
         (choose : Chooser) (history : List TimedCommand) (base : ℕ) → M.is_chooser choose →
         AllByRecursion M.takes history → Represents D.Disk M.Book.fits M.holds choose history base (length history) store.old disk.old →
         (image : Image) → D.Disk.seen disk.new ≡ Some image → ⊥ }
-    ensures placed { (file : File) (at : ℕ) → result ≡ Err (Stop.Damaged file at) →
-        ReadsBad D.Disk (M.shown store.old.memory) disk.new file at }
+    ensures placed { (file : File) (at : ℕ) → result ≡ Err (Stop.Damaged file at) → ReadsBad D.Disk disk.new file at }
     ensures same { D.Disk.seen disk.new ≡ D.Disk.seen disk.old }
     ensures later { D.Disk.faults disk.old ≤ D.Disk.faults disk.new }
     ensures cause { IsErrOf result Stop.Disk → Rose (D.Disk.faults disk.old) (D.Disk.faults disk.new) }
@@ -110,8 +109,7 @@ pub(crate) fn export<M: Listing + Drop, D: Disk, W: Sink>(
         (choose : Chooser) (history : List TimedCommand) (base : ℕ) → M.is_chooser choose →
         AllByRecursion M.takes history → Represents D.Disk M.Book.fits M.holds choose history base (length history) store.old disk.old →
         (image : Image) → D.Disk.seen disk.new ≡ Some image → ⊥ }
-    ensures placed { (file : File) (at : ℕ) → result ≡ Err (Stop.Damaged file at) →
-        ReadsBad D.Disk (M.shown store.old.memory) disk.new file at }
+    ensures placed { (file : File) (at : ℕ) → result ≡ Err (Stop.Damaged file at) → ReadsBad D.Disk disk.new file at }
     ensures short { is_short result ≡ true → ReadsShort D.Disk disk.new }
     ensures told { Told Anyhow (D.Disk.seen disk.old) (D.Disk.seen disk.new) }
     ensures later { D.Disk.faults disk.old ≤ D.Disk.faults disk.new }

@@ -36,7 +36,6 @@ pub fn make_short<M: Listing + Drop, D: Disk>(
         Represents D.Disk M.Book.fits M.holds choose history base (length history) store.old disk.old →
         Represents D.Disk M.Book.fits M.holds choose history base (length history) store.new disk.new }
     ensures run { store.new.run ≡ store.old.run }
-    ensures kept { store.new.memory ≡ store.old.memory }
     ensures short { OnOk result (ReadsShort D.Disk disk.new) }
     ensures faults { IfErr result IsOfCheckpoint }
     // A disk that tells what it reads goes on telling.

@@ -10,7 +10,7 @@ ghost use Rattle.ix_disk.specs.Image.{Image};
 ghost use Rattle.ix_commit.specs.Contents.{Anyhow};
 ghost use Rattle.ix_commit.specs.Snapshot.{LogsAtEnd};
 ghost use Rattle.ix_run.specs.Resting.{CheckpointReady};
-ghost use Rattle.indexd_run.specs.Blamed.{HasMounted, Blames, IsShown, Recalls};
+ghost use Rattle.indexd_run.specs.Blamed.{HasMounted, Blames};
 ghost use Rattle.indexd_run.specs.Opened.{Begins, configuring, HasOpened, HasShut, Past, course};
 ghost use Rattle.indexd_run.specs.Shortened.{StopsShort};
 ghost use Rattle.indexd_run.specs.Stops.{is_output, is_input};
@@ -50,11 +50,7 @@ pub fn open<M: Listing + Drop, D: Disk, C: Clock>(
     // Whatever the disk held: an open store was mounted, and a stop blames what the mount or the
     // mounted store has met.
     ensures mounted { OnOk result (HasMounted D.Disk M.Book.fits disk.old) }
-    ensures blamed { IfErr result (λ stop. Blames stop D.Disk M.Book.fits M.gives_none
-        (IsShown D.Disk M.Book.fits M.is_chooser M.takes M.holds M.shown disk.old) disk.old disk.new) }
-    // Where the logs said what a history leaves, memory holds that with the settings behind it,
-    // whatever the files of buckets hold.
-    ensures recalled { IfOk result (λ store. Recalls D.Disk M.Book.fits M.is_chooser M.takes M.holds disk.old store.memory) }
+    ensures blamed { IfErr result (λ stop. Blames stop D.Disk M.Book.fits M.gives_none disk.old disk.new) }
     ensures over { IfOk result (λ store. LogsAtEnd D.Disk store.committer disk.new) }
     // What the end of a run asks for, and what it leaves at a stop.
     ensures rest { IfOk result (λ store. CheckpointReady D.Disk store.committer disk.new) }

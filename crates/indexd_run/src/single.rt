@@ -10,11 +10,10 @@ ghost use Rattle.ix_commit.specs.Contents.{Anyhow};
 ghost use Rattle.ix_commit.specs.Snapshot.{LogsAtEnd};
 ghost use Rattle.ix_model.specs.Given.{Chooser};
 ghost use Rattle.ix_model.specs.declared.commands.TimedCommand.{TimedCommand};
-ghost use Rattle.ix_run.specs.Placed.{ReadsEnd};
 ghost use Rattle.ix_run.specs.Resting.{CheckpointReady};
 ghost use Rattle.ix_run.specs.Running.{outset};
 ghost use Rattle.ix_store.specs.Holding.{Represents, IsAnswer};
-ghost use Rattle.ix_store.specs.Remembering.{Remembers};
+ghost use Rattle.indexd_run.specs.Blamed.{ReadsBad};
 ghost use Rattle.indexd_run.specs.Ends.{IsLeft, Ends, Only, AtMost};
 ghost use Rattle.indexd_run.specs.Stops.{loses, loses_in, is_output, is_input, Caused};
 
@@ -55,9 +54,6 @@ pub fn run_last<M: Listing + Drop, D: Disk>(
         Caused choose store.old.drawn history (record { command = command; moment = moment }) stop) }
     ensures over { OnOk result (LogsAtEnd D.Disk store.new.committer disk.new) }
     ensures run { store.new.run ≡ store.old.run }
-    // Memory goes on holding what it held, with the command behind it where that is accepted,
-    // whatever stands on the disk.
-    ensures remembers { Remembers M.is_chooser M.takes M.holds store.old.memory store.new.memory }
     // What the end of a run asks for, unless the disk is at fault.
     ensures rest { loses_in result ≡ false → CheckpointReady D.Disk store.old.committer disk.old →
         CheckpointReady D.Disk store.new.committer disk.new }
@@ -66,8 +62,8 @@ pub fn run_last<M: Listing + Drop, D: Disk>(
         (choose : Chooser) (history : List TimedCommand) (base : ℕ) → M.is_chooser choose →
         AllByRecursion M.takes history → Represents D.Disk M.Book.fits M.holds choose history base (length history) store.old disk.old →
         (image : Image) → D.Disk.seen disk.new ≡ Some image → ⊥ }
-    // Damage is where the named file ends, as the disk reads, whatever was committed.
-    ensures placed { (file : File) (at : ℕ) → result ≡ Err (Stop.Damaged file at) → ReadsEnd D.Disk disk.new file at }
+    // Damage is named as the disk reads, whatever was committed.
+    ensures placed { (file : File) (at : ℕ) → result ≡ Err (Stop.Damaged file at) → ReadsBad D.Disk disk.new file at }
     // A disk that tells what it reads goes on telling.
     ensures told { Told Anyhow (D.Disk.seen disk.old) (D.Disk.seen disk.new) }
     ensures later { D.Disk.faults disk.old ≤ D.Disk.faults disk.new }

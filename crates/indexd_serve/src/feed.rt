@@ -16,8 +16,7 @@ ghost use Rattle.ix_serve.specs.Serving.{IsClean, IsTold};
 ghost use Rattle.ix_serve.specs.Taking.{TakesAsks};
 ghost use Rattle.ix_store.specs.Holding.{Represents};
 ghost use Rattle.ix_store.specs.Placing as places;
-ghost use Rattle.ix_store.specs.Remembering.{Remembers};
-ghost use Rattle.indexd_run.specs.Blamed.{HasMounted, Blames, IsShown, ReadsBad};
+ghost use Rattle.indexd_run.specs.Blamed.{HasMounted, Blames, ReadsBad};
 ghost use Rattle.indexd_run.specs.Opened.{Begins, configuring, HasShut, Past, course};
 ghost use Rattle.indexd_run.specs.Shortened.{StopsShort};
 ghost use Rattle.indexd_run.specs.Stops.{is_output, is_input};
@@ -62,9 +61,6 @@ fn feed_open<M: Listing + Drop, D: Disk, C: Clock, K: Link>(
         (image : Image) → D.Disk.seen disk.old ≡ Some image → ⊥ }
     ensures placed { (file : File) (at : ℕ) → result ≡ Fed.Broken (CommitFault.Damaged file at) →
         places.ReadsBad D.Disk (M.shown store.new.memory) disk.new file at }
-    // Memory goes on holding what it held, with accepted commands behind it, whatever the files of
-    // buckets hold.
-    ensures remembers { Remembers M.is_chooser M.takes M.holds store.old.memory store.new.memory }
     ensures short { ends.is_short result ≡ true → ReadsShort D.Disk disk.new }
     ensures goes { LinkStep (K.standing link.old) (K.standing link.new) }
     ensures told { IsTold D.Disk disk.old → IsTold D.Disk disk.new }
@@ -116,12 +112,9 @@ pub fn run_feed<M: Listing + Drop, D: Disk, C: Clock, K: Link>(
     // Whatever the disk held: requests are served over a store that was mounted, and a stop before
     // them blames what the mount or the mounted store has met.
     ensures mounted { OnOk result (HasMounted D.Disk M.Book.fits disk.old) }
-    ensures blamed { IfErr result (λ stop. Blames stop D.Disk M.Book.fits M.gives_none
-        (IsShown D.Disk M.Book.fits M.is_chooser M.takes M.holds M.shown disk.old) disk.old disk.new) }
-    // Damage that ends the requests is named as the disk reads, and as what memory holds shows its
-    // buckets: what was mounted, with the commands that were accepted.
-    ensures placed { (file : File) (at : ℕ) → result ≡ Ok (Fed.Broken (CommitFault.Damaged file at)) →
-        ReadsBad D.Disk (IsShown D.Disk M.Book.fits M.is_chooser M.takes M.holds M.shown disk.old) disk.new file at }
+    ensures blamed { IfErr result (λ stop. Blames stop D.Disk M.Book.fits M.gives_none disk.old disk.new) }
+    // Damage that ends the requests is named as the disk reads.
+    ensures placed { (file : File) (at : ℕ) → result ≡ Ok (Fed.Broken (CommitFault.Damaged file at)) → ReadsBad D.Disk disk.new file at }
     // What is on the disk is not damaged where it keeps what was committed and tells what it reads,
     ensures undamaged { (file : File) (at : ℕ) → result ≡ Err (Stop.Damaged file at) → (past : Past) → M.is_chooser past.choose →
         AllByRecursion M.takes past.history → Begins D.Disk M.Book.fits past disk.old → (image : Image) →

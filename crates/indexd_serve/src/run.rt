@@ -10,7 +10,7 @@ ghost use Rattle.ix_sessions.specs.Reading.{ReadsTo};
 ghost use Rattle.ix_run.specs.Resting.{ReadsShort};
 ghost use Rattle.ix_serve.specs.Serving.{IsTold};
 ghost use Rattle.ix_serve.specs.Taking.{TakesAsks};
-ghost use Rattle.indexd_run.specs.Blamed.{HasMounted, Blames, IsShown, ReadsBad};
+ghost use Rattle.indexd_run.specs.Blamed.{HasMounted, Blames, ReadsBad};
 ghost use Rattle.indexd_run.specs.Opened.{Begins, configuring, HasShut, Past, course};
 ghost use Rattle.indexd_run.specs.Shortened.{StopsShort};
 ghost use Rattle.indexd_run.specs.Stops.{is_output, is_input};
@@ -68,12 +68,9 @@ pub fn run_streams<M: Listing + Drop, D: Disk, C: Clock, S: Source, W: Sink>(
     // Whatever the disk held: requests are served over a store that was mounted, and a stop before
     // them blames what the mount or the mounted store has met.
     ensures mounted { OnOk result (HasMounted D.Disk M.Book.fits disk.old) }
-    ensures blamed { IfErr result (λ stop. Blames stop D.Disk M.Book.fits M.gives_none
-        (IsShown D.Disk M.Book.fits M.is_chooser M.takes M.holds M.shown disk.old) disk.old disk.new) }
-    // Damage that ends the requests is named as the disk reads, and as what memory holds shows its
-    // buckets: what was mounted, with the commands that were accepted.
-    ensures placed { (file : File) (at : ℕ) → result ≡ Ok (End.Damaged file at) →
-        ReadsBad D.Disk (IsShown D.Disk M.Book.fits M.is_chooser M.takes M.holds M.shown disk.old) disk.new file at }
+    ensures blamed { IfErr result (λ stop. Blames stop D.Disk M.Book.fits M.gives_none disk.old disk.new) }
+    // Damage that ends the requests is named as the disk reads.
+    ensures placed { (file : File) (at : ℕ) → result ≡ Ok (End.Damaged file at) → ReadsBad D.Disk disk.new file at }
     // What is on the disk is not damaged where it keeps what was committed and tells what it reads,
     ensures undamaged { (file : File) (at : ℕ) → result ≡ Err (Stop.Damaged file at) → (past : Past) → M.is_chooser past.choose →
         AllByRecursion M.takes past.history → Begins D.Disk M.Book.fits past disk.old → (image : Image) →

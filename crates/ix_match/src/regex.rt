@@ -13,18 +13,13 @@ use std::marker::Model;
 /// A pattern that many texts are searched for. It is written out once, and what is known of the
 /// front of its matches is worked out once. Contracts see the pattern.
 pub struct Regex {
-    alloc: Global,
-    /// It stands in a place of its own, so that a search is handed on with few bytes.
-    prepared: Box<CompiledPattern>,
+    prepared: CompiledPattern,
 }
 
 /// It is written out, so that each place where one is let go is a call of it, which is proved once.
 impl Drop for Regex {
     fn drop(self) {
-        let Regex {
-            alloc: _,
-            prepared: _,
-        } = self;
+        let Regex { prepared: _ } = self;
     }
 }
 
@@ -34,9 +29,9 @@ impl Model for Regex {
 
     ghost Value = { Shape };
 
-    ghost view = { λ f. f.prepared.value.pattern };
+    ghost view = { λ f. f.prepared.pattern };
 
-    ghost invariant = { λ f. IsPrepared f.prepared.value };
+    ghost invariant = { λ f. IsPrepared f.prepared };
 }
 
 impl Regex {
@@ -45,11 +40,7 @@ impl Regex {
         ensures { IfOk result (λ finder. finder ≡ pattern) }
     {
         let prepared = CompiledPattern::of(alloc, pattern)?;
-        let place = Box::new(alloc, prepared)?;
-        Ok(Regex {
-            alloc,
-            prepared: place,
-        })
+        Ok(Regex { prepared })
     }
 
     /// The first match of the pattern in a whole text that begins at the place `from` or later; of
@@ -76,10 +67,6 @@ impl Regex {
         ensures { IfOk result (λ copy. copy ≡ self.now) }
     {
         let prepared = self.prepared.copy()?;
-        let place = Box::new(self.alloc, prepared)?;
-        Ok(Regex {
-            alloc: self.alloc,
-            prepared: place,
-        })
+        Ok(Regex { prepared })
     }
 }

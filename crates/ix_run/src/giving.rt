@@ -15,7 +15,6 @@ ghost use Rattle.ix_run.specs.Placed.{ReadsEnd};
 ghost use Rattle.ix_run.specs.Resting.{CheckpointReady};
 ghost use Rattle.ix_run.specs.Running.{AlwaysRecoverable, HasSettled, IsGiven, IsNotGiven, outset};
 ghost use Rattle.ix_store.specs.Holding.{Represents, IsUnchanged};
-ghost use Rattle.ix_store.specs.Remembering.{Remembers};
 
 use crate::shortening::shorten;
 use ix_commit::CommitFault;
@@ -55,7 +54,6 @@ fn commit_due<M: Listing + Drop, D: Disk>(
         OnOk result (KnowsLogLength D.Disk store.new.committer disk.new) }
     ensures closed { OnErr result (store.new.committer.closed ≡ true) }
     ensures run { store.new.run ≡ store.old.run }
-    ensures memory { store.new.memory ≡ store.old.memory }
     ensures undamaged { (file : File) (at : ℕ) → result ≡ Err (CommitFault.Damaged file at) →
         (choose : Chooser) (history : List TimedCommand) (base k : ℕ) →
         Represents D.Disk M.Book.fits M.holds choose history base k store.old disk.old → (image : Image) →
@@ -108,10 +106,8 @@ pub fn give<M: Listing + Drop, D: Disk>(
         LogsAtEnd D.Disk store.new.committer disk.new) }
     ensures unchanged { IfErr result (λ fault. (refusal : Refused) → fault ≡ GiveFault.Refused refusal → IsUnchanged store.old store.new
         × (disk.new ≡ disk.old)) }
-    // The run goes on, memory goes on holding what it held, with the command behind it where that is
-    // accepted, whatever stands on the disk, and the committer goes on to know how long its log is.
+    // The run goes on, and the committer goes on to know how long its log is.
     ensures run { store.new.run ≡ store.old.run }
-    ensures remembers { Remembers M.is_chooser M.takes M.holds store.old.memory store.new.memory }
     ensures measured { KnowsLogLength D.Disk store.old.committer disk.old →
         OnOk result (KnowsLogLength D.Disk store.new.committer disk.new) }
     // A disk that keeps what was committed is not damaged.
@@ -152,7 +148,6 @@ pub fn commit_all<M: StoreMemory + Drop, D: Disk>(
         AlwaysRecoverable D.Disk M.Book.fits store.old.run choose history k disk.old disk.new }
     ensures over { OnOk result (LogsAtEnd D.Disk store.new.committer disk.new) }
     ensures run { store.new.run ≡ store.old.run }
-    ensures memory { store.new.memory ≡ store.old.memory }
     // What `shorten` asks for.
     ensures rest { KnowsLogLength D.Disk store.old.committer disk.old → OnOk result (CheckpointReady D.Disk store.new.committer disk.new) }
     // A disk that keeps what was committed is not damaged.

@@ -47,8 +47,6 @@ pub fn shorten<M: Listing + Drop, D: Disk>(
         × ((store.new ≡ store.old) × (disk.new ≡ disk.old)) }
     ensures memory { IsErrOf result CheckpointFault.NoMemory → store.new ≡ store.old }
     ensures run { store.new.run ≡ store.old.run }
-    // What is in memory stays.
-    ensures kept { store.new.memory ≡ store.old.memory }
     ensures closed { IsErrOf result CheckpointFault.Disk → store.new.committer.closed ≡ true }
     // A disk that tells what it reads goes on telling.
     ensures told { Told Anyhow (D.Disk.seen disk.old) (D.Disk.seen disk.new) }

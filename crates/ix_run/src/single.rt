@@ -17,7 +17,6 @@ ghost use Rattle.ix_run.specs.Placed.{ReadsEnd};
 ghost use Rattle.ix_run.specs.Resting.{CheckpointReady};
 ghost use Rattle.ix_run.specs.Running.{IsNotGiven, outset};
 ghost use Rattle.ix_store.specs.Holding.{Represents, IsUnchanged};
-ghost use Rattle.ix_store.specs.Remembering.{Remembers};
 
 use crate::giving::{GiveFault, commit_all, give};
 use ix_commit::CommitFault;
@@ -47,9 +46,6 @@ pub fn give_last<M: Listing + Drop, D: Disk>(
         (record { command = command; moment = moment }) store.old.drawn fault store.new disk.new) }
     ensures over { OnOk result (LogsAtEnd D.Disk store.new.committer disk.new) }
     ensures run { store.new.run ≡ store.old.run }
-    // Memory goes on holding what it held, with the command behind it where that is accepted,
-    // whatever stands on the disk.
-    ensures remembers { Remembers M.is_chooser M.takes M.holds store.old.memory store.new.memory }
     // What `shorten` asks for. A refused command leaves all as it was.
     ensures rest { KnowsLogLength D.Disk store.old.committer disk.old → OnOk result (CheckpointReady D.Disk store.new.committer disk.new) }
     ensures unchanged { IfErr result (λ fault. (refusal : Refused) → fault ≡ GiveFault.Refused refusal → IsUnchanged store.old store.new

@@ -56,7 +56,7 @@ returns g c = record {
       c.open.ensures.later (by_disk _ (c.stop_run.ensures.cause is));
   undamaged = λ is. absurd (by_end (λ (s : Stop). status_of s ≡ statuses.Damaged →
       ⊥) stops.NotFound c.stop_run.result (λ e. cc) (λ e. cc) (λ e. cc) c.stop_run.ensures.why is);
-  blamed = once_mounted g.D.Disk _ GivesNone _ c.args.disk.now c.stop_run.new.disk c.stop_run.result c.in-Ok.ensures.mounted
+  blamed = once_mounted g.D.Disk _ GivesNone c.args.disk.now c.stop_run.new.disk c.stop_run.result c.in-Ok.ensures.mounted
       (λ file at is. absurd (missed_sound file at (damaged_stop stops.NotFound c.stop_run.result file at c.stop_run.ensures.why is)));
   quiet = by_end (λ (s : Stop). is_output s ≡ false) stops.NotFound c.stop_run.result refl refl refl c.stop_run.ensures.why;
   unread = by_end (λ (s : Stop). is_input s ≡ false) stops.NotFound c.stop_run.result refl refl refl c.stop_run.ensures.why;

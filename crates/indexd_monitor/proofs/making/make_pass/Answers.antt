@@ -1,4 +1,4 @@
-use Rattle.std.proofs.Common.{◌≡◌, ◌∙◌, List, refl, sym, ap, subst}
+use Rattle.std.proofs.Common.{◌≡◌, ◌∙◌, List, refl, sym, ap, subst, inl}
 use Rattle.std.specs.List.{AllByRecursion}
 use Rattle.std.specs.Prelude.{Err, IfSome}
 use Rattle.ix_monitor.specs.declared.watched.Watched.{Watched}
@@ -99,9 +99,10 @@ returns-clause-undamaged g c = λ file at is choose h base chooser taken hold.
     ∙ ap (λ (f : PassFault). Err f) (damaged_pass c.in-Err-pass.fault file at stop)) choose h base _ chooser taken hold
 
 pub returns-clause-placed : goal.returns-clause-placed
-returns-clause-placed g c = λ file at is.
+returns-clause-placed g c = λ file at is image seen.
     let stop : of_pass c.in-Err-pass.fault ≡ stops.Damaged file at = cc (is, c.of_pass.ensures) in
-    c.pass.ensures.placed file at (c.in-Err-pass.is ∙ ap (λ (f : PassFault). Err f) (damaged_pass c.in-Err-pass.fault file at stop))
+    inl (c.pass.ensures.placed file at (c.in-Err-pass.is
+    ∙ ap (λ (f : PassFault). Err f) (damaged_pass c.in-Err-pass.fault file at stop)) image seen)
 
 pub returns-clause-cause : goal.returns-clause-cause
 returns-clause-cause g c = λ is.

@@ -1,12 +1,11 @@
 use Rattle.std.proofs.Common.{◌≡◌, ◌∙◌, Bool, sym, true, false, take, refl, ap, subst, inl, inr, true≢false}
 use Rattle.std.specs.Prelude.{Result, Err}
 use Rattle.ix_run.specs.Giving.{given_all}
-use Rattle.indexd_run.specs.Blamed.{IsShown}
 use Rattle.indexd_run.specs.Opened.{is_configured, WhenOpen, HasRun, course}
 use Rattle.indexd_run.specs.Stops.{loses_in, is_output, is_input}
 use Rattle.indexd_run.specs.declared.stop.Stop.{Stop}
 use Rattle.indexd_run.specs.declared.stop.Stop.TheVariants as stops
-use Rattle.indexd_run.proofs.Blaming.{once_mounted, ends_there}
+use Rattle.indexd_run.proofs.Blaming.{once_mounted}
 use Rattle.indexd_run.proofs.Joining.{front_has, begun_taken, shut_sound}
 use Rattle.indexd_run.proofs.Shortening.{ends_as}
 use Rattle.indexd_run.proofs.Undamaged.{seen_on}
@@ -107,11 +106,8 @@ returns-clause-short g c = ends_as g.D.Disk _ c.monitor_and_write.result c.args.
 
 pub returns-clause-blamed : goal.returns-clause-blamed
 returns-clause-blamed g c = if_err_by c.monitor_and_write.result _ (λ stop is.
-    let may_show = IsShown g.D.Disk g.M.Book.ManifestState.fits g.M.StoreMemory.is_chooser g.M.StoreMemory.takes g.M.StoreMemory.holds
-    g.M.StoreMemory.shown c.args.disk.now in
-    once_mounted g.D.Disk _ g.M.StoreMemory.gives_none may_show c.args.disk.now c.monitor_and_write.new.disk stop c.in-Ok.ensures.mounted
-    (λ file at damaged. ends_there g.D.Disk may_show c.monitor_and_write.new.disk file at
-    (c.monitor_and_write.ensures.placed file at (is ∙ ap (λ (s : Stop). Err s) damaged))))
+    once_mounted g.D.Disk _ g.M.StoreMemory.gives_none c.args.disk.now c.monitor_and_write.new.disk stop c.in-Ok.ensures.mounted
+    (λ file at damaged. c.monitor_and_write.ensures.placed file at (is ∙ ap (λ (s : Stop). Err s) damaged)))
 
 pub returns-in-Err-clause-input : goal.returns-in-Err-clause-input
 returns-in-Err-clause-input g c = λ is. absurd (not_said is_input c.in-Err.stop stops.Input refl c.in-Err.ensures.unread (same_stop is))

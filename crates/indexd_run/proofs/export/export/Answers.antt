@@ -2,7 +2,6 @@ use Rattle.std.proofs.Common.{length, true, ◌≡◌, ◌∙◌, ℕ, [], List,
 use Rattle.ix_model.specs.declared.commands.TimedCommand.{TimedCommand}
 use Rattle.ix_run.specs.Running.{outset}
 use Rattle.ix_run.proofs.Stored.{all_taken}
-use Rattle.ix_store.specs.Placing.{ReadsBad}
 use Rattle.indexd_run.specs.Ends.{Ends}
 use Rattle.indexd_run.specs.Stops.{loses, loses_in}
 use Rattle.indexd_run.proofs.Shortening.{ends_short, short_stood, ends_behind, gave_taken}
@@ -61,6 +60,4 @@ returns-in-Err-clause-ends g c = λ choose h base chooser taken hold.
     (λ (orders : List TimedCommand). orders ≡ []) refl hold)
 
 pub returns-in-Ok-clause-placed : goal.returns-in-Ok-clause-placed
-returns-in-Ok-clause-placed g c = λ file at is.
-    subst (λ (memory : _). ReadsBad g.D.Disk (g.M.StoreMemory.shown memory) c.write_lines.new.disk file at) c.make_short.ensures.kept
-    (c.write_lines.ensures.placed file at is)
+returns-in-Ok-clause-placed g c = c.write_lines.ensures.placed

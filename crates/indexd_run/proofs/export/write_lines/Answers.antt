@@ -60,4 +60,4 @@ returns-in-Err-clause-placed g c = λ file at is image seen.
     let fault = damaged_of_export c.in-Err.fault file at stop in
     let was : c.export.result ≡ Err (exports.Damaged file at) = cc (fault, c.in-Err.is) in
     let bad = c.export.ensures.bad file at was image (sym c.export.ensures.same ∙ seen) in
-    inr (c.as_bytes.result.now, bad)
+    inr (g.M.StoreMemory.shown c.args.store.now.memory, (c.as_bytes.result.now, bad))

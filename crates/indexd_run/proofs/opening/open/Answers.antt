@@ -5,16 +5,15 @@ use mir.Val.{SFits}
 use Rattle.ix_commit.proofs.Reading.{anyhow_through}
 use Rattle.ix_store.specs.declared.fault.MountFault.{MountFault}
 use Rattle.ix_store.specs.declared.fault.MountFault.TheVariants as mounts
-use Rattle.ix_store.proofs.Recalling.{remembers_same}
 use Rattle.ix_run.proofs.Stored.{all_taken}
-use Rattle.indexd_run.specs.Blamed.{Blames, IsShown}
+use Rattle.indexd_run.specs.Blamed.{Blames}
 use Rattle.indexd_run.specs.Ends.{AtMost, same_kept}
 use Rattle.indexd_run.specs.Opened.{configuring, IsUnset}
 use Rattle.indexd_run.specs.Stops.{of_mount, loses, is_output, is_input}
 use Rattle.indexd_run.specs.Shortened.{is_short_at}
 use Rattle.indexd_run.specs.declared.stop.Stop.{Stop}
 use Rattle.indexd_run.specs.declared.stop.Stop.TheVariants as stops
-use Rattle.indexd_run.proofs.Blaming.{not_mounted, once_mounted, damaged_stop, place_still, ends_there, recalls_since}
+use Rattle.indexd_run.proofs.Blaming.{not_mounted, once_mounted, damaged_stop, place_still}
 use Rattle.indexd_run.proofs.Ending.{not_err, same_stop, unset, consistent_mount, full_of_mount, disk_of_mount, quiet_mount, unread_mount}
 use Rattle.indexd_run.proofs.Ending.{short_mount}
 use Rattle.indexd_run.proofs.Joining.{front_has, committed, configured_as, opened_same, opened_by, stopped_by}
@@ -40,9 +39,6 @@ returns-then-same_kept g c = record {
   undamaged = λ file at is. absurd (not_err is);
   mounted = record { run = c.in-Ok.store.run; number = c.in-Ok.ensures.number; runs_left = c.in-Ok.ensures.begun };
   blamed = tt;
-  recalled = recalls_since g.D.Disk g.M.Book.ManifestState.fits g.M.StoreMemory.is_chooser g.M.StoreMemory.takes g.M.StoreMemory.holds
-      c.args.disk.now c.in-Ok.store.memory c.in-Ok.store.memory c.in-Ok.ensures.recalled
-      (remembers_same g.M.StoreMemory.is_chooser g.M.StoreMemory.takes g.M.StoreMemory.holds c.in-Ok.store.memory c.in-Ok.store.memory refl);
   over = c.in-Ok.ensures.over;
   rest = record { over = c.in-Ok.ensures.over; idle = c.in-Ok.ensures.idle; measured = c.in-Ok.ensures.measured };
   short = tt;
@@ -76,9 +72,6 @@ returns-in-Ok-run_last g c = record {
   undamaged = λ file at is. absurd (not_err is);
   mounted = record { run = c.in-Ok.store.run; number = c.in-Ok.ensures.number; runs_left = c.in-Ok.ensures.begun };
   blamed = tt;
-  recalled = recalls_since g.D.Disk g.M.Book.ManifestState.fits g.M.StoreMemory.is_chooser g.M.StoreMemory.takes g.M.StoreMemory.holds
-      c.args.disk.now c.in-Ok.store.memory c.run_last.new.store.memory c.in-Ok.ensures.recalled
-      c.run_last.ensures.remembers;
   over = c.in-Ok-run_last.ensures.over;
   rest = c.in-Ok-run_last.ensures.rest refl (record {
     over = c.in-Ok.ensures.over;
@@ -147,17 +140,12 @@ returns-in-Err-run_last g c = record {
       ∙ ap (λ (s : Stop). Err s) blamed) past.choose (take found.count past.history) found.count chooser
       (front_has g.M.StoreMemory.takes found.count past.history taken) all later.0 later.1;
   mounted = tt;
-  recalled = tt;
-  blamed = once_mounted g.D.Disk g.M.Book.ManifestState.fits g.M.StoreMemory.gives_none
-      (IsShown g.D.Disk g.M.Book.ManifestState.fits g.M.StoreMemory.is_chooser g.M.StoreMemory.takes g.M.StoreMemory.holds
-      g.M.StoreMemory.shown c.args.disk.now) c.args.disk.now c.stop_run.new.disk
+  blamed = once_mounted g.D.Disk g.M.Book.ManifestState.fits g.M.StoreMemory.gives_none c.args.disk.now c.stop_run.new.disk
       c.stop_run.result (record { run = c.in-Ok.store.run; number = c.in-Ok.ensures.number; runs_left = c.in-Ok.ensures.begun })
       (λ file at is.
       let blamed = damaged_stop c.in-Err-run_last.stop c.stop_run.result file at c.stop_run.ensures.why is in
-      ends_there g.D.Disk (IsShown g.D.Disk g.M.Book.ManifestState.fits g.M.StoreMemory.is_chooser g.M.StoreMemory.takes
-      g.M.StoreMemory.holds g.M.StoreMemory.shown c.args.disk.now) c.stop_run.new.disk file at
-      (place_still g.D.Disk c.run_last.new.disk c.stop_run.new.disk file at (c.stop_run.ensures.closed (ap loses blamed)).1.1
-      (c.run_last.ensures.placed file at (c.in-Err-run_last.is ∙ ap (λ (s : Stop). Err s) blamed))));
+      place_still g.D.Disk c.run_last.new.disk c.stop_run.new.disk file at (c.stop_run.ensures.closed (ap loses blamed)).1.1
+      (c.run_last.ensures.placed file at (c.in-Err-run_last.is ∙ ap (λ (s : Stop). Err s) blamed)));
   over = tt;
   rest = tt;
   short = λ ok. inl (c.stop_run.ensures.short ok);
@@ -200,14 +188,9 @@ returns-in-Err g c = record {
       let was : c.mount.result ≡ Err (mounts.Damaged file at) = c.in-Err.is ∙ ap (λ (f : MountFault). Err f) fault in
       c.mount.ensures.undamaged file at was past.choose past.history past.run past.least chooser taken begins image seen;
   mounted = tt;
-  recalled = tt;
-  blamed = subst (λ (stop : Stop). Blames stop g.D.Disk g.M.Book.ManifestState.fits g.M.StoreMemory.gives_none
-      (IsShown g.D.Disk g.M.Book.ManifestState.fits g.M.StoreMemory.is_chooser g.M.StoreMemory.takes g.M.StoreMemory.holds
-      g.M.StoreMemory.shown c.args.disk.now) c.args.disk.now
+  blamed = subst (λ (stop : Stop). Blames stop g.D.Disk g.M.Book.ManifestState.fits g.M.StoreMemory.gives_none c.args.disk.now
       c.mount.new.disk) (sym c.of_mount.ensures)
-      (not_mounted g.D.Disk g.M.Book.ManifestState.fits g.M.StoreMemory.gives_none
-      (IsShown g.D.Disk g.M.Book.ManifestState.fits g.M.StoreMemory.is_chooser g.M.StoreMemory.takes g.M.StoreMemory.holds
-      g.M.StoreMemory.shown c.args.disk.now) c.args.disk.now c.mount.new.disk c.in-Err.fault
+      (not_mounted g.D.Disk g.M.Book.ManifestState.fits g.M.StoreMemory.gives_none c.args.disk.now c.mount.new.disk c.in-Err.fault
       (λ file at is. c.mount.ensures.damaged file at (c.in-Err.is ∙ ap (λ (f : MountFault). Err f) is))
       (λ is. c.in-Err.ensures.full (ap (λ (f : MountFault). Err f) is)));
   over = tt;

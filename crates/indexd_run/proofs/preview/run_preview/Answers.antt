@@ -3,7 +3,6 @@ use Rattle.std.specs.Prelude.{Err}
 use Rattle.std.proofs.lemmas.Int.{to_z-of_z}
 use mir.Val.{SFits}
 use Rattle.ix_run.specs.Giving.{given_all}
-use Rattle.indexd_run.specs.Blamed.{IsShown}
 use Rattle.indexd_run.specs.Opened.{is_configured, WhenOpen, HasRun, course}
 use Rattle.std.specs.List.{AllByRecursion}
 use Rattle.indexd_run.specs.Previews.{Fed, HasFed}
@@ -13,7 +12,7 @@ use Rattle.indexd_run.specs.declared.stop.Stop.TheVariants as stops
 use Rattle.indexd_run.proofs.Feeding.{none_taken, fed_sound}
 use Rattle.ix_run.proofs.Stored.{all_taken}
 use Rattle.indexd_run.proofs.Shortening.{fed_taken}
-use Rattle.indexd_run.proofs.Blaming.{once_mounted, ends_there}
+use Rattle.indexd_run.proofs.Blaming.{once_mounted}
 use Rattle.indexd_run.proofs.Joining.{front_has, begun_taken, fed_when, shut_sound}
 use Rattle.indexd_run.proofs.Shortening.{ends_as}
 use Rattle.indexd_run.proofs.Undamaged.{seen_on}
@@ -137,8 +136,5 @@ returns-clause-short g c = ends_as g.D.Disk _ c.store_preview.result c.args.disk
 
 pub returns-clause-blamed : goal.returns-clause-blamed
 returns-clause-blamed g c = if_err_by c.store_preview.result _ (λ stop is.
-    let may_show = IsShown g.D.Disk g.M.Book.ManifestState.fits g.M.StoreMemory.is_chooser g.M.StoreMemory.takes g.M.StoreMemory.holds
-    g.M.StoreMemory.shown c.args.disk.now in
-    once_mounted g.D.Disk _ g.M.StoreMemory.gives_none may_show c.args.disk.now c.store_preview.new.disk stop c.in-Ok.ensures.mounted
-    (λ file at damaged. ends_there g.D.Disk may_show c.store_preview.new.disk file at
-    (c.store_preview.ensures.placed file at (is ∙ ap (λ (s : Stop). Err s) damaged))))
+    once_mounted g.D.Disk _ g.M.StoreMemory.gives_none c.args.disk.now c.store_preview.new.disk stop c.in-Ok.ensures.mounted
+    (λ file at damaged. c.store_preview.ensures.placed file at (is ∙ ap (λ (s : Stop). Err s) damaged)))

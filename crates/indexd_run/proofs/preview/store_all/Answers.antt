@@ -1,4 +1,4 @@
-use Rattle.std.proofs.Common.{◌≡◌, length, refl, ap, ◌∙◌}
+use Rattle.std.proofs.Common.{◌≡◌, length, refl, ap, ◌∙◌, inl}
 use Rattle.std.specs.Prelude.{Err}
 use Rattle.ix_commit.specs.declared.fault.CommitFault.TheVariants as commits
 use Rattle.ix_run.specs.Storing.{joined}
@@ -87,8 +87,8 @@ returns-in-Err-clause-cause g c = λ is.
     c.store_input.ensures.cause (c.in-Err.is ∙ ap (λ (f : RunFault). Err f) (disk_of_run c.in-Err.fault stop))
 
 pub returns-in-Err-clause-placed : goal.returns-in-Err-clause-placed
-returns-in-Err-clause-placed g c = λ file at is.
+returns-in-Err-clause-placed g c = λ file at is image seen.
     let stop : of_run c.in-Err.fault ≡ stops.Damaged file at = cc (is, c.of_run.ensures) in
     let fault = damaged_of_run c.in-Err.fault file at stop in
     let was : c.store_input.result ≡ Err (runs.Given (Commit (commits.Damaged file at))) = cc (fault, c.in-Err.is) in
-    c.store_input.ensures.placed file at was
+    inl (c.store_input.ensures.placed file at was image seen)

@@ -1,4 +1,4 @@
-use Rattle.std.proofs.Common.{rules, ◌≡◌, ℤ, List, [], false, sym, ap, ◌∙◌, subst, inl, w64, to_z, of_z}
+use Rattle.std.proofs.Common.{rules, ◌≡◌, ℤ, List, [], false, sym, ap, ◌∙◌, subst, w64, to_z, of_z}
 use Rattle.std.proofs.lemmas.Int.{to_z-of_z}
 use mir.Val.{SFits}
 use Rattle.ix_base.specs.Told.{HasWritten, HasBegun}
@@ -81,7 +81,7 @@ returns-in_default g c =
       short = c.give_and_say.ensures.short;
       unread = c.give_and_say.ensures.unread;
       undamaged = c.give_and_say.ensures.undamaged;
-      placed = λ file at is image seen. inl (c.give_and_say.ensures.placed file at is image seen);
+      placed = c.give_and_say.ensures.placed;
       told = c.give_and_say.ensures.told;
       later = c.give_and_say.ensures.later;
       cause = c.give_and_say.ensures.cause;

@@ -3,11 +3,10 @@ use Rattle.std.specs.Prelude.{Err}
 use Rattle.std.proofs.lemmas.Int.{to_z-of_z}
 use mir.Val.{SFits}
 use Rattle.ix_run.specs.Giving.{given_all}
-use Rattle.indexd_run.specs.Blamed.{IsShown}
 use Rattle.indexd_run.specs.Opened.{is_configured, course}
 use Rattle.indexd_run.specs.declared.stop.Stop.{Stop}
 use Rattle.indexd_run.specs.declared.stop.Stop.TheVariants as stops
-use Rattle.indexd_run.proofs.Blaming.{once_mounted, shown_there}
+use Rattle.indexd_run.proofs.Blaming.{once_mounted}
 use Rattle.indexd_run.proofs.Joining.{front_has, begun_taken, done_when, halted_when, shut_sound}
 use Rattle.ix_run.proofs.Stored.{all_taken}
 use Rattle.indexd_run.specs.Stops.{is_output}
@@ -104,9 +103,5 @@ returns-clause-short g c = ends_as g.D.Disk _ c.carry_out.result c.args.disk.now
 
 pub returns-clause-blamed : goal.returns-clause-blamed
 returns-clause-blamed g c = if_err_by c.carry_out.result _ (λ stop is.
-    let may_show = IsShown g.D.Disk g.M.Book.ManifestState.fits g.M.StoreMemory.is_chooser g.M.StoreMemory.takes g.M.StoreMemory.holds
-    g.M.StoreMemory.shown c.args.disk.now in
-    once_mounted g.D.Disk _ g.M.StoreMemory.gives_none may_show c.args.disk.now c.carry_out.new.disk stop c.in-Ok.ensures.mounted
-    (λ file at damaged. shown_there g.D.Disk may_show c.carry_out.new.disk file at (g.M.StoreMemory.shown c.in-Ok.store.memory)
-    (record { memory = c.in-Ok.store.memory; is = refl; recalls = c.in-Ok.ensures.recalled })
-    (c.carry_out.ensures.placed file at (is ∙ ap (λ (s : Stop). Err s) damaged))))
+    once_mounted g.D.Disk _ g.M.StoreMemory.gives_none c.args.disk.now c.carry_out.new.disk stop c.in-Ok.ensures.mounted
+    (λ file at damaged. c.carry_out.ensures.placed file at (is ∙ ap (λ (s : Stop). Err s) damaged)))

@@ -1,4 +1,4 @@
-use Rattle.std.proofs.Common.{rules, ◌≡◌, ◌∙◌, length, refl, ap, sym}
+use Rattle.std.proofs.Common.{rules, ◌≡◌, ◌∙◌, length, refl, ap, sym, inl}
 use Rattle.std.specs.Prelude.{Err}
 use Rattle.std.proofs.lemmas.Int.{to_z-of_z}
 use mir.Val.{SFits}
@@ -27,7 +27,6 @@ returns-in-Ok g c = record {
   caused = tt;
   over = c.in-Ok.ensures.over;
   run = c.give_last.ensures.run;
-  remembers = c.give_last.ensures.remembers;
   rest = λ kept rest. c.in-Ok.ensures.rest rest.measured;
   undamaged = λ file at is. absurd (not_err is);
   placed = λ file at is. absurd (not_err is);
@@ -55,7 +54,6 @@ returns-in-Err g c = record {
       c.args.store.now c.in-Err.fault c.of_give.result c.of_give.ensures not;
   over = tt;
   run = c.give_last.ensures.run;
-  remembers = c.give_last.ensures.remembers;
   rest = λ kept rest.
       rest_of_give g.D.Disk g.M.Book.ManifestState.fits c.args.store.now c.give_last.new.store c.args.disk.now c.give_last.new.disk
       c.in-Err.fault c.in-Err.ensures.unchanged (ap loses (sym c.of_give.ensures) ∙ kept) rest;
@@ -64,10 +62,10 @@ returns-in-Err g c = record {
       let fault = damaged_of_give c.in-Err.fault file at stop in
       let was : c.give_last.result ≡ Err (Commit (commits.Damaged file at)) = c.in-Err.is ∙ ap (λ (f : GiveFault). Err f) fault in
       c.give_last.ensures.undamaged file at was choose h base (length h) chooser taken hold;
-  placed = λ file at is.
+  placed = λ file at is image seen.
       let stop : of_give c.in-Err.fault ≡ stops.Damaged file at = sym c.of_give.ensures ∙ same_stop is in
       let fault = damaged_of_give c.in-Err.fault file at stop in
-      c.give_last.ensures.placed file at (c.in-Err.is ∙ ap (λ (f : GiveFault). Err f) fault);
+      inl (c.give_last.ensures.placed file at (c.in-Err.is ∙ ap (λ (f : GiveFault). Err f) fault) image seen);
   told = c.give_last.ensures.told;
   later = c.give_last.ensures.later;
   cause = λ is.

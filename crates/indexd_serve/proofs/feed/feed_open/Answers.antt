@@ -7,7 +7,6 @@ use Rattle.ix_serve.specs.Serving.{IsClean}
 use Rattle.indexd_serve.proofs.Behind.{requests_closed, requests_behind, closed_short, short_behind, undamaged_behind, disk_behind}
 use Rattle.indexd_serve.proofs.Behind.{link_behind}
 use Rattle.ix_serve.proofs.Standing.{tells_on}
-use Rattle.ix_store.proofs.Recalling.{remembers_behind}
 use Rattle.indexd_serve.proofs.feed.feed_open.Goals as goal
 
 pub returns-then-not-is_open-clause-requests : goal.returns-then-not-is_open-clause-requests
@@ -83,8 +82,3 @@ pub returns-clause-placed : goal.returns-clause-placed
 returns-clause-placed g c = λ file at is. absurd
     (undamaged_behind c.run_feed-end.result c.shorten-shortened.result file at (sym c.is_open.ensures
     ∙ c.if-not-is_open.false) (sym c.fed_behind.ensures ∙ is))
-
-pub returns-clause-remembers : goal.returns-clause-remembers
-returns-clause-remembers g c = remembers_behind g.M.StoreMemory.is_chooser g.M.StoreMemory.takes g.M.StoreMemory.holds
-    c.args.store.now.memory c.run_feed-end.new.store.memory c.shorten-shortened.new.store.memory c.shorten-shortened.ensures.kept
-    c.run_feed-end.ensures.remembers

@@ -1,19 +1,18 @@
-use Rattle.std.proofs.Common.{◌≡◌, take, refl}
+use Rattle.std.proofs.Common.{◌≡◌, take}
 use Rattle.std.specs.Prelude.{Err}
 use Rattle.ix_disk.proofs.Runs.{rose_later}
 use Rattle.ix_net.proofs.GoesLemmas.{goes_nowhere}
 use Rattle.ix_run.specs.Giving.{given_all}
 use Rattle.ix_serve.specs.Serving.{IsClean}
-use Rattle.indexd_run.specs.Blamed.{IsShown}
 use Rattle.indexd_run.specs.Opened.{is_configured, course}
 use Rattle.indexd_run.specs.declared.stop.Stop.TheVariants as stops
-use Rattle.indexd_run.proofs.Blaming.{recalls_on, shown_there}
 use Rattle.indexd_run.proofs.Joining.{front_has, begun_taken, shut_sound}
 use Rattle.indexd_run.proofs.Undamaged.{seen_on}
 use Rattle.ix_sessions.proofs.Turning.{safe_turns}
 use Rattle.indexd_serve.specs.Serving.{Requests, exchange}
 use Rattle.indexd_serve.proofs.Opening.{served_behind}
 use Rattle.indexd_serve.proofs.Ending.{same_ok}
+use Rattle.indexd_serve.proofs.Placing.{store_gone}
 use Rattle.ix_serve.proofs.Standing.{tells_on}
 use Rattle.indexd_serve.proofs.feed.run_feed.Goals as goal
 
@@ -80,15 +79,5 @@ pub returns-in_err-routes-clause-goes : goal.returns-in_err-routes-clause-goes
 returns-in_err-routes-clause-goes g c = goes_nowhere (g.K.Link.standing c.args.link.now)
 
 pub returns-clause-placed : goal.returns-clause-placed
-returns-clause-placed g c = λ file at is.
-    let may_show = IsShown g.D.Disk g.M.Book.ManifestState.fits g.M.StoreMemory.is_chooser g.M.StoreMemory.takes g.M.StoreMemory.holds
-    g.M.StoreMemory.shown c.args.disk.now in
-    shown_there g.D.Disk may_show c.feed_open.new.disk file at
-    (g.M.StoreMemory.shown c.feed_open.new.store.memory)
-    (record {
-      memory = c.feed_open.new.store.memory;
-      is = refl;
-      recalls = recalls_on g.D.Disk g.M.Book.ManifestState.fits g.M.StoreMemory.is_chooser g.M.StoreMemory.takes g.M.StoreMemory.holds
-          c.args.disk.now c.in-Ok.store.memory c.feed_open.new.store.memory c.in-Ok.ensures.recalled c.feed_open.ensures.remembers;
-    })
-    (c.feed_open.ensures.placed file at (same_ok is))
+returns-clause-placed g c = λ file at is. store_gone g.D.Disk (g.M.StoreMemory.shown c.feed_open.new.store.memory) c.feed_open.new.disk
+    file at (c.feed_open.ensures.placed file at (same_ok is))

@@ -7,7 +7,6 @@ use Rattle.indexd_serve.proofs.Behind.{connections_closed, connections_behind, c
 use Rattle.indexd_serve.proofs.Behind.{undamaged_served, disk_heard, disk_served, listener_heard, listener_served}
 use Rattle.indexd_serve.proofs.Reading.{hears_closed, hears_behind}
 use Rattle.ix_serve.proofs.Standing.{tells_on}
-use Rattle.ix_store.proofs.Recalling.{remembers_behind}
 use Rattle.indexd_serve.proofs.serve.serve_open.Goals as goal
 
 pub returns-then-not-is_open-clause-connections : goal.returns-then-not-is_open-clause-connections
@@ -98,8 +97,3 @@ pub returns-clause-placed : goal.returns-clause-placed
 returns-clause-placed g c = λ file at is. absurd
     (undamaged_served c.run_serve-end.result c.shorten-shortened.result file at (sym c.is_open.ensures
     ∙ c.if-not-is_open.false) (sym c.heard_behind.ensures ∙ is))
-
-pub returns-clause-remembers : goal.returns-clause-remembers
-returns-clause-remembers g c = remembers_behind g.M.StoreMemory.is_chooser g.M.StoreMemory.takes g.M.StoreMemory.holds
-    c.args.store.now.memory c.run_serve-end.new.store.memory c.shorten-shortened.new.store.memory c.shorten-shortened.ensures.kept
-    c.run_serve-end.ensures.remembers

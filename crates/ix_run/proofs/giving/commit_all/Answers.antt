@@ -37,7 +37,6 @@ returns g c = record {
       (omega arith) hold.staged.within (c.commit.ensures.images choose h base k hold);
   over = c.commit.ensures.over;
   run = c.commit.ensures.run;
-  memory = c.commit.ensures.memory;
   rest = λ measured.
       rests g.D.Disk c.commit.new.self.committer c.commit.new.disk c.commit.result c.commit.ensures.over c.commit.ensures.idle
       (c.commit.ensures.measured (λ idle. measured));

@@ -9,7 +9,6 @@ use mir.Val.{SFits}
 use Rattle.std.specs.Int.{w64}
 use Rattle.ix_store.proofs.Joining.{more_taken, staged_same}
 use Rattle.ix_store.proofs.Lawful.{held_then}
-use Rattle.ix_store.proofs.Recalling.{remembers_behind}
 use Rattle.ix_run.proofs.Faults.{not_ok, refused_or_commit, commit_or_refused, not_commit, cause_is, cause_back}
 use Rattle.ix_run.proofs.Gone.{gone_none, given, given_stood}
 use Rattle.ix_run.proofs.Rested.{measured_same}
@@ -35,7 +34,6 @@ returns-in-Err g c = record {
       c.accept.ensures.logs c.requires.over;
   unchanged = λ refusal is. (c.in-Err.ensures.err, refl);
   run = c.in-Err.ensures.err.run;
-  remembers = c.accept.ensures.remembers;
   measured = λ measured. tt;
   undamaged = λ file at is. absurd (not_commit is);
   placed = λ file at is. absurd (not_commit is);
@@ -60,8 +58,6 @@ returns-in-Ok-commit_due g c = record {
   still = tt;
   unchanged = tt;
   run = c.commit_due.ensures.run ∙ c.accept.ensures.run;
-  remembers = remembers_behind g.M.StoreMemory.is_chooser g.M.StoreMemory.takes g.M.StoreMemory.holds c.args.store.now.memory
-      c.accept.new.self.memory c.commit_due.new.store.memory c.commit_due.ensures.memory c.accept.ensures.remembers;
   measured = λ measured.
       c.in-Ok-commit_due.ensures.measured (measured_same g.D.Disk c.args.store.now.committer c.accept.new.self.committer c.args.disk.now
       c.accept.ensures.logs.log c.accept.ensures.bytes measured);
@@ -88,8 +84,6 @@ returns-in-Err-commit_due g c = record {
   still = λ refusal is. absurd (commit_or_refused is);
   unchanged = λ refusal is. absurd (commit_or_refused is);
   run = c.commit_due.ensures.run ∙ c.accept.ensures.run;
-  remembers = remembers_behind g.M.StoreMemory.is_chooser g.M.StoreMemory.takes g.M.StoreMemory.holds c.args.store.now.memory
-      c.accept.new.self.memory c.commit_due.new.store.memory c.commit_due.ensures.memory c.accept.ensures.remembers;
   measured = λ measured. tt;
   undamaged = λ file at is choose h base k chooser taken hold.
       let fits : SFits w64 c.args.moment = search rules in

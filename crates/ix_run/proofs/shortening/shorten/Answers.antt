@@ -46,7 +46,6 @@ returns-then-not-long g c = record {
       (λ long. both (c.wants_checkpoint-long.ensures.1 long) c.if-not-long.true);
   none = λ short. (refl, (refl, refl));
   memory = λ is. refl;
-  kept = refl;
   run = refl;
   closed = λ is. absurd (not_err is);
   told = anyhow_same (g.D.Disk.seen c.args.disk.now) (g.D.Disk.seen c.args.disk.now) refl;
@@ -84,7 +83,6 @@ returns g c =
           is.over is.shortest;
       none = λ short. absurd (short (c.wants_checkpoint-long.ensures.0 c.if-not-long.false));
       memory = is.memory;
-      kept = is.kept;
       run = is.run;
       closed = is.closed;
       told = is.told;

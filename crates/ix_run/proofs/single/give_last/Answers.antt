@@ -8,7 +8,6 @@ use Rattle.std.proofs.lemmas.Int.{to_z-of_z}
 use Rattle.std.proofs.lemmas.Result.{err_from_is_err_and}
 use mir.Val.{SFits}
 use Rattle.std.specs.Int.{w64}
-use Rattle.ix_store.proofs.Recalling.{remembers_behind}
 use Rattle.ix_run.proofs.Faults.{not_ok, commit_or_refused, cause_is, cause_back}
 use Rattle.ix_run.proofs.Given.{kept_last, stood_last}
 use Rattle.ix_run.proofs.single.give_last.Goals as goal
@@ -25,8 +24,6 @@ returns-in-Ok g c = record {
   fault = tt;
   over = c.in-Ok.ensures.over;
   run = c.commit_all.ensures.run ∙ c.give.ensures.run;
-  remembers = remembers_behind g.M.StoreMemory.is_chooser g.M.StoreMemory.takes g.M.StoreMemory.holds c.args.store.now.memory
-      c.give.new.store.memory c.commit_all.new.store.memory c.commit_all.ensures.memory c.give.ensures.remembers;
   rest = λ measured. c.in-Ok.ensures.rest (c.in_ok-answer.ensures.measured measured);
   unchanged = tt;
   undamaged = λ file at is. absurd (not_ok is);
@@ -48,8 +45,6 @@ returns-in-Err g c = record {
       (c.commit_all.ensures.stood choose _ base one.gone.count one.gone.hold);
   over = tt;
   run = c.commit_all.ensures.run ∙ c.give.ensures.run;
-  remembers = remembers_behind g.M.StoreMemory.is_chooser g.M.StoreMemory.takes g.M.StoreMemory.holds c.args.store.now.memory
-      c.give.new.store.memory c.commit_all.new.store.memory c.commit_all.ensures.memory c.give.ensures.remembers;
   rest = λ measured. tt;
   unchanged = λ refusal is. absurd (commit_or_refused is);
   undamaged = λ file at is choose h base k chooser taken hold.
@@ -81,7 +76,6 @@ returns-in_err-answer g c =
           simp to_z-of_z at (c.in_err-answer.ensures.fault choose h base k chooser taken hold);
       over = tt;
       run = c.give.ensures.run;
-      remembers = c.give.ensures.remembers;
       rest = λ measured. tt;
       unchanged = c.in_err-answer.ensures.unchanged;
       undamaged = c.in_err-answer.ensures.undamaged;
