@@ -27,24 +27,7 @@ use ix_merge::Merge;
 use ix_props::Settings;
 use std::alloc::Global;
 use std::marker::{Brand, Model};
-use std::rc::Rc;
 use std::sync::ledger::{Blank, Ledger};
-
-/// What was chosen and stated for a channel. The channels that go on from one another share it.
-struct Origin {
-    settings: Settings,
-    meta: ChannelMeta,
-}
-
-/// It is written out, so that each place where one is let go is a call of it, which is proved once.
-impl Drop for Origin {
-    fn drop(self) {
-        let Origin {
-            settings: _,
-            meta: _,
-        } = self;
-    }
-}
 
 /// A stream of bytes with what is known of it. Its bytes are cut into lines, the lines are merged
 /// into events, and each event is dated and changed, all by the settings that were chosen for it.
@@ -52,9 +35,9 @@ impl Drop for Origin {
 /// line, and the open event.
 pub struct Channel {
     alloc: Global,
-    origin: Rc<Origin>,
-    /// They stand in a place of their own, so that a channel is handed on with few bytes.
-    lines: Box<Lines>,
+    settings: Settings,
+    meta: ChannelMeta,
+    lines: Lines,
     merge: Merge,
     /// The latest time that was read of an event and accepted.
     latest: Option<i64>,
@@ -65,7 +48,8 @@ impl Drop for Channel {
     fn drop(self) {
         let Channel {
             alloc: _,
-            origin: _,
+            settings: _,
+            meta: _,
             lines: _,
             merge: _,
             latest: _,
@@ -80,15 +64,9 @@ impl Model for Channel {
 
     ghost Value = { Kept };
 
-    ghost view = { λ c. record {
-      settings = c.origin.value.settings;
-      meta = c.origin.value.meta;
-      lines = c.lines.value;
-      merge = c.merge;
-      latest = c.latest;
-    } };
+    ghost view = { λ c. record { settings = c.settings; meta = c.meta; lines = c.lines; merge = c.merge; latest = c.latest } };
 
-    ghost invariant = { λ c. IsFalse c.merge.broken × AreUsable c.origin.value.settings };
+    ghost invariant = { λ c. IsFalse c.merge.broken × AreUsable c.settings };
 }
 
 /// The settings that a carry is judged by.
@@ -129,35 +107,6 @@ fn resumed(
     Ok((lines, merge, said.latest))
 }
 
-/// The channel of these parts.
-fn channel_of(
-    alloc: Global,
-    origin: Origin,
-    lines: Lines,
-    merge: Merge,
-    latest: Option<i64>,
-) -> Result<Channel, NoMemory>
-    requires whole { IsFalse merge.broken }
-    requires usable { AreUsable origin.settings }
-    ensures { IfOk result (λ channel. channel ≡ record {
-      settings = origin.settings;
-      meta = origin.meta;
-      lines = lines;
-      merge = merge;
-      latest = latest;
-    }) }
-{
-    let origin = Rc::new(alloc, origin)?;
-    let lines = Box::new(alloc, lines)?;
-    Ok(Channel {
-        alloc,
-        origin,
-        lines,
-        merge,
-        latest,
-    })
-}
-
 impl Channel {
     /// A channel that has no byte yet. The settings are such as `Props::settings` gives. The
     /// metadata name the index.
@@ -168,8 +117,14 @@ impl Channel {
     {
         let lines = Lines::new(alloc, settings.breaker.copy()?, settings.truncate)?;
         let merge = Merge::new(alloc, settings.merge.on, settings.merge.max_lines);
-        let channel = channel_of(alloc, Origin { settings, meta }, lines, merge, None)?;
-        Ok(channel)
+        Ok(Channel {
+            alloc,
+            settings,
+            meta,
+            lines,
+            merge,
+            latest: None,
+        })
     }
 
     /// Whose events those of this channel are.
@@ -180,8 +135,8 @@ impl Channel {
     {
         Owner {
             alloc: self.alloc,
-            settings: &self.origin.settings,
-            meta: &self.origin.meta,
+            settings: &self.settings,
+            meta: &self.meta,
         }
     }
 
@@ -227,11 +182,12 @@ impl Channel {
         }) }
         ensures routed { IfOk result (λ next. next.1 ≡ outcomes.routed) }
     {
-        let origin = self.origin.clone()?;
-        let lines = Box::new(self.alloc, lines)?;
+        let settings = self.settings.copy(self.alloc)?;
+        let meta = self.meta.copy()?;
         let next = Channel {
             alloc: self.alloc,
-            origin,
+            settings,
+            meta,
             lines,
             merge,
             latest: outcomes.latest,
@@ -341,7 +297,13 @@ impl Channel {
         ensures bad { result ≡ Err ResumeFault.BadCarry → (said : Carried) → IsCarryOf (rules_of settings) carry.now said → ⊥ }
     {
         let (lines, merge, latest) = resumed(alloc, &settings, carry)?;
-        let channel = channel_of(alloc, Origin { settings, meta }, lines, merge, latest)?;
-        Ok(channel)
+        Ok(Channel {
+            alloc,
+            settings,
+            meta,
+            lines,
+            merge,
+            latest,
+        })
     }
 }

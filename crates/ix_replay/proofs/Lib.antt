@@ -1,9 +1,7 @@
 pub mod Counting
-pub mod Covered
 pub mod Lengths
 pub mod ListSteps
 pub mod OneList
-pub mod OnlyItems
 pub mod Places
 pub mod Unnamed
 pub mod Writing

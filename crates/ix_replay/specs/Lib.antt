@@ -1,7 +1,5 @@
 pub mod Amounts
 pub mod Bounds
-pub mod Covering
-pub mod Putting
 pub mod Fits
 pub mod Known
 pub mod Lists

@@ -34,7 +34,7 @@ impl Amount {
     }
 
     /// What the item counts for, 2^64 - 1 at the most.
-    pub fn of(self, item: &Item) -> u64
+    fn of(self, item: &Item) -> u64
         ensures { result ≡ min (amount_in self item.now) (2 ^ 64 - 1) }
     {
         match self {

@@ -4,7 +4,6 @@
 #![tactic(auto)]
 
 mod amounts;
-mod file_numbers;
 mod files;
 mod item_list;
 mod judging;
@@ -17,8 +16,6 @@ mod removed;
 mod room;
 mod sizes;
 mod standing;
-mod tally;
-mod totals;
 mod walk;
 
 pub use item_list::ItemList;
