@@ -170,6 +170,20 @@ fn put_reply<K: Link>(link: &mut K, status: u16, kind: Kind, body: &[u8]) -> Res
     Ok(())
 }
 
+/// Writes a reply piece by piece.
+fn put_pieces<K: Link>(link: &mut K, status: u16, kind: Kind, text: &[u8]) -> Result<(), Failed>
+    ensures written { OnOk result (HasWritten (reply_text status kind text.now) (K.given link.old) (K.given link.new)) }
+    ensures begun { OnErr result (HasBegun (reply_text status kind text.now) (K.given link.old) (K.given link.new)) }
+    ensures left { K.left link.new ≡ K.left link.old }
+    ensures goes { LinkStep (K.standing link.old) (K.standing link.new) }
+    ensures side { OnErr result (Rose (K.standing link.old).writing (K.standing link.new).writing) }
+    ensures cause { HasCause (K.faults link.old) (K.faults link.new) result }
+{
+    put_head(link, status, kind, text.len())?;
+    link.put(text)?;
+    Ok(())
+}
+
 /// Writes a reply: the status line with the phrase of the status, the length and the type of the
 /// body, `Connection: close`, and the body. Up to 8,192 bytes are one piece, and more are two.
 /// Where the link fails, a front of it is written. It takes no memory.
@@ -187,7 +201,7 @@ pub fn write_reply<K: Link>(
     ensures cause { HasCause (K.faults link.old) (K.faults link.new) result }
 {
     let mut whole = Gather::new();
-    match put_reply(&mut whole, status, kind, body) {
+    match put_pieces(&mut whole, status, kind, body) {
         Ok(()) => link.put(whole.as_slice()),
         Err(_) => put_reply(link, status, kind, body),
     }

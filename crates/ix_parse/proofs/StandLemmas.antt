@@ -154,12 +154,14 @@ comes-to-end s meta stream more merge between behind e t end =
     ∙ ap (λ (l : List Routed). outcomes s meta None first ++ l) (sym routed)
 
 -- a channel with a copy of the settings and of the metadata
-pub same-kept : (s s' : Settings) (meta meta' : ChannelMeta) (lines : Held) (merge : Merging) (latest : Option ℤ) → s ≡ s' → meta ≡ meta' →
+pub same-kept : (s s' : Settings) (meta meta' : ChannelMeta) (lines lines' : Held) (merge : Merging) (latest : Option ℤ) →
+    s ≡ s' → meta ≡ meta' → lines ≡ lines' →
     let k : Kept = record { settings = s; meta = meta; lines = lines; merge = merge; latest = latest } in
-    let k' : Kept = record { settings = s'; meta = meta'; lines = lines; merge = merge; latest = latest } in k ≡ k'
-same-kept s s' meta meta' lines merge latest e f =
+    let k' : Kept = record { settings = s'; meta = meta'; lines = lines'; merge = merge; latest = latest } in k ≡ k'
+same-kept s s' meta meta' lines lines' merge latest e f h =
     ap (λ (x : Settings). let k : Kept = record { settings = x; meta = meta; lines = lines; merge = merge; latest = latest } in k) e
     ∙ ap (λ (x : ChannelMeta). let k : Kept = record { settings = s'; meta = x; lines = lines; merge = merge; latest = latest } in k) f
+    ∙ ap (λ (x : Held). let k : Kept = record { settings = s'; meta = meta'; lines = x; merge = merge; latest = latest } in k) h
 
 -- lines are taken in by what a channel keeps, which is what was stated
 pub as-stated : (s s' : Settings) (meta meta' : ChannelMeta) (earlier : List MarkedLine) (lines : List Line) (old new : Merging)

@@ -27,7 +27,24 @@ use ix_merge::Merge;
 use ix_props::Settings;
 use std::alloc::Global;
 use std::marker::{Brand, Model};
+use std::rc::Rc;
 use std::sync::ledger::{Blank, Ledger};
+
+/// What was chosen and stated for a channel. The channels that go on from one another share it.
+struct Origin {
+    settings: Settings,
+    meta: ChannelMeta,
+}
+
+/// It is written out, so that each place where one is let go is a call of it, which is proved once.
+impl Drop for Origin {
+    fn drop(self) {
+        let Origin {
+            settings: _,
+            meta: _,
+        } = self;
+    }
+}
 
 /// A stream of bytes with what is known of it. Its bytes are cut into lines, the lines are merged
 /// into events, and each event is dated and changed, all by the settings that were chosen for it.
@@ -35,9 +52,9 @@ use std::sync::ledger::{Blank, Ledger};
 /// line, and the open event.
 pub struct Channel {
     alloc: Global,
-    settings: Settings,
-    meta: ChannelMeta,
-    lines: Lines,
+    origin: Rc<Origin>,
+    /// They stand in a place of their own, so that a channel is handed on with few bytes.
+    lines: Box<Lines>,
     merge: Merge,
     /// The latest time that was read of an event and accepted.
     latest: Option<i64>,
@@ -48,8 +65,7 @@ impl Drop for Channel {
     fn drop(self) {
         let Channel {
             alloc: _,
-            settings: _,
-            meta: _,
+            origin: _,
             lines: _,
             merge: _,
             latest: _,
@@ -64,9 +80,15 @@ impl Model for Channel {
 
     ghost Value = { Kept };
 
-    ghost view = { λ c. record { settings = c.settings; meta = c.meta; lines = c.lines; merge = c.merge; latest = c.latest } };
+    ghost view = { λ c. record {
+      settings = c.origin.value.settings;
+      meta = c.origin.value.meta;
+      lines = c.lines.value;
+      merge = c.merge;
+      latest = c.latest;
+    } };
 
-    ghost invariant = { λ c. IsFalse c.merge.broken × AreUsable c.settings };
+    ghost invariant = { λ c. IsFalse c.merge.broken × AreUsable c.origin.value.settings };
 }
 
 /// The settings that a carry is judged by.
@@ -107,6 +129,35 @@ fn resumed(
     Ok((lines, merge, said.latest))
 }
 
+/// The channel of these parts.
+fn channel_of(
+    alloc: Global,
+    origin: Origin,
+    lines: Lines,
+    merge: Merge,
+    latest: Option<i64>,
+) -> Result<Channel, NoMemory>
+    requires whole { IsFalse merge.broken }
+    requires usable { AreUsable origin.settings }
+    ensures { IfOk result (λ channel. channel ≡ record {
+      settings = origin.settings;
+      meta = origin.meta;
+      lines = lines;
+      merge = merge;
+      latest = latest;
+    }) }
+{
+    let origin = Rc::new(alloc, origin)?;
+    let lines = Box::new(alloc, lines)?;
+    Ok(Channel {
+        alloc,
+        origin,
+        lines,
+        merge,
+        latest,
+    })
+}
+
 impl Channel {
     /// A channel that has no byte yet. The settings are such as `Props::settings` gives. The
     /// metadata name the index.
@@ -117,14 +168,8 @@ impl Channel {
     {
         let lines = Lines::new(alloc, settings.breaker.copy()?, settings.truncate)?;
         let merge = Merge::new(alloc, settings.merge.on, settings.merge.max_lines);
-        Ok(Channel {
-            alloc,
-            settings,
-            meta,
-            lines,
-            merge,
-            latest: None,
-        })
+        let channel = channel_of(alloc, Origin { settings, meta }, lines, merge, None)?;
+        Ok(channel)
     }
 
     /// Whose events those of this channel are.
@@ -135,8 +180,8 @@ impl Channel {
     {
         Owner {
             alloc: self.alloc,
-            settings: &self.settings,
-            meta: &self.meta,
+            settings: &self.origin.settings,
+            meta: &self.origin.meta,
         }
     }
 
@@ -182,12 +227,11 @@ impl Channel {
         }) }
         ensures routed { IfOk result (λ next. next.1 ≡ outcomes.routed) }
     {
-        let settings = self.settings.copy(self.alloc)?;
-        let meta = self.meta.copy()?;
+        let origin = self.origin.clone()?;
+        let lines = Box::new(self.alloc, lines)?;
         let next = Channel {
             alloc: self.alloc,
-            settings,
-            meta,
+            origin,
             lines,
             merge,
             latest: outcomes.latest,
@@ -297,13 +341,7 @@ impl Channel {
         ensures bad { result ≡ Err ResumeFault.BadCarry → (said : Carried) → IsCarryOf (rules_of settings) carry.now said → ⊥ }
     {
         let (lines, merge, latest) = resumed(alloc, &settings, carry)?;
-        Ok(Channel {
-            alloc,
-            settings,
-            meta,
-            lines,
-            merge,
-            latest,
-        })
+        let channel = channel_of(alloc, Origin { settings, meta }, lines, merge, latest)?;
+        Ok(channel)
     }
 }

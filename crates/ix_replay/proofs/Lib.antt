@@ -1,7 +1,9 @@
 pub mod Counting
+pub mod Covered
 pub mod Lengths
 pub mod ListSteps
 pub mod OneList
+pub mod OnlyItems
 pub mod Places
 pub mod Unnamed
 pub mod Writing

@@ -1,11 +1,14 @@
 -- A list of what stands, whose places are known by the numbers of names.
 use Rattle.std.proofs.Common.{suc, ◌≡◌, ℕ, ◌+◌, ◌-◌, ◌<◌, ◌≤◌, length, get_or, set, take, drop, List, [], ◌∷◌, ◌++◌, Bool, true, false}
-use Rattle.std.proofs.Common.{Some, None, cond, refl, ap, subst, sym, ◌∙◌, arith, append_assoc, length-append, length-drop}
-use Rattle.std.specs.Prelude.{All, IsSome}
+use Rattle.std.proofs.Common.{Some, cond, refl, ap, subst, sym, ◌∙◌, arith, append_assoc, length-append}
+use Rattle.std.specs.Prelude.{IsSome}
 use Rattle.std.specs.BTreeMap.{BTreeMap, Updates, get, is_at}
 use Rattle.std.specs.List.{AllByRecursion, swap_remove}
 use Rattle.std.specs.Ordering.{nat_cmp}
-use Rattle.std.proofs.lemmas.List.{set_split, set_at, take_at, take-set, get_or_at, length_push, length-take-le}
+use Rattle.std.specs.List.Sorted.{IsPermutation}
+use Rattle.std.proofs.lemmas.List.Sorted.{IsPermutation-refl, IsPermutation-sym, IsPermutation-middle, IsPermutation-to_front}
+use Rattle.std.proofs.lemmas.List.Sorted.{IsPermutation-append_right}
+use Rattle.std.proofs.lemmas.List.{set_split, set_at, take_at, take-set, get_or_at, length_push, length-take-le, take_all, drop_all}
 use Rattle.std.proofs.lemmas.List.Elements.{All-set, All-push, All-take, All-weaker}
 use Rattle.ix_items.specs.declared.items.Item.{Item}
 use Rattle.ix_manifest.specs.Book.{Name, NoneUnder, empty, name_of, is_same, is_there, left_by, after_item, replay}
@@ -16,7 +19,7 @@ use Rattle.ix_manifest.proofs.Renaming.{same_name}
 use Rattle.ix_manifest.specs.Keys.{key_in, key}
 use Rattle.ix_replay.specs.Known.{AreKnown}
 use Rattle.ix_replay.specs.Lists.{IsLeft, AreListed}
-use Rattle.ix_replay.proofs.ListSteps.{stays_so, none_behind, others_of, other_way, split_at, list_without, book_removed, list_removed}
+use Rattle.ix_replay.proofs.ListSteps.{stays_so, none_behind, other_way, split_at, book_removed, list_removed}
 
 -- ---- in place
 
@@ -189,6 +192,53 @@ left_by_rest list front (r ∷ rs) x d at size whole =
       (λ listed. ap (λ (l : List Item). replay l empty) is ∙ book_turned front l mid (subst AreListed apart listed)
           ∙ ap (λ (l : List Item). replay l empty) (sym apart)),
     )
+
+-- the same as a list in another order
+pub moved_rest : (list front rest : List Item) (x d : Item) (at : ℕ) → length front ≡ at → list ≡ front ++ x ∷ rest →
+    IsPermutation (front ++ rest) (swap_remove list at d)
+moved_rest list front [] x d at size whole =
+    subst (λ (l : List Item). IsPermutation (front ++ []) l) (sym (swapped_last list front x d at size whole ∙ sym (append_nil front)))
+    (IsPermutation-refl (front ++ []))
+moved_rest list front (r ∷ rs) x d at size whole =
+    let cut = cut_last r rs in
+    let mid = cut.0 in
+    let l = cut.1 in
+    let is : swap_remove list at d ≡ front ++ l ∷ mid =
+    swapped_front list front mid x l d at size (whole ∙ ap (λ (m : List Item). front ++ x ∷ m) cut.2) in
+    subst (λ (m : List Item). IsPermutation (front ++ (r ∷ rs)) m) (sym is)
+    (subst (λ (m : List Item). IsPermutation (front ++ m) (front ++ l ∷ mid)) (sym cut.2)
+    (IsPermutation-append_right front (mid ++ l ∷ []) (l ∷ mid) (IsPermutation-to_front mid l)))
+
+pub moved_swapped : (list : List Item) (at : ℕ) (d : Item) → at < length list →
+    IsPermutation (take at list ++ drop (at + 1) list) (swap_remove list at d)
+moved_swapped list at d within = moved_rest list (take at list) (drop (at + 1) list) (get_or list at d) d at
+    (length-take-le at list (omega (arith, within))) (split_at list at d within)
+
+pub moved_placed : (list : List Item) (at : ℕ) (item : Item) → at < length list →
+    IsPermutation (item ∷ (take at list ++ drop (at + 1) list)) (set list at item)
+moved_placed list at item within =
+    let one : suc at ≡ at + 1 = omega arith in
+    let is : set list at item ≡ take at list ++ item ∷ drop (at + 1) list = set_split list at item within
+    ∙ ap (λ (n : ℕ). take at list ++ item ∷ drop n list) one in
+    subst (IsPermutation (item ∷ (take at list ++ drop (at + 1) list))) (sym is)
+    (IsPermutation-sym (take at list ++ item ∷ drop (at + 1) list) (item ∷ (take at list ++ drop (at + 1) list))
+    (IsPermutation-middle (take at list) item (drop (at + 1) list)))
+
+pub moved_out : (list : List Item) (at : ℕ) (x : Item) → at < length list → x ≡ get_or list at x →
+    IsPermutation list (x ∷ (take at list ++ drop (at + 1) list))
+moved_out list at x within is =
+    let whole : list ≡ take at list ++ x ∷ drop (at + 1) list = split_at list at x within
+    ∙ ap (λ (y : Item). take at list ++ y ∷ drop (at + 1) list) (sym is) in
+    subst (λ (l : List Item). IsPermutation l (x ∷ (take at list ++ drop (at + 1) list))) (sym whole)
+    (IsPermutation-middle (take at list) x (drop (at + 1) list))
+
+pub moved_pushed : (list : List Item) (item : Item) → IsPermutation (item ∷ list) (list ++ item ∷ [])
+moved_pushed list item = IsPermutation-sym (list ++ item ∷ []) (item ∷ list) (IsPermutation-to_front list item)
+
+-- nothing stands at a place behind the last one
+pub without_none : (list : List Item) (at : ℕ) → length list ≤ at → take at list ++ drop (at + 1) list ≡ list
+without_none list at behind =
+    (λ i. take_all at list behind i ++ drop_all (at + 1) list (omega (arith, behind)) i) ∙ append_nil list
 
 module _ (list : List Item) (at : ℕ) (gone d : Item) (within : at < length list) (listed : AreListed list)
     (same : is_same (name_of (get_or list at gone)) (name_of gone) ≡ true) where

@@ -1,5 +1,7 @@
 pub mod Amounts
 pub mod Bounds
+pub mod Covering
+pub mod Putting
 pub mod Fits
 pub mod Known
 pub mod Lists

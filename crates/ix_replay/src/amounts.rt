@@ -34,7 +34,7 @@ impl Amount {
     }
 
     /// What the item counts for, 2^64 - 1 at the most.
-    fn of(self, item: &Item) -> u64
+    pub fn of(self, item: &Item) -> u64
         ensures { result ≡ min (amount_in self item.now) (2 ^ 64 - 1) }
     {
         match self {

@@ -8,12 +8,14 @@ ghost use Rattle.ix_replay.specs.Lists.{Lists};
 use crate::judging::keeps_bounds;
 use crate::listing::{Places, put};
 use crate::standing::{are_settled, removals, run_of};
+use crate::tally::Tally;
 use ix_base::{File, NoMemory};
 use ix_items::Item;
 use ix_manifest::ManifestState;
 use std::alloc::Global;
 use std::collections::BTreeMap;
 use std::marker::Model;
+use std::mem;
 
 /// The items that stand after a log, one a name. Contracts see it as their list.
 #[derive(Drop)]
@@ -21,11 +23,14 @@ pub struct ItemList {
     items: Vec<Item>,
     /// Where they are looked for.
     places: Places,
+    /// What is known of all of them, as long as it is.
+    tally: Option<Tally>,
 }
 
 impl Model for ItemList {
-    ghost use Rattle.std.specs.Prelude.{List};
+    ghost use Rattle.std.specs.Prelude.{List, IfSome};
     ghost use Rattle.ix_items.specs.declared.items.Item.{Item};
+    ghost use Rattle.ix_replay.specs.Covering.{Covers};
     ghost use Rattle.ix_replay.specs.Known.{AreKnown};
     ghost use Rattle.ix_replay.specs.Lists.{AreListed};
 
@@ -33,7 +38,7 @@ impl Model for ItemList {
 
     ghost view = { λ r. r.items.items };
 
-    ghost invariant = { λ r. AreListed r.items.items × AreKnown r.places r.items.items };
+    ghost invariant = { λ r. AreListed r.items.items × AreKnown r.places r.items.items × IfSome r.tally (λ t. Covers t r.items.items) };
 }
 
 impl ItemList {
@@ -44,6 +49,7 @@ impl ItemList {
         ItemList {
             items: Vec::new(alloc),
             places: BTreeMap::new(alloc),
+            tally: Some(Tally::none(alloc)),
         }
     }
 
@@ -65,23 +71,26 @@ impl ManifestState for ItemList {
     ghost fits = { fits };
 
     fn apply(&mut self, item: Item) -> Result<(), NoMemory> {
-        put(&mut self.items, &mut self.places, item)
+        let tally = mem::replace(&mut self.tally, None);
+        self.tally = put(&mut self.items, &mut self.places, tally, item)?;
+        Ok(())
     }
 
     fn judge(&mut self) -> Result<bool, NoMemory> {
-        let keeps = keeps_bounds(*self.items.allocator(), self.items.as_slice())?;
+        let alloc = *self.items.allocator();
+        let keeps = keeps_bounds(alloc, self.items.as_slice(), &self.places, &self.tally)?;
         Ok(keeps)
     }
 
     fn run(&self) -> u64 {
-        run_of(self.items.as_slice())
+        run_of(self.items.as_slice(), &self.places)
     }
 
     fn has_settings(&self) -> bool {
-        are_settled(self.items.as_slice())
+        are_settled(self.items.as_slice(), &self.places)
     }
 
     fn removals(&self) -> &[File] {
-        removals(self.items.as_slice())
+        removals(self.items.as_slice(), &self.places)
     }
 }

@@ -4,6 +4,7 @@
 #![tactic(auto)]
 
 mod amounts;
+mod file_numbers;
 mod files;
 mod item_list;
 mod judging;
@@ -16,6 +17,8 @@ mod removed;
 mod room;
 mod sizes;
 mod standing;
+mod tally;
+mod totals;
 mod walk;
 
 pub use item_list::ItemList;

@@ -1,15 +1,20 @@
 //! A list of what stands, one item a name, and what a further item changes there. The replayed
 //! state keeps one.
 
-ghost use Rattle.std.specs.Prelude.{◌≡◌, ◌≤◌, ◌<◌, List, length, get_or, true, false, All, IsSome, OnOk, OnErr};
+ghost use Rattle.std.specs.Prelude.{◌≡◌, ◌≤◌, ◌<◌, ◌∷◌, if◌then◌else◌, List, length, get_or, true, false};
+ghost use Rattle.std.specs.Prelude.{All, IsSome, IfSome, IfOk, OnOk};
+ghost use Rattle.std.specs.List.Sorted.{IsPermutation};
 ghost use Rattle.std.specs.BTreeMap.{get};
 ghost use Rattle.std.specs.Ordering.{nat_cmp};
 ghost use Rattle.ix_manifest.specs.Book.{empty, replay, after_item, name_of, is_same, left_by, is_there};
 ghost use Rattle.ix_manifest.specs.Keys.{key_in};
 ghost use Rattle.ix_items.specs.declared.items.Item.{Item};
+ghost use Rattle.ix_replay.specs.Covering.{Covers};
 ghost use Rattle.ix_replay.specs.Known.{AreKnown};
 ghost use Rattle.ix_replay.specs.Lists.{AreListed};
+ghost use Rattle.ix_replay.specs.Putting.{without, with_item};
 
+use crate::tally::Tally;
 use ix_base::NoMemory;
 use ix_items::Item;
 use ix_manifest::{key_of, same_name};
@@ -89,6 +94,7 @@ fn replace(items: &mut Vec<Item>, places: &Places, at: usize, item: Item)
     ensures listed { AreListed items.new.items }
     ensures known { AreKnown places.now items.new.items }
     ensures book { replay items.new.items empty ≡ after_item item (replay items.old.items empty) }
+    ensures moved { IsPermutation (item ∷ without at items.old.items) items.new.items }
 {
     items[at] = item;
 }
@@ -113,6 +119,7 @@ fn swap_out(items: &mut Vec<Item>, places: &Places, at: usize, gone: &Item)
     ensures listed { AreListed items.new.items }
     ensures known { AreKnown places.now items.new.items }
     ensures book { replay items.new.items empty ≡ after_item gone.now (replay items.old.items empty) }
+    ensures moved { IsPermutation (without at items.old.items) items.new.items }
 {
     drop(items.swap_remove(at));
 }
@@ -132,6 +139,7 @@ fn take_out(
     ensures listed { AreListed items.new.items }
     ensures known { AreKnown places.new items.new.items }
     ensures book { replay items.new.items empty ≡ after_item gone.now (replay items.old.items empty) }
+    ensures moved { IsPermutation (without at items.old.items) items.new.items }
 {
     swap_out(items, places, at, gone);
     if at < items.len() {
@@ -149,35 +157,146 @@ fn add(items: &mut Vec<Item>, places: &mut Places, item: Item) -> Result<(), NoM
     ensures listed { AreListed items.new.items }
     ensures known { AreKnown places.new items.new.items }
     ensures book { OnOk result (replay items.new.items empty ≡ after_item item (replay items.old.items empty)) }
+    ensures moved { OnOk result (IsPermutation (item ∷ items.old.items) items.new.items) }
 {
     note(places, &item, items.len())?;
     items.push(item)?;
     Ok(())
 }
 
-/// Puts an item in place of what stands under its name.
-pub fn put(items: &mut Vec<Item>, places: &mut Places, item: Item) -> Result<(), NoMemory>
+/// Puts an item in place of the one of its name at a place; behind all, where that is the length.
+fn put_staying(
+    items: &mut Vec<Item>,
+    places: &mut Places,
+    at: usize,
+    item: Item,
+) -> Result<(), NoMemory>
     requires listed { AreListed items.old.items }
     requires known { AreKnown places.old items.old.items }
+    requires within { at ≤ length items.old.items }
+    requires found { (d : Item) → at < length items.old.items → is_same (name_of (get_or items.old.items at d)) (name_of item) ≡ true }
+    requires none { at ≡ length items.old.items → All (λ x. is_same (name_of x) (name_of item) ≡ false) items.old.items }
+    requires stays { is_there (left_by item) ≡ true }
     ensures listed { AreListed items.new.items }
     ensures known { AreKnown places.new items.new.items }
     ensures book { OnOk result (replay items.new.items empty ≡ after_item item (replay items.old.items empty)) }
+    ensures moved { OnOk result (IsPermutation (item ∷ without at items.old.items) items.new.items) }
+{
+    if at >= items.len() {
+        return add(items, places, item);
+    }
+    replace(items, places, at, item);
+    Ok(())
+}
+
+/// Takes the one of its name at a place out, where one stands there.
+fn put_leaving(
+    items: &mut Vec<Item>,
+    places: &mut Places,
+    at: usize,
+    item: &Item,
+) -> Result<(), NoMemory>
+    requires listed { AreListed items.old.items }
+    requires known { AreKnown places.old items.old.items }
+    requires within { at ≤ length items.old.items }
+    requires found { (d : Item) → at < length items.old.items → is_same (name_of (get_or items.old.items at d)) (name_of item.now) ≡ true }
+    requires none { at ≡ length items.old.items → All (λ x. is_same (name_of x) (name_of item.now) ≡ false) items.old.items }
+    requires gone { is_there (left_by item.now) ≡ false }
+    ensures listed { AreListed items.new.items }
+    ensures known { AreKnown places.new items.new.items }
+    ensures book { OnOk result (replay items.new.items empty ≡ after_item item.now (replay items.old.items empty)) }
+    ensures moved { OnOk result (IsPermutation (without at items.old.items) items.new.items) }
+{
+    if at >= items.len() {
+        return Ok(());
+    }
+    take_out(items, places, at, item)
+}
+
+/// Puts an item where one of its name stands at a place, or none does and it is the length.
+fn put_at(items: &mut Vec<Item>, places: &mut Places, at: usize, item: Item) -> Result<(), NoMemory>
+    requires listed { AreListed items.old.items }
+    requires known { AreKnown places.old items.old.items }
+    requires within { at ≤ length items.old.items }
+    requires found { (d : Item) → at < length items.old.items → is_same (name_of (get_or items.old.items at d)) (name_of item) ≡ true }
+    requires none { at ≡ length items.old.items → All (λ x. is_same (name_of x) (name_of item) ≡ false) items.old.items }
+    ensures listed { AreListed items.new.items }
+    ensures known { AreKnown places.new items.new.items }
+    ensures book { OnOk result (replay items.new.items empty ≡ after_item item (replay items.old.items empty)) }
+    ensures moved { OnOk result (IsPermutation (with_item at item items.old.items) items.new.items) }
+{
+    if stays(&item) {
+        return put_staying(items, places, at, item);
+    }
+    let done = put_leaving(items, places, at, &item);
+    drop(item);
+    done
+}
+
+/// Lets the item at a place go from a tally, where one stands there.
+fn forget(tally: &mut Tally, items: &[Item], at: usize)
+    ensures { Covers tally.old items.now → Covers tally.new (without at items.now) }
+{
+    if at >= items.len() {
+        return;
+    }
+    tally.remove(&items[at]);
+}
+
+/// Takes an item into a tally, where it stays.
+fn remember(tally: Tally, item: &Item) -> Result<Option<Tally>, NoMemory>
+    ensures { (items : List Item) → Covers tally items → IfOk result (λ tally. IfSome tally (λ t. Covers t
+        (if is_there (left_by item.now) then item.now ∷ items else items))) }
+{
+    let mut tally = tally;
+    if !stays(item) {
+        return Ok(Some(tally));
+    }
+    let done = tally.add(item)?;
+    if !done {
+        return Ok(None);
+    }
+    Ok(Some(tally))
+}
+
+/// The tally behind an item that comes in place of the one at a place, where it is known.
+fn retally(
+    tally: Option<Tally>,
+    items: &[Item],
+    at: usize,
+    item: &Item,
+) -> Result<Option<Tally>, NoMemory>
+    requires { IfSome tally (λ t. Covers t items.now) }
+    ensures { IfOk result (λ tally. IfSome tally (λ t. Covers t (with_item at item.now items.now))) }
+{
+    match tally {
+        Some(tally) => {
+            let mut tally = tally;
+            forget(&mut tally, items, at);
+            remember(tally, item)
+        }
+        None => Ok(None),
+    }
+}
+
+/// Puts an item in place of what stands under its name, and answers the tally of the list then,
+/// where it is known.
+pub fn put(
+    items: &mut Vec<Item>,
+    places: &mut Places,
+    tally: Option<Tally>,
+    item: Item,
+) -> Result<Option<Tally>, NoMemory>
+    requires listed { AreListed items.old.items }
+    requires known { AreKnown places.old items.old.items }
+    requires covers { IfSome tally (λ t. Covers t items.old.items) }
+    ensures listed { AreListed items.new.items }
+    ensures known { AreKnown places.new items.new.items }
+    ensures book { OnOk result (replay items.new.items empty ≡ after_item item (replay items.old.items empty)) }
+    ensures covers { IfOk result (λ tally. IfSome tally (λ t. Covers t items.new.items)) }
 {
     let at = place_of(items.as_slice(), places, &item);
-    let found = at < items.len();
-    if stays(&item) {
-        if found {
-            replace(items, places, at, item);
-            Ok(())
-        } else {
-            add(items, places, item)
-        }
-    } else {
-        let mut done = Ok(());
-        if found {
-            done = take_out(items, places, at, &item);
-        }
-        drop(item);
-        done
-    }
+    let tally = retally(tally, items.as_slice(), at, &item)?;
+    put_at(items, places, at, item)?;
+    Ok(tally)
 }

@@ -58,7 +58,7 @@ fn are_numbers(files: &[File]) -> bool
 }
 
 /// Whether each number and time of an item is in its range.
-fn is_within(item: &Item) -> bool
+pub fn is_within(item: &Item) -> bool
     ensures { IsTrue result ↔ IsWithin item.now }
 {
     match item {

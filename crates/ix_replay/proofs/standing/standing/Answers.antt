@@ -1,24 +1,12 @@
-use Rattle.std.proofs.Common.{◌≡◌, [], false, subst, sym, ◌∙◌}
-use Rattle.std.specs.Prelude.{All}
-use Rattle.std.proofs.lemmas.List.{take_all}
-use Rattle.std.proofs.lemmas.List.Elements.{All-more}
-use Rattle.ix_items.specs.declared.items.Item.{Item}
-use Rattle.ix_manifest.specs.Book.{named, name_of, is_same}
-use Rattle.ix_replay.proofs.ListSteps.{stands_at, none_stands}
+use Rattle.std.proofs.Common.{◌≡◌, ℕ, [], None, ap, subst, sym, ◌∙◌}
+use Rattle.std.specs.Prelude.{option_copied}
+use Rattle.std.specs.BTreeMap.{get}
+use Rattle.std.specs.Ordering.{nat_cmp}
+use Rattle.ix_manifest.specs.Book.{named}
+use Rattle.ix_replay.proofs.OnlyItems.{none_known}
 use Rattle.ix_replay.proofs.standing.standing.Goals as goal
 
-pub returns-then-is_only : goal.returns-then-is_only
-returns-then-is_only c = sym (stands_at c.args.items.now c.loop-item.item-index c.item-item.result (named c.args.kind [] 0) c.requires
-    c.loop-item-test.true c.item-item.is (sym c.is_only.ensures ∙ c.if-is_only.true))
-
-pub loop-item-preserved : goal.loop-item-preserved
-loop-item-preserved c =
-    All-more (λ (x : Item). is_same (name_of x) (named c.args.kind [] 0) ≡ false) c.args.items.now c.loop-item.item-index c.item-item.result
-    c.loop-item-test.true c.loop-item.invariant
-    (subst (λ (x : Item). is_same (name_of x) (named c.args.kind [] 0) ≡ false) c.item-item.is (sym c.is_only.ensures ∙ c.if-is_only.false))
-
-pub returns : goal.returns
-returns c =
-    sym (none_stands c.args.items.now (named c.args.kind [] 0)
-    (subst (All (λ (x : Item). is_same (name_of x) (named c.args.kind [] 0) ≡ false))
-    (take_all c.loop-item.item-index c.args.items.now c.loop-item-test.false) c.loop-item.invariant))
+pub returns-in-None : goal.returns-in-None
+returns-in-None c = sym (none_known c.args.places.now c.args.items.now (named c.args.kind [] 0) c.requires.known
+    (subst (λ (k : ℕ). get nat_cmp c.args.places.now k ≡ None) c.only_key.ensures
+    (sym c.get.ensures.value ∙ ap option_copied c.in-None.is)))

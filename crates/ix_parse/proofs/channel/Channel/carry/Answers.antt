@@ -15,8 +15,8 @@ use Rattle.ix_parse.proofs.channel.Channel.carry.Goals as goal
 pub returns-clause-spelled : goal.returns-clause-spelled
 returns-clause-spelled c = if-ok c.write.result c.write.ensures (λ bytes written settings meta stream is.
     let k = c.args.self.now in
-    let l = carried-lines (breaks_by settings.breaker) (effective settings.truncate) stream k.lines c.self.inside.lines c.in_ok-lines.lines
-    is.breaks_are is.lines_are (ap (λ (v : Kept). v.lines) c.self.view_is) c.in_ok-lines.ensures.carry c.in_ok-lines.ensures.pending in
+    let l = carried-lines (breaks_by settings.breaker) (effective settings.truncate) stream k.lines c.deref.result.now c.in_ok-lines.lines
+    is.breaks_are is.lines_are (c.deref.ensures ∙ ap (λ (v : Kept). v.lines) c.self.view_is) c.in_ok-lines.ensures.carry c.in_ok-lines.ensures.pending in
     let m = carried-events settings (marked_of settings stream) k.merge c.self.inside.merge c.in_ok-merge.merge is.merges is.most_lines
     is.events_are
     (ap (λ (v : Kept). v.merge) c.self.view_is) c.in_ok-merge.ensures.carry c.in_ok-merge.ensures.form in
@@ -28,8 +28,8 @@ returns-clause-spelled c = if-ok c.write.result c.write.ensures (λ bytes writte
 pub returns-clause-is_carry : goal.returns-clause-is_carry
 returns-clause-is_carry c = if-ok c.write.result c.write.ensures (λ bytes written settings meta stream is moments.
     let k = c.args.self.now in
-    let l = carried-lines (breaks_by settings.breaker) (effective settings.truncate) stream k.lines c.self.inside.lines c.in_ok-lines.lines
-    is.breaks_are is.lines_are (ap (λ (v : Kept). v.lines) c.self.view_is) c.in_ok-lines.ensures.carry c.in_ok-lines.ensures.pending in
+    let l = carried-lines (breaks_by settings.breaker) (effective settings.truncate) stream k.lines c.deref.result.now c.in_ok-lines.lines
+    is.breaks_are is.lines_are (c.deref.ensures ∙ ap (λ (v : Kept). v.lines) c.self.view_is) c.in_ok-lines.ensures.carry c.in_ok-lines.ensures.pending in
     let m = carried-events settings (marked_of settings stream) k.merge c.self.inside.merge c.in_ok-merge.merge is.merges is.most_lines
     is.events_are
     (ap (λ (v : Kept). v.merge) c.self.view_is) c.in_ok-merge.ensures.carry c.in_ok-merge.ensures.form in

@@ -32,7 +32,7 @@ returns-clause-settles g c = if-ok-both c.gone_on.result c.gone_on.ensures.kept 
     let r = fed-lines (breaks_by settings.breaker) (effective settings.truncate) stream later c.args.self.now.lines c.in_ok-lines.lines
     c.feed.new.self
     c.new-settled.result c.feed.new.out is.breaks_are is.lines_are (c.in_ok-lines.ensures
-    ∙ ap (λ (v : Kept). v.lines) c.self.view_is) c.new-settled.ensures
+    ∙ c.deref.ensures ∙ ap (λ (v : Kept). v.lines) c.self.view_is) c.new-settled.ensures
     c.feed.ensures.breaker c.feed.ensures.truncate (λ s stands. simp to_z-of_z at (c.in_ok-feed.ensures.ok s stands)) in
     let o = goes-on settings meta stream (stream ++ later) c.feed.new.out c.in_ok-merge.merge c.in_ok-merge.outcomes r.2
     (c.in_ok-merge.ensures.takes settings meta stream is) in (
@@ -62,7 +62,7 @@ returns-clause-counted g c = if-ok c.gone_on.result c.gone_on.ensures.kept (λ f
     subst (λ (new : Kept). c.feed.new.steps ≤ c.args.steps.now + c.args.self.now.lines.breaker.weight * 512 *
     (moved c.args.self.now.lines n new.lines + 1)) (sym kept)
     (subst (λ (old : Held). c.feed.new.steps ≤ c.args.steps.now + old.breaker.weight * 512 * (moved old n c.feed.new.self + 1))
-    (c.in_ok-lines.ensures ∙ ap (λ (v : Kept). v.lines) c.self.view_is) c.in_ok-feed.ensures.counted))
+    (c.in_ok-lines.ensures ∙ c.deref.ensures ∙ ap (λ (v : Kept). v.lines) c.self.view_is) c.in_ok-feed.ensures.counted))
 
 pub returns-clause-again : goal.returns-clause-again
 returns-clause-again g c = if-ok c.gone_on.result c.gone_on.ensures.kept (λ fed kept.
@@ -71,4 +71,4 @@ returns-clause-again g c = if-ok c.gone_on.result c.gone_on.ensures.kept (λ fed
     c.feed.new.steps ≤ c.args.steps.now + c.args.self.now.lines.breaker.weight * 512 * moved c.args.self.now.lines n new.lines) (sym kept)
     (subst (λ (old : Held). 0 < length old.parts.pending →
     c.feed.new.steps ≤ c.args.steps.now + old.breaker.weight * 512 * moved old n c.feed.new.self)
-    (c.in_ok-lines.ensures ∙ ap (λ (v : Kept). v.lines) c.self.view_is) c.in_ok-feed.ensures.again))
+    (c.in_ok-lines.ensures ∙ c.deref.ensures ∙ ap (λ (v : Kept). v.lines) c.self.view_is) c.in_ok-feed.ensures.again))

@@ -11,7 +11,7 @@ pub returns-clause-lines : goal.returns-clause-lines
 returns-clause-lines g c = λ settings meta stream is.
     ended-lines (breaks_by settings.breaker) (effective settings.truncate) stream c.args.self.now.lines c.in_ok-copy.field-0
     c.new-last.result c.close.new.out
-    is.breaks_are is.lines_are (c.in_ok-copy.ensures ∙ ap (λ (v : Kept). v.lines) c.self.view_is) c.new-last.ensures
+    is.breaks_are is.lines_are (c.in_ok-copy.ensures ∙ c.deref.ensures ∙ ap (λ (v : Kept). v.lines) c.self.view_is) c.new-last.ensures
     (λ s stands. c.in_ok-close.ensures.ok s stands)
 
 pub returns-clause-short : goal.returns-clause-short
