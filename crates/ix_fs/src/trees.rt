@@ -403,9 +403,10 @@ impl<R: Files + AllocGlobal + Drop> HostTree<R> {
     }
 
     /// The tree of the files that this runtime reaches. What is there and cannot be read, as a file
-    /// that others may not see, a folder in the place of a file, or a name that is no UTF-8, is
-    /// passed over as if it were not there, and kept to be told; but below paths that begin so it
-    /// is a fault, as it is in each tree that is made by `new`.
+    /// that others may not see or a folder in the place of a file, is passed over as if it were not
+    /// there, and kept to be told; but below paths that begin so it is a fault, as it is in each
+    /// tree that is made by `new`. An entry whose name is no UTF-8 is passed over by each tree, and
+    /// kept to be told by this one, but below such paths.
     pub fn passing_over(rt: R, but: &'static [u8]) -> Self
         ensures faults { result.faults ≡ 0 }
         ensures missing { result.missing ≡ 0 }

@@ -13,13 +13,18 @@ use std::marker::Model;
 /// A pattern that many texts are searched for. It is written out once, and what is known of the
 /// front of its matches is worked out once. Contracts see the pattern.
 pub struct Regex {
-    prepared: CompiledPattern,
+    alloc: Global,
+    /// It stands in a place of its own, so that a search is handed on with few bytes.
+    prepared: Box<CompiledPattern>,
 }
 
 /// It is written out, so that each place where one is let go is a call of it, which is proved once.
 impl Drop for Regex {
     fn drop(self) {
-        let Regex { prepared: _ } = self;
+        let Regex {
+            alloc: _,
+            prepared: _,
+        } = self;
     }
 }
 
@@ -29,9 +34,9 @@ impl Model for Regex {
 
     ghost Value = { Shape };
 
-    ghost view = { λ f. f.prepared.pattern };
+    ghost view = { λ f. f.prepared.value.pattern };
 
-    ghost invariant = { λ f. IsPrepared f.prepared };
+    ghost invariant = { λ f. IsPrepared f.prepared.value };
 }
 
 impl Regex {
@@ -40,7 +45,11 @@ impl Regex {
         ensures { IfOk result (λ finder. finder ≡ pattern) }
     {
         let prepared = CompiledPattern::of(alloc, pattern)?;
-        Ok(Regex { prepared })
+        let place = Box::new(alloc, prepared)?;
+        Ok(Regex {
+            alloc,
+            prepared: place,
+        })
     }
 
     /// The first match of the pattern in a whole text that begins at the place `from` or later; of
@@ -67,6 +76,10 @@ impl Regex {
         ensures { IfOk result (λ copy. copy ≡ self.now) }
     {
         let prepared = self.prepared.copy()?;
-        Ok(Regex { prepared })
+        let place = Box::new(self.alloc, prepared)?;
+        Ok(Regex {
+            alloc: self.alloc,
+            prepared: place,
+        })
     }
 }
