@@ -315,7 +315,7 @@ const REFUSED: Exchanges<'static> = "\
     POST /channels/c/blocks¦¦x\ny¦507 Insufficient Storage¦{\"error\":\"Full\"}¶\
     POST /channels/c/blocks¦¦x¦200 OK¦{\"ack\":0,\"run\":4}";
 
-static FILLED: [Script<'static>; 2] = [
+static FILLED: [Script<'static>; 6] = [
     // no further file has a number
     &[
         STORED,
@@ -337,6 +337,53 @@ static FILLED: [Script<'static>; 2] = [
         ROLLED,
         NO_ROOM,
         Step::Feed(PLAIN, REFUSED, "0", ""),
+    ],
+    // and no more events
+    &[
+        STORED,
+        Step::Change(LOG, b"\0\0\0\0\0\0\0\x74\0\0\0\0\0\0\0\x02", 8, GREATEST),
+        ROLLED,
+        NO_ROOM,
+        Step::Feed(PLAIN, REFUSED, "0", ""),
+    ],
+    // no more events can be settled
+    &[
+        STORED,
+        Step::Change(LOG, b"\x09\0\0\0\0\0\0\0\x02", 1, GREATEST),
+        ROLLED,
+        NO_ROOM,
+        Step::Run(
+            (NOON, "buckets", PLAIN, ""),
+            "0: index main stored 2 bytes 116 frozen 0\n\
+            bucket main db_1700000000_1700000000_0 warm 2 116\n\
+            events settled 9223372036854775807 nulled 0 dropped 0\n",
+        ),
+    ],
+    // no further file has a number, for an archive and for a bucket that is brought back
+    &[
+        Step::Run((NOON, STORE, KEPT, "a"), "0: "),
+        Step::Change(LOG, b"\x0b\0\0\0\0\0\0\0\x02", 1, GREATEST),
+        Step::Run((NOON, "roll main", KEPT, ""), "0: rolled 1\n"),
+        Step::Run((LATER, "tick", KEPT, ""), "17: indexd: store full\n"),
+        Step::Run(
+            (LATER, "buckets", KEPT, ""),
+            "0: index main stored 1 bytes 58 frozen 0\n\
+            bucket main db_1700000000_1700000000_0 warm 1 58\n\
+            events settled 1 nulled 0 dropped 0\n",
+        ),
+    ],
+    &[
+        Step::Run((NOON, STORE, KEPT, "a"), "0: "),
+        Step::Run((NOON, "roll main", KEPT, ""), "0: rolled 1\n"),
+        Step::Run((LATER, "tick", KEPT, ""), "0: frozen 1\n"),
+        Step::Change(LOG, b"\x0b\0\0\0\0\0\0\0\x03", 1, GREATEST),
+        Step::Run((LATER, "thaw main 0", KEPT, ""), "17: indexd: store full\n"),
+        Step::Run(
+            (LATER, "buckets", KEPT, ""),
+            "0: index main stored 0 bytes 0 frozen 1\n\
+            frozen main db_1700000000_1700000000_0 age 1700000101 1 archived\n\
+            events settled 1 nulled 0 dropped 0\n",
+        ),
     ],
 ];
 
